@@ -1,0 +1,102 @@
+ghost use Rattle.std.specs.Prelude.{◌≡◌};
+ghost use Rattle.dso_run.specs.Status.{exit_number_of, status_of, line_of};
+
+use dso_base::Journal;
+
+/// Why a configuration is refused.
+#[derive(Clone, Copy, Debug, PartialEq, Eq)]
+pub enum ConfigFault {
+    /// It asks for what isn't built yet.
+    NotBuilt,
+}
+
+/// Why a program is refused.
+#[derive(Clone, Copy, Debug, PartialEq, Eq)]
+pub enum ProgramFault {
+    /// It asks for what isn't built yet.
+    NotBuilt,
+}
+
+/// How a call of the program ended.
+#[derive(Clone, Copy, Debug, PartialEq, Eq)]
+pub enum Status {
+    /// Every thread ended, and no message is on the way.
+    Finished,
+    /// The words are none that the program takes.
+    Usage,
+    /// The configuration is refused.
+    BadConfig(ConfigFault),
+    /// The program is refused.
+    BadProgram(ProgramFault),
+    /// A file could not be read.
+    ReadFault,
+    /// What was to be written could not be written whole.
+    WriteFault,
+    /// The run isn't finished, and no step is possible.
+    Stuck,
+    /// The run isn't finished, and its journal weighs as much as it may.
+    Budget,
+    /// An allocation was refused.
+    NoMemory,
+}
+
+impl Status {
+    /// The number that the process ends with.
+    pub fn exit_number(self) -> u8
+        ensures { result ≡ exit_number_of self }
+    {
+        match self {
+            Status::Finished => 0,
+            Status::Usage => 1,
+            Status::BadConfig(_) => 2,
+            Status::BadProgram(_) => 3,
+            Status::ReadFault => 4,
+            Status::WriteFault => 5,
+            Status::Stuck => 6,
+            Status::Budget => 7,
+            Status::NoMemory => 8,
+        }
+    }
+}
+
+/// What a call of the program leaves: how it ended, and the journal of its run.
+#[derive(Debug, Drop)]
+pub struct Done {
+    pub status: Status,
+    pub journal: Journal,
+}
+
+/// Why nothing is run.
+#[derive(Clone, Copy, Debug, PartialEq, Eq)]
+pub(crate) enum Refusal {
+    Words,
+    Reading,
+    Config(ConfigFault),
+    Program(ProgramFault),
+}
+
+impl Refusal {
+    /// The status of the refusal.
+    pub(crate) fn status(self) -> Status
+        ensures { result ≡ status_of self }
+    {
+        match self {
+            Refusal::Words => Status::Usage,
+            Refusal::Reading => Status::ReadFault,
+            Refusal::Config(fault) => Status::BadConfig(fault),
+            Refusal::Program(fault) => Status::BadProgram(fault),
+        }
+    }
+
+    /// The one line that is written.
+    pub(crate) fn line(self) -> &'static str
+        ensures { result.now ≡ line_of self }
+    {
+        match self {
+            Refusal::Words => "dsorun: Usage\n",
+            Refusal::Reading => "dsorun: ReadFault\n",
+            Refusal::Config(ConfigFault::NotBuilt) => "dsorun: BadConfig NotBuilt\n",
+            Refusal::Program(ProgramFault::NotBuilt) => "dsorun: BadProgram NotBuilt\n",
+        }
+    }
+}
