@@ -16,6 +16,15 @@ pub enum Level {
     Write,
 }
 
+/// How a method's or a block's lock is taken: the level of the hold, and at `Synchronous` a write that the server
+/// has before the lock is left.
+#[derive(Clone, Copy, Debug, PartialEq, Eq)]
+pub enum Grade {
+    Read,
+    Write,
+    Synchronous,
+}
+
 /// A thread by its client and its index there. Both are counted from 1.
 #[derive(Clone, Copy, Debug, PartialEq, Eq, PartialOrd, Ord)]
 pub struct ThreadId {
@@ -42,6 +51,18 @@ impl Data for Level {
 }
 
 impl Same for Level {
+    fn same(&self, other: &Self) -> bool {
+        self == other
+    }
+}
+
+impl Data for Grade {
+    ghost use Rattle.std.proofs.Common.{rules};
+
+    ghost faithful = { Prim.search rules };
+}
+
+impl Same for Grade {
     fn same(&self, other: &Self) -> bool {
         self == other
     }
