@@ -1,1 +1,9 @@
 pub mod Taken
+pub mod Runs
+pub mod Picks
+pub mod ReservedTable
+pub mod Lexed
+pub mod Spelling
+pub mod Numbers
+pub mod Judging
+pub mod Standing

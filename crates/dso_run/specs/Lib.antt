@@ -3,3 +3,9 @@ pub mod Words
 pub mod Memory
 pub mod MemoryFile
 pub mod Status
+pub mod Token
+pub mod Reserved
+pub mod Form
+pub mod Template
+pub mod Writing
+pub mod Answer

@@ -1,18 +1,39 @@
 //! The top call: from the words and the files to what is printed.
 #![tactic(auto)]
 
+mod channels;
+mod client;
+mod cluster;
+mod form;
+mod history;
+mod lexer;
+mod main_call;
 mod mem_files;
 mod mem_sink;
 mod outside;
+mod own;
+mod pick;
+mod readings;
+mod report;
+mod reserved;
+mod script;
+mod server;
 mod status;
 mod std_files;
 mod std_sink;
+mod template;
+mod token;
 mod words;
 mod writing;
 
+pub use form::{FirstPath, first_path};
+pub use lexer::tokens;
+pub use main_call::dso_main;
 pub use mem_files::MemFiles;
 pub use mem_sink::MemSink;
 pub use outside::{Failed, FileFault, Files, Sink};
+pub use reserved::{Reserved, is_reserved};
 pub use status::{ConfigFault, Done, ProgramFault, Status};
 pub use std_files::StdFiles;
 pub use std_sink::StdSink;
+pub use token::{Symbol, Token};

@@ -34,11 +34,11 @@ impl Model for MemFiles {
     ghost Value = { MemoryFiles };
 
     ghost view = { λ a. record {
-        kept = map (λ file. (file.name.items, file.bytes.items)) a.files.items;
-        fails = a.fails.items;
-        calls = a.calls;
-        failed_reads = a.failed_reads;
-        failed_writes = a.failed_writes;
+      kept = map (λ file. (file.name.items, file.bytes.items)) a.files.items;
+      fails = a.fails.items;
+      calls = a.calls;
+      failed_reads = a.failed_reads;
+      failed_writes = a.failed_writes;
     } };
 }
 
@@ -46,7 +46,12 @@ impl MemFiles {
     /// No file; the calls of these numbers will fail, reads and writes counted together from 1.
     pub fn new(alloc: Global, fails: &[u64]) -> Result<MemFiles, NoMemory>
         ensures { IfOk result (λ files. files ≡ record {
-            kept = []; fails = fails.now; calls = 0; failed_reads = 0; failed_writes = 0 }) }
+          kept = [];
+          fails = fails.now;
+          calls = 0;
+          failed_reads = 0;
+          failed_writes = 0;
+        }) }
     {
         Ok(MemFiles {
             files: Vec::new(alloc),

@@ -25,12 +25,12 @@ impl Model for MemSink {
     ghost Value = { MemorySink };
 
     ghost view = { λ a. record {
-        bytes = a.bytes.items;
-        piece = a.piece;
-        most = a.most;
-        fails = a.fails.items;
-        calls = a.calls;
-        failed = a.failed;
+      bytes = a.bytes.items;
+      piece = a.piece;
+      most = a.most;
+      fails = a.fails.items;
+      calls = a.calls;
+      failed = a.failed;
     } };
 
     ghost invariant = { λ a. (0 < a.piece) × (vec_len a.bytes ≤ a.most) × (a.most ≤ vec_capacity a.bytes) };
@@ -42,7 +42,13 @@ impl MemSink {
     pub fn new(alloc: Global, piece: usize, most: usize, fails: &[u64]) -> Result<MemSink, NoMemory>
         requires { 0 < piece }
         ensures { IfOk result (λ sink. sink ≡ record {
-            bytes = []; piece = piece; most = most; fails = fails.now; calls = 0; failed = 0 }) }
+          bytes = [];
+          piece = piece;
+          most = most;
+          fails = fails.now;
+          calls = 0;
+          failed = 0;
+        }) }
     {
         let bytes = Vec::with_capacity(alloc, most)?;
         let fails = Vec::from_slice(alloc, fails)?;

@@ -3,9 +3,8 @@ ghost use Rattle.dso_run.specs.Outside.{Untold};
 
 use crate::{FileFault, Files};
 use std::alloc::Global;
-use std::fs;
 use std::io::{Read, Write};
-use std::rt;
+use std::{fs, rt};
 
 /// The files of the system, over a runtime. Nothing is told of their bytes; each fault is counted.
 #[derive(Drop)]

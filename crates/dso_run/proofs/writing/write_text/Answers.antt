@@ -6,7 +6,7 @@ pub loop-written-preserved : goal.loop-written-preserved
 loop-written-preserved g c = record {
   within = omega (arith, c.in_ok-written.ensures.within);
   taken =
-    taken_after-more (g.K.Sink.taken c.args.out.now) (g.K.Sink.taken c.put.new.self) c.args.text.now c.loop-written.written c.in_ok-written.field-0
-    (cc (c.in_ok-written.ensures.taken, c.loop-written.invariant.taken, c.split_at.ensures.back));
+      taken_after-more (g.K.Sink.taken c.args.out.now) (g.K.Sink.taken c.put.new.self) c.args.text.now c.loop-written.written c.in_ok-written.field-0
+      (cc (c.in_ok-written.ensures.taken, c.loop-written.invariant.taken, c.split_at.ensures.back));
   faults = omega arith;
 }

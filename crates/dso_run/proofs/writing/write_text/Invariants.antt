@@ -6,7 +6,7 @@ abbrev pub invariant-loop-written : goal.invariant-loop-written
 invariant-loop-written g l = record {
   within : l.written ≤ length l.text;
   taken : g.K.Sink.taken l.out ≡ taken_after (g.K.Sink.taken l.initial.out) (take l.written l.text);
-  faults : g.K.Sink.faults l.initial.out ≤ g.K.Sink.faults l.out
+  faults : g.K.Sink.faults l.initial.out ≤ g.K.Sink.faults l.out;
 }
 
 abbrev pub decreases-loop-written : goal.decreases-loop-written

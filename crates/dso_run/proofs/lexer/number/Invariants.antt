@@ -1,0 +1,7 @@
+use Rattle.std.proofs.Common.{◌≡◌, ◌≤◌, drop}
+use Rattle.std.specs.Char.{is_ascii_digit}
+use Rattle.dso_run.proofs.Numbers.{DigitsBefore}
+use Rattle.dso_run.proofs.lexer.number.Given as goal
+
+abbrev pub invariant-loop-byte : goal.invariant-loop-byte
+invariant-loop-byte l = DigitsBefore l.bytes l.byte-index l.value

@@ -1,0 +1,153 @@
+ghost use Rattle.std.specs.Prelude.{◌≡◌, ◌⊎◌, ℕ, ◌≤◌, List, [], Ok, map, IfOk};
+ghost use Rattle.std.specs.String.{string_bytes};
+ghost use Rattle.dso_run.specs.Answer.{IsVerdict, IsVerdictOfTexts, Stands, IsUsage};
+ghost use Rattle.dso_run.specs.Writing.{Wrote, WroteReport, IsOutcome};
+ghost use Rattle.dso_run.specs.Outside.{Rose};
+ghost use Rattle.dso_run.specs.Status.{line_of, status_of};
+ghost use Rattle.dso_run.specs.Words.{AreUnlawful};
+
+use crate::cluster::{Outcome, run_program};
+use crate::form::{FirstPath, first_path};
+use crate::report::report;
+use crate::status::Refusal;
+use crate::words::names_of;
+use crate::writing::write_text;
+use crate::{ConfigFault, Done, FileFault, Files, ProgramFault, Sink, Status};
+use dso_base::{Items, Journal, NoMemory};
+use std::alloc::Global;
+
+/// The most bytes that are read of a file: one more than a text may have.
+const MOST_READ: u64 = 1_048_577;
+
+/// What the words and the files come to.
+#[derive(Drop)]
+pub(crate) enum Judged {
+    Refused(Refusal),
+    Accepted(FirstPath),
+}
+
+/// Reads the words, then both files, and judges the configuration and then the program.
+fn judge<F: Files>(alloc: Global, words: &[String], files: &mut F) -> Result<Judged, NoMemory>
+    ensures verdict { IfOk result (IsVerdict (F.content files.old) (map string_bytes words.now) (Rose (F.read_faults files.old) (F.read_faults files.new))) }
+    ensures unlawful { AreUnlawful (map string_bytes words.now) → result ≡ Ok (Judged.Refused Refusal.Words) }
+    ensures unchanged { (name : List ℕ) → F.content files.new name ≡ F.content files.old name }
+{
+    let Some(names) = names_of(words) else {
+        return Ok(Judged::Refused(Refusal::Words));
+    };
+    let config = match files.read(alloc, names.config, MOST_READ) {
+        Ok(bytes) => bytes,
+        Err(fault) => return unread(fault),
+    };
+    let program = match files.read(alloc, names.program, MOST_READ) {
+        Ok(bytes) => bytes,
+        Err(fault) => return unread(fault),
+    };
+    judge_texts(alloc, config.as_slice(), program.as_slice())
+}
+
+/// Judges the bytes of a configuration, and then those of a program.
+fn judge_texts(alloc: Global, config: &[u8], program: &[u8]) -> Result<Judged, NoMemory>
+    ensures { IfOk result (IsVerdictOfTexts config.now program.now) }
+{
+    if !config.is_empty() {
+        return Ok(Judged::Refused(Refusal::Config(ConfigFault::NotBuilt)));
+    }
+    match first_path(alloc, program)? {
+        Some(path) => Ok(Judged::Accepted(path)),
+        None => Ok(Judged::Refused(Refusal::Program(ProgramFault::NotBuilt))),
+    }
+}
+
+/// What a file that was not read comes to.
+fn unread(fault: FileFault) -> Result<Judged, NoMemory>
+    ensures { IfOk result (λ judged. (judged ≡ Judged.Refused Refusal.Reading) × (fault ≡ FileFault.Failed)) }
+{
+    match fault {
+        FileFault::Failed => Ok(Judged::Refused(Refusal::Reading)),
+        FileFault::NoMemory => Err(NoMemory),
+    }
+}
+
+/// Writes the line of a refusal. It takes no memory.
+fn refuse<K: Sink>(refusal: Refusal, out: &mut K) -> Status
+    ensures { Wrote (K.taken out.old) (K.taken out.new) (Rose (K.faults out.old) (K.faults out.new)) (line_of refusal) (status_of refusal) result }
+{
+    match write_text(out, refusal.line().as_bytes()) {
+        Ok(()) => refusal.status(),
+        Err(_) => Status::WriteFault,
+    }
+}
+
+/// Runs an accepted program and writes the report of what was committed.
+fn run_and_report<K: Sink>(alloc: Global, program: &FirstPath, out: &mut K) -> Done
+    ensures { WroteReport (K.taken out.old) (K.taken out.new) (Rose (K.faults out.old) (K.faults out.new)) result.journal.entries result.status }
+{
+    let Ok(run) = run_program(alloc, program) else {
+        return nothing_ran(alloc, Status::NoMemory);
+    };
+    let Ok(text) = report(alloc, program, run.journal.entries.as_slice()) else {
+        return nothing_ran(alloc, Status::NoMemory);
+    };
+    let status = match write_text(out, text.as_slice()) {
+        Ok(()) => status_of_run(run.outcome),
+        Err(_) => Status::WriteFault,
+    };
+    Done {
+        status,
+        journal: run.journal,
+    }
+}
+
+/// The status of a run whose report was written.
+fn status_of_run(outcome: Outcome) -> Status
+    ensures { IsOutcome result }
+{
+    match outcome {
+        Outcome::Finished => Status::Finished,
+        Outcome::Stuck => Status::Stuck,
+        Outcome::Budget => Status::Budget,
+    }
+}
+
+/// An answer with an empty journal.
+fn nothing_ran(alloc: Global, status: Status) -> Done
+    ensures status { result.status ≡ status }
+    ensures empty { result.journal.entries ≡ [] }
+{
+    Done {
+        status,
+        journal: Journal {
+            entries: Items::new(alloc),
+        },
+    }
+}
+
+/// Does all that the program does: it reads the words and the files, runs the program and writes what is to be printed.
+///
+/// The words are those behind the program's name. The order is: the words, reading the configuration, reading the
+/// program, judging the configuration, judging the program, the run, writing. Clause `answer` is the table of the
+/// statuses: what is known of the words, the files and the sink where a status is answered. So each status has its
+/// cause, and where the cause of one is there no other can be answered but `WriteFault`, where the sink's count rose,
+/// and `NoMemory`, where an allocation was refused.
+pub fn dso_main<F: Files, K: Sink>(
+    alloc: Global,
+    words: &[String],
+    files: &mut F,
+    out: &mut K,
+) -> Done
+    ensures answer { Stands (F.content files.old) (map string_bytes words.now) (Rose (F.read_faults files.old) (F.read_faults files.new))
+        (K.taken out.old) (K.taken out.new) (Rose (K.faults out.old) (K.faults out.new)) result.journal.entries result.status }
+
+    // Other words need no memory to be refused.
+    ensures usage { AreUnlawful (map string_bytes words.now) → IsUsage result.status }
+
+    // No file is changed.
+    ensures unchanged { (name : List ℕ) → F.content files.new name ≡ F.content files.old name }
+{
+    match judge(alloc, words, files) {
+        Ok(Judged::Refused(refusal)) => nothing_ran(alloc, refuse(refusal, out)),
+        Ok(Judged::Accepted(program)) => run_and_report(alloc, &program, out),
+        Err(NoMemory) => nothing_ran(alloc, Status::NoMemory),
+    }
+}
