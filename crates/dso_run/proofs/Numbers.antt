@@ -1,9 +1,9 @@
 -- Numbers from digits, the highest first.
-use Rattle.std.proofs.Common.{◌≡◌, ℕ, suc, pos, ◌+◌, ◌-◌, ◌*◌, ◌<◌, ◌≤◌, Bool, true, false, IsTrue, List, [], ◌∷◌, ◌++◌, length, take, drop, get_or, refl, sym, ap, ◌∙◌, subst, arith, add-one, drop-cons}
+use Rattle.std.proofs.Common.{◌≡◌, ℕ, suc, pos, ◌+◌, ◌-◌, ◌*◌, ◌<◌, ◌≤◌, true, false, List, [], ◌∷◌, length, drop, get_or, refl, sym, ap, ◌∙◌, subst, arith, add-one, drop-cons}
 use Rattle.std.proofs.lemmas.List.{drop_all}
 use Rattle.std.specs.Char.{is_ascii_digit}
 use Rattle.dso_run.proofs.Runs.{begins_so}
-use Rattle.dso_run.specs.Token.{Each, Begins, IsNumber, value_after, value_of}
+use Rattle.dso_run.specs.Token.{Each, IsNumber, value_after, value_of}
 
 -- more digits make no smaller number
 pub value_grows : (so_far : ℕ) (digits : List ℕ) → so_far ≤ value_after so_far digits

@@ -1,5 +1,5 @@
 -- The longest front of a text whose bytes pass a test.
-use Rattle.std.proofs.Common.{◌≡◌, ℕ, zero, suc, ◌+◌, ◌<◌, ◌≤◌, Bool, true, false, IsTrue, List, [], ◌∷◌, ◌++◌, length, take, drop, get_or, refl, sym, ap, ◌∙◌, subst, arith, add-one, drop-cons}
+use Rattle.std.proofs.Common.{◌≡◌, ℕ, zero, suc, ◌+◌, ◌<◌, Bool, true, false, IsTrue, List, [], ◌∷◌, ◌++◌, length, take, drop, get_or, refl, sym, subst, arith, add-one}
 use Rattle.std.proofs.Math.Seq.{take-suc}
 use Rattle.dso_run.specs.Token.{Each, Begins, IsLongest}
 

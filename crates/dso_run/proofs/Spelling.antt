@@ -1,12 +1,12 @@
 -- A text starts with one token at most.
-use Rattle.std.proofs.Common.{◌≡◌, ℕ, Bool, true, false, IsTrue, List, [], ◌∷◌, ◌++◌, Option, Some, None, refl, sym, ap, ◌∙◌, subst, arith, cond, eqb, pos, ◌<◌, ◌+◌, length, length-append}
+use Rattle.std.proofs.Common.{◌≡◌, ℕ, Bool, true, false, List, [], ◌∷◌, ◌++◌, Option, Some, refl, sym, ap, ◌∙◌, subst, arith, cond, eqb, pos, ◌<◌, length, length-append}
 use Rattle.std.proofs.lemmas.Bool.Decides.{nat_tests}
 use Rattle.std.specs.Char.{is_ascii_digit}
 use Rattle.dso_run.specs.declared.token.Symbol.{Symbol}
 use Rattle.dso_run.specs.declared.token.Symbol.TheVariants as symbol
 use Rattle.dso_run.specs.declared.token.Token.{Token}
 use Rattle.dso_run.specs.declared.token.Token.TheVariants as token
-use Rattle.dso_run.specs.Token.{is_white, is_letter, is_word, Each, Begins, IsLongest, IsName, IsNumber, IsSpelling, Starts, symbol_text, value_of}
+use Rattle.dso_run.specs.Token.{is_white, is_letter, is_word, Begins, IsLongest, IsSpelling, Starts, symbol_text, value_of}
 use Rattle.dso_run.proofs.Runs.{one_front, begins_front, begins_weaker, begins_apart, each_weaker}
 
 -- letters, digits and `_` are no white space

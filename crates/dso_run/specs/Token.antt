@@ -86,22 +86,17 @@ pub record Starts (text : List ℕ) (t : Token) (rest : List ℕ) : Type 0 where
   pub spelling : IsSpelling bytes t
   pub ended : Begins (goes_on t) rest → ⊥
 
--- the text is white space, then the token, then a rest that is as said
-pub record Leads (text : List ℕ) (t : Token) (IsAsSaid : List ℕ → Type 0) : Type 0 where
+-- the text is white space, then the token, then a rest of which the given fact holds
+pub record Leads (text : List ℕ) (t : Token) (IsRest : List ℕ → Type 0) : Type 0 where
   pub gap : List ℕ
   pub after : List ℕ
   pub rest : List ℕ
   pub split : text ≡ gap ++ after
   pub white : Each is_white gap
   pub starts : Starts after t rest
-  pub as_said : IsAsSaid rest
+  pub is_rest : IsRest rest
 
 -- the text spells the tokens: nothing but white space where there is none, else the first of them and then the others
 abbrev pub Spells : List ℕ → List Token → Type 0
 Spells text [] = Each is_white text
 Spells text (t ∷ ts) = Leads text t (λ rest. Spells rest ts)
-
--- the text spells these tokens and no others
-pub record SpellsOnly (text : List ℕ) (ts : List Token) : Type 0 where
-  pub spells : Spells text ts
-  pub only : (others : List Token) → Spells text others → others ≡ ts

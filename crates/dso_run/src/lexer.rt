@@ -1,5 +1,5 @@
 ghost use Rattle.std.specs.Prelude.{◌≡◌, ◌↔◌, ℕ, ◌+◌, ◌*◌, ◌<◌, ◌∷◌, ◌++◌, [], ◌≤◌, ◌==◌, length, take, drop, IfOk, IsTrue, List, MatchOption, pos};
-ghost use Rattle.dso_run.specs.Token.{is_white, is_letter, is_word, Begins, Each, IsLongest, IsNumber, IsSpelling, Spells, SpellsOnly, Starts, symbol_text, value_of};
+ghost use Rattle.dso_run.specs.Token.{is_white, is_letter, is_word, Begins, Each, IsLongest, IsNumber, IsSpelling, Spells, Starts, symbol_text, value_of};
 
 use crate::{Symbol, Token};
 use dso_base::Items;
@@ -15,7 +15,7 @@ const LONGEST_NAME: usize = 64;
 ///
 /// It takes memory for each token, and goes over the text once.
 pub fn tokens(alloc: Global, text: &[u8]) -> Result<Option<Items<Token>>, AllocError>
-    ensures { IfOk result (λ found. MatchOption found ((ts : List Token) → Spells text.now ts → ⊥) (λ ts. SpellsOnly text.now ts)) }
+    ensures { IfOk result (λ found. MatchOption found ((ts : List Token) → Spells text.now ts → ⊥) (λ ts. Spells text.now ts)) }
 {
     let mut tokens = Items::new(alloc);
     let mut rest = after_white(text);
@@ -28,6 +28,11 @@ pub fn tokens(alloc: Global, text: &[u8]) -> Result<Option<Items<Token>>, AllocE
     }
     Ok(Some(tokens))
 }
+
+/// A text spells one list of tokens at most.
+pub fn one_spelling()
+    ensures { (text : List ℕ) (ts us : List Token) → Spells text ts → Spells text us → ts ≡ us }
+{}
 
 /// What comes after the white space at the front.
 fn after_white(text: &[u8]) -> &[u8]

@@ -22,12 +22,14 @@ mod status;
 mod std_files;
 mod std_sink;
 mod template;
+#[cfg(test)]
+mod tests;
 mod token;
 mod words;
 mod writing;
 
-pub use form::{FirstPath, first_path};
-pub use lexer::tokens;
+pub use form::{FirstPath, first_path, one_first_path};
+pub use lexer::{one_spelling, tokens};
 pub use main_call::dso_main;
 pub use mem_files::MemFiles;
 pub use mem_sink::MemSink;

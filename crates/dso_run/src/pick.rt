@@ -2,31 +2,37 @@ ghost use Rattle.std.specs.Prelude.{◌≡◌, ℕ, IfOk, List, Some, filter_map
 ghost use Rattle.dso_run.specs.Form.{form, name, number_of};
 ghost use Rattle.dso_run.specs.declared.form.FirstPath.{FirstPath};
 
-use crate::template::OPENED;
+use crate::template::BEFORE_CALLS;
 use crate::{FirstPath, Token};
 use dso_base::Items;
 use std::alloc::{AllocError, Global};
 
-/// The places of the names in the form.
+/// Where the counter's class stands in the form.
 const CLASS: usize = 1;
 
+/// Where its field does.
 const FIELD: usize = 4;
 
+/// Where its method does.
 const METHOD: usize = 7;
 
+/// Where the method's parameter does.
 const PARAMETER: usize = 9;
 
+/// Where the class that holds the root does.
 const HOLDER: usize = 32;
 
+/// Where the root does.
 const ROOT: usize = 36;
 
+/// Where the thread's variable does.
 const VARIABLE: usize = 52;
 
 /// The names at their places and the numbers of the calls: where the tokens are of the form, those of the program.
-pub fn picked(alloc: Global, tokens: &[Token]) -> Result<FirstPath, AllocError>
+pub fn pick_path(alloc: Global, tokens: &[Token]) -> Result<FirstPath, AllocError>
     ensures { IfOk result (λ path. (p : FirstPath) → tokens.now ≡ form p → path ≡ p) }
 {
-    let (_opening, rest) = tokens.split_at(tokens.len().min(OPENED));
+    let (_opening, rest) = tokens.split_at(tokens.len().min(BEFORE_CALLS));
     Ok(FirstPath {
         class: name_at(alloc, tokens, CLASS)?,
         field: name_at(alloc, tokens, FIELD)?,

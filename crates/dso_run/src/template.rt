@@ -1,6 +1,6 @@
 ghost use Rattle.std.specs.Prelude.{◌≡◌, ◌++◌, IfOk, OnOk, map};
 ghost use Rattle.dso_run.specs.Form.{form, name};
-ghost use Rattle.dso_run.specs.Template.{filled};
+ghost use Rattle.dso_run.specs.Template.{token_of};
 
 use crate::{FirstPath, Reserved, Symbol, Token};
 use dso_base::Items;
@@ -22,10 +22,10 @@ pub enum Part {
 }
 
 /// How many places there are before the calls.
-pub const OPENED: usize = 58;
+pub const BEFORE_CALLS: usize = 58;
 
 /// The places before the calls. The one number there is 1.
-const OPENING: [Part; OPENED] = [
+const OPENING: [Part; BEFORE_CALLS] = [
     Part::Word(Reserved::Class),
     Part::Class,
     Part::Mark(Symbol::OpenBrace),
@@ -118,17 +118,17 @@ fn push_parts(
     path: &FirstPath,
     number: i64,
 ) -> Result<(), AllocError>
-    ensures { OnOk result (tokens.new ≡ tokens.old ++ map (filled path.now number) parts.now) }
+    ensures { OnOk result (tokens.new ≡ tokens.old ++ map (token_of path.now number) parts.now) }
 {
     for part in parts {
-        tokens.push(filled(alloc, path, number, *part)?)?;
+        tokens.push(token_of(alloc, path, number, *part)?)?;
     }
     Ok(())
 }
 
 /// The token at a place.
-fn filled(alloc: Global, path: &FirstPath, number: i64, part: Part) -> Result<Token, AllocError>
-    ensures { IfOk result (λ token. token ≡ filled path.now number part) }
+fn token_of(alloc: Global, path: &FirstPath, number: i64, part: Part) -> Result<Token, AllocError>
+    ensures { IfOk result (λ token. token ≡ token_of path.now number part) }
 {
     match part {
         Part::Word(word) => name(alloc, word.text()),

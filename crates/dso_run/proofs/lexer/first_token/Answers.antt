@@ -1,5 +1,5 @@
-use Rattle.std.proofs.Common.{arith, sym, ap, ◌∙◌, subst, ◌++◌, length, take-append-drop, false-eqb}
-use Rattle.dso_run.specs.Token.{is_word, Each, IsLongest}
+use Rattle.std.proofs.Common.{arith, sym, ◌∙◌, ◌++◌, take-append-drop, false-eqb}
+use Rattle.dso_run.specs.Token.{is_word, IsLongest}
 use Rattle.dso_run.proofs.Runs.{begins_so}
 use Rattle.dso_run.proofs.Spelling.{no_start}
 use Rattle.dso_run.proofs.lexer.first_token.Goals as goal

@@ -1,5 +1,3 @@
-use Rattle.std.proofs.Common.{◌≡◌, ◌≤◌, drop}
-use Rattle.std.specs.Char.{is_ascii_digit}
 use Rattle.dso_run.proofs.Numbers.{DigitsBefore}
 use Rattle.dso_run.proofs.lexer.number.Given as goal
 

@@ -1,4 +1,4 @@
-use Rattle.std.proofs.Common.{◌<◌, arith, sym, subst, length, false-eqb, rules}
+use Rattle.std.proofs.Common.{◌<◌, sym, subst, length, rules}
 use Rattle.dso_run.proofs.Lexed.{LexedTo, lexed_at_start, lexed_on, lexed_no_more, lexed_at_end}
 use Rattle.dso_run.proofs.lexer.tokens.Goals as goal
 

@@ -1,8 +1,8 @@
-use Rattle.std.proofs.Common.{◌≡◌, ℕ, refl, ap, ◌∙◌}
+use Rattle.std.proofs.Common.{◌≡◌, ℕ, ap, ◌∙◌}
 use Rattle.std.specs.Prelude.{slice_get, filter_map}
 use Rattle.dso_run.specs.Form.{form, number_of}
 use Rattle.dso_run.proofs.Picks.{calls_back}
-use Rattle.dso_run.proofs.pick.picked.Goals as goal
+use Rattle.dso_run.proofs.pick.pick_path.Goals as goal
 
 -- each part is the program's
 pub returns : goal.returns
