@@ -1,3 +1,4 @@
 pub mod Value
 pub mod Shape
+pub mod Reach
 pub mod Weight

@@ -1,0 +1,41 @@
+-- The laws of one heap with plain monitors.
+use Rattle.std.specs.Prelude.{ℕ, ◌<◌, ◌≡◌, ◌≢◌, Bool, true, false, Option, Some, None, List, [], ◌∷◌, ◌++◌, length}
+use Rattle.dso_base.specs.declared.lock.LockName.{LockName}
+use Rattle.dso_base.specs.declared.lock.ThreadId.{ThreadId}
+use Rattle.dso_base.specs.declared.request.Event.{Event}
+use Rattle.dso_base.specs.declared.request.Event.TheVariants.{Act, Lost}
+use Rattle.dso_base.specs.declared.request.Reply.{Reply}
+use Rattle.dso_base.specs.declared.request.Reply.TheVariants.{Done}
+use Rattle.dso_base.specs.declared.request.Request.{Request}
+use Rattle.dso_base.specs.declared.request.Request.TheVariants.{Notify}
+use Rattle.dso_base.specs.declared.shape.Shape.{Shape}
+use Rattle.dso_base.specs.declared.value.Value.{Value}
+use Rattle.dso_plain.specs.State.{PlainState, IsShared, opening}
+use Rattle.dso_plain.specs.Possible.{May, IsUnmarkedWaiter}
+use Rattle.dso_plain.specs.After.{after}
+use Rattle.dso_plain.specs.History.{Runs, end_of, last_state}
+use Rattle.dso_plain.specs.Touches.{Touches, TouchesIn, MakesIn, AreActsOf, AreActsOfOthers, NoClash, NoCommonId}
+
+-- Two runs from one state that have nothing to do with each other: the second is one thread's, the first is of
+-- threads other than that one; their locks do not clash, and they make no common id.
+pub record AreApart (shape : Shape) (t : ThreadId) (others own : List Event) (s : PlainState) : Type 0 where
+  pub others_act : AreActsOfOthers t others
+  pub own_acts : AreActsOf t own
+  pub others_run : Runs shape others s
+  pub own_runs : Runs shape own s
+  pub locks : NoClash (TouchesIn shape others s) (TouchesIn shape own s)
+  pub ids : NoCommonId (MakesIn others) (MakesIn own)
+
+-- each run can follow the other, and both orders end in the same state
+pub record CanSwap (shape : Shape) (others own : List Event) (s : PlainState) : Type 0 where
+  pub own_after : Runs shape own (end_of shape others s)
+  pub others_after : Runs shape others (end_of shape own s)
+  pub same_end : end_of shape own (end_of shape others s) ≡ end_of shape others (end_of shape own s)
+
+-- Diamond: two runs that are apart can swap, be the first of one thread or of several.
+abbrev pub Diamond : Type 0
+Diamond = (shape : Shape) (t : ThreadId) (others own : List Event) (s : PlainState) → AreApart shape t others own s → CanSwap shape others own s
+
+-- a run in two parts is a run of the first and of the second from where that ends
+abbrev pub RunsInParts : Type 0
+RunsInParts = (shape : Shape) (first second : List Event) (s : PlainState) → Runs shape first s → Runs shape second (end_of shape first s) → Runs shape (first ++ second) s × (end_of shape (first ++ second) s ≡ end_of shape second (end_of shape first s))
