@@ -1,0 +1,4 @@
+pub mod Keys
+pub mod Commute
+pub mod Guarded
+pub mod Quiet
