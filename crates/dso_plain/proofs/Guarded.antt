@@ -15,7 +15,7 @@ use Rattle.dso_base.specs.declared.value.Value.{Value}
 use Rattle.dso_base.specs.declared.value.Value.TheVariants as value
 use Rattle.dso_base.specs.Reach.{reach}
 use Rattle.dso_plain.specs.Keys.{is_thread, is_lock, is_field, is_place, is_view, writes, nowhere, written}
-use Rattle.dso_plain.specs.State.{Object, Hold, PlainState, is_private_to, is_shared, is_owner, IsPrivate, IsShared, level_of, guard_in, hold_on_guard}
+use Rattle.dso_plain.specs.State.{Object, Hold, PlainState, is_private_to, is_mine, is_shared, is_owner, IsPrivate, IsShared, level_of, guard_in, hold_on_guard}
 use Rattle.dso_plain.specs.Possible.{IsPossible, Answers, Wakes}
 use Rattle.dso_plain.specs.After.{Change, nothing, made_new, read, read_shared, put, waits, resumes, notifies, notifies_all, entered, exited, count_of, resumed, change_of, published, shared, present, opening_field, names}
 use Rattle.dso_plain.specs.Touches.{Takes, ActTouches, ActMakes}
@@ -83,7 +83,7 @@ reach_private mine names objects (value.Text n) o e = absurd (cc e)
 
 -- a published object is the thread's own
 pub published_private : (t : ThreadId) (v : Value) (s : PlainState) (o : ℕ) → published t v s o ≡ true → IsPrivate t o s
-published_private t v s o e = reach_private (λ key. is_private_to t (s.objects key)) (names s) (s.made t) v o e
+published_private t v s o e = reach_private (is_mine t s) (names s) (s.made t) v o e
 
 module _ (shape : Shape) (t : ThreadId) (touch : LockName → Level → Type 0) (makes : ℕ → Type 0) (s : PlainState) where
   -- a step that writes nothing
@@ -101,7 +101,14 @@ module _ (shape : Shape) (t : ThreadId) (touch : LockName → Level → Type 0) 
         (inr (is_made o key absent m h.0), λ w ne. subst (λ x. is_private_to w x ≡ false) h.1 (new_private t w ne));
     made = λ key new e. same_thread t key (written_there (is_thread t) (λ _. o ∷ s.made t) key new e).0;
     heap = λ key new e. inr (inl (is_made o key.0 absent m (written_there (λ key. eqb key.0 o) (λ key. opening_field shape class n key.1) key new e).0));
-    past = λ _ _ e. none e; seen = λ _ _ e. none e; monitors = λ _ _ e. none e; asleep = λ _ _ e. none e; marked = λ _ _ e. none e; output = λ _ _ e. none e; ended = λ _ _ e. none e; lost = λ _ _ e. none e;
+    past = λ _ _ e. none e;
+    seen = λ _ _ e. none e;
+    monitors = λ _ _ e. none e;
+    asleep = λ _ _ e. none e;
+    marked = λ _ _ e. none e;
+    output = λ _ _ e. none e;
+    ended = λ _ _ e. none e;
+    lost = λ _ _ e. none e;
   }
 
   pub guarded_read : (o f : ℕ) (is_shared : Bool) → IsGuarded shape t touch makes s (read shape t o f is_shared s)
@@ -115,7 +122,16 @@ module _ (shape : Shape) (t : ThreadId) (touch : LockName → Level → Type 0) 
   pub guarded_put_own : (o f : ℕ) (v : Value) → IsPrivate t o s → IsGuarded shape t touch makes s (put t o f v false s)
   guarded_put_own o f v own = record {
     heap = λ key new e. inl (subst (λ k. IsPrivate t k.0 s) (sym (same_field o f key (written_there (is_field o f) (λ _. Some v) key new e).0)) own);
-    objects = λ _ _ e. none e; made = λ _ _ e. none e; past = λ _ _ e. none e; seen = λ _ _ e. none e; monitors = λ _ _ e. none e; asleep = λ _ _ e. none e; marked = λ _ _ e. none e; output = λ _ _ e. none e; ended = λ _ _ e. none e; lost = λ _ _ e. none e;
+    objects = λ _ _ e. none e;
+    made = λ _ _ e. none e;
+    past = λ _ _ e. none e;
+    seen = λ _ _ e. none e;
+    monitors = λ _ _ e. none e;
+    asleep = λ _ _ e. none e;
+    marked = λ _ _ e. none e;
+    output = λ _ _ e. none e;
+    ended = λ _ _ e. none e;
+    lost = λ _ _ e. none e;
   }
 
   pub guarded_put_shared : (o f : ℕ) (v : Value) → IsShared o s → touch (guard_in shape s o f) Write → IsGuarded shape t touch makes s (put t o f v true s)
@@ -126,7 +142,13 @@ module _ (shape : Shape) (t : ThreadId) (touch : LockName → Level → Type 0) 
     heap = λ key new e. inr (inr (under key (written_there (is_field o f) (λ _. Some v) key new e).0));
     past = λ key new e. pasts key new (is_field o f key) refl e;
     seen = λ key new e. same_view t o f key (written_there (is_view t o f) (λ _. length (s.past (o, f))) key new e).0;
-    made = λ _ _ e. none e; monitors = λ _ _ e. none e; asleep = λ _ _ e. none e; marked = λ _ _ e. none e; output = λ _ _ e. none e; ended = λ _ _ e. none e; lost = λ _ _ e. none e;
+    made = λ _ _ e. none e;
+    monitors = λ _ _ e. none e;
+    asleep = λ _ _ e. none e;
+    marked = λ _ _ e. none e;
+    output = λ _ _ e. none e;
+    ended = λ _ _ e. none e;
+    lost = λ _ _ e. none e;
   }
     where
       under : (key : ℕ × ℕ) → is_field o f key ≡ true → IsUnderGuard shape touch s key
@@ -150,7 +172,16 @@ module _ (shape : Shape) (t : ThreadId) (touch : LockName → Level → Type 0) 
     monitors = λ key new e.
         let there = written_there (is_place l t) (λ _. hold) key new e in
         ((at_place l key t there.0).1, λ x d. touched_at l x key t there.0 (held x (subst (λ h. level_of h ≡ Some x) (sym there.1) d)));
-    objects = λ _ _ e. none e; made = λ _ _ e. none e; heap = λ _ _ e. none e; past = λ _ _ e. none e; seen = λ _ _ e. none e; asleep = λ _ _ e. none e; marked = λ _ _ e. none e; output = λ _ _ e. none e; ended = λ _ _ e. none e; lost = λ _ _ e. none e;
+    objects = λ _ _ e. none e;
+    made = λ _ _ e. none e;
+    heap = λ _ _ e. none e;
+    past = λ _ _ e. none e;
+    seen = λ _ _ e. none e;
+    asleep = λ _ _ e. none e;
+    marked = λ _ _ e. none e;
+    output = λ _ _ e. none e;
+    ended = λ _ _ e. none e;
+    lost = λ _ _ e. none e;
   }
 
   -- a hold that goes to the waits, or comes back from them
@@ -165,7 +196,14 @@ module _ (shape : Shape) (t : ThreadId) (touch : LockName → Level → Type 0) 
         let there = written_there (is_place l t) (λ _. count) key new e in
         ((at_place l key t there.0).1, touched_at l Write key t there.0 h);
     marked = λ key new e. touched_at l Write key t (written_there (is_place l t) (λ _. false) key new e).0 h;
-    objects = λ _ _ e. none e; made = λ _ _ e. none e; heap = λ _ _ e. none e; past = λ _ _ e. none e; seen = λ _ _ e. none e; output = λ _ _ e. none e; ended = λ _ _ e. none e; lost = λ _ _ e. none e;
+    objects = λ _ _ e. none e;
+    made = λ _ _ e. none e;
+    heap = λ _ _ e. none e;
+    past = λ _ _ e. none e;
+    seen = λ _ _ e. none e;
+    output = λ _ _ e. none e;
+    ended = λ _ _ e. none e;
+    lost = λ _ _ e. none e;
   }
 
   pub guarded_notify : (l : LockName) (woken : Option ThreadId) → touch l Write → IsGuarded shape t touch makes s (notifies l woken)
@@ -177,7 +215,16 @@ module _ (shape : Shape) (t : ThreadId) (touch : LockName → Level → Type 0) 
     marked = λ key new e.
         let there = written_there (λ key. is_lock l key.0 && is_some (s.asleep key)) (λ _. true) key new e in
         subst (λ k. touch k Write) (sym (same_lock l key.0 (both (is_lock l key.0) (is_some (s.asleep key)) there.0).0)) h;
-    objects = λ _ _ e. none e; made = λ _ _ e. none e; heap = λ _ _ e. none e; past = λ _ _ e. none e; seen = λ _ _ e. none e; monitors = λ _ _ e. none e; asleep = λ _ _ e. none e; output = λ _ _ e. none e; ended = λ _ _ e. none e; lost = λ _ _ e. none e;
+    objects = λ _ _ e. none e;
+    made = λ _ _ e. none e;
+    heap = λ _ _ e. none e;
+    past = λ _ _ e. none e;
+    seen = λ _ _ e. none e;
+    monitors = λ _ _ e. none e;
+    asleep = λ _ _ e. none e;
+    output = λ _ _ e. none e;
+    ended = λ _ _ e. none e;
+    lost = λ _ _ e. none e;
   }
 
   pub guarded_print : (out : List Value) → IsGuarded shape t touch makes s (record nothing { output = writes (is_thread t) (λ key. out) })

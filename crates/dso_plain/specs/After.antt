@@ -20,7 +20,7 @@ use Rattle.dso_base.specs.declared.value.Value.TheVariants as value
 use Rattle.dso_base.specs.Shape.{kind_of}
 use Rattle.dso_base.specs.Reach.{reach}
 use Rattle.dso_plain.specs.Keys.{is_thread, is_lock, is_field, is_place, is_view, writes, nowhere, written}
-use Rattle.dso_plain.specs.State.{Object, Hold, PlainState, is_private_to, is_shared, size_of, hold_on_guard}
+use Rattle.dso_plain.specs.State.{Object, Hold, PlainState, is_mine, is_shared, size_of, hold_on_guard}
 use Rattle.dso_plain.specs.Possible.{May}
 
 -- What an event writes: for each part of the state the new value at each key, None where it writes nothing there.
@@ -100,7 +100,7 @@ names s a o = names_below s.heap (size_of (s.objects a)) a o
 
 -- Publishing: the objects private to the thread that are found from the value.
 abbrev pub published : ThreadId → Value → PlainState → ℕ → Bool
-published t v s o = reach (λ key. is_private_to t (s.objects key)) (names s) (s.made t) v o
+published t v s o = reach (is_mine t s) (names s) (s.made t) v o
 
 -- the object without its owner
 abbrev pub shared : Option Object → Option Object

@@ -1,5 +1,5 @@
 -- The laws of one heap with plain monitors.
-use Rattle.std.specs.Prelude.{ℕ, ◌<◌, ◌≡◌, ◌≢◌, Bool, true, false, Option, Some, None, List, [], ◌∷◌, ◌++◌, length}
+use Rattle.std.specs.Prelude.{ℕ, ◌<◌, ◌≡◌, ◌≢◌, ◌↔◌, Bool, true, false, Option, Some, None, List, [], ◌∷◌, ◌++◌, length}
 use Rattle.dso_base.specs.declared.lock.LockName.{LockName}
 use Rattle.dso_base.specs.declared.lock.ThreadId.{ThreadId}
 use Rattle.dso_base.specs.declared.request.Event.{Event}
@@ -36,6 +36,10 @@ pub record CanSwap (shape : Shape) (others own : List Event) (s : PlainState) : 
 abbrev pub Diamond : Type 0
 Diamond = (shape : Shape) (t : ThreadId) (others own : List Event) (s : PlainState) → AreApart shape t others own s → CanSwap shape others own s
 
--- a run in two parts is a run of the first and of the second from where that ends
+-- Parts: a run of two lists of events in order is a run of the first and, from where that ends, of the second.
 abbrev pub RunsInParts : Type 0
-RunsInParts = (shape : Shape) (first second : List Event) (s : PlainState) → Runs shape first s → Runs shape second (end_of shape first s) → Runs shape (first ++ second) s × (end_of shape (first ++ second) s ≡ end_of shape second (end_of shape first s))
+RunsInParts = (shape : Shape) (first second : List Event) (s : PlainState) → Runs shape (first ++ second) s ↔ (Runs shape first s × Runs shape second (end_of shape first s))
+
+-- and it ends where the second does
+abbrev pub EndsInParts : Type 0
+EndsInParts = (shape : Shape) (first second : List Event) (s : PlainState) → end_of shape (first ++ second) s ≡ end_of shape second (end_of shape first s)

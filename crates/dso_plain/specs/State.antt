@@ -72,6 +72,10 @@ abbrev pub is_private_to : ThreadId → Option Object → Bool
 is_private_to t None = false
 is_private_to t (Some object) = is_owner t object.owner
 
+-- whether the object of this id is private to the thread
+abbrev pub is_mine : ThreadId → PlainState → ℕ → Bool
+is_mine t s o = is_private_to t (s.objects o)
+
 -- whether the object is there and shared
 abbrev pub is_shared : Option Object → Bool
 is_shared None = false

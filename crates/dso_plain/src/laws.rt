@@ -1,0 +1,14 @@
+//! The laws of one heap with plain monitors. Each is the contract of a function that does nothing.
+ghost use Rattle.dso_plain.specs.Laws.{Diamond, RunsInParts, EndsInParts};
+
+/// Two runs from one state, one of a thread and one of other threads, can swap where their locks do not clash and
+/// they make no common id: each can follow the other, and both orders end in the same state.
+pub fn diamond()
+    ensures { Diamond }
+{}
+
+/// A run of two lists of events in order is a run of the first and, from where that ends, of the second.
+pub fn parts()
+    ensures runs { RunsInParts }
+    ensures ends { EndsInParts }
+{}
