@@ -17,7 +17,7 @@ use Rattle.dso_base.specs.Reach.{reach, has_way, names_within}
 use Rattle.dso_plain.specs.Keys.{is_thread, is_lock, is_field, is_place, is_view, writes, nowhere}
 use Rattle.dso_plain.specs.State.{Object, Hold, PlainState, is_private_to, is_mine, is_shared, size_of, IsPrivate, IsShared, level_of, guard_in, hold_on_guard}
 use Rattle.dso_plain.specs.Possible.{Answers, AnswersGet, AnswersPut}
-use Rattle.dso_plain.specs.After.{Change, nothing, made_new, read, read_shared, put, waits, resumes, notifies, notifies_all, entered, exited, count_of, resumed, change_of, published, shared, present, opening_field, names, names_below, holds_reference}
+use Rattle.dso_plain.specs.After.{Change, nothing, made_new, new_object, read, read_shared, put, waits, resumes, notifies, notifies_all, entered, exited, count_of, resumed, change_of, published, shared, present, opening_field, names, names_below, holds_reference}
 use Rattle.dso_plain.specs.Touches.{ActTouches, NoClash}
 use Rattle.dso_plain.proofs.Keys.{same_lock}
 use Rattle.dso_plain.proofs.Guarded.{private_unshared, published_private}
@@ -127,7 +127,7 @@ module _ (shape : Shape) (t u : ThreadId) (touch : LockName → Level → Type 0
   -- the act writes the same
   pub alike : (request : Request) (reply : Reply) (woken : Option ThreadId) → NoClash touch (ActTouches u request reply s) → Answers shape u request reply s → change_of shape u request reply woken r ≡ change_of shape u request reply woken s
   alike (New class n) (Made o) woken locks a = ap (λ m. record nothing {
-    objects = writes (λ key. eqb key o) (λ key. Some (record { class = class; size = n; owner = Some u }));
+    objects = writes (λ key. eqb key o) (λ key. Some (new_object u class n));
     made = writes (is_thread u) (λ key. o ∷ m);
     heap = writes (λ key. eqb key.0 o) (λ key. opening_field shape class n key.1);
   }) (q.made u other)

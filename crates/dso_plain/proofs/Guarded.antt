@@ -17,7 +17,7 @@ use Rattle.dso_base.specs.Reach.{reach}
 use Rattle.dso_plain.specs.Keys.{is_thread, is_lock, is_field, is_place, is_view, writes, nowhere, written}
 use Rattle.dso_plain.specs.State.{Object, Hold, PlainState, is_private_to, is_mine, is_shared, is_owner, IsPrivate, IsShared, level_of, guard_in, hold_on_guard}
 use Rattle.dso_plain.specs.Possible.{IsPossible, Answers, Wakes}
-use Rattle.dso_plain.specs.After.{Change, nothing, made_new, read, read_shared, put, waits, resumes, notifies, notifies_all, entered, exited, count_of, resumed, change_of, published, shared, present, opening_field, names}
+use Rattle.dso_plain.specs.After.{Change, nothing, made_new, new_object, read, read_shared, put, waits, resumes, notifies, notifies_all, entered, exited, count_of, resumed, change_of, published, shared, present, opening_field, names}
 use Rattle.dso_plain.specs.Touches.{Takes, ActTouches, ActMakes}
 use Rattle.dso_plain.proofs.Keys.{Wherever, none, written_there, both, same_number, same_thread, same_lock, same_field, same_place, same_view}
 
@@ -61,7 +61,7 @@ other_private t w None e ne = refl
 other_private t w (Some object) e ne = other_owner t w object.owner e ne
 
 -- what became shared is private to nobody
-shared_private : (w : ThreadId) (object : Option Object) → is_private_to w (shared object) ≡ false
+pub shared_private : (w : ThreadId) (object : Option Object) → is_private_to w (shared object) ≡ false
 shared_private w None = refl
 shared_private w (Some object) = refl
 
@@ -97,7 +97,7 @@ module _ (shape : Shape) (t : ThreadId) (touch : LockName → Level → Type 0) 
   pub guarded_new : (class : ClassId) (n o : ℕ) → s.objects o ≡ None → makes o → IsGuarded shape t touch makes s (made_new shape t class n o s)
   guarded_new class n o absent m = record {
     objects = λ key new e.
-        let h = written_there (λ key. eqb key o) (λ key. Some (record { class = class; size = n; owner = Some t })) key new e in
+        let h = written_there (λ key. eqb key o) (λ key. Some (new_object t class n)) key new e in
         (inr (is_made o key absent m h.0), λ w ne. subst (λ x. is_private_to w x ≡ false) h.1 (new_private t w ne));
     made = λ key new e. same_thread t key (written_there (is_thread t) (λ _. o ∷ s.made t) key new e).0;
     heap = λ key new e. inr (inl (is_made o key.0 absent m (written_there (λ key. eqb key.0 o) (λ key. opening_field shape class n key.1) key new e).0));

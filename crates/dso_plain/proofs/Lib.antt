@@ -5,3 +5,4 @@ pub mod Quiet
 pub mod Still
 pub mod Alike
 pub mod Diamond
+pub mod Past

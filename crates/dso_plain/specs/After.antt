@@ -66,10 +66,14 @@ opening_value kind.Ref = value.Null
 abbrev pub opening_field : Shape → ClassId → ℕ → ℕ → Option Value
 opening_field shape class n f = cond (ltb f n) (Some (opening_value (kind_of shape class f))) None
 
+-- an object of this class and size, private to the thread
+abbrev pub new_object : ThreadId → ClassId → ℕ → Object
+new_object t class n = record { class = class; size = n; owner = Some t }
+
 -- New: the object stands in the heap with opening values, private to the thread.
 abbrev pub made_new : Shape → ThreadId → ClassId → ℕ → ℕ → PlainState → Change
 made_new shape t class n o s = record nothing {
-  objects = writes (λ key. eqb key o) (λ key. Some (record { class = class; size = n; owner = Some t }));
+  objects = writes (λ key. eqb key o) (λ key. Some (new_object t class n));
   made = writes (is_thread t) (λ key. o ∷ s.made t);
   heap = writes (λ key. eqb key.0 o) (λ key. opening_field shape class n key.1);
 }

@@ -14,6 +14,7 @@ use Rattle.dso_plain.specs.State.{PlainState, IsShared, opening}
 use Rattle.dso_plain.specs.Possible.{May, IsUnmarkedWaiter}
 use Rattle.dso_plain.specs.After.{after}
 use Rattle.dso_plain.specs.History.{Runs, end_of, last_state}
+use Rattle.dso_plain.specs.Past.{KeepsPast, PastsGrow}
 use Rattle.dso_plain.specs.Touches.{Touches, TouchesIn, MakesIn, AreActsOf, AreActsOfOthers, NoClash, NoCommonId}
 
 -- Two runs from one state that have nothing to do with each other: the second is one thread's, the first is of
@@ -43,3 +44,11 @@ RunsInParts = (shape : Shape) (first second : List Event) (s : PlainState) → R
 -- and it ends where the second does
 abbrev pub EndsInParts : Type 0
 EndsInParts = (shape : Shape) (first second : List Event) (s : PlainState) → end_of shape (first ++ second) s ≡ end_of shape second (end_of shape first s)
+
+-- Past: what is said of pasts holds in each state that a run from the opening state reaches.
+abbrev pub Past : Type 0
+Past = (shape : Shape) (h : List Event) → Runs shape h (opening shape) → KeepsPast (last_state shape h)
+
+-- Growth: a run from any state lets pasts only grow.
+abbrev pub Growth : Type 0
+Growth = (shape : Shape) (es : List Event) (s : PlainState) → Runs shape es s → PastsGrow s (end_of shape es s)

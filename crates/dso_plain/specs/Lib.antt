@@ -4,4 +4,5 @@ pub mod Possible
 pub mod After
 pub mod History
 pub mod Touches
+pub mod Past
 pub mod Laws

@@ -45,10 +45,14 @@ pub record PlainState : Type 0 where
 abbrev pub is_root : Shape → ℕ × ℕ → Bool
 is_root shape key = eqb key.0 0 && ltb key.1 shape.roots
 
+-- object 0: of class Roots, with one field for each root, shared
+abbrev pub roots_object : Shape → Object
+roots_object shape = record { class = class.Roots; size = shape.roots; owner = None }
+
 -- Before the first step: object 0 of class Roots, shared, with one null field for each root, and nothing else.
 abbrev pub opening : Shape → PlainState
 opening shape = record {
-  objects = λ o. cond (eqb o 0) (Some (record { class = class.Roots; size = shape.roots; owner = None })) None;
+  objects = λ o. cond (eqb o 0) (Some (roots_object shape)) None;
   made = λ t. [];
   heap = λ key. cond (is_root shape key) (Some value.Null) None;
   past = λ key. cond (is_root shape key) (value.Null ∷ []) [];

@@ -1,5 +1,5 @@
 //! The laws of one heap with plain monitors. Each is the contract of a function that does nothing.
-ghost use Rattle.dso_plain.specs.Laws.{Diamond, RunsInParts, EndsInParts};
+ghost use Rattle.dso_plain.specs.Laws.{Diamond, RunsInParts, EndsInParts, Past, Growth};
 
 /// Two runs from one state, one of a thread and one of other threads, can swap where their locks do not clash and
 /// they make no common id: each can follow the other, and both orders end in the same state.
@@ -11,4 +11,11 @@ pub fn diamond()
 pub fn parts()
     ensures runs { RunsInParts }
     ensures ends { EndsInParts }
+{}
+
+/// The newest of a shared field's past is the heap's value, and what a thread has seen is a place in the past, never
+/// beyond the newest; pasts only grow.
+pub fn past()
+    ensures reached { Past }
+    ensures grows { Growth }
 {}
