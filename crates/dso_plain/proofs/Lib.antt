@@ -6,3 +6,4 @@ pub mod Still
 pub mod Alike
 pub mod Diamond
 pub mod Past
+pub mod Loss

@@ -5,4 +5,5 @@ pub mod After
 pub mod History
 pub mod Touches
 pub mod Past
+pub mod Loss
 pub mod Laws

@@ -1,4 +1,5 @@
 //! The laws of one heap with plain monitors. Each is the contract of a function that does nothing.
+ghost use Rattle.dso_plain.specs.Loss.{Loss, WaitersLeft, ChoiceAfterLoss};
 ghost use Rattle.dso_plain.specs.Laws.{Diamond, RunsInParts, EndsInParts, Past, Growth};
 
 /// Two runs from one state, one of a thread and one of other threads, can swap where their locks do not clash and
@@ -18,4 +19,12 @@ pub fn parts()
 pub fn past()
     ensures reached { Past }
     ensures grows { Growth }
+{}
+
+/// A run of other clients' threads that notifies no thread of a client survives that client's loss. A notification
+/// can choose, after the loss, among the waiters left: those of other clients; and nobody exactly where none is left.
+pub fn loss()
+    ensures runs { Loss }
+    ensures waiters { WaitersLeft }
+    ensures choice { ChoiceAfterLoss }
 {}
