@@ -7,3 +7,4 @@ pub mod Alike
 pub mod Diamond
 pub mod Past
 pub mod Loss
+pub mod Published

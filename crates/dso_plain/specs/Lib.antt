@@ -6,4 +6,5 @@ pub mod History
 pub mod Touches
 pub mod Past
 pub mod Loss
+pub mod Published
 pub mod Laws

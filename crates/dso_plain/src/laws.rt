@@ -1,5 +1,6 @@
 //! The laws of one heap with plain monitors. Each is the contract of a function that does nothing.
 ghost use Rattle.dso_plain.specs.Loss.{Loss, WaitersLeft, ChoiceAfterLoss};
+ghost use Rattle.dso_plain.specs.Published.{ReachTells, PublishedIsReached};
 ghost use Rattle.dso_plain.specs.Laws.{Diamond, RunsInParts, EndsInParts, Past, Growth};
 
 /// Two runs from one state, one of a thread and one of other threads, can swap where their locks do not clash and
@@ -27,4 +28,10 @@ pub fn loss()
     ensures runs { Loss }
     ensures waiters { WaitersLeft }
     ensures choice { ChoiceAfterLoss }
+{}
+
+/// What a put into a shared object publishes is exactly what is found from the value through private objects.
+pub fn publishing()
+    ensures reach { ReachTells }
+    ensures published { PublishedIsReached }
 {}
