@@ -95,9 +95,10 @@ record Behind (shape : Shape) (a : Event) (own : List Event) (s : PlainState) : 
   first_after : May shape a (end_of shape own s)
   same_end : end_of shape own (after shape a s) ≡ after shape a (end_of shape own s)
   touches : (l : LockName) (x : Level) → TouchesIn shape own (after shape a s) l x → TouchesIn shape own s l x
+  first_touches : (l : LockName) (x : Level) → Touches a (end_of shape own s) l x → Touches a s l x
 
 behind : (shape : Shape) (u : ThreadId) (a : Event) (own : List Event) (s : PlainState) → Front shape u a own s → Behind shape a own s
-behind shape u a [] s h = record { runs_after = tt; first_after = h.first; same_end = refl; touches = λ l x k. k }
+behind shape u a [] s h = record { runs_after = tt; first_after = h.first; same_end = refl; touches = λ l x k. k; first_touches = λ l x k. k }
 behind shape u a (b ∷ own) s h =
     let d = square shape u a b s (record {
       other = h.other;
@@ -120,6 +121,7 @@ behind shape u a (b ∷ own) s h =
       first_after = rest.first_after;
       same_end = ap (λ z. end_of shape own z) d.same_end ∙ rest.same_end;
       touches = λ l x. touched l x d rest;
+      first_touches = λ l x k. d.first_touches l x (rest.first_touches l x k);
     }
   where
     touched : (l : LockName) (x : Level) → Square shape a b s → Behind shape a own (after shape b s) → TouchesIn shape (b ∷ own) (after shape a s) l x → TouchesIn shape (b ∷ own) s l x
@@ -127,7 +129,7 @@ behind shape u a (b ∷ own) s h =
     touched l x d rest (inr k) = inr (rest.touches l x (subst (λ z. TouchesIn shape own z l x) d.same_end k))
 
 pub diamond : (shape : Shape) (u : ThreadId) (others own : List Event) (s : PlainState) → AreApart shape u others own s → CanSwap shape others own s
-diamond shape u [] own s h = record { own_after = h.own_runs; others_after = tt; same_end = refl }
+diamond shape u [] own s h = record { own_after = h.own_runs; others_after = tt; same_end = refl; own_touches = λ l x k. k; others_touch = λ l x k. k }
 diamond shape u (a ∷ others) own s h =
     let d = behind shape u a own s (record {
       other = h.others_act.0;
@@ -149,7 +151,13 @@ diamond shape u (a ∷ others) own s h =
       own_after = rest.own_after;
       others_after = (d.first_after, subst (λ z. Runs shape others z) d.same_end rest.others_after);
       same_end = rest.same_end ∙ ap (λ z. end_of shape others z) d.same_end;
+      own_touches = λ l x k. d.touches l x (rest.own_touches l x k);
+      others_touch = λ l x. touched l x d rest;
     }
+  where
+    touched : (l : LockName) (x : Level) → Behind shape a own s → CanSwap shape others own (after shape a s) → TouchesIn shape (a ∷ others) (end_of shape own s) l x → TouchesIn shape (a ∷ others) s l x
+    touched l x d rest (inl k) = inl (d.first_touches l x k)
+    touched l x d rest (inr k) = inr (rest.others_touch l x (subst (λ z. TouchesIn shape others z l x) (sym d.same_end) k))
 
 -- a run in two parts
 pub runs_in_parts : (shape : Shape) (first second : List Event) (s : PlainState) → Runs shape (first ++ second) s ↔ (Runs shape first s × Runs shape second (end_of shape first s))

@@ -22,7 +22,7 @@ use Rattle.dso_plain.specs.State.{Hold, PlainState, is_shared, HoldsNothing, lev
 use Rattle.dso_plain.specs.Possible.{IsPossible, May, Answers, AnswersNew, AnswersLook, AnswersGet, MayPut, IsPrivateMonitor, IsClusterLock, AnswersEnter, AnswersExit, AnswersMonitor, AnswersResume, AnswersEnd, Beside, NoConflict, IsUpgrade, HoldsWrite, Wakes, IsAwakeFor, IsUnmarkedWaiter}
 use Rattle.dso_plain.specs.After.{Change, nothing, change_of, apply, after, loses, put, read, read_shared, notifies, notifies_all, entered, exited, count_of, resumed}
 use Rattle.dso_plain.specs.History.{Runs, end_of}
-use Rattle.dso_plain.specs.Touches.{ActTouches, ActMakes}
+use Rattle.dso_plain.specs.Touches.{ActTouches, ActMakes, Touches, TouchesIn}
 use Rattle.dso_plain.specs.Loss.{WakesNoneOf, IsApartFrom, AreApartFrom, SurvivesLoss}
 use Rattle.dso_plain.proofs.Keys.{Wherever, none, written_there, same_number, number_self, same_place, written_swap}
 use Rattle.dso_plain.proofs.Commute.{AreDisjoint, apply_swap}
@@ -285,23 +285,38 @@ module _ (shape : Shape) (client : ℕ) (s : PlainState) (t : ThreadId) (other :
   swap (NotifyAll l) reply woken a apart = refl
   swap request reply woken a apart = swap_one request reply woken a tt apart
 
--- an event of another client
-event_survives : (shape : Shape) (client : ℕ) (e : Event) (s : PlainState) → May shape e s → IsApartFrom client e → May shape e (left client s) × (after shape e (left client s) ≡ left client (after shape e s))
+-- what is so of one event
+record OneSurvives (shape : Shape) (client : ℕ) (e : Event) (s : PlainState) : Type 0 where
+  may : May shape e (left client s)
+  same_end : after shape e (left client s) ≡ left client (after shape e s)
+  touches : (l : LockName) (x : Level) → Touches e (left client s) l x → Touches e s l x
+
+event_survives : (shape : Shape) (client : ℕ) (e : Event) (s : PlainState) → May shape e s → IsApartFrom client e → OneSurvives shape client e s
 event_survives shape client (Lost lost) s m apart = absurd apart
-event_survives shape client (Act t request reply woken) s m apart = (
-  possible_with shape client s t apart.0 request reply woken woken m (still_wakes shape client s t apart.0 request reply woken apart.1 m.wakes),
-  swap shape client s t apart.0 request reply woken m.answers apart.1,
-)
+event_survives shape client (Act t request reply woken) s m apart = record {
+  may = possible_with shape client s t apart.0 request reply woken woken m (still_wakes shape client s t apart.0 request reply woken apart.1 m.wakes);
+  same_end = swap shape client s t apart.0 request reply woken m.answers apart.1;
+  touches = λ l x. touched l x;
+}
+  where
+    touched : (l : LockName) (x : Level) → ActTouches t request reply (left client s) l x → ActTouches t request reply s l x
+    touched l x (inl e) = inl (sym (ap level_of (same_hold shape client s t apart.0 l)) ∙ e)
+    touched l x (inr e) = inr e
 
 pub loss : (shape : Shape) (client : ℕ) (es : List Event) (s : PlainState) → Runs shape es s → AreApartFrom client es → SurvivesLoss shape client es s
-loss shape client [] s m apart = record { still_runs = tt; same_end = refl }
+loss shape client [] s m apart = record { still_runs = tt; same_end = refl; touches = λ l x k. k }
 loss shape client (e ∷ es) s m apart =
     let one = event_survives shape client e s m.0 apart.0 in
     let rest = loss shape client es (after shape e s) m.1 apart.1 in
     record {
-      still_runs = (one.0, subst (λ z. Runs shape es z) (sym one.1) rest.still_runs);
-      same_end = ap (λ z. end_of shape es z) one.1 ∙ rest.same_end;
+      still_runs = (one.may, subst (λ z. Runs shape es z) (sym one.same_end) rest.still_runs);
+      same_end = ap (λ z. end_of shape es z) one.same_end ∙ rest.same_end;
+      touches = λ l x. touched l x one rest;
     }
+  where
+    touched : (l : LockName) (x : Level) → OneSurvives shape client e s → SurvivesLoss shape client es (after shape e s) → TouchesIn shape (e ∷ es) (left client s) l x → TouchesIn shape (e ∷ es) s l x
+    touched l x one rest (inl k) = inl (one.touches l x k)
+    touched l x one rest (inr k) = inr (rest.touches l x (subst (λ z. TouchesIn shape es z l x) one.same_end k))
 
 -- a notification chooses among the waiters left
 pub choice_after_loss : (shape : Shape) (client : ℕ) (s : PlainState) (t : ThreadId) (l : LockName) (before chosen : Option ThreadId) → t.client ≢ client → IsPossible shape t (Notify l) Done before s → IsPossible shape t (Notify l) Done chosen (left client s) ↔ Wakes (Notify l) Done chosen (left client s)

@@ -1,5 +1,6 @@
 -- The laws of one heap with plain monitors.
 use Rattle.std.specs.Prelude.{ℕ, ◌<◌, ◌≡◌, ◌≢◌, ◌↔◌, Bool, true, false, Option, Some, None, List, [], ◌∷◌, ◌++◌, length}
+use Rattle.dso_base.specs.declared.lock.Level.{Level}
 use Rattle.dso_base.specs.declared.lock.LockName.{LockName}
 use Rattle.dso_base.specs.declared.lock.ThreadId.{ThreadId}
 use Rattle.dso_base.specs.declared.request.Event.{Event}
@@ -27,11 +28,13 @@ pub record AreApart (shape : Shape) (t : ThreadId) (others own : List Event) (s 
   pub locks : NoClash (TouchesIn shape others s) (TouchesIn shape own s)
   pub ids : NoCommonId (MakesIn others) (MakesIn own)
 
--- each run can follow the other, and both orders end in the same state
+-- each run can follow the other, both orders end in the same state, and neither run touches more than it did
 pub record CanSwap (shape : Shape) (others own : List Event) (s : PlainState) : Type 0 where
   pub own_after : Runs shape own (end_of shape others s)
   pub others_after : Runs shape others (end_of shape own s)
   pub same_end : end_of shape own (end_of shape others s) ≡ end_of shape others (end_of shape own s)
+  pub own_touches : (l : LockName) (x : Level) → TouchesIn shape own (end_of shape others s) l x → TouchesIn shape own s l x
+  pub others_touch : (l : LockName) (x : Level) → TouchesIn shape others (end_of shape own s) l x → TouchesIn shape others s l x
 
 -- Diamond: two runs that are apart can swap, be the first of one thread or of several.
 abbrev pub Diamond : Type 0

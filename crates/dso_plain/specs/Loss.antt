@@ -1,5 +1,6 @@
 -- What the loss of a client leaves to the others.
 use Rattle.std.specs.Prelude.{ℕ, ◌≡◌, ◌≢◌, ◌↔◌, Option, Some, None, List, [], ◌∷◌}
+use Rattle.dso_base.specs.declared.lock.Level.{Level}
 use Rattle.dso_base.specs.declared.lock.LockName.{LockName}
 use Rattle.dso_base.specs.declared.lock.ThreadId.{ThreadId}
 use Rattle.dso_base.specs.declared.request.Event.{Event}
@@ -13,6 +14,7 @@ use Rattle.dso_plain.specs.State.{PlainState}
 use Rattle.dso_plain.specs.Possible.{IsPossible, May, IsUnmarkedWaiter, Wakes}
 use Rattle.dso_plain.specs.After.{after}
 use Rattle.dso_plain.specs.History.{Runs, end_of}
+use Rattle.dso_plain.specs.Touches.{TouchesIn}
 
 -- nobody is woken, or a thread of another client
 abbrev pub WakesNoneOf : ℕ → Option ThreadId → Type 0
@@ -29,11 +31,12 @@ abbrev pub AreApartFrom : ℕ → List Event → Type 0
 AreApartFrom client [] = Unit {0}
 AreApartFrom client (e ∷ es) = IsApartFrom client e × AreApartFrom client es
 
--- what is so of a run after the loss: it is still a run, and it does not matter whether the loss comes before or
--- after it
+-- what is so of a run after the loss: it is still a run, it does not matter whether the loss comes before or after
+-- it, and it touches no more than it did
 pub record SurvivesLoss (shape : Shape) (client : ℕ) (es : List Event) (s : PlainState) : Type 0 where
   pub still_runs : Runs shape es (after shape (Lost client) s)
   pub same_end : end_of shape es (after shape (Lost client) s) ≡ after shape (Lost client) (end_of shape es s)
+  pub touches : (l : LockName) (x : Level) → TouchesIn shape es (after shape (Lost client) s) l x → TouchesIn shape es s l x
 
 -- Loss: a run of threads of other clients that notifies no thread of the client survives the client's loss.
 abbrev pub Loss : Type 0

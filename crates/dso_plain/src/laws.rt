@@ -4,7 +4,8 @@ ghost use Rattle.dso_plain.specs.Published.{ReachTells, PublishedIsReached};
 ghost use Rattle.dso_plain.specs.Laws.{Diamond, RunsInParts, EndsInParts, Past, Growth};
 
 /// Two runs from one state, one of a thread and one of other threads, can swap where their locks do not clash and
-/// they make no common id: each can follow the other, and both orders end in the same state.
+/// they make no common id: each can follow the other, both orders end in the same state, and neither touches a lock
+/// at a level at which it did not before.
 pub fn diamond()
     ensures { Diamond }
 {}
@@ -22,7 +23,8 @@ pub fn past()
     ensures grows { Growth }
 {}
 
-/// A run of other clients' threads that notifies no thread of a client survives that client's loss. A notification
+/// A run of other clients' threads that notifies no thread of a client survives that client's loss, and it does not
+/// matter whether the loss comes before or after it. A notification
 /// can choose, after the loss, among the waiters left: those of other clients; and nobody exactly where none is left.
 pub fn loss()
     ensures runs { Loss }
