@@ -8,3 +8,4 @@ pub mod Diamond
 pub mod Past
 pub mod Loss
 pub mod Published
+pub mod Legal

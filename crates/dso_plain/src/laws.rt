@@ -1,7 +1,7 @@
 //! The laws of one heap with plain monitors. Each is the contract of a function that does nothing.
 ghost use Rattle.dso_plain.specs.Loss.{Loss, WaitersLeft, ChoiceAfterLoss};
 ghost use Rattle.dso_plain.specs.Published.{ReachTells, PublishedIsReached};
-ghost use Rattle.dso_plain.specs.Laws.{Diamond, RunsInParts, EndsInParts, Past, Growth};
+ghost use Rattle.dso_plain.specs.Laws.{Diamond, RunsInParts, EndsInParts, Past, Growth, LegalGoesOn};
 
 /// Two runs from one state, one of a thread and one of other threads, can swap where their locks do not clash and
 /// they make no common id: each can follow the other, both orders end in the same state, and neither touches a lock
@@ -24,8 +24,8 @@ pub fn past()
 {}
 
 /// A run of other clients' threads that notifies no thread of a client survives that client's loss, and it does not
-/// matter whether the loss comes before or after it. A notification
-/// can choose, after the loss, among the waiters left: those of other clients; and nobody exactly where none is left.
+/// matter whether the loss comes before or after it. A notification can choose, after the loss, among the waiters
+/// left: those of other clients; and nobody exactly where none is left.
 pub fn loss()
     ensures runs { Loss }
     ensures waiters { WaitersLeft }
@@ -36,4 +36,9 @@ pub fn loss()
 pub fn publishing()
     ensures reach { ReachTells }
     ensures published { PublishedIsReached }
+{}
+
+/// A legal history with more events behind it is legal where these run from its last state and follow the program.
+pub fn legal_goes_on()
+    ensures { LegalGoesOn }
 {}
