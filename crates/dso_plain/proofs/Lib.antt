@@ -9,3 +9,4 @@ pub mod Past
 pub mod Loss
 pub mod Published
 pub mod Legal
+pub mod Monitors

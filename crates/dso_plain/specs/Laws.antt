@@ -15,6 +15,7 @@ use Rattle.dso_plain.specs.State.{PlainState, IsShared, opening}
 use Rattle.dso_plain.specs.Possible.{May, IsUnmarkedWaiter}
 use Rattle.dso_plain.specs.After.{after}
 use Rattle.dso_plain.specs.History.{Runs, end_of, last_state, events_of, FollowsFrom, IsLegal}
+use Rattle.dso_plain.specs.Monitors.{KeepsMonitors}
 use Rattle.dso_plain.specs.Past.{KeepsPast, PastsGrow}
 use Rattle.dso_plain.specs.Touches.{Touches, TouchesIn, MakesIn, AreActsOf, AreActsOfOthers, NoClash, NoCommonId}
 
@@ -60,3 +61,7 @@ Growth = (shape : Shape) (es : List Event) (s : PlainState) → Runs shape es s 
 -- events among them follow the program after those that it has.
 abbrev pub LegalGoesOn : Type 0
 LegalGoesOn = (next : ThreadId → List Event → Option Request) (listed : ThreadId → List Event → Reply → Bool) (shape : Shape) (h more : List Event) → IsLegal next (λ t es reply. listed t es reply ≡ true) shape h → Runs shape more (last_state shape h) → ((t : ThreadId) → FollowsFrom next (λ t es reply. listed t es reply ≡ true) t (events_of t h) (events_of t more)) → IsLegal next (λ t es reply. listed t es reply ≡ true) shape (h ++ more)
+
+-- Monitors: what is said of monitors holds in each state that a run from the opening state reaches.
+abbrev pub Monitors : Type 0
+Monitors = (shape : Shape) (h : List Event) → Runs shape h (opening shape) → KeepsMonitors (last_state shape h)

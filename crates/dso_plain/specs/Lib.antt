@@ -7,4 +7,5 @@ pub mod Touches
 pub mod Past
 pub mod Loss
 pub mod Published
+pub mod Monitors
 pub mod Laws

@@ -1,7 +1,7 @@
 //! The laws of one heap with plain monitors. Each is the contract of a function that does nothing.
 ghost use Rattle.dso_plain.specs.Loss.{Loss, WaitersLeft, ChoiceAfterLoss};
 ghost use Rattle.dso_plain.specs.Published.{ReachTells, PublishedIsReached};
-ghost use Rattle.dso_plain.specs.Laws.{Diamond, RunsInParts, EndsInParts, Past, Growth, LegalGoesOn};
+ghost use Rattle.dso_plain.specs.Laws.{Diamond, RunsInParts, EndsInParts, Past, Growth, LegalGoesOn, Monitors};
 
 /// Two runs from one state, one of a thread and one of other threads, can swap where their locks do not clash and
 /// they make no common id: each can follow the other, both orders end in the same state, and neither touches a lock
@@ -41,4 +41,10 @@ pub fn publishing()
 /// A legal history with more events behind it is legal where these run from its last state and follow the program.
 pub fn legal_goes_on()
     ensures { LegalGoesOn }
+{}
+
+/// Who holds a lock at Write holds it alone; only waiters are marked; threads that have ended or whose client is lost
+/// have no part in any lock.
+pub fn monitors()
+    ensures { Monitors }
 {}
