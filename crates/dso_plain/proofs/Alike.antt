@@ -1,23 +1,22 @@
 -- A step writes the same after a step of another thread that has nothing to do with it.
-use Rattle.std.proofs.Common.{ℕ, zero, suc, ◌-◌, ◌<◌, ◌≡◌, ◌≢◌, ◌⊎◌, inl, inr, refl, sym, ◌∙◌, ap, subst, Bool, true, false, cond, eqb, ◌&&◌, ◌||◌, is_some, Option, Some, None, List, [], ◌∷◌, length}
+use Rattle.std.proofs.Common.{ℕ, zero, suc, ◌-◌, ◌≡◌, ◌≢◌, inl, inr, refl, sym, ◌∙◌, ap, subst, Bool, true, false, cond, eqb, ◌&&◌, ◌||◌, is_some, Option, Some, None, List, ◌∷◌, length}
 use Rattle.std.proofs.Math.Path.{fun_ext}
 use Rattle.dso_base.specs.declared.lock.Level.{Level}
-use Rattle.dso_base.specs.declared.lock.Level.TheVariants.{Read, Write}
+use Rattle.dso_base.specs.declared.lock.Level.TheVariants.{Write}
 use Rattle.dso_base.specs.declared.lock.LockName.{LockName}
 use Rattle.dso_base.specs.declared.lock.ThreadId.{ThreadId}
-use Rattle.dso_base.specs.declared.request.Fault.{Fault}
 use Rattle.dso_base.specs.declared.request.Reply.{Reply}
-use Rattle.dso_base.specs.declared.request.Reply.TheVariants.{Done, Made, Seen, Val, Local, Refused}
+use Rattle.dso_base.specs.declared.request.Reply.TheVariants.{Done, Made, Val}
 use Rattle.dso_base.specs.declared.request.Request.{Request}
-use Rattle.dso_base.specs.declared.request.Request.TheVariants.{New, Look, Get, Put, Enter, Exit, Wait, Resume, Notify, NotifyAll, Print, End, Pause}
+use Rattle.dso_base.specs.declared.request.Request.TheVariants.{New, Get, Put, Enter, Exit, Wait, Resume, Notify, NotifyAll, Print, End}
 use Rattle.dso_base.specs.declared.shape.Shape.{Shape}
 use Rattle.dso_base.specs.declared.value.Value.{Value}
 use Rattle.dso_base.specs.declared.value.Value.TheVariants as value
 use Rattle.dso_base.specs.Reach.{reach, has_way, names_within}
-use Rattle.dso_plain.specs.Keys.{is_thread, is_lock, is_field, is_place, is_view, writes, nowhere}
-use Rattle.dso_plain.specs.State.{Object, Hold, PlainState, is_private_to, is_mine, is_shared, size_of, IsPrivate, IsShared, level_of, guard_in, hold_on_guard}
+use Rattle.dso_plain.specs.Keys.{is_thread, is_lock, is_field, is_place, is_view, writes}
+use Rattle.dso_plain.specs.State.{Hold, PlainState, is_private_to, is_mine, is_shared, size_of, IsPrivate, IsShared, guard_in, hold_on_guard}
 use Rattle.dso_plain.specs.Possible.{Answers, AnswersGet, AnswersPut}
-use Rattle.dso_plain.specs.After.{Change, nothing, made_new, new_object, read, read_shared, put, waits, resumes, notifies, notifies_all, entered, exited, count_of, resumed, change_of, published, shared, present, opening_field, names, names_below, holds_reference}
+use Rattle.dso_plain.specs.After.{nothing, new_object, read, read_shared, put, notifies_all, entered, exited, count_of, resumed, change_of, published, shared, present, opening_field, names, names_below, holds_reference}
 use Rattle.dso_plain.specs.Touches.{ActTouches, NoClash}
 use Rattle.dso_plain.proofs.Keys.{same_lock}
 use Rattle.dso_plain.proofs.Guarded.{private_unshared, published_private}

@@ -1,7 +1,6 @@
 -- Runs that have nothing to do with each other may be taken in either order.
-use Rattle.std.proofs.Common.{ℕ, ◌≡◌, ◌≢◌, ◌↔◌, ◌⊎◌, inl, inr, refl, sym, ◌∙◌, ap, subst, Option, Some, None, List, [], ◌∷◌, ◌++◌}
+use Rattle.std.proofs.Common.{ℕ, ◌≡◌, ◌≢◌, ◌↔◌, inl, inr, refl, sym, ◌∙◌, ap, subst, Option, List, [], ◌∷◌, ◌++◌}
 use Rattle.dso_base.specs.declared.lock.Level.{Level}
-use Rattle.dso_base.specs.declared.lock.Level.TheVariants.{Read, Write}
 use Rattle.dso_base.specs.declared.lock.LockName.{LockName}
 use Rattle.dso_base.specs.declared.lock.ThreadId.{ThreadId}
 use Rattle.dso_base.specs.declared.request.Event.{Event}
@@ -13,7 +12,7 @@ use Rattle.dso_plain.specs.State.{PlainState, level_of}
 use Rattle.dso_plain.specs.Possible.{IsPossible, May}
 use Rattle.dso_plain.specs.After.{change_of, apply, after}
 use Rattle.dso_plain.specs.History.{Runs, end_of}
-use Rattle.dso_plain.specs.Touches.{ActTouches, ActMakes, Touches, TouchesIn, Makes, MakesIn, IsActOf, IsActOfOther, AreActsOf, AreActsOfOthers, NoClash, NoCommonId}
+use Rattle.dso_plain.specs.Touches.{ActTouches, ActMakes, Touches, TouchesIn, Makes, MakesIn, IsActOf, IsActOfOther, AreActsOf, NoClash, NoCommonId}
 use Rattle.dso_plain.specs.Laws.{AreApart, CanSwap}
 use Rattle.dso_plain.proofs.Commute.{apply_swap}
 use Rattle.dso_plain.proofs.Guarded.{guarded}

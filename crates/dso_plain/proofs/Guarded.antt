@@ -1,24 +1,24 @@
 -- Where a step writes: its own parts, what it makes, and else only under a lock that it touches at Write.
-use Rattle.std.proofs.Common.{ℕ, suc, ◌+◌, ◌-◌, ◌≡◌, ◌≢◌, ◌⊎◌, inl, inr, refl, sym, ◌∙◌, ap, subst, Bool, true, false, cond, eqb, ◌&&◌, is_some, is_none, Option, Some, None, List, [], ◌∷◌, length, arith}
+use Rattle.std.proofs.Common.{ℕ, ◌-◌, ◌≡◌, ◌≢◌, ◌⊎◌, inl, inr, refl, sym, ◌∙◌, ap, subst, Bool, true, false, cond, eqb, ◌&&◌, is_some, is_none, Option, Some, None, List, ◌∷◌, length}
 use Rattle.dso_base.specs.declared.lock.Level.{Level}
-use Rattle.dso_base.specs.declared.lock.Level.TheVariants.{Read, Write}
+use Rattle.dso_base.specs.declared.lock.Level.TheVariants.{Write}
 use Rattle.dso_base.specs.declared.lock.LockName.{LockName}
 use Rattle.dso_base.specs.declared.lock.ThreadId.{ThreadId}
 use Rattle.dso_base.specs.declared.request.Fault.{Fault}
 use Rattle.dso_base.specs.declared.request.Reply.{Reply}
-use Rattle.dso_base.specs.declared.request.Reply.TheVariants.{Done, Made, Seen, Val, Local, Refused}
+use Rattle.dso_base.specs.declared.request.Reply.TheVariants.{Done, Made, Val}
 use Rattle.dso_base.specs.declared.request.Request.{Request}
-use Rattle.dso_base.specs.declared.request.Request.TheVariants.{New, Look, Get, Put, Enter, Exit, Wait, Resume, Notify, NotifyAll, Print, End, Pause}
+use Rattle.dso_base.specs.declared.request.Request.TheVariants.{New, Get, Put, Enter, Exit, Wait, Resume, Notify, NotifyAll, Print, End}
 use Rattle.dso_base.specs.declared.shape.Shape.{Shape}
 use Rattle.dso_base.specs.declared.value.ClassId.{ClassId}
 use Rattle.dso_base.specs.declared.value.Value.{Value}
 use Rattle.dso_base.specs.declared.value.Value.TheVariants as value
 use Rattle.dso_base.specs.Reach.{reach}
-use Rattle.dso_plain.specs.Keys.{is_thread, is_lock, is_field, is_place, is_view, writes, nowhere, written}
+use Rattle.dso_plain.specs.Keys.{is_thread, is_lock, is_field, is_place, is_view, writes}
 use Rattle.dso_plain.specs.State.{Object, Hold, PlainState, is_private_to, is_mine, is_shared, is_owner, IsPrivate, IsShared, level_of, guard_in, hold_on_guard}
-use Rattle.dso_plain.specs.Possible.{IsPossible, Answers, Wakes}
-use Rattle.dso_plain.specs.After.{Change, nothing, made_new, new_object, read, read_shared, put, waits, resumes, notifies, notifies_all, entered, exited, count_of, resumed, change_of, published, shared, present, opening_field, names}
-use Rattle.dso_plain.specs.Touches.{Takes, ActTouches, ActMakes}
+use Rattle.dso_plain.specs.Possible.{Answers}
+use Rattle.dso_plain.specs.After.{Change, nothing, made_new, new_object, read, read_shared, put, notifies, notifies_all, entered, exited, count_of, resumed, change_of, published, shared, present, opening_field, names}
+use Rattle.dso_plain.specs.Touches.{ActTouches, ActMakes}
 use Rattle.dso_plain.proofs.Keys.{Wherever, none, written_there, both, same_number, same_thread, same_lock, same_field, same_place, same_view}
 
 -- an object that the thread makes: there was none of its id

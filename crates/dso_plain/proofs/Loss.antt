@@ -1,15 +1,13 @@
 -- What other clients' threads may do they may still do after the loss of a client.
-use Rattle.std.proofs.Common.{ℕ, suc, ◌<◌, ◌≡◌, ◌≢◌, ◌↔◌, ◌⊎◌, inl, inr, refl, sym, ◌∙◌, ap, subst, Bool, true, false, cond, eqb, ◌&&◌, is_some, Option, Some, None, List, [], ◌∷◌}
+use Rattle.std.proofs.Common.{ℕ, ◌≡◌, ◌≢◌, ◌↔◌, inl, inr, refl, sym, ◌∙◌, ap, subst, Bool, true, false, cond, eqb, ◌&&◌, is_some, Option, Some, None, List, [], ◌∷◌}
 use Rattle.std.proofs.Math.Path.{fun_ext}
 use Rattle.std.proofs.lemmas.Bool.{ne_eqb, cases_eq}
 use Rattle.dso_base.specs.declared.lock.Level.{Level}
-use Rattle.dso_base.specs.declared.lock.Level.TheVariants.{Read, Write}
 use Rattle.dso_base.specs.declared.lock.LockName.{LockName}
 use Rattle.dso_base.specs.declared.lock.LockName.TheVariants.{Mon, Name}
 use Rattle.dso_base.specs.declared.lock.ThreadId.{ThreadId}
 use Rattle.dso_base.specs.declared.request.Event.{Event}
 use Rattle.dso_base.specs.declared.request.Event.TheVariants.{Act, Lost}
-use Rattle.dso_base.specs.declared.request.Fault.{Fault}
 use Rattle.dso_base.specs.declared.request.Fault.TheVariants.{UnlockedSharedObject, WrongLock, ReadOnly, LockUpgrade, IllegalMonitor}
 use Rattle.dso_base.specs.declared.request.Reply.{Reply}
 use Rattle.dso_base.specs.declared.request.Reply.TheVariants.{Done, Made, Seen, Val, Local, Refused}
@@ -18,16 +16,15 @@ use Rattle.dso_base.specs.declared.request.Request.TheVariants.{New, Look, Get, 
 use Rattle.dso_base.specs.declared.shape.Shape.{Shape}
 use Rattle.dso_base.specs.declared.value.Value.{Value}
 use Rattle.dso_plain.specs.Keys.{is_lock, is_place, writes, or_old, written}
-use Rattle.dso_plain.specs.State.{Hold, PlainState, is_shared, HoldsNothing, level_of, guard_in, hold_on_guard}
-use Rattle.dso_plain.specs.Possible.{IsPossible, May, Answers, AnswersNew, AnswersLook, AnswersGet, MayPut, IsPrivateMonitor, IsClusterLock, AnswersEnter, AnswersExit, AnswersMonitor, AnswersResume, AnswersEnd, Beside, NoConflict, IsUpgrade, HoldsWrite, Wakes, IsAwakeFor, IsUnmarkedWaiter}
-use Rattle.dso_plain.specs.After.{Change, nothing, change_of, apply, after, loses, put, read, read_shared, notifies, notifies_all, entered, exited, count_of, resumed}
+use Rattle.dso_plain.specs.State.{Hold, PlainState, is_shared, level_of, guard_in, hold_on_guard}
+use Rattle.dso_plain.specs.Possible.{IsPossible, May, Answers, AnswersNew, AnswersLook, AnswersGet, MayPut, IsPrivateMonitor, IsClusterLock, AnswersEnter, AnswersExit, AnswersMonitor, AnswersResume, AnswersEnd, Beside, NoConflict, IsUpgrade, Wakes, IsAwakeFor, IsUnmarkedWaiter}
+use Rattle.dso_plain.specs.After.{nothing, change_of, apply, after, loses, put, read, read_shared, notifies_all, entered, exited, count_of, resumed}
 use Rattle.dso_plain.specs.History.{Runs, end_of}
-use Rattle.dso_plain.specs.Touches.{ActTouches, ActMakes, Touches, TouchesIn}
+use Rattle.dso_plain.specs.Touches.{ActTouches, Touches, TouchesIn}
 use Rattle.dso_plain.specs.Loss.{WakesNoneOf, IsApartFrom, AreApartFrom, SurvivesLoss}
-use Rattle.dso_plain.proofs.Keys.{Wherever, none, written_there, same_number, number_self, same_place, written_swap}
+use Rattle.dso_plain.proofs.Keys.{Wherever, none, written_there, same_number, number_self, same_place}
 use Rattle.dso_plain.proofs.Commute.{AreDisjoint, apply_swap}
-use Rattle.dso_plain.proofs.Guarded.{IsGuarded, guarded}
-use Rattle.dso_plain.proofs.Quiet.{differ}
+use Rattle.dso_plain.proofs.Guarded.{guarded}
 
 -- what the loss clears is cleared, and the rest is as it was
 cleared_or_same : {A : Type 0} (P : A → Type 0) (b : Bool) (gone was : A) → P gone → P was → P (or_old (cond b (Some gone) None) was)

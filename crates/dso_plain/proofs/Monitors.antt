@@ -1,5 +1,5 @@
 -- What holds of monitors and waits in every state that is reached.
-use Rattle.std.proofs.Common.{ℕ, zero, suc, ◌+◌, ◌-◌, ◌<◌, ◌≤◌, ◌≡◌, ◌≢◌, ◌⊎◌, inl, inr, refl, sym, ◌∙◌, ap, subst, Bool, true, false, cond, eqb, ◌&&◌, is_some, Option, Some, None, List, [], ◌∷◌, arith}
+use Rattle.std.proofs.Common.{ℕ, ◌-◌, ◌≤◌, ◌≡◌, ◌≢◌, ◌⊎◌, inl, inr, refl, sym, ◌∙◌, ap, subst, Bool, true, false, cond, eqb, ◌&&◌, is_some, Option, Some, None, List, [], ◌∷◌, arith}
 use Rattle.std.proofs.lemmas.Bool.{eqb-false}
 use Rattle.dso_base.specs.declared.lock.Level.{Level}
 use Rattle.dso_base.specs.declared.lock.Level.TheVariants.{Read, Write}
@@ -9,18 +9,18 @@ use Rattle.dso_base.specs.declared.request.Event.{Event}
 use Rattle.dso_base.specs.declared.request.Event.TheVariants.{Act, Lost}
 use Rattle.dso_base.specs.declared.request.Fault.{Fault}
 use Rattle.dso_base.specs.declared.request.Reply.{Reply}
-use Rattle.dso_base.specs.declared.request.Reply.TheVariants.{Done, Made, Seen, Val, Local, Refused}
+use Rattle.dso_base.specs.declared.request.Reply.TheVariants.{Done, Made, Val}
 use Rattle.dso_base.specs.declared.request.Request.{Request}
-use Rattle.dso_base.specs.declared.request.Request.TheVariants.{New, Look, Get, Put, Enter, Exit, Wait, Resume, Notify, NotifyAll, Print, End, Pause}
+use Rattle.dso_base.specs.declared.request.Request.TheVariants.{New, Get, Put, Enter, Exit, Wait, Resume, Notify, NotifyAll, Print, End}
 use Rattle.dso_base.specs.declared.shape.Shape.{Shape}
 use Rattle.dso_base.specs.declared.value.Value.{Value}
 use Rattle.dso_plain.specs.Keys.{is_thread, is_lock, is_place, writes, or_old, written}
 use Rattle.dso_plain.specs.State.{Hold, PlainState, opening, is_shared, level_of, hold_on_guard}
-use Rattle.dso_plain.specs.Possible.{IsPossible, May, AnswersEnter, AnswersExit, AnswersResume, HoldsWrite, Beside, NoConflict, IsUnmarkedWaiter}
-use Rattle.dso_plain.specs.After.{change_of, apply, after, put, read, read_shared, notifies, notifies_all, waits, resumes, loses, entered, exited, count_of, resumed}
+use Rattle.dso_plain.specs.Possible.{IsPossible, May, Beside, NoConflict}
+use Rattle.dso_plain.specs.After.{change_of, apply, after, put, read, read_shared, notifies, notifies_all, waits, loses, entered, exited, count_of, resumed}
 use Rattle.dso_plain.specs.History.{Runs, end_of, last_state}
 use Rattle.dso_plain.specs.Monitors.{HasNoPart, KeepsMonitors}
-use Rattle.dso_plain.proofs.Keys.{both, same_number, same_thread, same_lock, same_place}
+use Rattle.dso_plain.proofs.Keys.{same_thread, same_place}
 use Rattle.dso_plain.proofs.Quiet.{differ}
 
 -- a thread that has ended, or whose client is lost

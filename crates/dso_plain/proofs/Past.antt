@@ -1,29 +1,26 @@
 -- What holds of pasts in every state that is reached.
-use Rattle.std.proofs.Common.{ℕ, zero, suc, ◌+◌, ◌-◌, ◌<◌, ◌≤◌, ◌≡◌, ◌≢◌, ◌⊎◌, inl, inr, refl, sym, ◌∙◌, ap, subst, Bool, true, false, cond, eqb, ltb, ◌&&◌, is_some, is_none, Option, Some, None, List, [], ◌∷◌, ◌++◌, length, arith}
-use Rattle.std.proofs.lemmas.Bool.{ltb-true, lt-ltb, le-ltb}
+use Rattle.std.proofs.Common.{ℕ, ◌-◌, ◌<◌, ◌≤◌, ◌≡◌, inl, inr, refl, sym, ◌∙◌, ap, subst, Bool, true, false, cond, eqb, ltb, ◌&&◌, is_some, Option, Some, None, List, [], ◌∷◌, ◌++◌, length, arith}
+use Rattle.std.proofs.lemmas.Bool.{lt-ltb, le-ltb}
 use Rattle.std.proofs.lemmas.List.{append_assoc}
-use Rattle.dso_base.specs.declared.lock.Level.{Level}
 use Rattle.dso_base.specs.declared.lock.LockName.{LockName}
 use Rattle.dso_base.specs.declared.lock.ThreadId.{ThreadId}
 use Rattle.dso_base.specs.declared.request.Event.{Event}
 use Rattle.dso_base.specs.declared.request.Event.TheVariants.{Act, Lost}
-use Rattle.dso_base.specs.declared.request.Fault.{Fault}
 use Rattle.dso_base.specs.declared.request.Reply.{Reply}
-use Rattle.dso_base.specs.declared.request.Reply.TheVariants.{Done, Made, Seen, Val, Local, Refused}
+use Rattle.dso_base.specs.declared.request.Reply.TheVariants.{Done, Made, Val}
 use Rattle.dso_base.specs.declared.request.Request.{Request}
-use Rattle.dso_base.specs.declared.request.Request.TheVariants.{New, Look, Get, Put, Enter, Exit, Wait, Resume, Notify, NotifyAll, Print, End, Pause}
+use Rattle.dso_base.specs.declared.request.Request.TheVariants.{New, Get, Put, Enter, Exit, Wait, Resume, Notify, NotifyAll, Print, End}
 use Rattle.dso_base.specs.declared.shape.Shape.{Shape}
 use Rattle.dso_base.specs.declared.value.ClassId.{ClassId}
 use Rattle.dso_base.specs.declared.value.Value.{Value}
 use Rattle.dso_base.specs.declared.value.Value.TheVariants as value
 use Rattle.dso_base.specs.Shape.{kind_of}
-use Rattle.dso_plain.specs.Keys.{is_thread, is_field, is_view, writes, or_old, written}
-use Rattle.dso_plain.specs.State.{Object, Hold, PlainState, opening, roots_object, is_owner, is_private_to, is_shared, size_of, IsPrivate, IsShared, HasField, hold_on_guard}
-use Rattle.dso_plain.specs.Possible.{May, IsPossible, Answers, AnswersPut}
-use Rattle.dso_plain.specs.After.{Change, change_of, apply, after, read, read_shared, put, published, shared, present, opening_field, opening_value, new_object, made_new, notifies}
+use Rattle.dso_plain.specs.Keys.{is_thread, is_field, is_view, or_old}
+use Rattle.dso_plain.specs.State.{Object, Hold, PlainState, opening, roots_object, is_private_to, is_shared, size_of, IsPrivate, IsShared, HasField, hold_on_guard}
+use Rattle.dso_plain.specs.Possible.{May, Answers, AnswersPut}
+use Rattle.dso_plain.specs.After.{change_of, apply, after, read, read_shared, put, published, shared, present, opening_field, opening_value, new_object, made_new, notifies}
 use Rattle.dso_plain.specs.History.{Runs, end_of, last_state}
 use Rattle.dso_plain.specs.Past.{newest, IsListed, KeepsPast, PastsGrow}
-use Rattle.dso_plain.specs.Touches.{ActTouches, ActMakes}
 use Rattle.dso_plain.proofs.Keys.{same_number, same_thread, thread_self, same_field, both, unwritten, written_is}
 use Rattle.dso_plain.proofs.Guarded.{guarded, published_private, private_unshared, shared_private}
 use Rattle.dso_plain.proofs.Quiet.{differ, private_or_shared, absent_shared}

@@ -1,13 +1,12 @@
 -- What a step of one thread leaves to the others.
-use Rattle.std.proofs.Common.{ℕ, suc, ◌≡◌, ◌≢◌, ◌⊎◌, inl, inr, refl, sym, ◌∙◌, ap, subst, Bool, true, false, Option, Some, None, List, [], ◌∷◌}
+use Rattle.std.proofs.Common.{ℕ, ◌≡◌, ◌≢◌, ◌⊎◌, inl, inr, refl, sym, ◌∙◌, ap, subst, Bool, true, false, Option, Some, None, List}
 use Rattle.dso_base.specs.declared.lock.Level.{Level}
-use Rattle.dso_base.specs.declared.lock.Level.TheVariants.{Read, Write}
+use Rattle.dso_base.specs.declared.lock.Level.TheVariants.{Write}
 use Rattle.dso_base.specs.declared.lock.LockName.{LockName}
 use Rattle.dso_base.specs.declared.lock.ThreadId.{ThreadId}
 use Rattle.dso_base.specs.declared.shape.Shape.{Shape}
 use Rattle.dso_base.specs.declared.value.Value.{Value}
-use Rattle.dso_plain.specs.Keys.{written}
-use Rattle.dso_plain.specs.State.{Object, Hold, PlainState, is_private_to, is_shared, IsPrivate, IsShared, level_of, guard_in}
+use Rattle.dso_plain.specs.State.{Object, PlainState, is_private_to, is_shared, IsPrivate, IsShared, level_of, guard_in}
 use Rattle.dso_plain.specs.Possible.{StandsFrom}
 use Rattle.dso_plain.specs.After.{Change, apply}
 use Rattle.dso_plain.specs.Touches.{NoClash, NoCommonId}

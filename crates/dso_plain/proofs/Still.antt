@@ -1,11 +1,10 @@
 -- What a thread may do it may still do after a step of another thread that has nothing to do with it.
-use Rattle.std.proofs.Common.{ℕ, suc, ◌<◌, ◌≤◌, ◌≡◌, ◌≢◌, ◌⊎◌, inl, inr, refl, sym, ◌∙◌, ap, subst, Bool, true, false, Option, Some, None, List, [], ◌∷◌}
+use Rattle.std.proofs.Common.{ℕ, ◌<◌, ◌≡◌, ◌≢◌, ◌⊎◌, inl, inr, refl, sym, ◌∙◌, ap, subst, Bool, true, false, Option, Some, None}
 use Rattle.dso_base.specs.declared.lock.Level.{Level}
 use Rattle.dso_base.specs.declared.lock.Level.TheVariants.{Read, Write}
 use Rattle.dso_base.specs.declared.lock.LockName.{LockName}
 use Rattle.dso_base.specs.declared.lock.LockName.TheVariants.{Mon, Name}
 use Rattle.dso_base.specs.declared.lock.ThreadId.{ThreadId}
-use Rattle.dso_base.specs.declared.request.Fault.{Fault}
 use Rattle.dso_base.specs.declared.request.Fault.TheVariants.{UnlockedSharedObject, WrongLock, ReadOnly, LockUpgrade, IllegalMonitor}
 use Rattle.dso_base.specs.declared.request.Reply.{Reply}
 use Rattle.dso_base.specs.declared.request.Reply.TheVariants.{Done, Made, Seen, Val, Local, Refused}
@@ -13,10 +12,9 @@ use Rattle.dso_base.specs.declared.request.Request.{Request}
 use Rattle.dso_base.specs.declared.request.Request.TheVariants.{New, Look, Get, Put, Enter, Exit, Wait, Resume, Notify, NotifyAll, Print, End, Pause}
 use Rattle.dso_base.specs.declared.shape.Shape.{Shape}
 use Rattle.dso_base.specs.declared.value.ClassId.{ClassId}
-use Rattle.dso_base.specs.declared.value.Value.{Value}
 use Rattle.dso_plain.specs.Keys.{is_thread}
-use Rattle.dso_plain.specs.State.{Object, Hold, PlainState, is_private_to, is_shared, size_of, IsPrivate, IsShared, HasField, HoldsNothing, level_of, guard_in, guard_of_object, hold_on_guard}
-use Rattle.dso_plain.specs.Possible.{IsPossible, Answers, AnswersNew, AnswersLook, AnswersGet, AnswersPut, MayPut, AnswersEnter, AnswersExit, AnswersMonitor, AnswersResume, AnswersDone, AnswersEnd, IsOf, StandsFrom, IsPrivateMonitor, IsClusterLock, IsUpgrade, Beside, NoConflict, HoldsWrite, Wakes, IsAwakeFor, IsUnmarkedWaiter}
+use Rattle.dso_plain.specs.State.{Hold, PlainState, is_shared, size_of, IsPrivate, IsShared, HasField, HoldsNothing, level_of, guard_in, guard_of_object, hold_on_guard}
+use Rattle.dso_plain.specs.Possible.{IsPossible, Answers, AnswersNew, AnswersLook, AnswersGet, AnswersPut, AnswersEnter, AnswersExit, AnswersMonitor, AnswersResume, AnswersEnd, IsOf, StandsFrom, IsPrivateMonitor, IsClusterLock, IsUpgrade, Beside, NoConflict, HoldsWrite, Wakes, IsAwakeFor}
 use Rattle.dso_plain.specs.Touches.{ActTouches, ActMakes, NoClash, NoCommonId}
 use Rattle.dso_plain.proofs.Keys.{same_thread, thread_self}
 use Rattle.dso_plain.proofs.Quiet.{IsQuiet, absent_private, absent_shared, private_or_shared, private_to_one, not_both, differ}

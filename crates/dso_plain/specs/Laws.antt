@@ -1,23 +1,17 @@
 -- The laws of one heap with plain monitors.
-use Rattle.std.specs.Prelude.{ℕ, ◌<◌, ◌≡◌, ◌≢◌, ◌↔◌, Bool, true, false, Option, Some, None, List, [], ◌∷◌, ◌++◌, length}
+use Rattle.std.specs.Prelude.{◌≡◌, ◌↔◌, Bool, true, Option, List, ◌++◌}
 use Rattle.dso_base.specs.declared.lock.Level.{Level}
 use Rattle.dso_base.specs.declared.lock.LockName.{LockName}
 use Rattle.dso_base.specs.declared.lock.ThreadId.{ThreadId}
 use Rattle.dso_base.specs.declared.request.Event.{Event}
-use Rattle.dso_base.specs.declared.request.Event.TheVariants.{Act, Lost}
 use Rattle.dso_base.specs.declared.request.Reply.{Reply}
-use Rattle.dso_base.specs.declared.request.Reply.TheVariants.{Done}
 use Rattle.dso_base.specs.declared.request.Request.{Request}
-use Rattle.dso_base.specs.declared.request.Request.TheVariants.{Notify}
 use Rattle.dso_base.specs.declared.shape.Shape.{Shape}
-use Rattle.dso_base.specs.declared.value.Value.{Value}
-use Rattle.dso_plain.specs.State.{PlainState, IsShared, opening}
-use Rattle.dso_plain.specs.Possible.{May, IsUnmarkedWaiter}
-use Rattle.dso_plain.specs.After.{after}
+use Rattle.dso_plain.specs.State.{PlainState, opening}
 use Rattle.dso_plain.specs.History.{Runs, end_of, last_state, events_of, FollowsFrom, IsLegal}
 use Rattle.dso_plain.specs.Monitors.{KeepsMonitors}
 use Rattle.dso_plain.specs.Past.{KeepsPast, PastsGrow}
-use Rattle.dso_plain.specs.Touches.{Touches, TouchesIn, MakesIn, AreActsOf, AreActsOfOthers, NoClash, NoCommonId}
+use Rattle.dso_plain.specs.Touches.{TouchesIn, MakesIn, AreActsOf, AreActsOfOthers, NoClash, NoCommonId}
 
 -- Two runs from one state that have nothing to do with each other: the second is one thread's, the first is of
 -- threads other than that one; their locks do not clash, and they make no common id.

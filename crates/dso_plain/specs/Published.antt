@@ -3,7 +3,7 @@ use Rattle.std.specs.Prelude.{ℕ, ◌≡◌, ◌↔◌, Bool, true, List}
 use Rattle.dso_base.specs.declared.lock.ThreadId.{ThreadId}
 use Rattle.dso_base.specs.declared.value.Value.{Value}
 use Rattle.dso_base.specs.Reach.{Reached, reach}
-use Rattle.dso_plain.specs.State.{PlainState, IsPrivate, is_mine}
+use Rattle.dso_plain.specs.State.{PlainState, is_mine}
 use Rattle.dso_plain.specs.After.{published, names}
 use Rattle.dso_plain.specs.Past.{IsListed}
 

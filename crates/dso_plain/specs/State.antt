@@ -1,9 +1,8 @@
 -- The state of one heap with plain monitors: look-ups by key.
-use Rattle.std.specs.Prelude.{ℕ, suc, ◌<◌, ◌≤◌, ◌≡◌, ◌≢◌, ◌⊎◌, Bool, true, false, cond, eqb, ltb, ◌&&◌, is_none, Option, Some, None, List, [], ◌∷◌, length}
+use Rattle.std.specs.Prelude.{ℕ, ◌<◌, ◌≡◌, ◌≢◌, Bool, true, false, cond, eqb, ltb, ◌&&◌, is_none, Option, Some, None, List, [], ◌∷◌}
 use Rattle.dso_base.specs.declared.lock.Level.{Level}
-use Rattle.dso_base.specs.declared.lock.Level.TheVariants.{Read, Write}
 use Rattle.dso_base.specs.declared.lock.LockName.{LockName}
-use Rattle.dso_base.specs.declared.lock.LockName.TheVariants.{Mon, Name}
+use Rattle.dso_base.specs.declared.lock.LockName.TheVariants.{Mon}
 use Rattle.dso_base.specs.declared.lock.ThreadId.{ThreadId}
 use Rattle.dso_base.specs.declared.request.Fault.{Fault}
 use Rattle.dso_base.specs.declared.shape.Shape.{Shape}
@@ -12,7 +11,7 @@ use Rattle.dso_base.specs.declared.value.ClassId.TheVariants as class
 use Rattle.dso_base.specs.declared.value.Value.{Value}
 use Rattle.dso_base.specs.declared.value.Value.TheVariants as value
 use Rattle.dso_base.specs.Shape.{guard_of}
-use Rattle.dso_plain.specs.Keys.{is_thread, is_field}
+use Rattle.dso_plain.specs.Keys.{is_thread}
 
 -- an object: its class, the number of its fields or elements, and the thread it is private to; None is shared
 pub record Object : Type 0 where

@@ -1,4 +1,3 @@
-use Rattle.std.proofs.Common.{ℕ}
 use Rattle.dso_plain.proofs.laws.loss.Goals as goal
 use Rattle.dso_plain.proofs.Loss.{loss, waiters_left, choice_after_loss}
 
