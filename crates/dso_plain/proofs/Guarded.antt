@@ -239,7 +239,7 @@ entered_level level x None e = inr (sym (cc e))
 entered_level level x (Some hold) e = inl e
 
 -- a hold after an exit has the level that it had
-exited_level : (x : Level) (hold : Option Hold) → level_of (exited hold) ≡ Some x → level_of hold ≡ Some x
+pub exited_level : (x : Level) (hold : Option Hold) → level_of (exited hold) ≡ Some x → level_of hold ≡ Some x
 exited_level x None e = e
 exited_level x (Some hold) e = by (eqb hold.count 1) e
   where

@@ -21,6 +21,7 @@ use Rattle.dso_plain.specs.After.{change_of, apply, after, put, read, read_share
 use Rattle.dso_plain.specs.History.{Runs, end_of, last_state}
 use Rattle.dso_plain.specs.Monitors.{HasNoPart, KeepsMonitors}
 use Rattle.dso_plain.proofs.Keys.{same_thread, same_place}
+use Rattle.dso_plain.proofs.Guarded.{exited_level}
 use Rattle.dso_plain.proofs.Quiet.{differ}
 
 -- a thread that has ended, or whose client is lost
@@ -149,14 +150,6 @@ module _ (shape : Shape) (t : ThreadId) (s : PlainState) (k : KeptIn s) where
   enter_counted level None new e = subst (λ x. 1 ≤ count_of x) e (omega arith)
   enter_counted level (Some hold) new e = subst (λ x. 1 ≤ count_of x) e (omega arith)
 
-  exit_level : (x : Level) (hold : Option Hold) → level_of (exited hold) ≡ Some x → level_of hold ≡ Some x
-  exit_level x None e = e
-  exit_level x (Some hold) e = by (eqb hold.count 1) e
-    where
-      by : (b : Bool) → level_of (cond b None (Some (record { level = hold.level; count = hold.count - 1 }))) ≡ Some x → Some hold.level ≡ Some x
-      by true e = absurd (cc e)
-      by false e = e
-
   exit_counted : (l : LockName) (hold : Option Hold) (new : Hold) → s.monitors (l, t) ≡ hold → exited hold ≡ Some new → 1 ≤ new.count
   exit_counted l None new d e = absurd (cc e)
   exit_counted l (Some hold) new d e = by (eqb hold.count 1) refl e
@@ -239,7 +232,7 @@ module _ (shape : Shape) (t : ThreadId) (s : PlainState) (k : KeptIn s) where
   act_kept (Get o f) (Val v) woken p = read_kept o f (is_shared (s.objects o))
   act_kept (Put o f v) Done woken p = put_kept o f v (is_shared (s.objects o))
   act_kept (Enter l level) Done woken p = hold_kept l t (entered level (s.monitors (l, t))) s k (going (Enter l level) Done woken p) (λ x e. enter_beside l level x (s.monitors (l, t)) refl p.answers.2 e) (λ new e. enter_counted level (s.monitors (l, t)) new e)
-  act_kept (Exit l) Done woken p = hold_kept l t (exited (s.monitors (l, t))) s k (going (Exit l) Done woken p) (λ x e. beside_own l x (exit_level x (s.monitors (l, t)) e)) (λ new e. exit_counted l (s.monitors (l, t)) new refl e)
+  act_kept (Exit l) Done woken p = hold_kept l t (exited (s.monitors (l, t))) s k (going (Exit l) Done woken p) (λ x e. beside_own l x (exited_level x (s.monitors (l, t)) e)) (λ new e. exit_counted l (s.monitors (l, t)) new refl e)
   act_kept (Wait l) Done woken p = wait_kept l t None s k (Some (count_of (s.monitors (l, t)))) (going (Wait l) Done woken p) (λ x e. absurd (cc e)) (λ new e. absurd (cc e)) (λ count e. wait_counts l (s.monitors (l, t)) count refl p.answers e)
   act_kept (Resume l) Done woken p = wait_kept l t (resumed (s.asleep (l, t))) s k None (going (Resume l) Done woken p) (λ x e. resume_beside l x p.answers.2) (λ new e. resume_counted l (s.asleep (l, t)) new refl e) (λ count e. absurd (cc e))
   act_kept (Notify l) Done None p = k
