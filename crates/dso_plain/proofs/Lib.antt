@@ -10,3 +10,4 @@ pub mod Loss
 pub mod Published
 pub mod Legal
 pub mod Monitors
+pub mod Rechoice

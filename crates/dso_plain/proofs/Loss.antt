@@ -32,7 +32,7 @@ cleared_or_same P true gone was g w = g
 cleared_or_same P false gone was g w = w
 
 -- of another client's thread nothing is cleared
-not_cleared : {A : Type 0} (w client : ℕ) (gone was : A) → w ≢ client → or_old (cond (eqb w client) (Some gone) None) was ≡ was
+pub not_cleared : {A : Type 0} (w client : ℕ) (gone was : A) → w ≢ client → or_old (cond (eqb w client) (Some gone) None) was ≡ was
 not_cleared w client gone was ne = ap (λ b. or_old (cond b (Some gone) None) was) (ne_eqb w client ne)
 
 -- of a thread of the lost client all is cleared
@@ -40,7 +40,7 @@ is_cleared : {A : Type 0} (w client : ℕ) (gone was : A) → w ≡ client → o
 is_cleared w client gone was e = ap (λ x. or_old (cond (eqb x client) (Some gone) None) was) e ∙ ap (λ b. or_old (cond b (Some gone) None) was) (number_self client)
 
 -- the state after the loss
-abbrev left : ℕ → PlainState → PlainState
+abbrev pub left : ℕ → PlainState → PlainState
 left client s = apply (loses client) s
 
 -- the same waiters are marked by a notification of all, be it before the loss or after it
@@ -51,7 +51,7 @@ marks_case a false asleep mark = refl
 
 module _ (shape : Shape) (client : ℕ) (s : PlainState) (t : ThreadId) (other : t.client ≢ client) where
   -- how t holds a lock is as it was
-  same_hold : (l : LockName) → (left client s).monitors (l, t) ≡ s.monitors (l, t)
+  pub same_hold : (l : LockName) → (left client s).monitors (l, t) ≡ s.monitors (l, t)
   same_hold l = not_cleared t.client client None (s.monitors (l, t)) other
 
   -- and how it waits
@@ -120,7 +120,7 @@ module _ (shape : Shape) (client : ℕ) (s : PlainState) (t : ThreadId) (other :
   still_end Done a = λ l. same_hold l ∙ a l
   still_end reply a = absurd a
 
-  still_answers : (request : Request) (reply : Reply) → Answers shape t request reply s → Answers shape t request reply (left client s)
+  pub still_answers : (request : Request) (reply : Reply) → Answers shape t request reply s → Answers shape t request reply (left client s)
   still_answers (New class n) reply a = by reply a
     where
       by : (reply : Reply) → AnswersNew shape class n reply s → AnswersNew shape class n reply (left client s)
@@ -143,7 +143,7 @@ module _ (shape : Shape) (client : ℕ) (s : PlainState) (t : ThreadId) (other :
   still_answers (End fault) reply a = still_end reply a
   still_answers Pause reply a = a
 
-  still_awake : (request : Request) → IsAwakeFor request t s → IsAwakeFor request t (left client s)
+  pub still_awake : (request : Request) → IsAwakeFor request t s → IsAwakeFor request t (left client s)
   still_awake (Resume l) a = tt
   still_awake request a = λ l. same_wait l ∙ a l
 
@@ -277,7 +277,7 @@ module _ (shape : Shape) (client : ℕ) (s : PlainState) (t : ThreadId) (other :
       let marks : written (notifies_all l (left client s)).marked (left client s).marked ≡ written (loses client).marked (written (notifies_all l s).marked s.marked) = fun_ext (λ key. marks_case (is_lock l key.0) (eqb key.1.client client) (s.asleep key) (s.marked key)) in
       λ i. record (left client s) { marked = marks i }
 
-  swap : (request : Request) (reply : Reply) (woken : Option ThreadId) → Answers shape t request reply s → WakesNoneOf client woken → apply (change_of shape t request reply woken (left client s)) (left client s) ≡ left client (apply (change_of shape t request reply woken s) s)
+  pub swap : (request : Request) (reply : Reply) (woken : Option ThreadId) → Answers shape t request reply s → WakesNoneOf client woken → apply (change_of shape t request reply woken (left client s)) (left client s) ≡ left client (apply (change_of shape t request reply woken s) s)
   swap (NotifyAll l) Done woken a apart = swap_all l
   swap (NotifyAll l) reply woken a apart = refl
   swap request reply woken a apart = swap_one request reply woken a tt apart

@@ -25,19 +25,19 @@ use Rattle.dso_plain.proofs.Guarded.{exited_level}
 use Rattle.dso_plain.proofs.Quiet.{differ}
 
 -- a thread that has ended, or whose client is lost
-abbrev IsOut : (ℕ → Bool) → (ThreadId → Option (Option Fault)) → ThreadId → Type 0
+abbrev pub IsOut : (ℕ → Bool) → (ThreadId → Option (Option Fault)) → ThreadId → Type 0
 IsOut lost ended t = (lost t.client ≡ true) ⊎ (ended t ≢ None)
 
 -- What is kept from step to step, of the parts that it speaks of.
-record Kept (monitors : LockName × ThreadId → Option Hold) (asleep : LockName × ThreadId → Option ℕ) (marked : LockName × ThreadId → Bool) (ended : ThreadId → Option (Option Fault)) (lost : ℕ → Bool) : Type 0 where
-  beside : (l : LockName) (t w : ThreadId) (x : Level) → t ≢ w → level_of (monitors (l, t)) ≡ Some x → Beside x (level_of (monitors (l, w)))
-  counted : (l : LockName) (t : ThreadId) (hold : Hold) → monitors (l, t) ≡ Some hold → 1 ≤ hold.count
-  counted_waits : (l : LockName) (t : ThreadId) (count : ℕ) → asleep (l, t) ≡ Some count → 1 ≤ count
-  only_waiters : (l : LockName) (t : ThreadId) → marked (l, t) ≡ true → asleep (l, t) ≢ None
-  out : (l : LockName) (t : ThreadId) → IsOut lost ended t → (monitors (l, t) ≡ None) × (asleep (l, t) ≡ None)
+pub record Kept (monitors : LockName × ThreadId → Option Hold) (asleep : LockName × ThreadId → Option ℕ) (marked : LockName × ThreadId → Bool) (ended : ThreadId → Option (Option Fault)) (lost : ℕ → Bool) : Type 0 where
+  pub beside : (l : LockName) (t w : ThreadId) (x : Level) → t ≢ w → level_of (monitors (l, t)) ≡ Some x → Beside x (level_of (monitors (l, w)))
+  pub counted : (l : LockName) (t : ThreadId) (hold : Hold) → monitors (l, t) ≡ Some hold → 1 ≤ hold.count
+  pub counted_waits : (l : LockName) (t : ThreadId) (count : ℕ) → asleep (l, t) ≡ Some count → 1 ≤ count
+  pub only_waiters : (l : LockName) (t : ThreadId) → marked (l, t) ≡ true → asleep (l, t) ≢ None
+  pub out : (l : LockName) (t : ThreadId) → IsOut lost ended t → (monitors (l, t) ≡ None) × (asleep (l, t) ≡ None)
 
 -- of a whole state
-abbrev KeptIn : PlainState → Type 0
+abbrev pub KeptIn : PlainState → Type 0
 KeptIn s = Kept s.monitors s.asleep s.marked s.ended s.lost
 
 -- beside a hold at Write there is none
@@ -45,7 +45,7 @@ alone : (hold : Option Hold) → Beside Write (level_of hold) → hold ≡ None
 alone None b = refl
 alone (Some hold) b = absurd b
 
-kept_monitors : (s : PlainState) → KeptIn s → KeepsMonitors s
+pub kept_monitors : (s : PlainState) → KeptIn s → KeepsMonitors s
 kept_monitors s k = record {
   exclusion = λ l t w ne write. alone (s.monitors (l, w)) (k.beside l t w Write ne write);
   counted = k.counted;
@@ -56,7 +56,7 @@ kept_monitors s k = record {
 }
 
 -- nobody holds or waits at first
-opening_kept : (shape : Shape) → KeptIn (opening shape)
+pub opening_kept : (shape : Shape) → KeptIn (opening shape)
 opening_kept shape = record {
   beside = λ l t w x ne e. tt;
   counted = λ l t hold e. absurd (cc e);
@@ -273,11 +273,11 @@ lost_kept client s k = record {
     cleared_out l t true e = (refl, refl)
     cleared_out l t false e = k.out l t e
 
-event_kept : (shape : Shape) (e : Event) (s : PlainState) → May shape e s → KeptIn s → KeptIn (after shape e s)
+pub event_kept : (shape : Shape) (e : Event) (s : PlainState) → May shape e s → KeptIn s → KeptIn (after shape e s)
 event_kept shape (Act t request reply woken) s m k = act_kept shape t s k request reply woken m
 event_kept shape (Lost client) s m k = lost_kept client s k
 
-run_kept : (shape : Shape) (es : List Event) (s : PlainState) → Runs shape es s → KeptIn s → KeptIn (end_of shape es s)
+pub run_kept : (shape : Shape) (es : List Event) (s : PlainState) → Runs shape es s → KeptIn s → KeptIn (end_of shape es s)
 run_kept shape [] s m k = k
 run_kept shape (e ∷ es) s m k = run_kept shape es (after shape e s) m.1 (event_kept shape e s m.0 k)
 

@@ -26,15 +26,15 @@ use Rattle.dso_plain.proofs.Guarded.{guarded, published_private, private_unshare
 use Rattle.dso_plain.proofs.Quiet.{differ, private_or_shared, absent_shared}
 
 -- What is kept from step to step, of the parts that it speaks of.
-record Kept (objects : ℕ → Option Object) (made : ThreadId → List ℕ) (heap : ℕ × ℕ → Option Value) (past : ℕ × ℕ → List Value) (seen : ThreadId × ℕ × ℕ → ℕ) : Type 0 where
-  newest_is_heap : (o f : ℕ) → is_shared (objects o) ≡ true → newest (past (o, f)) ≡ heap (o, f)
-  none_before : (o f : ℕ) → is_shared (objects o) ≡ false → past (o, f) ≡ []
-  within : (t : ThreadId) (o f : ℕ) → seen (t, o, f) ≤ length (past (o, f)) - 1
-  fields : (o f : ℕ) → is_some (heap (o, f)) ≡ ltb f (size_of (objects o))
-  private_listed : (t : ThreadId) (o : ℕ) → is_private_to t (objects o) ≡ true → IsListed o (made t)
+pub record Kept (objects : ℕ → Option Object) (made : ThreadId → List ℕ) (heap : ℕ × ℕ → Option Value) (past : ℕ × ℕ → List Value) (seen : ThreadId × ℕ × ℕ → ℕ) : Type 0 where
+  pub newest_is_heap : (o f : ℕ) → is_shared (objects o) ≡ true → newest (past (o, f)) ≡ heap (o, f)
+  pub none_before : (o f : ℕ) → is_shared (objects o) ≡ false → past (o, f) ≡ []
+  pub within : (t : ThreadId) (o f : ℕ) → seen (t, o, f) ≤ length (past (o, f)) - 1
+  pub fields : (o f : ℕ) → is_some (heap (o, f)) ≡ ltb f (size_of (objects o))
+  pub private_listed : (t : ThreadId) (o : ℕ) → is_private_to t (objects o) ≡ true → IsListed o (made t)
 
 -- of a whole state
-abbrev KeptIn : PlainState → Type 0
+abbrev pub KeptIn : PlainState → Type 0
 KeptIn s = Kept s.objects s.made s.heap s.past s.seen
 
 -- a past whose newest is there is not empty
@@ -43,7 +43,7 @@ has_one [] v e = absurd (cc e)
 has_one (x ∷ older) v e = omega arith
 
 -- what is kept says all of the law
-kept_past : (s : PlainState) → KeptIn s → KeepsPast s
+pub kept_past : (s : PlainState) → KeptIn s → KeepsPast s
 kept_past s k = record {
   newest_is_heap = k.newest_is_heap;
   none_before = k.none_before;
@@ -73,7 +73,7 @@ some_where true v = refl
 some_where false v = refl
 
 -- the roots' object alone is there at first
-opening_kept : (shape : Shape) → KeptIn (opening shape)
+pub opening_kept : (shape : Shape) → KeptIn (opening shape)
 opening_kept shape = record {
   newest_is_heap = λ o f e. first (eqb o 0 && ltb f shape.roots);
   none_before = λ o f e. before (eqb o 0) (ltb f shape.roots) e;
@@ -269,11 +269,11 @@ module _ (shape : Shape) (t : ThreadId) (s : PlainState) where
   act_kept (End fault) Done woken a k = k
   act_kept request reply woken a k = k
 
-event_kept : (shape : Shape) (e : Event) (s : PlainState) → May shape e s → KeptIn s → KeptIn (after shape e s)
+pub event_kept : (shape : Shape) (e : Event) (s : PlainState) → May shape e s → KeptIn s → KeptIn (after shape e s)
 event_kept shape (Act t request reply woken) s m k = act_kept shape t s request reply woken m.answers k
 event_kept shape (Lost client) s m k = k
 
-run_kept : (shape : Shape) (es : List Event) (s : PlainState) → Runs shape es s → KeptIn s → KeptIn (end_of shape es s)
+pub run_kept : (shape : Shape) (es : List Event) (s : PlainState) → Runs shape es s → KeptIn s → KeptIn (end_of shape es s)
 run_kept shape [] s m k = k
 run_kept shape (e ∷ es) s m k = run_kept shape es (after shape e s) m.1 (event_kept shape e s m.0 k)
 

@@ -8,4 +8,5 @@ pub mod Past
 pub mod Loss
 pub mod Published
 pub mod Monitors
+pub mod Rechoice
 pub mod Laws

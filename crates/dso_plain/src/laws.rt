@@ -1,6 +1,7 @@
 //! The laws of one heap with plain monitors. Each is the contract of a function that does nothing.
 ghost use Rattle.dso_plain.specs.Loss.{Loss, WaitersLeft, ChoiceAfterLoss};
 ghost use Rattle.dso_plain.specs.Published.{ReachTells, PublishedIsReached};
+ghost use Rattle.dso_plain.specs.Rechoice.{Rechoice};
 ghost use Rattle.dso_plain.specs.Laws.{Diamond, RunsInParts, EndsInParts, Past, Growth, LegalGoesOn, Monitors};
 
 /// Two runs from one state, one of a thread and one of other threads, can swap where their locks do not clash and
@@ -47,4 +48,10 @@ pub fn legal_goes_on()
 /// have no part in any lock.
 pub fn monitors()
     ensures { Monitors }
+{}
+
+/// Where a client is lost, a run of other clients' threads runs again with whatever choices fit among the waiters
+/// left, where each thread that resumes is still marked; it ends in the same state but for the marks.
+pub fn rechoice()
+    ensures { Rechoice }
 {}
