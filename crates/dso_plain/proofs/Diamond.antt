@@ -21,7 +21,7 @@ use Rattle.dso_plain.proofs.Still.{still}
 use Rattle.dso_plain.proofs.Alike.{alike}
 
 -- a step leaves to others what is theirs
-quiet_act : (shape : Shape) (t : ThreadId) (request : Request) (reply : Reply) (woken : Option ThreadId) (s : PlainState) → IsPossible shape t request reply woken s → IsQuiet shape t (ActTouches t request reply s) (ActMakes request reply) s (after shape (Act t request reply woken) s)
+pub quiet_act : (shape : Shape) (t : ThreadId) (request : Request) (reply : Reply) (woken : Option ThreadId) (s : PlainState) → IsPossible shape t request reply woken s → IsQuiet shape t (ActTouches t request reply s) (ActMakes request reply) s (after shape (Act t request reply woken) s)
 quiet_act shape t request reply woken s m = quiet shape t (ActTouches t request reply s) (ActMakes request reply) s (change_of shape t request reply woken s) (λ l x e. inl e) (guarded shape t s request reply woken m.answers)
 
 -- two that do not clash, the other way round

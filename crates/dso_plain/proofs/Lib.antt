@@ -11,3 +11,4 @@ pub mod Published
 pub mod Legal
 pub mod Monitors
 pub mod Rechoice
+pub mod Own

@@ -9,4 +9,5 @@ pub mod Loss
 pub mod Published
 pub mod Monitors
 pub mod Rechoice
+pub mod Own
 pub mod Laws

@@ -2,6 +2,7 @@
 ghost use Rattle.dso_plain.specs.Loss.{Loss, WaitersLeft, ChoiceAfterLoss};
 ghost use Rattle.dso_plain.specs.Published.{ReachTells, PublishedIsReached};
 ghost use Rattle.dso_plain.specs.Rechoice.{Rechoice};
+ghost use Rattle.dso_plain.specs.Own.{Own, Guarded};
 ghost use Rattle.dso_plain.specs.Laws.{Diamond, RunsInParts, EndsInParts, Past, Growth, LegalGoesOn, Monitors};
 
 /// Two runs from one state, one of a thread and one of other threads, can swap where their locks do not clash and
@@ -54,4 +55,11 @@ pub fn monitors()
 /// left, where each thread that resumes is still marked; it ends in the same state but for the marks.
 pub fn rechoice()
     ensures { Rechoice }
+{}
+
+/// Acts of other threads leave a thread's own parts as they were, and a run that does not touch a guard at Write leaves
+/// what it guards as it was.
+pub fn untouched()
+    ensures own { Own }
+    ensures guarded { Guarded }
 {}
