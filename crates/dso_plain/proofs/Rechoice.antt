@@ -18,7 +18,7 @@ use Rattle.dso_plain.specs.Possible.{IsPossible, May, Answers, IsPrivateMonitor,
 use Rattle.dso_plain.specs.After.{change_of, apply, after, put, read, read_shared, notifies}
 use Rattle.dso_plain.specs.History.{Runs, end_of}
 use Rattle.dso_plain.specs.Touches.{ActTouches, Touches, TouchesIn}
-use Rattle.dso_plain.specs.Rechoice.{with_marks, FindsMark, IsOfOtherClient, AreOfOtherClients, IsSameAct, AreSameActs, Fits, ChoicesFit, IsRechosen, RunsRechosen}
+use Rattle.dso_plain.specs.Rechoice.{with_marks, FindsMark, IsOfOtherClient, AreOfOtherClients, IsSameAct, AreSameActs, FitsMarks, ChoicesFit, IsRechosen, RunsRechosen}
 use Rattle.dso_plain.proofs.Loss.{left, same_hold, not_cleared, still_answers, still_awake, swap}
 
 module _ (shape : Shape) (t : ThreadId) (s : PlainState) (marks : LockName × ThreadId → Bool) where
@@ -123,10 +123,10 @@ act_rechosen shape client marks t request reply woken woken' s other p n wakes =
     touched l x (inl e) = inl (sym (ap level_of (same_hold shape client s t other l)) ∙ e)
     touched l x (inr e) = inr e
 
-event_rechosen : (shape : Shape) (client : ℕ) (marks : LockName × ThreadId → Bool) (e chosen : Event) (s : PlainState) → IsOfOtherClient client e → IsSameAct e chosen → May shape e s → Fits chosen (with_marks marks (left client s)) → OneRechosen shape client marks e chosen s
+event_rechosen : (shape : Shape) (client : ℕ) (marks : LockName × ThreadId → Bool) (e chosen : Event) (s : PlainState) → IsOfOtherClient client e → IsSameAct e chosen → May shape e s → FitsMarks chosen (with_marks marks (left client s)) → OneRechosen shape client marks e chosen s
 event_rechosen shape client marks (Act t request reply woken) (Act t' request' reply' woken') s other same m fits =
     let same_event : Act t request reply woken' ≡ Act t' request' reply' woken' = λ i. Act (sym same.0 i) (sym same.1 i) (sym same.2 i) woken' in
-    let fit : Fits (Act t request reply woken') (with_marks marks (left client s)) = subst (λ e. Fits e (with_marks marks (left client s))) (sym same_event) fits in
+    let fit : FitsMarks (Act t request reply woken') (with_marks marks (left client s)) = subst (λ e. FitsMarks e (with_marks marks (left client s))) (sym same_event) fits in
     subst (λ z. OneRechosen shape client marks (Act t request reply woken) z s) same_event (act_rechosen shape client marks t request reply woken woken' s other m fit.0 fit.1)
 event_rechosen shape client marks (Act t request reply woken) (Lost lost) s other same m fits = absurd same
 event_rechosen shape client marks (Lost lost) chosen s other same m fits = absurd other

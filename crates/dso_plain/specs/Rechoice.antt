@@ -45,14 +45,14 @@ FindsMark (Resume l) t s = s.marked (l, t) ≡ true
 FindsMark request t s = Unit {0}
 
 -- what an event asks of marks: a Resume finds one, and a notification wakes whom it may
-abbrev pub Fits : Event → PlainState → Type 0
-Fits (Act t request reply woken) s = FindsMark request t s × Wakes request reply woken s
-Fits (Lost client) s = Unit {0}
+abbrev pub FitsMarks : Event → PlainState → Type 0
+FitsMarks (Act t request reply woken) s = FindsMark request t s × Wakes request reply woken s
+FitsMarks (Lost client) s = Unit {0}
 
 -- each of the events finds so, one after the other
 abbrev pub ChoicesFit : Shape → List Event → PlainState → Type 0
 ChoicesFit shape [] s = Unit {0}
-ChoicesFit shape (e ∷ es) s = Fits e s × ChoicesFit shape es (after shape e s)
+ChoicesFit shape (e ∷ es) s = FitsMarks e s × ChoicesFit shape es (after shape e s)
 
 -- a run of threads of other clients, and the same acts with choices that fit after the loss
 pub record IsRechosen (shape : Shape) (client : ℕ) (es chosen : List Event) (s : PlainState) : Type 0 where
