@@ -42,15 +42,18 @@ writes_same true v w e = ap Some (e refl)
 writes_same false v w e = refl
 
 module _ (shape : Shape) (t u : ThreadId) (touch : LockName → Level → Type 0) (makes : ℕ → Type 0) (s r : PlainState) (other : u ≢ t) (q : IsQuiet shape t touch makes s r) where
+  -- the same objects are u's own
   same_mine : is_mine u r ≡ is_mine u s
   same_mine = fun_ext (λ o. q.privacy u o other)
 
+  -- u's own objects name the same
   same_names_from : (a b : ℕ) (mine : Bool) → is_private_to u (s.objects a) ≡ mine → (mine && (is_private_to u (s.objects b) && names r a b)) ≡ (mine && (is_private_to u (s.objects b) && names s a b))
   same_names_from a b false e = refl
   same_names_from a b true e = ap (λ x. is_private_to u (s.objects b) && x) (
       ap (λ x. names_below r.heap (size_of x) a b) (kept_private shape t u touch makes s r other q a e)
       ∙ names_below_same r.heap s.heap a (λ f. q.heap_own u (a, f) other e) (size_of (s.objects a)) b)
 
+  -- and so they do within u's own
   same_names : names_within (is_mine u r) (names r) ≡ names_within (is_mine u s) (names s)
   same_names = fun_ext (λ a. fun_ext (λ b. ap (λ mine. mine a && (mine b && names r a b)) same_mine ∙ same_names_from a b (is_private_to u (s.objects a)) refl))
 
@@ -66,6 +69,7 @@ module _ (shape : Shape) (t u : ThreadId) (touch : LockName → Level → Type 0
   same_pasts : (v : Value) → writes (λ key. published u v r key.0) (λ key. present (r.heap key)) ≡ writes (λ key. published u v s key.0) (λ key. present (s.heap key))
   same_pasts v = ap (λ p. writes (λ key. p key.0) (λ key. present (r.heap key))) (same_published v) ∙ fun_ext (λ key. writes_same (published u v s key.0) (present (r.heap key)) (present (s.heap key)) (λ e. ap present (q.heap_own u key other (published_private u v s key.0 e))))
 
+  -- a put into a shared object, whose guard the other does not touch at Write, writes the same
   alike_put_shared : (o f : ℕ) (v : Value) → IsShared o s → (touch (guard_in shape s o f) Write → ⊥) → put u o f v true r ≡ put u o f v true s
   alike_put_shared o f v common never =
       let past = q.past (o, f) common never in
@@ -80,9 +84,11 @@ module _ (shape : Shape) (t u : ThreadId) (touch : LockName → Level → Type 0
   unshared : (o : ℕ) → IsPrivate u o s → is_shared (r.objects o) ≡ is_shared (s.objects o)
   unshared o own = ap (λ x. is_shared x) (kept_private shape t u touch makes s r other q o own)
 
+  -- a shared object is shared there as here
   still_common : (o : ℕ) → IsShared o s → is_shared (r.objects o) ≡ is_shared (s.objects o)
   still_common o common = ap (λ x. is_shared x) (kept_shared shape t u touch makes s r other q o common)
 
+  -- a put writes the same
   alike_put : (o f : ℕ) (v : Value) → NoClash touch (ActTouches u (Put o f v) Done s) → AnswersPut shape u o f Done s → put u o f v (is_shared (r.objects o)) r ≡ put u o f v (is_shared (s.objects o)) s
   alike_put o f v locks a = elim a.1 [
     | inl own ↦ ap (λ b. put u o f v b r) (unshared o own ∙ private_unshared u (s.objects o) own) ∙ sym (ap (λ b. put u o f v b s) (private_unshared u (s.objects o) own))
@@ -108,6 +114,7 @@ module _ (shape : Shape) (t u : ThreadId) (touch : LockName → Level → Type 0
       ∙ (ap (λ hold. read_shared u o f hold r) (same_guard_hold shape t u touch makes s r other q o f common)
       ∙ (e ∙ sym (ap (λ b. read shape u o f b s) common)))
 
+  -- a read writes the same
   alike_get : (o f : ℕ) (v : Value) → NoClash touch (ActTouches u (Get o f) (Val v) s) → AnswersGet shape u o f (Val v) s → read shape u o f (is_shared (r.objects o)) r ≡ read shape u o f (is_shared (s.objects o)) s
   alike_get o f v locks (inl a) = ap (λ b. read shape u o f b r) (unshared o a.0 ∙ private_unshared u (s.objects o) a.0) ∙ sym (ap (λ b. read shape u o f b s) (private_unshared u (s.objects o) a.0))
   alike_get o f v locks (inr (inl a)) =

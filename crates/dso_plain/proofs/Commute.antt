@@ -24,6 +24,7 @@ counted_swap n true true = refl
 counted_swap n true false = refl
 counted_swap n false c = refl
 
+-- such changes come to the same in either order
 pub apply_swap : (c d : Change) (s : PlainState) → AreDisjoint c d → apply d (apply c s) ≡ apply c (apply d s)
 apply_swap c d s h = λ i. record {
   objects = written_swap c.objects d.objects s.objects h.objects i;

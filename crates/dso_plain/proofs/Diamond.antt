@@ -28,6 +28,7 @@ quiet_act shape t request reply woken s m = quiet shape t (ActTouches t request 
 swapped : (touch touch' : LockName → Level → Type 0) → NoClash touch touch' → NoClash touch' touch
 swapped touch touch' h l x y p q = let e = h l y x q p in (e.1, e.0)
 
+-- no common id, the other way round
 swapped_ids : (makes makes' : ℕ → Type 0) → NoCommonId makes makes' → NoCommonId makes' makes
 swapped_ids makes makes' h id p q = h id q p
 
@@ -53,6 +54,7 @@ touches_still : (shape : Shape) (t u : ThreadId) (touch : LockName → Level →
 touches_still shape t u touch makes request reply s r ne q l x (inl e) = inl (sym (ap level_of (q.monitors l u ne)) ∙ e)
 touches_still shape t u touch makes request reply s r ne q l x (inr e) = inr e
 
+-- two strangers are so
 square : (shape : Shape) (u : ThreadId) (a b : Event) (s : PlainState) → Strangers shape u a b s → Square shape a b s
 square shape u (Lost client) b s h = absurd h.other
 square shape u (Act t request reply woken) (Lost client) s h = absurd h.own
@@ -96,6 +98,7 @@ record Behind (shape : Shape) (a : Event) (own : List Event) (s : PlainState) : 
   touches : (l : LockName) (x : Level) → TouchesIn shape own (after shape a s) l x → TouchesIn shape own s l x
   first_touches : (l : LockName) (x : Level) → Touches a (end_of shape own s) l x → Touches a s l x
 
+-- an event in front of a run can go behind it
 behind : (shape : Shape) (u : ThreadId) (a : Event) (own : List Event) (s : PlainState) → Front shape u a own s → Behind shape a own s
 behind shape u a [] s h = record { runs_after = tt; first_after = h.first; same_end = refl; touches = λ l x k. k; first_touches = λ l x k. k }
 behind shape u a (b ∷ own) s h =
@@ -127,6 +130,7 @@ behind shape u a (b ∷ own) s h =
     touched l x d rest (inl k) = inl (d.second_touches l x k)
     touched l x d rest (inr k) = inr (rest.touches l x (subst (λ z. TouchesIn shape own z l x) d.same_end k))
 
+-- two runs that are apart can swap
 pub diamond : (shape : Shape) (u : ThreadId) (others own : List Event) (s : PlainState) → AreApart shape u others own s → CanSwap shape others own s
 diamond shape u [] own s h = record { own_after = h.own_runs; others_after = tt; same_end = refl; own_touches = λ l x k. k; others_touch = λ l x k. k }
 diamond shape u (a ∷ others) own s h =
@@ -167,6 +171,7 @@ runs_in_parts shape (e ∷ first) second s =
       λ p. (p.0.0, rest.1 (p.0.1, p.1)),
     )
 
+-- and it ends where the second part does
 pub ends_in_parts : (shape : Shape) (first second : List Event) (s : PlainState) → end_of shape (first ++ second) s ≡ end_of shape second (end_of shape first s)
 ends_in_parts shape [] second s = refl
 ends_in_parts shape (e ∷ first) second s = ends_in_parts shape first second (after shape e s)

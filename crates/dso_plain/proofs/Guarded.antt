@@ -56,6 +56,7 @@ other_owner t w (Some u) e ne = by (is_thread w u) refl
     by false d = refl
     by true d = absurd (ne (sym (same_thread w u d) ∙ same_thread t u e))
 
+-- so an object of one thread is not private to another
 pub other_private : (t w : ThreadId) (object : Option Object) → is_private_to t object ≡ true → w ≢ t → is_private_to w object ≡ false
 other_private t w None e ne = refl
 other_private t w (Some object) e ne = other_owner t w object.owner e ne
@@ -94,6 +95,7 @@ module _ (shape : Shape) (t : ThreadId) (touch : LockName → Level → Type 0) 
   is_made : (o key : ℕ) → s.objects o ≡ None → makes o → eqb key o ≡ true → IsNew makes s key
   is_made o key absent m e = subst (λ k. IsNew makes s k) (sym (same_number key o e)) (absent, m)
 
+  -- a new object is written, and nothing else
   pub guarded_new : (class : ClassId) (n o : ℕ) → s.objects o ≡ None → makes o → IsGuarded shape t touch makes s (made_new shape t class n o s)
   guarded_new class n o absent m = record {
     objects = λ key new e.
@@ -111,6 +113,7 @@ module _ (shape : Shape) (t : ThreadId) (touch : LockName → Level → Type 0) 
     lost = λ _ _ e. none e;
   }
 
+  -- a read writes what its thread has seen
   pub guarded_read : (o f : ℕ) (is_shared : Bool) → IsGuarded shape t touch makes s (read shape t o f is_shared s)
   guarded_read o f false = guarded_nothing false
   guarded_read o f true = by (hold_on_guard shape t o f s)
@@ -119,6 +122,7 @@ module _ (shape : Shape) (t : ThreadId) (touch : LockName → Level → Type 0) 
       by None = guarded_nothing true
       by (Some hold) = record { seen = λ key new e. same_view t o f key (written_there (is_view t o f) (λ _. length (s.past (o, f)) - 1) key new e).0; objects = λ _ _ e. none e; made = λ _ _ e. none e; heap = λ _ _ e. none e; past = λ _ _ e. none e; monitors = λ _ _ e. none e; asleep = λ _ _ e. none e; marked = λ _ _ e. none e; output = λ _ _ e. none e; ended = λ _ _ e. none e; lost = λ _ _ e. none e }
 
+  -- a put into an object of its own
   pub guarded_put_own : (o f : ℕ) (v : Value) → IsPrivate t o s → IsGuarded shape t touch makes s (put t o f v false s)
   guarded_put_own o f v own = record {
     heap = λ key new e. inl (subst (λ k. IsPrivate t k.0 s) (sym (same_field o f key (written_there (is_field o f) (λ _. Some v) key new e).0)) own);
@@ -134,6 +138,7 @@ module _ (shape : Shape) (t : ThreadId) (touch : LockName → Level → Type 0) 
     lost = λ _ _ e. none e;
   }
 
+  -- a put into a shared object, whose guard the thread touches at Write
   pub guarded_put_shared : (o f : ℕ) (v : Value) → IsShared o s → touch (guard_in shape s o f) Write → IsGuarded shape t touch makes s (put t o f v true s)
   guarded_put_shared o f v common h = record {
     objects = λ key new e.
@@ -206,10 +211,12 @@ module _ (shape : Shape) (t : ThreadId) (touch : LockName → Level → Type 0) 
     lost = λ _ _ e. none e;
   }
 
+  -- a notification marks under the lock
   pub guarded_notify : (l : LockName) (woken : Option ThreadId) → touch l Write → IsGuarded shape t touch makes s (notifies l woken)
   guarded_notify l None h = guarded_nothing false
   guarded_notify l (Some w) h = record { marked = λ key new e. touched_at l Write key w (written_there (is_place l w) (λ _. true) key new e).0 h; objects = λ _ _ e. none e; made = λ _ _ e. none e; heap = λ _ _ e. none e; past = λ _ _ e. none e; seen = λ _ _ e. none e; monitors = λ _ _ e. none e; asleep = λ _ _ e. none e; output = λ _ _ e. none e; ended = λ _ _ e. none e; lost = λ _ _ e. none e }
 
+  -- and so does one of all
   pub guarded_notify_all : (l : LockName) → touch l Write → IsGuarded shape t touch makes s (notifies_all l s)
   guarded_notify_all l h = record {
     marked = λ key new e.
@@ -227,9 +234,11 @@ module _ (shape : Shape) (t : ThreadId) (touch : LockName → Level → Type 0) 
     lost = λ _ _ e. none e;
   }
 
+  -- printing adds to the thread's own output
   pub guarded_print : (out : List Value) → IsGuarded shape t touch makes s (record nothing { output = writes (is_thread t) (λ key. out) })
   guarded_print out = record { output = λ key new e. same_thread t key (written_there (is_thread t) (λ _. out) key new e).0; objects = λ _ _ e. none e; made = λ _ _ e. none e; heap = λ _ _ e. none e; past = λ _ _ e. none e; seen = λ _ _ e. none e; monitors = λ _ _ e. none e; asleep = λ _ _ e. none e; marked = λ _ _ e. none e; ended = λ _ _ e. none e; lost = λ _ _ e. none e }
 
+  -- ending writes the thread's own end
   pub guarded_end : (fault : Option Fault) → IsGuarded shape t touch makes s (record nothing { ended = writes (is_thread t) (λ key. Some fault) })
   guarded_end fault = record { ended = λ key new e. same_thread t key (written_there (is_thread t) (λ _. Some fault) key new e).0; objects = λ _ _ e. none e; made = λ _ _ e. none e; heap = λ _ _ e. none e; past = λ _ _ e. none e; seen = λ _ _ e. none e; monitors = λ _ _ e. none e; asleep = λ _ _ e. none e; marked = λ _ _ e. none e; output = λ _ _ e. none e; lost = λ _ _ e. none e }
 

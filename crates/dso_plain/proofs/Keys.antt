@@ -79,6 +79,7 @@ Apart {K} {V} c d = (key : K) (v w : V) → c key ≡ Some v → d key ≡ Some 
 pub none : {A P : Type 0} {v : A} → None ≡ Some v → P
 none e = absurd (cc e)
 
+-- at one key, two writings of which at most one is there
 or_old_swap : {V : Type 0} (p q : Option V) (x : V) → ((v w : V) → p ≡ Some v → q ≡ Some w → ⊥) → or_old q (or_old p x) ≡ or_old p (or_old q x)
 or_old_swap None q x ne = refl
 or_old_swap (Some v) None x ne = refl
@@ -88,6 +89,7 @@ or_old_swap (Some v) (Some w) x ne = absurd (ne v w refl refl)
 pub written_swap : {K V : Type 0} (c d : K → Option V) (f : K → V) → Apart c d → written d (written c f) ≡ written c (written d f)
 written_swap c d f ne = fun_ext (λ key. or_old_swap (c key) (d key) (f key) (ne key))
 
+-- the same at one key
 is_by_cases : {A : Type 0} (P : A → Type 0) (p : Option A) (x : A) → ((v : A) → p ≡ Some v → P v) → P x → P (or_old p x)
 is_by_cases P None x h was = was
 is_by_cases P (Some v) x h was = h v refl

@@ -26,6 +26,7 @@ module _ (next : ThreadId → List Event → Option Request) (Listed : ThreadId 
   follows_in_parts t before [] second f g = subst (λ es. FollowsFrom next Listed t es second) (append-nil before) g
   follows_in_parts t before (e ∷ first) second f g = (f.0, follows_in_parts t (before ++ e ∷ []) first second f.1 (subst (λ es. FollowsFrom next Listed t es second) (sym (append_assoc before (e ∷ []) first)) g))
 
+  -- a legal history goes on
   pub goes_on : (shape : Shape) (h more : List Event) → IsLegal next Listed shape h → Runs shape more (last_state shape h) → ((t : ThreadId) → FollowsFrom next Listed t (events_of t h) (events_of t more)) → IsLegal next Listed shape (h ++ more)
   goes_on shape h more l m f = record {
     runs = (runs_in_parts shape h more (opening shape)).1 (l.runs, m);

@@ -58,15 +58,18 @@ module _ (shape : Shape) (client : ℕ) (s : PlainState) (t : ThreadId) (other :
   same_wait : (l : LockName) → (left client s).asleep (l, t) ≡ s.asleep (l, t)
   same_wait l = not_cleared t.client client None (s.asleep (l, t)) other
 
+  -- and whether it is marked
   same_mark : (l : LockName) → (left client s).marked (l, t) ≡ s.marked (l, t)
   same_mark l = not_cleared t.client client false (s.marked (l, t)) other
 
+  -- a read gives the same
   still_get : (o f : ℕ) (reply : Reply) → AnswersGet shape t o f reply s → AnswersGet shape t o f reply (left client s)
   still_get o f (Val v) (inl a) = inl a
   still_get o f (Val v) (inr (inl a)) = inr (inl (a.0, (λ e. a.1 (sym (same_hold (guard_in shape s o f)) ∙ e)), a.2))
   still_get o f (Val v) (inr (inr a)) = inr (inr (a.0, same_hold (guard_in shape s o f) ∙ a.1, a.2))
   still_get o f reply a = absurd a
 
+  -- a put is answered the same
   still_put : (o f : ℕ) (reply : Reply) → MayPut shape t o f reply s → MayPut shape t o f reply (left client s)
   still_put o f Done (inl own) = inl own
   still_put o f Done (inr h) = inr (h.0, ap level_of (same_hold (guard_in shape s o f)) ∙ h.1)
@@ -75,9 +78,11 @@ module _ (shape : Shape) (client : ℕ) (s : PlainState) (t : ThreadId) (other :
   still_put o f (Refused WrongLock) h = (h.0, (h.1.0, λ e. h.1.1 (sym (same_hold h.1.0) ∙ e)), same_hold (guard_in shape s o f) ∙ h.2)
   still_put o f reply h = absurd h
 
+  -- fewer hold in conflict
   still_free : (l : LockName) (level : Level) → NoConflict t l level s → NoConflict t l level (left client s)
   still_free l level free w ne = cleared_or_same (λ hold. Beside level (level_of hold)) (eqb w.client client) None (s.monitors (l, w)) tt (free w ne)
 
+  -- an entry is answered the same
   still_enter : (l : LockName) (level : Level) (reply : Reply) → AnswersEnter t l level reply s → AnswersEnter t l level reply (left client s)
   still_enter l level Local a = still_local l a
     where
@@ -99,15 +104,18 @@ module _ (shape : Shape) (client : ℕ) (s : PlainState) (t : ThreadId) (other :
       still_cluster (Name n) a = tt
   still_enter l level reply a = absurd a
 
+  -- what is held can be left
   still_exit : (l : LockName) (reply : Reply) → AnswersExit t l reply s → AnswersExit t l reply (left client s)
   still_exit l Done a = λ e. a (sym (same_hold l) ∙ e)
   still_exit l reply a = absurd a
 
+  -- wait and notify are answered the same
   still_monitor : (l : LockName) (reply : Reply) → AnswersMonitor t l reply s → AnswersMonitor t l reply (left client s)
   still_monitor l Done a = ap level_of (same_hold l) ∙ a
   still_monitor l (Refused IllegalMonitor) a = λ h. a (sym (ap level_of (same_hold l)) ∙ h)
   still_monitor l reply a = absurd a
 
+  -- who could go on still can
   still_resume : (l : LockName) (reply : Reply) → AnswersResume t l reply s → AnswersResume t l reply (left client s)
   still_resume l Done a = (
     (λ e. a.0 (sym (same_wait l) ∙ e)),
@@ -116,10 +124,12 @@ module _ (shape : Shape) (client : ℕ) (s : PlainState) (t : ThreadId) (other :
   )
   still_resume l reply a = absurd a
 
+  -- who could end still can
   still_end : (reply : Reply) → AnswersEnd t reply s → AnswersEnd t reply (left client s)
   still_end Done a = λ l. same_hold l ∙ a l
   still_end reply a = absurd a
 
+  -- each reply is still possible
   pub still_answers : (request : Request) (reply : Reply) → Answers shape t request reply s → Answers shape t request reply (left client s)
   still_answers (New class n) reply a = by reply a
     where
@@ -143,6 +153,7 @@ module _ (shape : Shape) (client : ℕ) (s : PlainState) (t : ThreadId) (other :
   still_answers (End fault) reply a = still_end reply a
   still_answers Pause reply a = a
 
+  -- who was awake still is
   pub still_awake : (request : Request) → IsAwakeFor request t s → IsAwakeFor request t (left client s)
   still_awake (Resume l) a = tt
   still_awake request a = λ l. same_wait l ∙ a l
@@ -163,6 +174,7 @@ NotAll (NotifyAll l) = ⊥
 NotAll request = Unit {0}
 
 module _ (shape : Shape) (client : ℕ) (s : PlainState) (t : ThreadId) (other : t.client ≢ client) where
+  -- who could be woken and is of another client still can
   still_wakes : (request : Request) (reply : Reply) (woken : Option ThreadId) → WakesNoneOf client woken → Wakes request reply woken s → Wakes request reply woken (left client s)
   still_wakes (Notify l) Done None apart nobody = λ w h. nobody w ((waiters_left client s l w).0 h).0
   still_wakes (Notify l) Done (Some w) apart h = (waiters_left client s l w).1 (h, apart)
@@ -182,18 +194,22 @@ module _ (shape : Shape) (client : ℕ) (s : PlainState) (t : ThreadId) (other :
   marks_at : (l : LockName) (w : ThreadId) (mark : Bool) → w.client ≢ client → Wherever (writes (is_place l w) (λ _. mark)) (λ key _. key.1.client ≢ client)
   marks_at l w mark ne key v e = λ d. ne (sym (ap (λ k. k.1.client) (same_place l w key (written_there (is_place l w) (λ _. mark) key v e).0)) ∙ d)
 
+  -- a put marks nobody
   marks_put : (o f : ℕ) (v : Value) (b : Bool) → Wherever (put t o f v b s).marked (λ key _. key.1.client ≢ client)
   marks_put o f v true key x e = none e
   marks_put o f v false key x e = none e
 
+  -- a read of a shared object marks nobody
   marks_read_shared : (o f : ℕ) (hold : Option Hold) → Wherever (read_shared t o f hold s).marked (λ key _. key.1.client ≢ client)
   marks_read_shared o f None key x e = none e
   marks_read_shared o f (Some hold) key x e = none e
 
+  -- nor does any read
   marks_read : (o f : ℕ) (b : Bool) → Wherever (read shape t o f b s).marked (λ key _. key.1.client ≢ client)
   marks_read o f true key x e = marks_read_shared o f (hold_on_guard shape t o f s) key x e
   marks_read o f false key x e = none e
 
+  -- so no act but a notification of all marks a thread of the client
   marks : (request : Request) (reply : Reply) (woken : Option ThreadId) → NotAll request → WakesNoneOf client woken → Wherever (change_of shape t request reply woken s).marked (λ key _. key.1.client ≢ client)
   marks (NotifyAll l) reply woken n apart key v e = absurd n
   marks (New class m) (Made o) woken n apart key v e = none e
@@ -230,14 +246,17 @@ module _ (shape : Shape) (client : ℕ) (s : PlainState) (t : ThreadId) (other :
       never : (key : LockName × ThreadId) → key.1 ≡ t → eqb key.1.client client ≡ true → ⊥
       never key e d = other (sym (ap (λ x. x.client) e) ∙ same_number key.1.client client d)
 
+  -- a read of a shared object writes the same
   alike_read_shared : (o f : ℕ) (hold : Option Hold) → read_shared t o f hold (left client s) ≡ read_shared t o f hold s
   alike_read_shared o f None = refl
   alike_read_shared o f (Some hold) = refl
 
+  -- and so does any read
   alike_read : (o f : ℕ) (b : Bool) → read shape t o f b (left client s) ≡ read shape t o f b s
   alike_read o f true = ap (λ hold. read_shared t o f hold (left client s)) (same_hold shape client s t other (guard_in shape s o f)) ∙ alike_read_shared o f (hold_on_guard shape t o f s)
   alike_read o f false = refl
 
+  -- and a put
   alike_put : (o f : ℕ) (v : Value) (b : Bool) → put t o f v b (left client s) ≡ put t o f v b s
   alike_put o f v true = refl
   alike_put o f v false = refl
@@ -277,6 +296,7 @@ module _ (shape : Shape) (client : ℕ) (s : PlainState) (t : ThreadId) (other :
       let marks : written (notifies_all l (left client s)).marked (left client s).marked ≡ written (loses client).marked (written (notifies_all l s).marked s.marked) = fun_ext (λ key. marks_case (is_lock l key.0) (eqb key.1.client client) (s.asleep key) (s.marked key)) in
       λ i. record (left client s) { marked = marks i }
 
+  -- any act comes to the same before and after the loss
   pub swap : (request : Request) (reply : Reply) (woken : Option ThreadId) → Answers shape t request reply s → WakesNoneOf client woken → apply (change_of shape t request reply woken (left client s)) (left client s) ≡ left client (apply (change_of shape t request reply woken s) s)
   swap (NotifyAll l) Done woken a apart = swap_all l
   swap (NotifyAll l) reply woken a apart = refl
@@ -288,6 +308,7 @@ record OneSurvives (shape : Shape) (client : ℕ) (e : Event) (s : PlainState) :
   same_end : after shape e (left client s) ≡ left client (after shape e s)
   touches : (l : LockName) (x : Level) → Touches e (left client s) l x → Touches e s l x
 
+-- each event of another client is so
 event_survives : (shape : Shape) (client : ℕ) (e : Event) (s : PlainState) → May shape e s → IsApartFrom client e → OneSurvives shape client e s
 event_survives shape client (Lost lost) s m apart = absurd apart
 event_survives shape client (Act t request reply woken) s m apart = record {
@@ -300,6 +321,7 @@ event_survives shape client (Act t request reply woken) s m apart = record {
     touched l x (inl e) = inl (sym (ap level_of (same_hold shape client s t apart.0 l)) ∙ e)
     touched l x (inr e) = inr e
 
+-- a run of other clients survives the loss
 pub loss : (shape : Shape) (client : ℕ) (es : List Event) (s : PlainState) → Runs shape es s → AreApartFrom client es → SurvivesLoss shape client es s
 loss shape client [] s m apart = record { still_runs = tt; same_end = refl; touches = λ l x k. k }
 loss shape client (e ∷ es) s m apart =

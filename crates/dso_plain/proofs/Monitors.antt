@@ -45,6 +45,7 @@ alone : (hold : Option Hold) → Beside Write (level_of hold) → hold ≡ None
 alone None b = refl
 alone (Some hold) b = absurd b
 
+-- what is kept says all of the law
 pub kept_monitors : (s : PlainState) → KeptIn s → KeepsMonitors s
 kept_monitors s k = record {
   exclusion = λ l t w ne write. alone (s.monitors (l, w)) (k.beside l t w Write ne write);
@@ -78,22 +79,27 @@ flipped_hold x (Some hold) ok = flipped hold.level x (ok hold.level refl)
 
 -- a new hold of thread t on lock l
 module _ (l : LockName) (t : ThreadId) (new : Option Hold) (s : PlainState) (k : KeptIn s) where
+  -- a key that is there is the thread's
   place_thread : (key : LockName × ThreadId) → is_place l t key ≡ true → key.1 ≡ t
   place_thread key e = ap (λ x. x.1) (same_place l t key e)
 
+  -- and the lock's
   place_lock : (key : LockName × ThreadId) → is_place l t key ≡ true → key.0 ≡ l
   place_lock key e = ap (λ x. x.0) (same_place l t key e)
 
+  -- where no other hold conflicts with the new one none do
   hold_beside : ((x : Level) → level_of new ≡ Some x → NoConflict t l x s) → (m : LockName) (u w : ThreadId) (x : Level) (b c : Bool) → is_place l t (m, u) ≡ b → is_place l t (m, w) ≡ c → u ≢ w → level_of (or_old (cond b (Some new) None) (s.monitors (m, u))) ≡ Some x → Beside x (level_of (or_old (cond c (Some new) None) (s.monitors (m, w))))
   hold_beside ok m u w x true true d d' ne e = absurd (ne (place_thread (m, u) d ∙ sym (place_thread (m, w) d')))
   hold_beside ok m u w x true false d d' ne e = subst (λ n. Beside x (level_of (s.monitors (n, w)))) (sym (place_lock (m, u) d)) (ok x e w (λ h. ne (place_thread (m, u) d ∙ sym h)))
   hold_beside ok m u w x false true d d' ne e = flipped_hold x new (λ y h. subst (λ level. Beside y level) (subst (λ n. level_of (s.monitors (n, u)) ≡ Some x) (place_lock (m, w) d') e) (ok y h u (λ i. ne (i ∙ sym (place_thread (m, w) d')))))
   hold_beside ok m u w x false false d d' ne e = k.beside m u w x ne e
 
+  -- each hold is counted where the new one is
   hold_counted : ((hold : Hold) → new ≡ Some hold → 1 ≤ hold.count) → (m : LockName) (u : ThreadId) (b : Bool) (hold : Hold) → or_old (cond b (Some new) None) (s.monitors (m, u)) ≡ Some hold → 1 ≤ hold.count
   hold_counted ok m u true hold e = ok hold e
   hold_counted ok m u false hold e = k.counted m u hold e
 
+  -- who is out holds nothing, since t is not out
   hold_out : (IsOut s.lost s.ended t → ⊥) → (m : LockName) (u : ThreadId) (b : Bool) → is_place l t (m, u) ≡ b → IsOut s.lost s.ended u → or_old (cond b (Some new) None) (s.monitors (m, u)) ≡ None
   hold_out going m u true d e = absurd (going (subst (λ v. IsOut s.lost s.ended v) (place_thread (m, u) d) e))
   hold_out going m u false d e = (k.out m u e).0
@@ -141,15 +147,18 @@ module _ (shape : Shape) (t : ThreadId) (s : PlainState) (k : KeptIn s) where
   beside_own : (l : LockName) (x : Level) → level_of (s.monitors (l, t)) ≡ Some x → NoConflict t l x s
   beside_own l x e w ne = k.beside l t w x (λ d. ne (sym d)) e
 
+  -- an entry is beside the other holds
   enter_beside : (l : LockName) (level x : Level) (hold : Option Hold) → s.monitors (l, t) ≡ hold → (hold ≢ None) ⊎ NoConflict t l level s → level_of (entered level hold) ≡ Some x → NoConflict t l x s
   enter_beside l level x None d (inl held) e = absurd (held refl)
   enter_beside l level x None d (inr free) e = subst (λ y. NoConflict t l y s) (cc e) free
   enter_beside l level x (Some hold) d h e = beside_own l x (ap level_of d ∙ e)
 
+  -- an entered hold is counted
   enter_counted : (level : Level) (hold : Option Hold) (new : Hold) → entered level hold ≡ Some new → 1 ≤ new.count
   enter_counted level None new e = subst (λ x. 1 ≤ count_of x) e (omega arith)
   enter_counted level (Some hold) new e = subst (λ x. 1 ≤ count_of x) e (omega arith)
 
+  -- what is left of a hold is counted
   exit_counted : (l : LockName) (hold : Option Hold) (new : Hold) → s.monitors (l, t) ≡ hold → exited hold ≡ Some new → 1 ≤ new.count
   exit_counted l None new d e = absurd (cc e)
   exit_counted l (Some hold) new d e = by (eqb hold.count 1) refl e
@@ -161,19 +170,23 @@ module _ (shape : Shape) (t : ThreadId) (s : PlainState) (k : KeptIn s) where
           let ne = eqb-false hold.count 1 d' in
           subst (λ x. 1 ≤ count_of x) e (omega arith)
 
+  -- a hold at Write that waits is counted
   wait_counts : (l : LockName) (hold : Option Hold) (count : ℕ) → s.monitors (l, t) ≡ hold → level_of hold ≡ Some Write → Some (count_of hold) ≡ Some count → 1 ≤ count
   wait_counts l None count d w e = absurd (cc w)
   wait_counts l (Some hold) count d w e =
       let same : hold.count ≡ count = cc e in
       subst (λ n. 1 ≤ n) same (k.counted l t hold d)
 
+  -- a hold where there is no other is beside all
   resume_beside : (l : LockName) (x : Level) → ((w : ThreadId) → s.monitors (l, w) ≡ None) → NoConflict t l x s
   resume_beside l x free w ne = subst (λ hold. Beside x (level_of hold)) (sym (free w)) tt
 
+  -- a hold that is had again is counted
   resume_counted : (l : LockName) (wait : Option ℕ) (new : Hold) → s.asleep (l, t) ≡ wait → resumed wait ≡ Some new → 1 ≤ new.count
   resume_counted l None new d e = absurd (cc e)
   resume_counted l (Some count) new d e = subst (λ x. 1 ≤ count_of x) e (k.counted_waits l t count d)
 
+  -- a notification of a waiter keeps it
   notify_kept : (l : LockName) (woken : Option ThreadId) → ((w : ThreadId) → woken ≡ Some w → s.asleep (l, w) ≢ None) → KeptIn (apply (notifies l woken) s)
   notify_kept l None ok = k
   notify_kept l (Some w) ok = record {
@@ -188,6 +201,7 @@ module _ (shape : Shape) (t : ThreadId) (s : PlainState) (k : KeptIn s) where
       marks m u true d e = subst (λ key. s.asleep key ≢ None) (sym (same_place l w (m, u) d)) (ok w refl)
       marks m u false d e = k.only_waiters m u e
 
+  -- and so does one of all
   notify_all_kept : (l : LockName) → KeptIn (apply (notifies_all l s) s)
   notify_all_kept l = record {
     beside = k.beside;
@@ -202,18 +216,22 @@ module _ (shape : Shape) (t : ThreadId) (s : PlainState) (k : KeptIn s) where
       marks m u false None d e = λ h. k.only_waiters m u e d
       marks m u b (Some count) d e = λ h. absurd (cc h)
 
+  -- a put does not bear on it
   put_kept : (o f : ℕ) (v : Value) (b : Bool) → KeptIn (apply (put t o f v b s) s)
   put_kept o f v true = k
   put_kept o f v false = k
 
+  -- nor does a read of a shared object
   read_shared_kept : (o f : ℕ) (hold : Option Hold) → KeptIn (apply (read_shared t o f hold s) s)
   read_shared_kept o f None = k
   read_shared_kept o f (Some hold) = k
 
+  -- nor any read
   read_kept : (o f : ℕ) (b : Bool) → KeptIn (apply (read shape t o f b s) s)
   read_kept o f true = read_shared_kept o f (hold_on_guard shape t o f s)
   read_kept o f false = k
 
+  -- an end of a thread that has no part in a lock keeps it
   end_kept : (fault : Option Fault) → ((l : LockName) → HasNoPart l t s) → KeptIn (apply (change_of shape t (End fault) Done None s) s)
   end_kept fault none_left = record {
     beside = k.beside;
@@ -227,6 +245,7 @@ module _ (shape : Shape) (t : ThreadId) (s : PlainState) (k : KeptIn s) where
       outs l u true d e = subst (λ v. HasNoPart l v s) (sym (same_thread t u d)) (none_left l)
       outs l u false d e = k.out l u e
 
+  -- each act keeps it
   act_kept : (request : Request) (reply : Reply) (woken : Option ThreadId) → IsPossible shape t request reply woken s → KeptIn (apply (change_of shape t request reply woken s) s)
   act_kept (New class n) (Made o) woken p = k
   act_kept (Get o f) (Val v) woken p = read_kept o f (is_shared (s.objects o))
@@ -273,10 +292,12 @@ lost_kept client s k = record {
     cleared_out l t true e = (refl, refl)
     cleared_out l t false e = k.out l t e
 
+-- each event keeps it
 pub event_kept : (shape : Shape) (e : Event) (s : PlainState) → May shape e s → KeptIn s → KeptIn (after shape e s)
 event_kept shape (Act t request reply woken) s m k = act_kept shape t s k request reply woken m
 event_kept shape (Lost client) s m k = lost_kept client s k
 
+-- a run keeps it
 pub run_kept : (shape : Shape) (es : List Event) (s : PlainState) → Runs shape es s → KeptIn s → KeptIn (end_of shape es s)
 run_kept shape [] s m k = k
 run_kept shape (e ∷ es) s m k = run_kept shape es (after shape e s) m.1 (event_kept shape e s m.0 k)

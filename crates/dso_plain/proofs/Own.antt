@@ -34,6 +34,7 @@ act_leaves_own shape t (Act u request reply woken) s m other =
       heap = λ o f own. q.heap_own t (o, f) ne own;
     }
 
+-- a run of other threads
 pub leaves_own : (shape : Shape) (t : ThreadId) (es : List Event) (s : PlainState) → Runs shape es s → AreActsOfOthers t es → LeavesOwn t s (end_of shape es s)
 leaves_own shape t [] s m other = record {
   monitors = λ l. refl;
@@ -74,6 +75,7 @@ event_leaves_field shape (Act u request reply woken) s o f m common free =
       past = q.past (o, f) common free;
     }
 
+-- a run that does not touch the guard at Write
 pub leaves_field : (shape : Shape) (es : List Event) (s : PlainState) (o f : ℕ) → Runs shape es s → IsShared o s → (TouchesIn shape es s (guard_in shape s o f) Write → ⊥) → LeavesField o f s (end_of shape es s)
 leaves_field shape [] s o f m common free = record { object = refl; heap = refl; past = refl }
 leaves_field shape (e ∷ es) s o f m common free =

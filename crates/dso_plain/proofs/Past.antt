@@ -100,24 +100,29 @@ opening_kept shape = record {
 
 -- a new object
 module _ (shape : Shape) (t : ThreadId) (class : ClassId) (n o : ℕ) (s : PlainState) (k : KeptIn s) (absent : s.objects o ≡ None) where
+  -- other objects' pasts are as they were
   new_newest : (p f : ℕ) (b : Bool) → is_shared (or_old (cond b (Some (Some (new_object t class n))) None) (s.objects p)) ≡ true → newest (s.past (p, f)) ≡ or_old (cond b (Some (opening_field shape class n f)) None) (s.heap (p, f))
   new_newest p f true e = absurd (cc e)
   new_newest p f false e = k.newest_is_heap p f e
 
+  -- the new object has no past
   new_before : (p f : ℕ) (b : Bool) → eqb p o ≡ b → is_shared (or_old (cond b (Some (Some (new_object t class n))) None) (s.objects p)) ≡ false → s.past (p, f) ≡ []
   new_before p f true d e = k.none_before p f (ap (λ x. is_shared (s.objects x)) (same_number p o d) ∙ ap (λ x. is_shared x) absent)
   new_before p f false d e = k.none_before p f e
 
+  -- it has a value at each of its fields
   new_fields : (p f : ℕ) (b : Bool) → is_some (or_old (cond b (Some (opening_field shape class n f)) None) (s.heap (p, f))) ≡ ltb f (size_of (or_old (cond b (Some (Some (new_object t class n))) None) (s.objects p)))
   new_fields p f true = some_where (ltb f n) (opening_value (kind_of shape class f))
   new_fields p f false = k.fields p f
 
+  -- it is listed as its thread's
   new_listed : (w : ThreadId) (p : ℕ) (b c : Bool) → eqb p o ≡ b → is_thread t w ≡ c → is_private_to w (or_old (cond b (Some (Some (new_object t class n))) None) (s.objects p)) ≡ true → IsListed p (or_old (cond c (Some (o ∷ s.made t)) None) (s.made w))
   new_listed w p true true d d' e = inl (same_number p o d)
   new_listed w p true false d d' e = differ (is_thread t w) d' (subst (λ x. is_thread t x ≡ true) (same_thread w t e) (thread_self t))
   new_listed w p false true d d' e = inr (subst (λ x. IsListed p (s.made x)) (same_thread t w d') (k.private_listed w p e))
   new_listed w p false false d d' e = k.private_listed w p e
 
+  -- so a new object keeps it
   new_kept : KeptIn (apply (made_new shape t class n o s) s)
   new_kept = record {
     newest_is_heap = λ p f e. new_newest p f (eqb p o) e;
@@ -129,12 +134,14 @@ module _ (shape : Shape) (t : ThreadId) (class : ClassId) (n o : ℕ) (s : Plain
 
 -- a place that is seen
 module _ (t : ThreadId) (o f : ℕ) (s : PlainState) (k : KeptIn s) where
+  -- the last place is in the past
   seen_within : (w : ThreadId) (p g : ℕ) (b : Bool) → is_view t o f (w, p, g) ≡ b → or_old (cond b (Some (length (s.past (o, f)) - 1)) None) (s.seen (w, p, g)) ≤ length (s.past (p, g)) - 1
   seen_within w p g true e =
       let d = ap (λ x. length (s.past x)) (same_field o f (p, g) (both (is_thread t w) (eqb p o && eqb g f) e).1) in
       omega arith
   seen_within w p g false e = k.within w p g
 
+  -- a read of a shared object keeps it
   read_shared_kept : (hold : Option Hold) → KeptIn (apply (read_shared t o f hold s) s)
   read_shared_kept None = k
   read_shared_kept (Some hold) = record {
@@ -145,6 +152,7 @@ module _ (t : ThreadId) (o f : ℕ) (s : PlainState) (k : KeptIn s) where
     private_listed = k.private_listed;
   }
 
+  -- and so does any read
   read_kept : (shape : Shape) (b : Bool) → KeptIn (apply (read shape t o f b s) s)
   read_kept shape false = k
   read_kept shape true = read_shared_kept (hold_on_guard shape t o f s)
@@ -171,6 +179,7 @@ shared_size (Some object) = refl
 
 -- a put
 module _ (t : ThreadId) (o f : ℕ) (v : Value) (s : PlainState) (k : KeptIn s) (has : HasField o f s) where
+  -- the field is one that the object has
   put_field : (key : ℕ × ℕ) → is_field o f key ≡ true → ltb key.1 (size_of (s.objects key.0)) ≡ true
   put_field key e = subst (λ x. ltb x.1 (size_of (s.objects x.0)) ≡ true) (sym (same_field o f key e)) (lt-ltb f (size_of (s.objects o)) has)
 
@@ -244,12 +253,14 @@ module _ (t : ThreadId) (o f : ℕ) (v : Value) (s : PlainState) (k : KeptIn s) 
     }
 
 module _ (shape : Shape) (t : ThreadId) (s : PlainState) where
+  -- a put keeps it
   put_kept : (o f : ℕ) (v : Value) → AnswersPut shape t o f Done s → KeptIn s → KeptIn (apply (put t o f v (is_shared (s.objects o)) s) s)
   put_kept o f v a k = elim a.1 [
     | inl own ↦ subst (λ b. KeptIn (apply (put t o f v b s) s)) (sym (private_unshared t (s.objects o) own)) (put_own_kept t o f v s k a.0 own)
     | inr h ↦ subst (λ b. KeptIn (apply (put t o f v b s) s)) (sym h.0) (put_shared_kept t o f v s k a.0 h.0)
   ]
 
+  -- a notification does not bear on it
   notify_kept : (l : LockName) (woken : Option ThreadId) → KeptIn s → KeptIn (apply (notifies l woken) s)
   notify_kept l None k = k
   notify_kept l (Some w) k = k
@@ -269,10 +280,12 @@ module _ (shape : Shape) (t : ThreadId) (s : PlainState) where
   act_kept (End fault) Done woken a k = k
   act_kept request reply woken a k = k
 
+-- each event keeps it
 pub event_kept : (shape : Shape) (e : Event) (s : PlainState) → May shape e s → KeptIn s → KeptIn (after shape e s)
 event_kept shape (Act t request reply woken) s m k = act_kept shape t s request reply woken m.answers k
 event_kept shape (Lost client) s m k = k
 
+-- a run keeps it
 pub run_kept : (shape : Shape) (es : List Event) (s : PlainState) → Runs shape es s → KeptIn s → KeptIn (end_of shape es s)
 run_kept shape [] s m k = k
 run_kept shape (e ∷ es) s m k = run_kept shape es (after shape e s) m.1 (event_kept shape e s m.0 k)
@@ -297,6 +310,7 @@ act_grows shape t request reply woken s a =
       ]) ([], refl);
     }
 
+-- an event lets pasts grow
 event_grows : (shape : Shape) (e : Event) (s : PlainState) → May shape e s → PastsGrow s (after shape e s)
 event_grows shape (Act t request reply woken) s m = act_grows shape t request reply woken s m.answers
 event_grows shape (Lost client) s m = record { shared = λ o common. common; grown = λ o f common. ([], refl) }

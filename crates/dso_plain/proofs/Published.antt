@@ -16,6 +16,7 @@ left_holds : (a b : Bool) → a ≡ true → (a || b) ≡ true
 left_holds true b e = refl
 left_holds false b e = absurd (cc e)
 
+-- the other holds
 right_holds : (a b : Bool) → b ≡ true → (a || b) ≡ true
 right_holds true b e = refl
 right_holds false b e = e
@@ -26,6 +27,7 @@ module _ (edge : ℕ → ℕ → Bool) where
   Way [] a b = edge a b ≡ true
   Way (first ∷ rest) a b = Way rest a b ⊎ (Way rest a first × Way rest first b)
 
+  -- where the test tells one there is a way
   way_from_test : (objects : List ℕ) (a b : ℕ) → has_way edge objects a b ≡ true → Way objects a b
   unfolding Way
   way_from_test [] a b e = e
@@ -34,6 +36,7 @@ module _ (edge : ℕ → ℕ → Bool) where
     | inr h ↦ let k = both (has_way edge rest a first) (has_way edge rest first b) h in inr (way_from_test rest a first k.0, way_from_test rest first b k.1)
   ]
 
+  -- and the test tells each way
   test_from_way : (objects : List ℕ) (a b : ℕ) → Way objects a b → has_way edge objects a b ≡ true
   unfolding Way
   test_from_way [] a b w = w
@@ -46,11 +49,13 @@ module _ (edge : ℕ → ℕ → Bool) where
   one_step [] a b e = e
   one_step (first ∷ rest) a b e = inl (one_step rest a b e)
 
+  -- to the first of the list a way need not go over it
   to_first : (rest : List ℕ) (first a : ℕ) → Way (first ∷ rest) a first → Way rest a first
   unfolding Way
   to_first rest first a (inl w) = w
   to_first rest first a (inr w) = w.0
 
+  -- nor from it
   from_first : (rest : List ℕ) (first b : ℕ) → Way (first ∷ rest) first b → Way rest first b
   unfolding Way
   from_first rest first b (inl w) = w
@@ -82,6 +87,7 @@ module _ (mine : ℕ → Bool) (names : ℕ → ℕ → Bool) where
   found_private a b (start e) = e
   found_private a b (onward c f e m) = m
 
+  -- and what it is found from
   from_private : (a b : ℕ) → Found mine names a b → mine a ≡ true
   from_private a b (start e) = e
   from_private a b (onward {b = x} c f e m) = from_private a x f
@@ -108,6 +114,7 @@ module _ (mine : ℕ → Bool) (names : ℕ → ℕ → Bool) where
         | inr w ↦ found_by_way objects a a o (start h.0) (way_from_test (names_within mine names) objects a o w)
       ]
 
+  -- and the test tells what is found
   test_from_found : (objects : List ℕ) (a o : ℕ) → ListsEach mine objects → Found mine names a o → reach mine names objects (value.Ref a) o ≡ true
   test_from_found objects a o lists f = and_from (mine a) (mine o && (eqb o a || has_way (names_within mine names) objects a o)) (from_private a o f) (and_from (mine o) (eqb o a || has_way (names_within mine names) objects a o) (found_private a o f) (elim (way_to_found objects a o lists f) [
     | inl e ↦ left_holds (eqb o a) (has_way (names_within mine names) objects a o) (eq-eqb o a e)
@@ -122,5 +129,6 @@ module _ (mine : ℕ → Bool) (names : ℕ → ℕ → Bool) where
   reach_tells objects (value.Bool b) o lists = ((λ e. absurd (cc e)), λ h. absurd h)
   reach_tells objects (value.Text n) o lists = ((λ e. absurd (cc e)), λ h. absurd h)
 
+-- and so it is of what a thread publishes
 pub published_is_reached : (t : ThreadId) (v : Value) (s : PlainState) (o : ℕ) → ListsEach (is_mine t s) (s.made t) → (published t v s o ≡ true) ↔ Reached (is_mine t s) (names s) v o
 published_is_reached t v s o lists = reach_tells (is_mine t s) (names s) (s.made t) v o lists

@@ -60,6 +60,7 @@ module _ (shape : Shape) (t : ThreadId) (touch : LockName → Level → Type 0) 
   foreign w o ne (inl own) = other_private t w (s.objects o) own ne
   foreign w o ne (inr new) = ap (λ x. is_private_to w x) new.0
 
+  -- a guarded change leaves to others what is theirs
   pub quiet : ((l : LockName) (x : Level) → level_of (s.monitors (l, t)) ≡ Some x → touch l x) → IsGuarded shape t touch makes s c → IsQuiet shape t touch makes s (apply c s)
   quiet mine g = record {
     privacy = λ w o ne. written_is (λ x. is_private_to w x ≡ is_private_to w (s.objects o)) c.objects s.objects o (λ v e. let h = g.objects o v e in h.1 w ne ∙ sym (foreign w o ne h.0)) refl;

@@ -27,6 +27,7 @@ module _ (shape : Shape) (t : ThreadId) (s : PlainState) (marks : LockName × Th
   private_monitor_marked (Mon o) a = a
   private_monitor_marked (Name n) a = absurd a
 
+  -- and a lock of the cluster
   cluster_lock_marked : (l : LockName) → IsClusterLock l s → IsClusterLock l (with_marks marks s)
   cluster_lock_marked (Mon o) a = a
   cluster_lock_marked (Name n) a = tt
@@ -57,22 +58,27 @@ module _ (shape : Shape) (t : ThreadId) (s : PlainState) (marks : LockName × Th
   answers_marked Pause reply n a = a
   answers_marked request reply n a = absurd a
 
+  -- who is awake does not depend on marks
   awake_marked : (request : Request) → IsAwakeFor request t s → IsAwakeFor request t (with_marks marks s)
   awake_marked (Resume l) a = tt
   awake_marked request a = a
 
+  -- a put does not read marks
   put_marked : (o f : ℕ) (v : Value) (b : Bool) (k : LockName × ThreadId → Bool) → with_marks k (apply (put t o f v b (with_marks marks s)) (with_marks marks s)) ≡ with_marks k (apply (put t o f v b s) s)
   put_marked o f v true k = refl
   put_marked o f v false k = refl
 
+  -- nor does a read of a shared object
   read_shared_marked : (o f : ℕ) (hold : Option Hold) (k : LockName × ThreadId → Bool) → with_marks k (apply (read_shared t o f hold (with_marks marks s)) (with_marks marks s)) ≡ with_marks k (apply (read_shared t o f hold s) s)
   read_shared_marked o f None k = refl
   read_shared_marked o f (Some hold) k = refl
 
+  -- nor any read
   read_marked : (o f : ℕ) (b : Bool) (k : LockName × ThreadId → Bool) → with_marks k (apply (read shape t o f b (with_marks marks s)) (with_marks marks s)) ≡ with_marks k (apply (read shape t o f b s) s)
   read_marked o f true k = read_shared_marked o f (hold_on_guard shape t o f s) k
   read_marked o f false k = refl
 
+  -- notifications differ in marks alone
   notify_marked : (l : LockName) (woken woken' : Option ThreadId) (k : LockName × ThreadId → Bool) → with_marks k (apply (notifies l woken') (with_marks marks s)) ≡ with_marks k (apply (notifies l woken) s)
   notify_marked l None None k = refl
   notify_marked l None (Some w) k = refl
@@ -123,6 +129,7 @@ act_rechosen shape client marks t request reply woken woken' s other p n wakes =
     touched l x (inl e) = inl (sym (ap level_of (same_hold shape client s t other l)) ∙ e)
     touched l x (inr e) = inr e
 
+-- an event and the same with another choice
 event_rechosen : (shape : Shape) (client : ℕ) (marks : LockName × ThreadId → Bool) (e chosen : Event) (s : PlainState) → IsOfOtherClient client e → IsSameAct e chosen → May shape e s → FitsMarks chosen (with_marks marks (left client s)) → OneRechosen shape client marks e chosen s
 event_rechosen shape client marks (Act t request reply woken) (Act t' request' reply' woken') s other same m fits =
     let same_event : Act t request reply woken' ≡ Act t' request' reply' woken' = λ i. Act (sym same.0 i) (sym same.1 i) (sym same.2 i) woken' in
@@ -137,6 +144,7 @@ record Chosen (shape : Shape) (client : ℕ) (marks : LockName × ThreadId → B
   same_end : end_of shape chosen (with_marks marks (left client s)) ≡ with_marks (end_of shape chosen (with_marks marks (left client s))).marked (left client (end_of shape es s))
   touches : (l : LockName) (x : Level) → TouchesIn shape chosen (with_marks marks (left client s)) l x → TouchesIn shape es s l x
 
+-- a run is so
 run_rechosen : (shape : Shape) (client : ℕ) (marks : LockName × ThreadId → Bool) (es chosen : List Event) (s : PlainState) → Runs shape es s → AreOfOtherClients client es → AreSameActs es chosen → ChoicesFit shape chosen (with_marks marks (left client s)) → Chosen shape client marks es chosen s
 run_rechosen shape client marks [] [] s m others same fits = record { runs = tt; same_end = refl; touches = λ l x k. k }
 run_rechosen shape client marks (e ∷ es) [] s m others same fits = absurd same
@@ -155,6 +163,7 @@ run_rechosen shape client marks (e ∷ es) (c ∷ cs) s m others same fits =
     touched l x one rest (inl k) = inl (one.touches l x k)
     touched l x one rest (inr k) = inr (rest.touches l x (subst (λ z. TouchesIn shape cs z l x) one.same_end k))
 
+-- a run goes through again with other choices
 pub rechoice : (shape : Shape) (client : ℕ) (es chosen : List Event) (s : PlainState) → IsRechosen shape client es chosen s → RunsRechosen shape client es chosen s
 rechoice shape client es chosen s h =
     let d = run_rechosen shape client (left client s).marked es chosen s h.runs h.others h.same h.fit in

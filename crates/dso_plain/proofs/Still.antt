@@ -51,9 +51,11 @@ module _ (shape : Shape) (t u : ThreadId) (touch : LockName → Level → Type 0
   pub kept_shared : (o : ℕ) → IsShared o s → r.objects o ≡ s.objects o
   kept_shared o common = q.stays o (λ mine. private_or_shared t (s.objects o) mine common) (λ absent. absent_shared (s.objects o) absent common)
 
+  -- it is private to u still
   pub still_private : (o : ℕ) → IsPrivate u o s → IsPrivate u o r
   still_private o own = q.privacy u o other ∙ own
 
+  -- it is shared still
   pub still_shared : (o : ℕ) → IsShared o s → IsShared o r
   still_shared o common = ap (λ x. is_shared x) (kept_shared o common) ∙ common
 
@@ -61,16 +63,20 @@ module _ (shape : Shape) (t u : ThreadId) (touch : LockName → Level → Type 0
   pub same_guard_hold : (o f : ℕ) → IsShared o s → hold_on_guard shape u o f r ≡ hold_on_guard shape u o f s
   same_guard_hold o f common = q.monitors (guard_in shape r o f) u other ∙ ap (λ x. s.monitors (guard_of_object shape x o f, u)) (kept_shared o common)
 
+  -- it has the field still
   still_field : (o f : ℕ) → r.objects o ≡ s.objects o → HasField o f s → HasField o f r
   still_field o f kept has = subst (λ x. f < size_of x) (sym kept) has
 
+  -- who holds nothing still does
   still_nothing : HoldsNothing u s → HoldsNothing u r
   still_nothing h l = q.monitors l u other ∙ h l
 
+  -- an id that is free and not taken is free still
   still_new : (class : ClassId) (n : ℕ) (reply : Reply) → NoCommonId makes (ActMakes (New class n) reply) → AnswersNew shape class n reply s → AnswersNew shape class n reply r
   still_new class n (Made o) ids a = (a.0, q.fresh o a.1 (λ m. ids o m refl), a.2)
   still_new class n reply ids a = absurd a
 
+  -- what is seen of an object is the same
   still_look : (o : ℕ) (reply : Reply) → AnswersLook u o reply s → AnswersLook u o reply r
   still_look o (Seen class n) a = elim a.0 [
     | inl own ↦ (inl (still_private o own), subst (λ x. IsOf class n x) (sym (kept_private o own)) a.1)
@@ -78,6 +84,7 @@ module _ (shape : Shape) (t u : ThreadId) (touch : LockName → Level → Type 0
   ]
   still_look o reply a = absurd a
 
+  -- a read gives the same
   still_get : (o f : ℕ) (reply : Reply) → NoClash touch (ActTouches u (Get o f) reply s) → AnswersGet shape u o f reply s → AnswersGet shape u o f reply r
   still_get o f (Val v) locks (inl a) = inl (still_private o a.0, q.heap_own u (o, f) other a.0 ∙ a.1)
   still_get o f (Val v) locks (inr (inl a)) =
@@ -94,6 +101,7 @@ module _ (shape : Shape) (t u : ThreadId) (touch : LockName → Level → Type 0
   ))
   still_get o f reply locks a = absurd a
 
+  -- a put is answered the same
   still_put : (o f : ℕ) (reply : Reply) → AnswersPut shape u o f reply s → AnswersPut shape u o f reply r
   still_put o f Done a = elim a.1 [
     | inl own ↦ (still_field o f (kept_private o own) a.0, inl (still_private o own))
@@ -111,20 +119,24 @@ module _ (shape : Shape) (t u : ThreadId) (touch : LockName → Level → Type 0
   )
   still_put o f reply a = absurd a.1
 
+  -- a private monitor is one still
   still_monitor_private : (l : LockName) → IsPrivateMonitor u l s → IsPrivateMonitor u l r
   still_monitor_private (Mon o) own = still_private o own
   still_monitor_private (Name n) h = absurd h
 
+  -- a lock of the cluster is one still
   still_cluster : (l : LockName) → IsClusterLock l s → IsClusterLock l r
   still_cluster (Mon o) h = (still_shared o h.0, h.1)
   still_cluster (Name n) h = tt
 
+  -- no other holds in conflict, since the step touches the lock at Read at most, and then Read is wanted
   still_free : (l : LockName) (level : Level) → NoClash touch (ActTouches u (Enter l level) Done s) → NoConflict u l level s → NoConflict u l level r
   still_free l level locks free w ne = elim (cases_thread w t) [
     | inl e ↦ subst (λ w. Beside level (level_of (r.monitors (l, w)))) (sym e) (beside_read level (r.monitors (l, t)) (λ x h. locks l x level (q.held l x h) (inr (refl, refl))))
     | inr d ↦ subst (λ hold. Beside level (level_of hold)) (sym (q.monitors l w d)) (free w ne)
   ]
 
+  -- an entry is answered the same
   still_enter : (l : LockName) (level : Level) (reply : Reply) → NoClash touch (ActTouches u (Enter l level) reply s) → AnswersEnter u l level reply s → AnswersEnter u l level reply r
   still_enter l level Local locks a = still_monitor_private l a
   still_enter l level (Refused LockUpgrade) locks a = subst (λ hold. IsUpgrade level hold) (sym (q.monitors l u other)) a
@@ -138,18 +150,22 @@ module _ (shape : Shape) (t u : ThreadId) (touch : LockName → Level → Type 0
   )
   still_enter l level reply locks a = absurd a
 
+  -- what is held can be left
   still_exit : (l : LockName) (reply : Reply) → AnswersExit u l reply s → AnswersExit u l reply r
   still_exit l Done a = λ e. a (sym (q.monitors l u other) ∙ e)
   still_exit l reply a = absurd a
 
+  -- a hold at Write is one still
   still_write : (l : LockName) → HoldsWrite u l s → HoldsWrite u l r
   still_write l h = ap level_of (q.monitors l u other) ∙ h
 
+  -- wait and notify are answered the same
   still_monitor : (l : LockName) (reply : Reply) → AnswersMonitor u l reply s → AnswersMonitor u l reply r
   still_monitor l Done a = still_write l a
   still_monitor l (Refused IllegalMonitor) a = λ h. a (sym (ap level_of (q.monitors l u other)) ∙ h)
   still_monitor l reply a = absurd a
 
+  -- who could go on still can
   still_resume : (l : LockName) (reply : Reply) → NoClash touch (ActTouches u (Resume l) reply s) → AnswersResume u l reply s → AnswersResume u l reply r
   still_resume l Done locks a =
       let never : (x : Level) → touch l x → ⊥ = λ x w. let e = (locks l x Write w (inr (refl, refl))).1 in cc e in (
@@ -162,10 +178,12 @@ module _ (shape : Shape) (t u : ThreadId) (touch : LockName → Level → Type 0
       )
   still_resume l reply locks a = absurd a
 
+  -- who could end still can
   still_end : (reply : Reply) → AnswersEnd u reply s → AnswersEnd u reply r
   still_end Done a = still_nothing a
   still_end reply a = absurd a
 
+  -- each reply is still possible
   still_answers : (request : Request) (reply : Reply) → NoClash touch (ActTouches u request reply s) → NoCommonId makes (ActMakes request reply) → Answers shape u request reply s → Answers shape u request reply r
   still_answers (New class n) reply locks ids a = still_new class n reply ids a
   still_answers (Look o) reply locks ids a = still_look o reply a
@@ -185,6 +203,7 @@ module _ (shape : Shape) (t u : ThreadId) (touch : LockName → Level → Type 0
   still_waiters : (l : LockName) (w : ThreadId) → (touch l Write → ⊥) → (s.asleep (l, w) ≡ r.asleep (l, w)) × (s.marked (l, w) ≡ r.marked (l, w))
   still_waiters l w never = (sym (q.asleep l w never), sym (q.marked l w never))
 
+  -- who could be woken still can
   still_wakes : (request : Request) (reply : Reply) (woken : Option ThreadId) → NoClash touch (ActTouches u request reply s) → Answers shape u request reply s → Wakes request reply woken s → Wakes request reply woken r
   still_wakes (Notify l) Done None locks a nobody = λ w h.
       let same = still_waiters l w (λ k. not_both touch (ActTouches u (Notify l) Done s) locks l k (inl a)) in
@@ -194,6 +213,7 @@ module _ (shape : Shape) (t u : ThreadId) (touch : LockName → Level → Type 0
       ((λ e. h.0 (same.0 ∙ e)), sym same.1 ∙ h.1)
   still_wakes request reply woken locks a e = e
 
+  -- who was awake still is
   still_awake : (request : Request) → IsAwakeFor request u s → IsAwakeFor request u r
   still_awake (Resume l) a = tt
   still_awake request a = λ l. q.own_waits l u other ∙ a l

@@ -84,6 +84,7 @@ abbrev pub read_shared : ThreadId → ℕ → ℕ → Option Hold → PlainState
 read_shared t o f None s = record nothing { unguarded = true }
 read_shared t o f (Some hold) s = record nothing { seen = writes (is_view t o f) (λ key. length (s.past (o, f)) - 1) }
 
+-- of a shared object so, of any other nothing
 abbrev pub read : Shape → ThreadId → ℕ → ℕ → Bool → PlainState → Change
 read shape t o f true s = read_shared t o f (hold_on_guard shape t o f s) s
 read shape t o f false s = nothing
