@@ -1,0 +1,14 @@
+pub mod Keys
+pub mod Commute
+pub mod Guarded
+pub mod Quiet
+pub mod Still
+pub mod Alike
+pub mod Diamond
+pub mod Past
+pub mod Loss
+pub mod Published
+pub mod Legal
+pub mod Monitors
+pub mod Rechoice
+pub mod Own

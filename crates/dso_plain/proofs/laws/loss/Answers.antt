@@ -1,0 +1,11 @@
+use Rattle.dso_plain.proofs.laws.loss.Goals as goal
+use Rattle.dso_plain.proofs.Loss.{loss, waiters_left, choice_after_loss}
+
+pub returns-clause-runs : goal.returns-clause-runs
+returns-clause-runs c = loss
+
+pub returns-clause-waiters : goal.returns-clause-waiters
+returns-clause-waiters c = λ shape. waiters_left
+
+pub returns-clause-choice : goal.returns-clause-choice
+returns-clause-choice c = choice_after_loss

@@ -1,0 +1,5 @@
+use Rattle.dso_plain.proofs.laws.rechoice.Goals as goal
+use Rattle.dso_plain.proofs.Rechoice.{rechoice}
+
+pub returns : goal.returns
+returns c = rechoice

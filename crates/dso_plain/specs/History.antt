@@ -1,0 +1,58 @@
+-- Runs of events from a state, and legal histories.
+use Rattle.std.specs.Prelude.{◌≡◌, Bool, false, cond, Option, Some, List, [], ◌∷◌, ◌++◌}
+use Rattle.dso_base.specs.declared.lock.ThreadId.{ThreadId}
+use Rattle.dso_base.specs.declared.request.Event.{Event}
+use Rattle.dso_base.specs.declared.request.Event.TheVariants.{Act, Lost}
+use Rattle.dso_base.specs.declared.request.Reply.{Reply}
+use Rattle.dso_base.specs.declared.request.Request.{Request}
+use Rattle.dso_base.specs.declared.shape.Shape.{Shape}
+use Rattle.dso_plain.specs.Keys.{is_thread}
+use Rattle.dso_plain.specs.State.{PlainState, opening}
+use Rattle.dso_plain.specs.Possible.{May}
+use Rattle.dso_plain.specs.After.{after}
+
+-- the events, the first of them first, are possible one after the other from this state
+abbrev pub Runs : Shape → List Event → PlainState → Type 0
+Runs shape [] s = Unit {0}
+Runs shape (e ∷ es) s = May shape e s × Runs shape es (after shape e s)
+
+-- the state at the end of the events
+abbrev pub end_of : Shape → List Event → PlainState → PlainState
+end_of shape [] s = s
+end_of shape (e ∷ es) s = end_of shape es (after shape e s)
+
+-- the last state after a history
+abbrev pub last_state : Shape → List Event → PlainState
+last_state shape h = end_of shape h (opening shape)
+
+-- whether the event is an act of the thread
+abbrev pub is_act_of : ThreadId → Event → Bool
+is_act_of t (Act thread request reply woken) = is_thread t thread
+is_act_of t (Lost client) = false
+
+-- the thread's events in their order
+abbrev pub events_of : ThreadId → List Event → List Event
+events_of t [] = []
+events_of t (e ∷ es) = cond (is_act_of t e) (e ∷ events_of t es) (events_of t es)
+
+-- A program tells the next request of a thread after its events so far (None after its end), and which replies are
+-- listed for that request.
+module _ (next : ThreadId → List Event → Option Request) (Listed : ThreadId → List Event → Reply → Type 0) where
+  -- the event has the thread's next request after the events before it, and a reply that is listed there
+  abbrev pub IsNext : ThreadId → List Event → Event → Type 0
+  IsNext t before (Act thread request reply woken) = (next t before ≡ Some request) × Listed t before reply
+  IsNext t before (Lost client) = ⊥
+
+  -- each event is the next one after those before it
+  abbrev pub FollowsFrom : ThreadId → List Event → List Event → Type 0
+  FollowsFrom t before [] = Unit {0}
+  FollowsFrom t before (e ∷ es) = IsNext t before e × FollowsFrom t (before ++ e ∷ []) es
+
+  -- the thread's events follow the program from its start
+  abbrev pub FollowsProgram : ThreadId → List Event → Type 0
+  FollowsProgram t es = FollowsFrom t [] es
+
+  -- A legal history: a run of plain steps from the opening state, in which each thread follows the program.
+  pub record IsLegal (shape : Shape) (h : List Event) : Type 0 where
+    pub runs : Runs shape h (opening shape)
+    pub follows : (t : ThreadId) → FollowsProgram t (events_of t h)

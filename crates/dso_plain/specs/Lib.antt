@@ -1,0 +1,13 @@
+pub mod Keys
+pub mod State
+pub mod Possible
+pub mod After
+pub mod History
+pub mod Touches
+pub mod Past
+pub mod Loss
+pub mod Published
+pub mod Monitors
+pub mod Rechoice
+pub mod Own
+pub mod Laws

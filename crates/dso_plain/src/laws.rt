@@ -1,0 +1,65 @@
+//! The laws of one heap with plain monitors. Each is the contract of a function that does nothing.
+ghost use Rattle.dso_plain.specs.Loss.{Loss, WaitersLeft, ChoiceAfterLoss};
+ghost use Rattle.dso_plain.specs.Published.{ReachTells, PublishedIsReached};
+ghost use Rattle.dso_plain.specs.Rechoice.{Rechoice};
+ghost use Rattle.dso_plain.specs.Own.{Own, Guarded};
+ghost use Rattle.dso_plain.specs.Laws.{Diamond, RunsInParts, EndsInParts, Past, Growth, LegalGoesOn, Monitors};
+
+/// Two runs from one state, one of a thread and one of other threads, can swap where their locks do not clash and
+/// they make no common id: each can follow the other, both orders end in the same state, and neither touches a lock
+/// at a level at which it did not before.
+pub fn diamond()
+    ensures { Diamond }
+{}
+
+/// A run of two lists of events in order is a run of the first and, from where that ends, of the second.
+pub fn parts()
+    ensures runs { RunsInParts }
+    ensures ends { EndsInParts }
+{}
+
+/// The newest of a shared field's past is the heap's value, and what a thread has seen is a place in the past, never
+/// beyond the newest; pasts only grow.
+pub fn past()
+    ensures reached { Past }
+    ensures grows { Growth }
+{}
+
+/// A run of other clients' threads that notifies no thread of a client survives that client's loss, and it does not
+/// matter whether the loss comes before or after it. A notification can choose, after the loss, among the waiters
+/// left: those of other clients; and nobody exactly where none is left.
+pub fn loss()
+    ensures runs { Loss }
+    ensures waiters { WaitersLeft }
+    ensures choice { ChoiceAfterLoss }
+{}
+
+/// What a put into a shared object publishes is exactly what is found from the value through private objects.
+pub fn publishing()
+    ensures reach { ReachTells }
+    ensures published { PublishedIsReached }
+{}
+
+/// A legal history with more events behind it is legal where these run from its last state and follow the program.
+pub fn legal_goes_on()
+    ensures { LegalGoesOn }
+{}
+
+/// Who holds a lock at Write holds it alone; only waiters are marked; threads that have ended or whose client is lost
+/// have no part in any lock.
+pub fn monitors()
+    ensures { Monitors }
+{}
+
+/// Where a client is lost, a run of other clients' threads runs again with whatever choices fit among the waiters
+/// left, where each thread that resumes is still marked; it ends in the same state but for the marks.
+pub fn rechoice()
+    ensures { Rechoice }
+{}
+
+/// Acts of other threads leave a thread's own parts as they were, and a run that does not touch a guard at Write leaves
+/// what it guards as it was.
+pub fn untouched()
+    ensures own { Own }
+    ensures guarded { Guarded }
+{}

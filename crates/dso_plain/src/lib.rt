@@ -1,0 +1,6 @@
+//! One heap with plain monitors: the machine against which the cluster is judged.
+//!
+//! Its definition stands in `specs/`, its laws are the contracts of the functions in [`laws`].
+#![tactic(auto)]
+
+pub mod laws;
