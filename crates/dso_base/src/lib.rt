@@ -12,6 +12,8 @@ mod op;
 mod record;
 mod request;
 mod shape;
+#[cfg(test)]
+mod tests;
 mod value;
 mod word;
 
