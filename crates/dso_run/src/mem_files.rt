@@ -1,5 +1,5 @@
-ghost use Rattle.std.specs.Prelude.{◌≡◌, [], ◌∷◌, IfOk, IfErr, OnOk, OnErr, MatchOption, take};
-ghost use Rattle.dso_run.specs.Outside.{Missing, Holds};
+ghost use Rattle.std.specs.Prelude.{◌≡◌, ◌≢◌, ◌↔◌, ◌⊎◌, ℕ, ◌+◌, ◌-◌, ◌^◌, ◌≤◌, List, [], ◌∷◌, IfOk, IfErr, IsErrOf, IsTrue, OnOk, OnErr, MatchOption, Contains, min, take};
+ghost use Rattle.dso_run.specs.Outside.{Missing, Holds, MayGive, Rose, replaced};
 ghost use Rattle.dso_run.specs.Memory.{file_of, told_by};
 ghost use Rattle.dso_run.specs.MemoryFile.{named_bytes};
 
@@ -84,11 +84,19 @@ impl MemFiles {
 
     /// Counts a call, and tells whether it is to fail.
     fn is_to_fail(&mut self) -> bool
-        ensures { self.new ≡ record self.old { calls = self.new.calls } }
+        ensures told { IsTrue result ↔ Contains self.old.fails self.new.calls }
+        ensures counted { self.new ≡ record self.old { calls = min (self.old.calls + 1) (2 ^ 64 - 1) } }
     {
         self.calls = self.calls.saturating_add(1);
-        self.fails.contains(&self.calls)
+        is_listed(self.fails.as_slice(), self.calls)
     }
+}
+
+/// Whether the number stands in the list.
+fn is_listed(numbers: &[u64], number: u64) -> bool
+    ensures { IsTrue result ↔ Contains numbers.now number }
+{
+    numbers.contains(&number)
 }
 
 /// The bytes of the first file of this name.
@@ -111,18 +119,42 @@ impl Files for MemFiles {
 
     ghost content = { told_by };
 
-    fn read(&mut self, alloc: Global, name: &str, most: u64) -> Result<Vec<u8>, FileFault> {
-        let fails = self.is_to_fail();
+    fn read(&mut self, alloc: Global, name: &str, most: u64) -> Result<Vec<u8>, FileFault>
+        ensures bytes { IfOk result (λ bytes. MayGive (told_by self.old name.now) most bytes.items) }
+        ensures failed { IsErrOf result FileFault.Failed → Rose self.old.failed_reads self.new.failed_reads }
+        ensures reads { self.old.failed_reads ≤ self.new.failed_reads }
+        ensures writes { self.new.failed_writes ≡ self.old.failed_writes }
+        ensures unchanged { (name : List ℕ) → told_by self.new name ≡ told_by self.old name }
+
+        // It fails where the call is listed, and where there is no file of that name.
+        ensures cause { IsErrOf result FileFault.Failed → Contains self.old.fails self.new.calls ⊎ (told_by self.old name.now ≡ Missing) }
+        ensures listed { Contains self.old.fails self.new.calls → IsErrOf result FileFault.Failed }
+        ensures missing { told_by self.old name.now ≡ Missing → IsErrOf result FileFault.Failed }
+    {
+        if self.is_to_fail() {
+            self.failed_reads = self.failed_reads.saturating_add(1);
+            return Err(FileFault::Failed);
+        }
         match find(self.files.as_slice(), name) {
-            Some(bytes) if !fails => first_bytes(alloc, bytes, most),
-            _ => {
+            Some(bytes) => first_bytes(alloc, bytes, most),
+            None => {
                 self.failed_reads = self.failed_reads.saturating_add(1);
                 Err(FileFault::Failed)
             }
         }
     }
 
-    fn write(&mut self, alloc: Global, name: &str, bytes: &[u8]) -> Result<(), FileFault> {
+    fn write(&mut self, alloc: Global, name: &str, bytes: &[u8]) -> Result<(), FileFault>
+        ensures written { OnOk result (told_by self.new name.now ≡ replaced (told_by self.old name.now) bytes.now) }
+        ensures others { (other : List ℕ) → other ≢ name.now → told_by self.new other ≡ told_by self.old other }
+        ensures err { OnErr result (told_by self.new name.now ≡ told_by self.old name.now) }
+        ensures failed { IsErrOf result FileFault.Failed → Rose self.old.failed_writes self.new.failed_writes }
+        ensures reads { self.new.failed_reads ≡ self.old.failed_reads }
+        ensures writes { self.old.failed_writes ≤ self.new.failed_writes }
+
+        // It fails where the call is listed.
+        ensures cause { IsErrOf result FileFault.Failed ↔ Contains self.old.fails self.new.calls }
+    {
         if self.is_to_fail() {
             self.failed_writes = self.failed_writes.saturating_add(1);
             return Err(FileFault::Failed);

@@ -1,4 +1,4 @@
-ghost use Rattle.std.specs.Prelude.{◌≡◌, ◌++◌, ◌<◌, ◌≤◌, [], length, take, Some, IfOk, OnErr};
+ghost use Rattle.std.specs.Prelude.{◌≡◌, ◌⊎◌, ◌+◌, ◌-◌, ◌^◌, ◌<◌, ◌≤◌, [], length, take, min, Some, IfOk, OnErr, IsErr, Contains};
 ghost use Rattle.dso_run.specs.Outside.{Rose, taken_after};
 ghost use Rattle.dso_run.specs.Memory.{room_for};
 
@@ -75,11 +75,28 @@ impl Sink for MemSink {
 
     ghost taken = { λ sink. Some sink.bytes };
 
-    fn put(&mut self, bytes: &[u8]) -> Result<usize, Failed> {
+    fn put(&mut self, bytes: &[u8]) -> Result<usize, Failed>
+        ensures within { IfOk result (λ count. count ≤ length bytes.now) }
+        ensures some { IfOk result (λ count. 0 < length bytes.now → 0 < count) }
+        ensures taken { IfOk result (λ count. Some self.new.bytes ≡ taken_after (Some self.old.bytes) (take count bytes.now)) }
+        ensures untaken { OnErr result (Some self.new.bytes ≡ Some self.old.bytes) }
+        ensures failed { OnErr result (Rose self.old.failed self.new.failed) }
+        ensures faults { self.old.failed ≤ self.new.failed }
+
+        // It takes what the piece and the room allow, and fails where the call is listed or nothing can be taken.
+        ensures exact { IfOk result (λ count. count ≡ room_for self.old (length bytes.now)) }
+        ensures cause { OnErr result (Contains self.old.fails self.new.calls ⊎ (room_for self.old (length bytes.now) ≡ 0)) }
+        ensures listed { Contains self.old.fails self.new.calls → IsErr result }
+        ensures calls { self.new.calls ≡ min (self.old.calls + 1) (2 ^ 64 - 1) }
+    {
         self.calls = self.calls.saturating_add(1);
+        if self.fails.contains(&self.calls) {
+            self.failed = self.failed.saturating_add(1);
+            return Err(Failed);
+        }
         let room = self.most - self.bytes.len();
-        let count = bytes.len().min(self.piece).min(room);
-        if self.fails.contains(&self.calls) || (count == 0 && !bytes.is_empty()) {
+        let count = bytes.len().min(self.piece.min(room));
+        if count == 0 && !bytes.is_empty() {
             self.failed = self.failed.saturating_add(1);
             return Err(Failed);
         }
