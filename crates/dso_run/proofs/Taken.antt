@@ -1,5 +1,5 @@
 -- What a sink has taken, as it takes more.
-use Rattle.std.proofs.Common.{◌≡◌, ◌≤◌, ◌∙◌, ℕ, ◌+◌, List, ◌++◌, length, take, drop, Option, None, Some, refl, ap, append_assoc, sym}
+use Rattle.std.proofs.Common.{◌≡◌, ◌∙◌, ℕ, ◌+◌, List, ◌++◌, take, drop, Option, None, Some, refl, ap, append_assoc, sym}
 use Rattle.std.proofs.Math.Seq.{take-add}
 use Rattle.dso_run.specs.Outside.{taken_after}
 

@@ -1,5 +1,5 @@
 -- Files and a sink in memory, as contracts see them.
-use Rattle.std.specs.Prelude.{◌≡◌, ℕ, suc, ◌-◌, ◌⊎◌, min, Bool, List, [], ◌∷◌, length, Contains, if◌then◌else◌}
+use Rattle.std.specs.Prelude.{ℕ, ◌-◌, min, List, [], ◌∷◌, length, if◌then◌else◌}
 use Rattle.std.specs.Str.{bytes_eq}
 use Rattle.dso_run.specs.Outside.{Told, Missing, Holds}
 

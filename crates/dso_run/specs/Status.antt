@@ -1,8 +1,6 @@
 -- The numbers of the statuses, and the lines of the refusals.
 use Rattle.std.specs.Prelude.{ℕ, List, [], ◌∷◌, ◌++◌, codes}
-use Rattle.dso_run.specs.declared.status.ConfigFault.{ConfigFault}
 use Rattle.dso_run.specs.declared.status.ConfigFault.TheVariants as config
-use Rattle.dso_run.specs.declared.status.ProgramFault.{ProgramFault}
 use Rattle.dso_run.specs.declared.status.ProgramFault.TheVariants as program
 use Rattle.dso_run.specs.declared.status.Refusal.{Refusal}
 use Rattle.dso_run.specs.declared.status.Refusal.TheVariants.{Words, Reading, Config, Program}

@@ -1,4 +1,4 @@
-use Rattle.std.proofs.Common.{◌≤◌, ◌-◌}
+use Rattle.std.proofs.Common.{◌-◌}
 use Rattle.dso_run.proofs.cluster.run_program.Given as goal
 
 abbrev pub decreases-loop-weight : goal.decreases-loop-weight

@@ -1,6 +1,5 @@
 use Rattle.std.proofs.Common.{map}
 use Rattle.std.specs.String.{string_bytes}
-use Rattle.dso_run.specs.Answer.{WereRead}
 use Rattle.dso_run.specs.Outside.{Rose}
 use Rattle.dso_run.proofs.Judging.{were_read, verdict_if_ok}
 use Rattle.dso_run.proofs.main_call.judge.Goals as goal

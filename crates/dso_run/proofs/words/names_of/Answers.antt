@@ -1,6 +1,4 @@
-use Rattle.std.proofs.Common.{rules, arith, ◌≡◌, ◌<◌, ◌≤◌, ap, map, List, [], ◌∷◌, length, get_or, codes}
-use Rattle.std.specs.String.{string_bytes}
-use Rattle.dso_run.specs.Words.{AreSim}
+use Rattle.std.proofs.Common.{rules, arith, ◌≡◌, ◌<◌, ◌≤◌, List, [], ◌∷◌, length, get_or}
 use Rattle.dso_run.proofs.words.names_of.Goals as goal
 
 -- a list of three, by its items
