@@ -1,4 +1,4 @@
-ghost use Rattle.std.specs.Prelude.{◌≡◌, ◌↔◌, [], ◌∷◌, ◌++◌, length, IsTrue, OnOk, OnErr, IfErr, IfOk, slice_get};
+ghost use Rattle.std.specs.Prelude.{◌≡◌, ◌↔◌, [], ◌∷◌, ◌++◌, length, IsNone, IsTrue, OnOk, OnErr, IfErr, IfOk, slice_get};
 ghost use Rattle.std.specs.Option.{option_copied, option_to_list};
 
 use crate::{Data, Same};
@@ -84,7 +84,8 @@ impl<T> Items<T> {
 
     /// Takes the last item, None exactly where there is none.
     pub fn pop(&mut self) -> Option<T>
-        ensures { self.old ≡ self.new ++ option_to_list result }
+        ensures taken { self.old ≡ self.new ++ option_to_list result }
+        ensures none { IsNone result ↔ (self.old ≡ []) }
     {
         self.items.pop()
     }

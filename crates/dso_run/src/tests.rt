@@ -167,8 +167,9 @@ fn a_program_of_another_form_is_not_built(rt: HostRuntime) -> Result<(), Fail> {
 #[test]
 fn a_sink_that_fails_has_taken_a_first_part(rt: HostRuntime) -> Result<(), Fail> {
     let report = COUNT_REPORT.as_bytes();
-    for (failing, taken) in [(1, 0), (2, 8), (3, 16)] {
-        let failing_puts: &[u64] = &[failing];
+    for whole_puts in 0..9usize {
+        let taken = 8 * whole_puts;
+        let failing_puts: &[u64] = &[whole_puts as u64 + 1];
         let trial = Trial {
             piece: 8,
             failing_puts,
