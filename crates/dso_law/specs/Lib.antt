@@ -6,3 +6,8 @@ pub mod Copies
 pub mod Leases
 pub mod Waits
 pub mod Records
+pub mod Closing
+pub mod Needs
+pub mod Replies
+pub mod FitsDown
+pub mod ClientStep

@@ -4,6 +4,7 @@ use Rattle.dso_base.specs.declared.journal.Entry.{Entry}
 use Rattle.dso_base.specs.declared.lock.Level.{Level}
 use Rattle.dso_base.specs.declared.lock.Level.TheVariants.{Read, Write}
 use Rattle.dso_base.specs.declared.lock.LockName.{LockName}
+use Rattle.dso_base.specs.declared.lock.LockName.TheVariants.{Mon, Name}
 use Rattle.dso_base.specs.declared.lock.ThreadId.{ThreadId}
 use Rattle.dso_base.specs.declared.record.Body.{Body}
 use Rattle.dso_base.specs.declared.record.Ending.{Ending}
@@ -129,6 +130,11 @@ work_of shape t es = worked shape (open_block t es) (start (privates_before shap
 -- the object is private to the thread
 abbrev pub is_private : Shape → ThreadId → ℕ → List Entry → Bool
 is_private shape t o es = is_some (body_in o (work_of shape t es).privates)
+
+-- the lock is the monitor of an object private to the thread
+abbrev pub is_local : Shape → ThreadId → LockName → List Entry → Bool
+is_local shape t (Mon o) es = is_private shape t o es
+is_local shape t (Name n) es = false
 
 -- the first of two, if it is there, else the second
 abbrev pub or_else : {X : Type 0} → Option X → Option X → Option X
