@@ -11,3 +11,7 @@ pub mod Needs
 pub mod Replies
 pub mod FitsDown
 pub mod ClientStep
+pub mod Served
+pub mod Store
+pub mod Serving
+pub mod Waking
