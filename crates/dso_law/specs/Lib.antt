@@ -15,3 +15,5 @@ pub mod Served
 pub mod Store
 pub mod Serving
 pub mod Waking
+pub mod FitsUp
+pub mod ServerStep
