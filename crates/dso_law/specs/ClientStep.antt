@@ -1,5 +1,5 @@
 -- The client rule: which entry may follow a client's entries.
-use Rattle.std.specs.Prelude.{ℕ, suc, ◌<◌, ◌≡◌, Bool, true, false, cond, not, eqb, ◌&&◌, ◌||◌, Option, Some, None, List, [], ◌∷◌, ◌++◌, map, length}
+use Rattle.std.specs.Prelude.{ℕ, suc, ◌<◌, ◌≡◌, Bool, true, false, cond, not, eqb, ltb, ◌&&◌, ◌||◌, is_some, Option, Some, None, List, [], ◌∷◌, ◌++◌, map, length}
 use Rattle.dso_base.specs.declared.journal.Entry.{Entry}
 use Rattle.dso_base.specs.declared.journal.Input.{Input}
 use Rattle.dso_base.specs.declared.journal.Input.TheVariants as input
@@ -116,14 +116,21 @@ abbrev pub wants_object : ℕ → ℕ → List Entry → Bool
 wants_object o index [] = false
 wants_object o index (e ∷ es) = cond (is_act index e.input) (has (faults o) e.sent) (wants_object o index es)
 
--- Flush: of a resident object, where more objects are resident than are to be kept; no record that isn't acknowledged
--- changes the object, no open block of the client puts to it, and no thread's last act entry asked for it.
+-- Flushable: the object is resident; no record that isn't acknowledged changes it, no open block of the client puts to
+-- it, and no thread's last act entry asked for it.
+abbrev pub is_flushable : Settings → ℕ → ℕ → List Entry → Bool
+is_flushable p c o es = is_resident o es && (not (has (changes_object o) (unacked es))
+    && (not (has (λ t. has (event_puts_to o) (open_block t es)) (threads_of p c))
+    && not (has (λ t. wants_object o t.index es) (threads_of p c))))
+
+-- whether more objects are resident than the client is to keep
+abbrev pub is_full : Settings → List Entry → Bool
+is_full p es = ltb p.resident (length (residents es))
+
+-- Flush: of a flushable object, where more objects are resident than the client is to keep.
 pub record MayFlush (p : Settings) (c o : ℕ) (es : List Entry) : Type 0 where
-  pub full : p.resident < length (residents es)
-  pub resident : is_resident o es ≡ true
-  pub unchanged : has (changes_object o) (unacked es) ≡ false
-  pub closed : has (λ t. has (event_puts_to o) (open_block t es)) (threads_of p c) ≡ false
-  pub unwanted : has (λ t. wants_object o t.index es) (threads_of p c) ≡ false
+  pub full : is_full p es ≡ true
+  pub flushable : is_flushable p c o es ≡ true
 
 -- a flush says so to the server, and has no event
 pub record FlushStep (p : Settings) (c o : ℕ) (e : Entry) (es : List Entry) : Type 0 where
@@ -149,3 +156,20 @@ ClientStepOn p c other before after e es = ⊥
 -- entry and after it.
 abbrev pub ClientStep : Settings → ℕ → (ThreadId → Option Request) → (ThreadId → Option Request) → Entry → List Entry → Type 0
 ClientStep p c before after e es = ClientStepOn p c e.input before after e es
+
+-- whether the client rule has an act of the thread: it has a next request, and its needs are met or asked for
+abbrev pub can_act : Settings → ℕ → (ThreadId → Option Request) → ThreadId → Option Request → List Entry → Bool
+can_act p c next t None es = false
+can_act p c next t (Some request) es = is_met (unmet p c next t request es)
+  where
+    is_met : Option Need → Bool
+    is_met None = true
+    is_met (Some need) = is_some (ask_for need es)
+
+-- May act: the client rule has an act entry of the thread.
+abbrev pub may_act : Settings → ℕ → (ThreadId → Option Request) → ThreadId → List Entry → Bool
+may_act p c next t es = can_act p c next t (next t) es
+
+-- May flush: the client rule has a flush of some object.
+abbrev pub may_flush : Settings → ℕ → List Entry → Bool
+may_flush p c es = is_full p es && has (λ o. is_flushable p c o es) (residents es)
