@@ -1,6 +1,7 @@
 -- Small facts that the examples' proofs share.
 use Rattle.std.specs.Prelude.{ℕ, suc, ◌≡◌, ◌≢◌, ◌↔◌, Bool, true, false, Option, Some, None, is_some}
 use Rattle.std.proofs.Common.{refl, arith}
+use Rattle.dso_base.specs.declared.lock.Level.TheVariants.{Read, Write}
 use Rattle.dso_base.specs.declared.value.Kind.{Kind}
 use Rattle.dso_base.specs.declared.value.ClassId.{ClassId}
 use Rattle.dso_base.specs.declared.value.ClassId.TheVariants.{Plain, Array, Roots}
@@ -32,3 +33,7 @@ neither_roots = (λ e. absurd (isnt_roots e), λ e. absurd (not_zero e))
 
 pub neither_roots_array : {k : Kind} {o : ℕ} → (Array k ≡ Roots) ↔ (suc o ≡ 0)
 neither_roots_array = (λ e. absurd (isnt_roots_array e), λ e. absurd (not_zero e))
+
+-- a lease at Write isn't at Read
+pub not_read : {A : Type 0} → Some Write ≡ Some Read → A
+not_read {A} e = absurd (let never : Some Write ≢ Some Read = λ h. cc in never e)

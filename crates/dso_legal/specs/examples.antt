@@ -1,2 +1,7 @@
 pub mod Words
 pub mod Counter
+pub mod Recall
+pub mod Flush
+pub mod Broken
+pub mod LostClient
+pub mod Waiting
