@@ -1,7 +1,7 @@
 -- That the journal is lawful: a connection breaks twice and is taken up again.
 use Rattle.std.proofs.Common.{refl, ◌≡◌, List, [], ◌∷◌, inl, inr, lit<, lit≤}
 use Rattle.dso_base.specs.declared.journal.Entry.{Entry}
-use Rattle.std.specs.Prelude.{pos, Some, None}
+use Rattle.std.specs.Prelude.{pos, true, false, Some, None}
 use Rattle.dso_base.specs.declared.lock.Level.TheVariants.{Read, Write}
 use Rattle.dso_base.specs.declared.lock.LockName.TheVariants.{Mon, Name}
 use Rattle.dso_base.specs.declared.message.Up.TheVariants as up
@@ -11,8 +11,8 @@ use Rattle.dso_base.specs.declared.value.ClassId.TheVariants as class
 use Rattle.dso_base.specs.declared.value.Kind.TheVariants as kind
 use Rattle.dso_base.specs.declared.value.Value.TheVariants as value
 use Rattle.dso_legal.specs.Lawful.{AllFollow, MayFollow, IsLawful}
-use Rattle.dso_legal.specs.examples.Broken.{settings, next, entries, entry_1, entry_2, entry_3, entry_4, entry_5, entry_6, entry_7, entry_8, entry_9, entry_10, entry_11, entry_12, entry_13, entry_14, entry_15, entry_16}
-use Rattle.dso_legal.proofs.Facts.{is_there, not_zero, isnt_roots, both_roots, neither_roots, neither_roots_array, isnt_roots_array}
+use Rattle.dso_legal.specs.examples.Broken.{settings, next, entries, BrokenJournal, entry_1, entry_2, entry_3, entry_4, entry_5, entry_6, entry_7, entry_8, entry_9, entry_10, entry_11, entry_12, entry_13, entry_14, entry_15, entry_16}
+use Rattle.dso_legal.proofs.Facts.{is_there, not_zero, isnt_roots, both_roots, neither_roots, neither_roots_array, isnt_roots_array, not_read}
 
 -- the first entries, the newest first
 abbrev first_0 : List Entry
@@ -134,5 +134,9 @@ step_16 = record { channels = refl; clocks = refl; rule = record { its = refl; s
 all_follow : AllFollow settings next entries
 all_follow = ((((((((((((((((tt, step_1), step_2), step_3), step_4), step_5), step_6), step_7), step_8), step_9), step_10), step_11), step_12), step_13), step_14), step_15), step_16)
 
-pub is_lawful : IsLawful settings next entries
+is_lawful : IsLawful settings next entries
 is_lawful = record { follow = all_follow; connections = (record { at_client = lit≤ tt; at_server = lit≤ tt }, tt) }
+
+-- and the rest by computing
+pub is_run : BrokenJournal
+is_run = record { lawful = is_lawful; finished = refl; opens = refl; commits = refl; weighs = refl }

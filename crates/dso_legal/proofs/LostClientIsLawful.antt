@@ -1,7 +1,7 @@
 -- That the journal is lawful: a client is lost while it has the lease that another client waits for.
 use Rattle.std.proofs.Common.{refl, ◌≡◌, List, [], ◌∷◌, inl, inr, lit<, lit≤}
 use Rattle.dso_base.specs.declared.journal.Entry.{Entry}
-use Rattle.std.specs.Prelude.{pos, Some, None}
+use Rattle.std.specs.Prelude.{pos, true, false, Some, None}
 use Rattle.dso_base.specs.declared.lock.Level.TheVariants.{Read, Write}
 use Rattle.dso_base.specs.declared.lock.LockName.TheVariants.{Mon, Name}
 use Rattle.dso_base.specs.declared.message.Up.TheVariants as up
@@ -11,8 +11,8 @@ use Rattle.dso_base.specs.declared.value.ClassId.TheVariants as class
 use Rattle.dso_base.specs.declared.value.Kind.TheVariants as kind
 use Rattle.dso_base.specs.declared.value.Value.TheVariants as value
 use Rattle.dso_legal.specs.Lawful.{AllFollow, MayFollow, IsLawful}
-use Rattle.dso_legal.specs.examples.LostClient.{settings, next, entries, entry_1, entry_2, entry_3, entry_4, entry_5, entry_6, entry_7, entry_8, entry_9, entry_10, entry_11, entry_12, entry_13, entry_14, entry_15, entry_16, entry_17, entry_18, entry_19, entry_20, entry_21, entry_22, entry_23, entry_24, entry_25, entry_26, entry_27, entry_28, entry_29, entry_30, entry_31, entry_32, entry_33, entry_34, entry_35, entry_36, entry_37, entry_38, entry_39}
-use Rattle.dso_legal.proofs.Facts.{is_there, not_zero, isnt_roots, both_roots, neither_roots, neither_roots_array, isnt_roots_array}
+use Rattle.dso_legal.specs.examples.LostClient.{settings, next, entries, LostClientJournal, entry_1, entry_2, entry_3, entry_4, entry_5, entry_6, entry_7, entry_8, entry_9, entry_10, entry_11, entry_12, entry_13, entry_14, entry_15, entry_16, entry_17, entry_18, entry_19, entry_20, entry_21, entry_22, entry_23, entry_24, entry_25, entry_26, entry_27, entry_28, entry_29, entry_30, entry_31, entry_32, entry_33, entry_34, entry_35, entry_36, entry_37, entry_38, entry_39}
+use Rattle.dso_legal.proofs.Facts.{is_there, not_zero, isnt_roots, both_roots, neither_roots, neither_roots_array, isnt_roots_array, not_read}
 
 -- the first entries, the newest first
 abbrev first_0 : List Entry
@@ -295,5 +295,9 @@ step_39 = record { channels = refl; clocks = refl; rule = record { its = refl; s
 all_follow : AllFollow settings next entries
 all_follow = (((((((((((((((((((((((((((((((((((((((tt, step_1), step_2), step_3), step_4), step_5), step_6), step_7), step_8), step_9), step_10), step_11), step_12), step_13), step_14), step_15), step_16), step_17), step_18), step_19), step_20), step_21), step_22), step_23), step_24), step_25), step_26), step_27), step_28), step_29), step_30), step_31), step_32), step_33), step_34), step_35), step_36), step_37), step_38), step_39)
 
-pub is_lawful : IsLawful settings next entries
+is_lawful : IsLawful settings next entries
 is_lawful = record { follow = all_follow; connections = (record { at_client = lit≤ tt; at_server = lit≤ tt }, (record { at_client = lit≤ tt; at_server = lit≤ tt }, tt)) }
+
+-- and the rest by computing
+pub is_run : LostClientJournal
+is_run = record { lawful = is_lawful; finished = refl; opens = refl; commits = refl; weighs = refl }

@@ -11,7 +11,7 @@ use Rattle.dso_base.specs.declared.value.ClassId.TheVariants as class
 use Rattle.dso_base.specs.declared.value.Kind.TheVariants as kind
 use Rattle.dso_base.specs.declared.value.Value.TheVariants as value
 use Rattle.dso_legal.specs.Lawful.{AllFollow, MayFollow, IsLawful}
-use Rattle.dso_legal.specs.examples.Waiting.{settings, next, entries, entry_1, entry_2, entry_3, entry_4, entry_5, entry_6, entry_7, entry_8, entry_9, entry_10, entry_11, entry_12, entry_13, entry_14, entry_15, entry_16, entry_17, entry_18, entry_19, entry_20, entry_21, entry_22, entry_23, entry_24, entry_25, entry_26, entry_27, entry_28, entry_29, entry_30, entry_31, entry_32, entry_33, entry_34, entry_35, entry_36, entry_37, entry_38, entry_39, entry_40, entry_41, entry_42, entry_43, entry_44, entry_45, entry_46, entry_47, entry_48, entry_49, entry_50, entry_51, entry_52, entry_53, entry_54, entry_55, entry_56, entry_57, entry_58, entry_59, entry_60, entry_61, entry_62, entry_63, entry_64, entry_65, entry_66, entry_67, entry_68, entry_69, entry_70, entry_71, entry_72, entry_73, entry_74, entry_75, entry_76, entry_77, entry_78, entry_79, entry_80, entry_81, entry_82, entry_83, entry_84, entry_85, entry_86, entry_87, entry_88, entry_89, entry_90, entry_91, entry_92, entry_93, entry_94, entry_95, entry_96}
+use Rattle.dso_legal.specs.examples.Waiting.{settings, next, entries, WaitingJournal, entry_1, entry_2, entry_3, entry_4, entry_5, entry_6, entry_7, entry_8, entry_9, entry_10, entry_11, entry_12, entry_13, entry_14, entry_15, entry_16, entry_17, entry_18, entry_19, entry_20, entry_21, entry_22, entry_23, entry_24, entry_25, entry_26, entry_27, entry_28, entry_29, entry_30, entry_31, entry_32, entry_33, entry_34, entry_35, entry_36, entry_37, entry_38, entry_39, entry_40, entry_41, entry_42, entry_43, entry_44, entry_45, entry_46, entry_47, entry_48, entry_49, entry_50, entry_51, entry_52, entry_53, entry_54, entry_55, entry_56, entry_57, entry_58, entry_59, entry_60, entry_61, entry_62, entry_63, entry_64, entry_65, entry_66, entry_67, entry_68, entry_69, entry_70, entry_71, entry_72, entry_73, entry_74, entry_75, entry_76, entry_77, entry_78, entry_79, entry_80, entry_81, entry_82, entry_83, entry_84, entry_85, entry_86, entry_87, entry_88, entry_89, entry_90, entry_91, entry_92, entry_93, entry_94, entry_95, entry_96}
 use Rattle.dso_legal.proofs.Facts.{is_there, not_zero, isnt_roots, both_roots, neither_roots, neither_roots_array, isnt_roots_array, not_read}
 
 -- the first entries, the newest first
@@ -694,5 +694,9 @@ step_96 = record { channels = refl; clocks = refl; rule = record { its = refl; s
 all_follow : AllFollow settings next entries
 all_follow = ((((((((((((((((((((((((((((((((((((((((((((((((((((((((((((((((((((((((((((((((((((((((((((((((tt, step_1), step_2), step_3), step_4), step_5), step_6), step_7), step_8), step_9), step_10), step_11), step_12), step_13), step_14), step_15), step_16), step_17), step_18), step_19), step_20), step_21), step_22), step_23), step_24), step_25), step_26), step_27), step_28), step_29), step_30), step_31), step_32), step_33), step_34), step_35), step_36), step_37), step_38), step_39), step_40), step_41), step_42), step_43), step_44), step_45), step_46), step_47), step_48), step_49), step_50), step_51), step_52), step_53), step_54), step_55), step_56), step_57), step_58), step_59), step_60), step_61), step_62), step_63), step_64), step_65), step_66), step_67), step_68), step_69), step_70), step_71), step_72), step_73), step_74), step_75), step_76), step_77), step_78), step_79), step_80), step_81), step_82), step_83), step_84), step_85), step_86), step_87), step_88), step_89), step_90), step_91), step_92), step_93), step_94), step_95), step_96)
 
-pub is_lawful : IsLawful settings next entries
+is_lawful : IsLawful settings next entries
 is_lawful = record { follow = all_follow; connections = (record { at_client = lit≤ tt; at_server = lit≤ tt }, (record { at_client = lit≤ tt; at_server = lit≤ tt }, tt)) }
+
+-- and the rest by computing
+pub is_run : WaitingJournal
+is_run = record { lawful = is_lawful; finished = refl; opens = refl; commits = refl; weighs = refl }

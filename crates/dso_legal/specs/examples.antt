@@ -1,4 +1,5 @@
 pub mod Words
+pub mod Run
 pub mod Counter
 pub mod Recall
 pub mod Flush
