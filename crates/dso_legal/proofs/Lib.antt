@@ -5,3 +5,4 @@ pub mod FlushIsLawful
 pub mod BrokenIsLawful
 pub mod LostClientIsLawful
 pub mod WaitingIsLawful
+pub mod Refused

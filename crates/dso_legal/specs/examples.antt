@@ -6,3 +6,4 @@ pub mod Flush
 pub mod Broken
 pub mod LostClient
 pub mod Waiting
+pub mod Refusals

@@ -2,6 +2,7 @@
 //! each of its entries, it commits this history, and it weighs so much. Each is the contract of a function that does
 //! nothing.
 ghost use Rattle.dso_legal.specs.examples.Counter.{CounterJournal};
+ghost use Rattle.dso_legal.specs.examples.Refusals.{Refusals, WrongSendings};
 ghost use Rattle.dso_legal.specs.examples.Recall.{RecallJournal};
 ghost use Rattle.dso_legal.specs.examples.Flush.{FlushJournal};
 ghost use Rattle.dso_legal.specs.examples.Waiting.{WaitingJournal};
@@ -37,4 +38,14 @@ pub fn broken()
 /// sends later changes nothing.
 pub fn lost_client()
     ensures { LostClientJournal }
+{}
+
+/// For each rule an entry that breaks it alone and so may not follow.
+pub fn refusals()
+    ensures { Refusals }
+{}
+
+/// And for what an entry sends.
+pub fn wrong_sendings()
+    ensures { WrongSendings }
 {}
