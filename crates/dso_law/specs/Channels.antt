@@ -63,14 +63,20 @@ abbrev pub IsFirst : {M : Type 0} → M → List (Letter M) → Type 0
 IsFirst m [] = ⊥
 IsFirst m (letter ∷ letters) = m ≡ letter.message
 
--- Channels: a message that is taken is the first on its way.
-abbrev pub TakesFirst : Entry → Input → Node → List Entry → Type 0
-TakesFirst e (TookUp c m) node es = IsFirst m (way_up c es)
-TakesFirst e (TookDown m) (Client c) es = IsFirst m (way_down c es)
-TakesFirst e input node es = Unit {0}
+-- what the server takes of a client, and what a client takes, is the first on its way
+abbrev pub TakesFirst : Input → Node → List Entry → Type 0
+TakesFirst (TookUp c m) Server es = IsFirst m (way_up c es)
+TakesFirst (TookDown m) (Client c) es = IsFirst m (way_down c es)
+TakesFirst input node es = Unit {0}
 
+-- Channels: a message that an entry takes is the first on its way.
 abbrev pub RespectsChannels : Entry → List Entry → Type 0
-RespectsChannels e es = TakesFirst e e.input e.node es
+RespectsChannels e es = TakesFirst e.input e.node es
+
+-- each entry takes the first on its way
+abbrev pub KeepsChannels : List Entry → Type 0
+KeepsChannels [] = Unit {0}
+KeepsChannels (e ∷ es) = KeepsChannels es × RespectsChannels e es
 
 -- the clock of the first letter, 0 where there is none
 abbrev pub first_clock : {M : Type 0} → List (Letter M) → ℕ
@@ -79,7 +85,7 @@ first_clock (letter ∷ letters) = letter.clock
 
 -- the clock of the entry that sent the message taken, 0 where none is taken
 abbrev pub heard_clock : Input → Node → List Entry → ℕ
-heard_clock (TookUp c m) node es = first_clock (way_up c es)
+heard_clock (TookUp c m) Server es = first_clock (way_up c es)
 heard_clock (TookDown m) (Client c) es = first_clock (way_down c es)
 heard_clock input node es = 0
 

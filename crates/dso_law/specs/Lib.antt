@@ -17,3 +17,4 @@ pub mod Serving
 pub mod Waking
 pub mod FitsUp
 pub mod ServerStep
+pub mod Prefixes

@@ -1,2 +1,6 @@
 //! What a journal tells of each node, and which entry each node may make next.
+//!
+//! The definitions stand in `specs/`, their laws are the contracts of the functions in [`laws`].
 #![tactic(auto)]
+
+pub mod laws;
