@@ -1,5 +1,5 @@
 -- A client's copies: which objects are resident, and what they hold.
-use Rattle.std.specs.Prelude.{ℕ, Bool, true, false, cond, not, eqb, ◌&&◌, ltb, Option, Some, None, List, [], ◌∷◌, filter, length, slice_get}
+use Rattle.std.specs.Prelude.{ℕ, Bool, true, false, cond, not, eqb, ◌&&◌, ltb, Option, Some, None, List, [], ◌∷◌, filter, length, slice_get, fold}
 use Rattle.dso_base.specs.declared.journal.Entry.{Entry}
 use Rattle.dso_base.specs.declared.journal.Input.{Input}
 use Rattle.dso_base.specs.declared.journal.Input.TheVariants.{Flush}
@@ -33,29 +33,39 @@ abbrev pub unless_flushed : ℕ → Input → Bool → Bool
 unless_flushed o (Flush x) before = cond (eqb x o) false before
 unless_flushed o input before = before
 
+-- what an entry makes of it
+abbrev pub resident_after : ℕ → Entry → Bool → Bool
+resident_after o e before = unless_flushed o e.input (by_said (resident_by_said o) e.sent (by_taken (resident_by_taken o) e.input before))
+
 -- Resident: the latest entry that took the object, sent a record with it among the news, or is a flush of it, is there
 -- and isn't the flush.
 abbrev pub is_resident : ℕ → List Entry → Bool
 is_resident o [] = false
-is_resident o (e ∷ es) = unless_flushed o e.input (by_said (resident_by_said o) e.sent (by_taken (resident_by_taken o) e.input (is_resident o es)))
+is_resident o (e ∷ es) = resident_after o e (is_resident o es)
+
+-- the value of the field in the body, if it is of the object
+abbrev pub value_by_body : ℕ → ℕ → Option Value → Body → Option Value
+value_by_body o f before body = cond (eqb body.object o) (slice_get body.values f) before
 
 -- the value of the field in the last of the bodies that is of the object
 abbrev pub value_by_bodies : ℕ → ℕ → List Body → Option Value → Option Value
-value_by_bodies o f [] before = before
-value_by_bodies o f (body ∷ bodies) before = value_by_bodies o f bodies (cond (eqb body.object o) (slice_get body.values f) before)
+value_by_bodies o f bodies before = fold (value_by_body o f) before bodies
 
 -- whether the set is of this field of this object
 abbrev pub is_set_of : ℕ → ℕ → Set → Bool
 is_set_of o f set = eqb set.object o && eqb set.field f
 
+-- the value of the set, if it is of the field
+abbrev pub value_by_set : ℕ → ℕ → Option Value → Set → Option Value
+value_by_set o f before set = cond (is_set_of o f set) (Some set.value) before
+
 -- the value of the last of the sets that is of the field
 abbrev pub value_by_sets : ℕ → ℕ → List Set → Option Value → Option Value
-value_by_sets o f [] before = before
-value_by_sets o f (set ∷ sets) before = value_by_sets o f sets (cond (is_set_of o f set) (Some set.value) before)
+value_by_sets o f sets before = fold (value_by_set o f) before sets
 
 -- what a message taken makes of the value held for the field
 abbrev pub value_by_taken : ℕ → ℕ → Down → Option Value → Option Value
-value_by_taken o f (down.Object body) before = value_by_bodies o f (body ∷ []) before
+value_by_taken o f (down.Object body) before = value_by_body o f before body
 value_by_taken o f (down.Changes sets) before = value_by_sets o f sets before
 value_by_taken o f m before = before
 
@@ -64,12 +74,16 @@ abbrev pub value_by_said : ℕ → ℕ → Up → Option Value → Option Value
 value_by_said o f (up.Commit txn) before = value_by_sets o f txn.sets (value_by_bodies o f txn.news before)
 value_by_said o f m before = before
 
+-- what an entry makes of it
+abbrev pub value_after : ℕ → ℕ → Entry → Option Value → Option Value
+value_after o f e before = by_said (value_by_said o f) e.sent (by_taken (value_by_taken o f) e.input before)
+
 -- The value held for a field: that given by the latest entry that took the object, sent a record with it among the
 -- news or with a set of that field, or took changes with such a set. Changes of an absent object count here and are
 -- never seen: it is resident again only by an entry that gives all its values.
 abbrev pub value_held : ℕ → ℕ → List Entry → Option Value
 value_held o f [] = None
-value_held o f (e ∷ es) = by_said (value_by_said o f) e.sent (by_taken (value_by_taken o f) e.input (value_held o f es))
+value_held o f (e ∷ es) = value_after o f e (value_held o f es)
 
 -- The copy of a field: the value held for it while the object is resident; else there is none.
 abbrev pub copy_of : ℕ → ℕ → List Entry → Option Value

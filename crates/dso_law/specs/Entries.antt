@@ -1,6 +1,6 @@
 -- The entries of a node, and what an entry does to a reading. Entries stand with the NEWEST FIRST in all that follows,
 -- so that one more entry is one more clause.
-use Rattle.std.specs.Prelude.{ℕ, Bool, true, false, cond, eqb, Option, Some, None, List, [], ◌∷◌, ◌++◌}
+use Rattle.std.specs.Prelude.{ℕ, Bool, true, false, cond, eqb, Option, Some, None, List, [], ◌∷◌, ◌++◌, fold}
 use Rattle.dso_base.specs.declared.journal.Entry.{Entry}
 use Rattle.dso_base.specs.declared.journal.Input.{Input}
 use Rattle.dso_base.specs.declared.journal.Input.TheVariants.{TookUp, TookDown}
@@ -45,17 +45,23 @@ abbrev pub by_event : {S : Type 0} → (Event → S → S) → Option Event → 
 by_event step None s = s
 by_event step (Some event) s = step event s
 
--- the messages to the server,
-abbrev pub by_said : {S : Type 0} → (Up → S → S) → List Sent → S → S
-by_said step [] s = s
-by_said step (ToServer m ∷ sent) s = by_said step sent (step m s)
-by_said step (ToClient c m ∷ sent) s = by_said step sent s
+-- a message to the server,
+abbrev pub said : {S : Type 0} → (Up → S → S) → S → Sent → S
+said step s (ToServer m) = step m s
+said step s (ToClient c m) = s
 
--- and the messages to clients.
+-- all of them in their order,
+abbrev pub by_said : {S : Type 0} → (Up → S → S) → List Sent → S → S
+by_said step sent s = fold (said step) s sent
+
+-- a message to a client,
+abbrev pub told : {S : Type 0} → (ℕ → Down → S → S) → S → Sent → S
+told step s (ToServer m) = s
+told step s (ToClient c m) = step c m s
+
+-- and all of them in their order.
 abbrev pub by_told : {S : Type 0} → (ℕ → Down → S → S) → List Sent → S → S
-by_told step [] s = s
-by_told step (ToServer m ∷ sent) s = by_told step sent s
-by_told step (ToClient c m ∷ sent) s = by_told step sent (step c m s)
+by_told step sent s = fold (told step) s sent
 
 -- the thread's events, the first of them first
 abbrev pub event_of : ThreadId → Event → List Event → List Event

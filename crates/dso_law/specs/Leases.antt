@@ -18,12 +18,8 @@ use Rattle.dso_base.specs.declared.request.Reply.TheVariants.{Done}
 use Rattle.dso_base.specs.declared.request.Request.{Request}
 use Rattle.dso_base.specs.declared.request.Request.TheVariants.{Enter, Resume}
 use Rattle.dso_plain.specs.Keys.{is_lock}
+use Rattle.dso_law.specs.declared.readings.Standing.{Standing}
 use Rattle.dso_law.specs.Entries.{by_taken, by_said, by_event}
-
--- how a lock stands with a client: its lease, and whether one is asked for
-pub record Standing : Type 0 where
-  pub lease : Option Level
-  pub is_asked : Bool
 
 -- neither leased nor asked for
 abbrev pub idle : Standing
@@ -40,10 +36,14 @@ abbrev pub standing_down : LockName → Down → Standing → Standing
 standing_down l (down.Grant k level) s = cond (is_lock l k) (record { lease = Some level; is_asked = false }) s
 standing_down l m s = s
 
+-- what an entry of the client makes of it
+abbrev pub standing_after : LockName → Entry → Standing → Standing
+standing_after l e s = by_said (standing_up l) e.sent (by_taken (standing_down l) e.input s)
+
 -- how the lock stands, as the client sees it
 abbrev pub standing : LockName → List Entry → Standing
 standing l [] = idle
-standing l (e ∷ es) = by_said (standing_up l) e.sent (by_taken (standing_down l) e.input (standing l es))
+standing l (e ∷ es) = standing_after l e (standing l es)
 
 -- Leased: the level of the latest grant of the lock taken, where no return of it was sent since; else none.
 abbrev pub leased : LockName → List Entry → Option Level

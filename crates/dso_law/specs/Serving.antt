@@ -12,9 +12,10 @@ use Rattle.dso_base.specs.declared.message.Down.TheVariants as down
 use Rattle.dso_base.specs.declared.message.Up.{Up}
 use Rattle.dso_base.specs.declared.message.Up.TheVariants as up
 use Rattle.dso_plain.specs.Keys.{is_lock}
+use Rattle.dso_law.specs.declared.readings.Standing.{Standing}
 use Rattle.dso_law.specs.Settings.{Settings, has, clients_of}
 use Rattle.dso_law.specs.Entries.{by_told}
-use Rattle.dso_law.specs.Leases.{Standing, idle, standing_up, standing_down, insert_lock}
+use Rattle.dso_law.specs.Leases.{idle, standing_up, standing_down, insert_lock}
 use Rattle.dso_law.specs.Needs.{conflicts}
 
 -- what an input makes of how a lock stands with client c: its messages, as they are taken, and its loss

@@ -4,3 +4,6 @@
 #![tactic(auto)]
 
 pub mod laws;
+mod readings;
+
+pub use readings::{Standing, leased};
