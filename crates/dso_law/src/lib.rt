@@ -3,7 +3,9 @@
 //! The definitions stand in `specs/`, their laws are the contracts of the functions in [`laws`].
 #![tactic(auto)]
 
+mod copies;
 pub mod laws;
 mod readings;
 
+pub use copies::copy_of;
 pub use readings::{Standing, leased};

@@ -29,7 +29,7 @@ pub fn leased(journal: &Journal, client: u8, lock: LockName) -> Option<Level>
 }
 
 /// Whether the node is the client.
-fn is_client(node: Node, client: u8) -> bool
+pub(crate) fn is_client(node: Node, client: u8) -> bool
     ensures { result ≡ is_node (Node.Client client) node }
 {
     match node {
