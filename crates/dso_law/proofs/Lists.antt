@@ -1,5 +1,5 @@
 -- Tests of lists.
-use Rattle.std.proofs.Common.{◌≡◌, refl, sym, ◌∙◌, Bool, true, false, ◌||◌, List, [], ◌∷◌}
+use Rattle.std.proofs.Common.{◌≡◌, refl, ◌∙◌, Bool, true, false, ◌||◌, List, [], ◌∷◌}
 use Rattle.std.specs.Prelude.{fold}
 use Rattle.dso_law.specs.Settings.{has}
 

@@ -1,18 +1,16 @@
 -- The client rule: which entry may follow a client's entries.
-use Rattle.std.specs.Prelude.{ℕ, suc, ◌<◌, ◌≡◌, Bool, true, false, cond, not, eqb, ltb, ◌&&◌, ◌||◌, is_some, Option, Some, None, List, [], ◌∷◌, ◌++◌, map, length}
+use Rattle.std.specs.Prelude.{ℕ, suc, ◌≡◌, Bool, true, false, cond, not, eqb, ltb, ◌&&◌, ◌||◌, is_some, Option, Some, None, List, [], ◌∷◌, ◌++◌, map, length}
 use Rattle.dso_base.specs.declared.journal.Entry.{Entry}
 use Rattle.dso_base.specs.declared.journal.Input.{Input}
 use Rattle.dso_base.specs.declared.journal.Input.TheVariants as input
 use Rattle.dso_base.specs.declared.journal.Sent.{Sent}
-use Rattle.dso_base.specs.declared.journal.Sent.TheVariants.{ToServer, ToClient}
+use Rattle.dso_base.specs.declared.journal.Sent.TheVariants.{ToServer}
 use Rattle.dso_base.specs.declared.lock.Level.TheVariants.{Write}
-use Rattle.dso_base.specs.declared.lock.LockName.{LockName}
 use Rattle.dso_base.specs.declared.lock.ThreadId.{ThreadId}
 use Rattle.dso_base.specs.declared.message.Down.{Down}
 use Rattle.dso_base.specs.declared.message.Up.{Up}
 use Rattle.dso_base.specs.declared.message.Up.TheVariants as up
 use Rattle.dso_base.specs.declared.record.Ending.{Ending}
-use Rattle.dso_base.specs.declared.record.Set.{Set}
 use Rattle.dso_base.specs.declared.record.Txn.{Txn}
 use Rattle.dso_base.specs.declared.request.Event.{Event}
 use Rattle.dso_base.specs.declared.request.Event.TheVariants.{Act, Lost}
@@ -22,7 +20,7 @@ use Rattle.dso_base.specs.declared.request.Request.{Request}
 use Rattle.dso_base.specs.declared.request.Request.TheVariants.{Put, Enter}
 use Rattle.dso_base.specs.Block.{txn_of}
 use Rattle.dso_plain.specs.Keys.{is_lock, is_thread}
-use Rattle.dso_law.specs.Settings.{Settings, Each, has, threads_of}
+use Rattle.dso_law.specs.Settings.{Settings, has, threads_of}
 use Rattle.dso_law.specs.Entries.{unsent}
 use Rattle.dso_law.specs.Threads.{locks_of, ending_of, open_block, privates_before}
 use Rattle.dso_law.specs.Copies.{is_among, is_resident, residents}

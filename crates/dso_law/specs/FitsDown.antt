@@ -1,5 +1,5 @@
 -- Which messages of the server fit, at the client that takes them.
-use Rattle.std.specs.Prelude.{ℕ, zero, suc, ◌+◌, ◌^◌, ◌<◌, ◌≤◌, ◌≡◌, ◌≢◌, ◌↔◌, Bool, true, false, Option, Some, None, List, [], ◌∷◌, length, slice_get}
+use Rattle.std.specs.Prelude.{ℕ, suc, ◌+◌, ◌^◌, ◌<◌, ◌≤◌, ◌≡◌, ◌↔◌, true, false, Option, Some, None, List, [], ◌∷◌, length}
 use Rattle.dso_base.specs.declared.journal.Entry.{Entry}
 use Rattle.dso_base.specs.declared.lock.LockName.{LockName}
 use Rattle.dso_base.specs.declared.lock.ThreadId.{ThreadId}
@@ -8,13 +8,9 @@ use Rattle.dso_base.specs.declared.message.Down.TheVariants.{Ids, Object, Grant,
 use Rattle.dso_base.specs.declared.record.Body.{Body}
 use Rattle.dso_base.specs.declared.record.Set.{Set}
 use Rattle.dso_base.specs.declared.record.Txn.{Txn}
-use Rattle.dso_base.specs.declared.shape.ClassShape.{ClassShape}
-use Rattle.dso_base.specs.declared.shape.FieldShape.{FieldShape}
 use Rattle.dso_base.specs.declared.shape.Shape.{Shape}
 use Rattle.dso_base.specs.declared.value.ClassId.{ClassId}
 use Rattle.dso_base.specs.declared.value.ClassId.TheVariants as class
-use Rattle.dso_base.specs.declared.value.Kind.{Kind}
-use Rattle.dso_base.specs.declared.value.Kind.TheVariants as kind
 use Rattle.dso_base.specs.declared.value.Value.{Value}
 use Rattle.dso_base.specs.Shape.{kind_of}
 use Rattle.dso_base.specs.Value.{Fits}

@@ -1,12 +1,10 @@
 -- A client's leases. How a lock stands with a client is kept by both ends with the same steps of messages: at the end
 -- that sends a message as it is sent, and at the end that takes it as it is taken.
-use Rattle.std.specs.Prelude.{ℕ, Bool, true, false, cond, not, ltb, ◌&&◌, ◌||◌, is_some, Option, Some, None, List, [], ◌∷◌, filter}
+use Rattle.std.specs.Prelude.{Bool, true, false, cond, ltb, ◌||◌, is_some, Option, Some, None, List, [], ◌∷◌, filter}
 use Rattle.dso_base.specs.declared.journal.Entry.{Entry}
 use Rattle.dso_base.specs.declared.lock.Level.{Level}
-use Rattle.dso_base.specs.declared.lock.Level.TheVariants.{Read, Write}
 use Rattle.dso_base.specs.declared.lock.LockName.{LockName}
 use Rattle.dso_base.specs.declared.lock.LockName.TheVariants.{Mon, Name}
-use Rattle.dso_base.specs.declared.lock.ThreadId.{ThreadId}
 use Rattle.dso_base.specs.declared.message.Down.{Down}
 use Rattle.dso_base.specs.declared.message.Down.TheVariants as down
 use Rattle.dso_base.specs.declared.message.Up.{Up}

@@ -1,5 +1,5 @@
 -- What a thread's next request needs, and what its client asks for.
-use Rattle.std.specs.Prelude.{ℕ, Bool, true, false, cond, not, eqb, ◌&&◌, ◌||◌, is_some, is_none, Option, Some, None, List, []}
+use Rattle.std.specs.Prelude.{ℕ, Bool, true, false, cond, not, eqb, ◌&&◌, ◌||◌, is_some, Option, Some, None, List}
 use Rattle.dso_base.specs.declared.journal.Entry.{Entry}
 use Rattle.dso_base.specs.declared.lock.Level.{Level}
 use Rattle.dso_base.specs.declared.lock.Level.TheVariants.{Read, Write}

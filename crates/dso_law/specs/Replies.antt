@@ -1,13 +1,10 @@
 -- How a client answers a request whose needs are met.
-use Rattle.std.specs.Prelude.{ℕ, Bool, true, false, cond, ltb, ◌≡◌, is_some, Option, Some, None, List, [], ◌∷◌, option_map, option_and_then, length, slice_get}
+use Rattle.std.specs.Prelude.{ℕ, cond, ltb, Option, Some, None, List, [], ◌∷◌, option_map, length, slice_get}
 use Rattle.dso_base.specs.declared.journal.Entry.{Entry}
 use Rattle.dso_base.specs.declared.lock.Level.{Level}
 use Rattle.dso_base.specs.declared.lock.Level.TheVariants.{Read, Write}
-use Rattle.dso_base.specs.declared.lock.LockName.{LockName}
 use Rattle.dso_base.specs.declared.lock.ThreadId.{ThreadId}
 use Rattle.dso_base.specs.declared.record.Body.{Body}
-use Rattle.dso_base.specs.declared.request.Event.{Event}
-use Rattle.dso_base.specs.declared.request.Event.TheVariants.{Act}
 use Rattle.dso_base.specs.declared.request.Fault.TheVariants.{UnlockedSharedObject, WrongLock, ReadOnly, LockUpgrade, IllegalMonitor}
 use Rattle.dso_base.specs.declared.request.Reply.{Reply}
 use Rattle.dso_base.specs.declared.request.Reply.TheVariants.{Done, Made, Seen, Val, Local, Refused}
@@ -16,7 +13,6 @@ use Rattle.dso_base.specs.declared.request.Request.TheVariants.{New, Look, Get, 
 use Rattle.dso_base.specs.declared.value.ClassId.{ClassId}
 use Rattle.dso_base.specs.declared.value.Value.{Value}
 use Rattle.dso_base.specs.Shape.{guard_of}
-use Rattle.dso_plain.specs.State.{Hold}
 use Rattle.dso_law.specs.Settings.{Settings}
 use Rattle.dso_law.specs.Threads.{Held, or_else, own, work_of, is_private, is_local, locks_of, hold_of}
 use Rattle.dso_law.specs.Copies.{copy_of, class_held, value_by_sets}

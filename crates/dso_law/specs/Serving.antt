@@ -1,10 +1,10 @@
 -- The server's leases and queues, and what it grants and recalls. The entries are those that count.
-use Rattle.std.specs.Prelude.{ℕ, Bool, true, false, cond, not, eqb, ◌&&◌, ◌||◌, Option, Some, None, List, [], ◌∷◌, ◌++◌, map, filter, flat_map}
+use Rattle.std.specs.Prelude.{ℕ, Bool, true, false, cond, not, eqb, ◌&&◌, Option, Some, List, [], ◌∷◌, ◌++◌, map, filter, flat_map}
 use Rattle.dso_base.specs.declared.journal.Entry.{Entry}
 use Rattle.dso_base.specs.declared.journal.Input.{Input}
 use Rattle.dso_base.specs.declared.journal.Input.TheVariants.{TookUp, Lose}
 use Rattle.dso_base.specs.declared.journal.Sent.{Sent}
-use Rattle.dso_base.specs.declared.journal.Sent.TheVariants.{ToServer, ToClient}
+use Rattle.dso_base.specs.declared.journal.Sent.TheVariants.{ToClient}
 use Rattle.dso_base.specs.declared.lock.Level.{Level}
 use Rattle.dso_base.specs.declared.lock.LockName.{LockName}
 use Rattle.dso_base.specs.declared.message.Down.{Down}

@@ -1,8 +1,7 @@
 -- What a client's entries tell of one of its threads: its locks, its blocks, its own objects.
-use Rattle.std.specs.Prelude.{ℕ, ◌≡◌, Bool, true, false, cond, not, is_some, Option, Some, None, List, [], ◌∷◌, ◌++◌, filter}
+use Rattle.std.specs.Prelude.{ℕ, Bool, false, cond, not, is_some, Option, Some, None, List, [], ◌∷◌, ◌++◌, filter}
 use Rattle.dso_base.specs.declared.journal.Entry.{Entry}
-use Rattle.dso_base.specs.declared.lock.Level.{Level}
-use Rattle.dso_base.specs.declared.lock.Level.TheVariants.{Read, Write}
+use Rattle.dso_base.specs.declared.lock.Level.TheVariants.{Write}
 use Rattle.dso_base.specs.declared.lock.LockName.{LockName}
 use Rattle.dso_base.specs.declared.lock.LockName.TheVariants.{Mon, Name}
 use Rattle.dso_base.specs.declared.lock.ThreadId.{ThreadId}
@@ -18,8 +17,8 @@ use Rattle.dso_base.specs.declared.request.Request.TheVariants.{Look, Enter, Exi
 use Rattle.dso_base.specs.declared.shape.Shape.{Shape}
 use Rattle.dso_base.specs.declared.value.ClassId.{ClassId}
 use Rattle.dso_base.specs.Block.{Work, start, body_in, worked}
-use Rattle.dso_plain.specs.Keys.{is_lock, or_old}
-use Rattle.dso_plain.specs.State.{Hold, level_of}
+use Rattle.dso_plain.specs.Keys.{is_lock}
+use Rattle.dso_plain.specs.State.{Hold}
 use Rattle.dso_plain.specs.After.{entered, exited, count_of}
 use Rattle.dso_plain.specs.History.{is_act_of}
 use Rattle.dso_law.specs.Entries.{by_event}

@@ -1,5 +1,5 @@
 -- The server's lists of waiters, and whom the notifications of a record wake. The entries are those that count.
-use Rattle.std.specs.Prelude.{ℕ, Bool, true, false, cond, not, eqb, Option, Some, None, List, [], ◌∷◌, ◌++◌, map, filter, drop}
+use Rattle.std.specs.Prelude.{ℕ, cond, not, eqb, List, [], ◌∷◌, ◌++◌, map, filter, drop}
 use Rattle.dso_base.specs.declared.journal.Entry.{Entry}
 use Rattle.dso_base.specs.declared.journal.Input.{Input}
 use Rattle.dso_base.specs.declared.journal.Input.TheVariants.{TookUp, Lose}

@@ -1,5 +1,5 @@
 use Rattle.std.proofs.Common.{◌≡◌, take}
-use Rattle.dso_law.specs.Entries.{by_said, by_taken}
+use Rattle.dso_law.specs.Entries.{by_said}
 use Rattle.dso_law.specs.Leases.{standing_up}
 use Rattle.dso_law.proofs.readings.standing_after.Given as goal
 
