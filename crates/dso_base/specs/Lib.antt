@@ -1,5 +1,6 @@
 pub mod Value
 pub mod Shape
 pub mod Reach
+pub mod Block
 pub mod Weight
 pub mod formers

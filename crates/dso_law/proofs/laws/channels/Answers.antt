@@ -1,0 +1,5 @@
+use Rattle.dso_law.proofs.laws.channels.Goals as goal
+use Rattle.dso_law.proofs.Prefixes.{prefixes}
+
+pub returns : goal.returns
+returns c = prefixes

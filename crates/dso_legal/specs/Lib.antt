@@ -1,0 +1,4 @@
+pub mod Lawful
+pub mod Committed
+pub mod Slots
+pub mod examples

@@ -1,0 +1,51 @@
+//! Journals of finished runs, each judged by the definitions: it is lawful, it is finished, these slots are open before
+//! each of its entries, it commits this history, and it weighs so much. Each is the contract of a function that does
+//! nothing.
+ghost use Rattle.dso_legal.specs.examples.Counter.{CounterJournal};
+ghost use Rattle.dso_legal.specs.examples.Refusals.{Refusals, WrongSendings};
+ghost use Rattle.dso_legal.specs.examples.Recall.{RecallJournal};
+ghost use Rattle.dso_legal.specs.examples.Flush.{FlushJournal};
+ghost use Rattle.dso_legal.specs.examples.Waiting.{WaitingJournal};
+ghost use Rattle.dso_legal.specs.examples.Broken.{BrokenJournal};
+ghost use Rattle.dso_legal.specs.examples.LostClient.{LostClientJournal};
+
+/// One thread makes a counter, shares it, and adds to it under its monitor.
+pub fn counter()
+    ensures { CounterJournal }
+{}
+
+/// Two clients want the root's lock at Write: it passes on by a recall and a return.
+pub fn recall()
+    ensures { RecallJournal }
+{}
+
+/// A client that is to keep one object flushes others, and asks for one of them again.
+pub fn flush()
+    ensures { FlushJournal }
+{}
+
+/// A thread waits and gives its lock's lease back; a thread of another client notifies, and the server wakes the first.
+pub fn waiting()
+    ensures { WaitingJournal }
+{}
+
+/// A connection breaks with messages on the way, twice, and both ends take it up again.
+pub fn broken()
+    ensures { BrokenJournal }
+{}
+
+/// A client is lost while it has the lease of a lock, which the server then grants to the other; what the lost client
+/// sends later changes nothing.
+pub fn lost_client()
+    ensures { LostClientJournal }
+{}
+
+/// For each rule an entry that breaks it alone and so may not follow.
+pub fn refusals()
+    ensures { Refusals }
+{}
+
+/// And for what an entry sends.
+pub fn wrong_sendings()
+    ensures { WrongSendings }
+{}
