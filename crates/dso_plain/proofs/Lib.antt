@@ -1,4 +1,5 @@
 pub mod Keys
+pub mod Rows
 pub mod Commute
 pub mod Guarded
 pub mod Quiet

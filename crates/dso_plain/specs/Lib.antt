@@ -1,4 +1,5 @@
 pub mod Keys
+pub mod Maps
 pub mod State
 pub mod Possible
 pub mod After
