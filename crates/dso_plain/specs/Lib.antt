@@ -10,3 +10,4 @@ pub mod Loss
 pub mod Published
 pub mod Monitors
 pub mod Laws
+pub mod Tables

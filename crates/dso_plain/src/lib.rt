@@ -3,5 +3,7 @@
 //! Its definition stands in `specs/`, its laws are the contracts of the functions in [`laws`].
 #![tactic(auto)]
 
+mod count;
 pub mod laws;
 mod maps;
+mod tables;

@@ -1,0 +1,47 @@
+//! The tables that keep one heap with plain monitors.
+use crate::count::Count;
+use dso_base::{ClassId, Fault, Items, Level, LockName, ThreadId, Value};
+use std::collections::BTreeMap;
+
+/// An object: its class, how many fields or elements it has, and the thread it is private to; None is shared.
+#[derive(Clone, Copy, Debug, PartialEq, Eq)]
+pub struct Object {
+    pub class: ClassId,
+    pub size: u32,
+    pub owner: Option<ThreadId>,
+}
+
+/// How a thread holds a lock: at the level of its first entry, and how often it entered.
+#[derive(Drop)]
+pub struct Hold {
+    pub level: Level,
+    pub count: Count,
+}
+
+/// A thread that waits on a lock: the count of the hold that it is to have again, and whether it was notified.
+#[derive(Drop)]
+pub struct Waiter {
+    pub count: Count,
+    pub marked: bool,
+}
+
+/// What is known of one heap, its monitors and its threads. Lists have the newest last.
+///
+/// Holds and waits stand by lock and then by thread; `held` and `waiting` tell the locks by thread, so that no question
+/// about a thread looks through the locks, nor one about a lock through the threads.
+#[derive(Drop)]
+pub struct Tables {
+    pub objects: BTreeMap<u64, Object>,
+    pub made: BTreeMap<ThreadId, Items<u64>>,
+    pub heap: BTreeMap<(u64, u32), Value>,
+    pub past: BTreeMap<(u64, u32), Items<Value>>,
+    pub seen: BTreeMap<(ThreadId, u64, u32), usize>,
+    pub holds: BTreeMap<LockName, BTreeMap<ThreadId, Hold>>,
+    pub held: BTreeMap<ThreadId, BTreeMap<LockName, ()>>,
+    pub waits: BTreeMap<LockName, BTreeMap<ThreadId, Waiter>>,
+    pub waiting: BTreeMap<ThreadId, BTreeMap<LockName, ()>>,
+    pub output: BTreeMap<ThreadId, Items<Value>>,
+    pub ended: BTreeMap<ThreadId, Option<Fault>>,
+    pub lost: BTreeMap<u8, bool>,
+    pub unguarded: Count,
+}
