@@ -6,8 +6,10 @@ pub mod After
 pub mod History
 pub mod Touches
 pub mod Past
+pub mod Kept
 pub mod Loss
 pub mod Published
 pub mod Monitors
 pub mod Laws
 pub mod Tables
+pub mod Keeps

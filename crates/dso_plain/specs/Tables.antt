@@ -1,5 +1,5 @@
 -- Which plain state the tables stand for: each part of it is a function of keys that reads one table.
-use Rattle.std.specs.Prelude.{ℕ, Bool, false, Option, Some, None, List, [], ◌∷◌, ◌++◌}
+use Rattle.std.specs.Prelude.{ℕ, Bool, false, Option, Some, None, List, [], reverse}
 use Rattle.std.specs.Option.{option_map, unwrap_or}
 use Rattle.std.specs.declared.cmp.Ordering.{Ordering}
 use Rattle.std.specs.Ordering.{nat_cmp, ordering_then}
@@ -40,15 +40,10 @@ object_of object = record { class = object.class; size = object.size; owner = ob
 abbrev pub hold_of : table_hold.Hold → Hold
 hold_of hold = record { level = hold.level; count = hold.count }
 
--- the list in the opposite order
-abbrev pub backwards : {A : Type 0} → List A → List A
-backwards [] = []
-backwards (x ∷ xs) = backwards xs ++ x ∷ []
-
 -- the list of a row that keeps the newest last, none where there is no row
 abbrev pub newest_first : {A : Type 0} → Option (List A) → List A
 newest_first None = []
-newest_first (Some row) = backwards row
+newest_first (Some row) = reverse row
 
 -- the plain state of the tables
 abbrev pub state_of : Tables → PlainState

@@ -6,4 +6,9 @@
 mod count;
 pub mod laws;
 mod maps;
+mod plain;
 mod tables;
+
+pub use count::Count;
+pub use plain::Plain;
+pub use tables::{Hold, Object, Tables, Waiter};
