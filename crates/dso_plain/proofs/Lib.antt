@@ -1,5 +1,6 @@
 pub mod Keys
 pub mod Rows
+pub mod Writing
 pub mod Orders
 pub mod Commute
 pub mod Guarded

@@ -1,5 +1,6 @@
 -- Which plain state the tables stand for: each part of it is a function of keys that reads one table.
-use Rattle.std.specs.Prelude.{ℕ, Bool, false, Option, Some, None, List, [], reverse}
+use Rattle.std.specs.BTreeMap.{BTreeMap}
+use Rattle.std.specs.Prelude.{ℕ, Bool, false, eqb, ltb, ◌&&◌, Option, Some, None, List, [], reverse}
 use Rattle.std.specs.Option.{option_map, unwrap_or}
 use Rattle.std.specs.declared.cmp.Ordering.{Ordering}
 use Rattle.std.specs.Ordering.{nat_cmp, ordering_then}
@@ -45,13 +46,17 @@ abbrev pub newest_first : {A : Type 0} → Option (List A) → List A
 newest_first None = []
 newest_first (Some row) = reverse row
 
+-- the pasts of a table
+abbrev pub pasts_of : BTreeMap (ℕ × ℕ) (List Value) → ℕ × ℕ → List Value
+pasts_of table key = newest_first (look field_order table key)
+
 -- the plain state of the tables
 abbrev pub state_of : Tables → PlainState
 state_of tables = record {
   objects = λ o. option_map object_of (look nat_cmp tables.objects o);
   made = λ t. newest_first (look thread_order tables.made t);
   heap = λ key. look field_order tables.heap key;
-  past = λ key. newest_first (look field_order tables.past key);
+  past = pasts_of tables.past;
   seen = λ key. unwrap_or (look view_order tables.seen key) 0;
   monitors = λ key. option_map hold_of (look_in lock_order thread_order tables.holds key);
   asleep = λ key. option_map (λ waiter. waiter.count) (look_in lock_order thread_order tables.waits key);
@@ -60,4 +65,25 @@ state_of tables = record {
   ended = λ t. look thread_order tables.ended t;
   lost = λ c. unwrap_or (look nat_cmp tables.lost c) false;
   unguarded = tables.unguarded;
+}
+
+-- the key is one of the first n fields of object o
+abbrev pub is_below : ℕ → ℕ → ℕ × ℕ → Bool
+is_below o n key = eqb key.0 o && ltb key.1 n
+
+-- The state of empty tables: nothing is there.
+abbrev pub blank : PlainState
+blank = record {
+  objects = λ o. None;
+  made = λ t. [];
+  heap = λ key. None;
+  past = λ key. [];
+  seen = λ key. 0;
+  monitors = λ key. None;
+  asleep = λ key. None;
+  marked = λ key. false;
+  output = λ t. [];
+  ended = λ t. None;
+  lost = λ c. false;
+  unguarded = 0;
 }

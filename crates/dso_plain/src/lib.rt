@@ -6,6 +6,7 @@
 mod count;
 pub mod laws;
 mod maps;
+mod fields;
 mod plain;
 mod tables;
 
