@@ -1,5 +1,7 @@
 pub mod Keys
 pub mod Rows
+pub mod Listing
+pub mod Sharing
 pub mod Writing
 pub mod Orders
 pub mod Commute

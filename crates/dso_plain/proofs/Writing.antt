@@ -20,13 +20,17 @@ through g p q w old new same e = fun_ext (λ key. ap (λ f. g (f key)) e ∙ (ap
 pub renamed : {K A : Type 0} (p q : K → Bool) (w : A) (old new : K → A) → ((key : K) → p key ≡ q key) → new ≡ written (writes p (λ _. w)) old → new ≡ written (writes q (λ _. w)) old
 renamed p q w old new same e = through (λ x. x) p q w old new same e
 
+-- where a test tells one key alone, one value of a function is that function's
+pub at_key : {K V : Type 0} (p : K → Bool) (k : K) (value old : K → V) → ((key : K) → p key ≡ true → key ≡ k) → written (writes p (λ _. value k)) old ≡ written (writes p value) old
+at_key {K} p k value old same = fun_ext (λ key. by key (p key) refl)
+  where
+    by : (key : K) (b : Bool) → p key ≡ b → or_old (cond b (Some (value k)) None) (old key) ≡ or_old (cond b (Some (value key)) None) (old key)
+    by key true e = ap value (sym (same key e))
+    by key false e = refl
+
 -- at one field one value of a function is that function's
 pub at_field : {V : Type 0} (o f : ℕ) (value old : ℕ × ℕ → V) → written (writes (is_field o f) (λ _. value (o, f))) old ≡ written (writes (is_field o f) value) old
-at_field o f value old = fun_ext (λ key. by key (is_field o f key) refl)
-  where
-    by : (key : ℕ × ℕ) (b : Bool) → is_field o f key ≡ b → or_old (cond b (Some (value (o, f))) None) (old key) ≡ or_old (cond b (Some (value key)) None) (old key)
-    by key true e = ap value (sym (same_field o f key e))
-    by key false e = refl
+at_field o f value old = at_key (is_field o f) (o, f) value old (same_field o f)
 
 -- below one more number are that number and those below it
 pub below_next : (k n : ℕ) → ltb k (n + 1) ≡ (eqb k n || ltb k n)

@@ -13,3 +13,4 @@ pub mod Monitors
 pub mod Laws
 pub mod Tables
 pub mod Keeps
+pub mod Publishing

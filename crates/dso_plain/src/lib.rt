@@ -8,6 +8,7 @@ pub mod laws;
 mod maps;
 mod fields;
 mod plain;
+mod publish;
 mod tables;
 
 pub use count::Count;
