@@ -13,5 +13,6 @@ pub mod Diamond
 pub mod Past
 pub mod Loss
 pub mod Published
+pub mod Worklist
 pub mod Legal
 pub mod Monitors

@@ -154,7 +154,7 @@ shared_is t None e = absurd (cc e)
 shared_is t (Some object) e = refl
 
 -- and has its size
-shared_size : (object : Option Object) → size_of (shared object) ≡ size_of object
+pub shared_size : (object : Option Object) → size_of (shared object) ≡ size_of object
 shared_size None = refl
 shared_size (Some object) = refl
 

@@ -1,5 +1,5 @@
 -- One object made shared in the tables.
-use Rattle.std.proofs.Common.{ℕ, ◌≡◌, refl, sym, ◌∙◌, ap, subst, Bool, true, false, cond, eqb, ltb, ◌&&◌, is_some, Option, Some, None, List, []}
+use Rattle.std.proofs.Common.{ℕ, ◌≡◌, inl, inr, refl, sym, ◌∙◌, ap, subst, Bool, true, false, cond, eqb, ltb, ◌&&◌, is_some, Option, Some, None, List, []}
 use Rattle.std.proofs.Math.Path.{fun_ext}
 use Rattle.std.specs.Ordering.{nat_cmp}
 use Rattle.std.specs.Option.{option_map}
@@ -10,9 +10,9 @@ use Rattle.dso_plain.specs.declared.tables.Object as table
 use Rattle.dso_plain.specs.declared.tables.Tables.{Tables}
 use Rattle.dso_plain.specs.Keys.{writes, or_old, written}
 use Rattle.dso_plain.specs.Maps.{look}
-use Rattle.dso_plain.specs.State.{PlainState}
+use Rattle.dso_plain.specs.State.{PlainState, is_owner, is_private_to, size_of}
 use Rattle.dso_plain.specs.After.{shared, present}
-use Rattle.dso_plain.specs.Publishing.{with_shared}
+use Rattle.dso_plain.specs.Publishing.{with_shared, Adds, IsLookedAt, private_of}
 use Rattle.dso_plain.specs.Tables.{object_of, field_order, pasts_of, is_below, state_of}
 use Rattle.dso_plain.proofs.Keys.{same_number}
 use Rattle.dso_plain.proofs.Orders.{number_at}
@@ -46,3 +46,32 @@ object_shared o private changed old objects pasts there is puts unpublished fiel
     let first = shared_object o private changed (look nat_cmp old.objects) objects there is puts in
     let second = opens ∙ all_fields o private.size (look field_order old.heap) (pasts_of old.past) unpublished fields in
     λ i. record (state_of old) { objects = first i; past = second i }
+
+-- an object that is found to be private is there, and private
+private_there : (t : ThreadId) (x : Option table.Object) (p : table.Object) → Some p ≡ private_of t x → (x ≡ Some p) × (is_private_to t (option_map object_of x) ≡ true)
+private_there t None p e = absurd (cc e)
+private_there t (Some object) p e = by (is_owner t object.owner) refl e
+  where
+    by : (b : Bool) → is_owner t object.owner ≡ b → Some p ≡ cond b (Some object) None → (Some object ≡ Some p) × (is_owner t object.owner ≡ true)
+    by true d e = (sym e, d)
+    by false d e = absurd (cc e)
+
+-- and one that is not so found is not private
+private_not : (t : ThreadId) (x : Option table.Object) → None ≡ private_of t x → is_private_to t (option_map object_of x) ≡ false
+private_not t None e = refl
+private_not t (Some object) e = by (is_owner t object.owner) refl e
+  where
+    by : (b : Bool) → is_owner t object.owner ≡ b → None ≡ cond b (Some object) None → is_owner t object.owner ≡ false
+    by true d e = absurd (cc e)
+    by false d e = d
+
+-- a private object was looked at
+pub looked : (t : ThreadId) (o : ℕ) (old new : Tables) (p : table.Object) (before after : List ℕ) → Some p ≡ private_of t (look nat_cmp old.objects o) → state_of new ≡ with_shared (λ x. eqb x o) (state_of old) → Adds (look field_order new.heap) o p.size before after → IsLookedAt t o (state_of old) (state_of new) before after
+looked t o old new p before after found is adds =
+    let h = private_there t (look nat_cmp old.objects o) p found in
+    let size : p.size ≡ size_of ((state_of old).objects o) = ap (λ x. size_of (option_map object_of x)) (sym h.0) in
+    inr (h.1, is, subst (λ n. Adds (state_of old).heap o n before after) size (subst (λ heap. Adds heap o p.size before after) (ap (λ s. s.heap) is) adds))
+
+-- any other was passed over
+pub passed_over : (t : ThreadId) (o : ℕ) (old : Tables) (list : List ℕ) → None ≡ private_of t (look nat_cmp old.objects o) → IsLookedAt t o (state_of old) (state_of old) list list
+passed_over t o old list found = inl (private_not t (look nat_cmp old.objects o) found, refl, refl)

@@ -1,10 +1,11 @@
 -- How publishing goes on in the tables, object by object.
-use Rattle.std.specs.Prelude.{ℕ, ◌+◌, ◌≤◌, ◌≡◌, ◌⊎◌, Bool, true, false, eqb, Option, Some, List, [], ◌∷◌, length}
+use Rattle.std.specs.Prelude.{ℕ, ◌+◌, ◌≤◌, ◌≡◌, ◌⊎◌, Bool, true, false, cond, eqb, Option, Some, None, List, [], ◌∷◌, length}
 use Rattle.dso_base.specs.declared.lock.ThreadId.{ThreadId}
 use Rattle.dso_base.specs.declared.value.Value.{Value}
 use Rattle.dso_base.specs.declared.value.Value.TheVariants as value
+use Rattle.dso_plain.specs.declared.tables.Object as table
 use Rattle.dso_plain.specs.Keys.{writes, written}
-use Rattle.dso_plain.specs.State.{PlainState, is_mine, size_of}
+use Rattle.dso_plain.specs.State.{PlainState, is_mine, size_of, is_owner}
 use Rattle.dso_plain.specs.Past.{IsListed}
 use Rattle.dso_plain.specs.After.{shared, present, names_below}
 
@@ -31,3 +32,8 @@ pub record Adds (heap : ℕ × ℕ → Option Value) (o n : ℕ) (before after :
 -- at; any other leaves all as it is.
 abbrev pub IsLookedAt : ThreadId → ℕ → PlainState → PlainState → List ℕ → List ℕ → Type 0
 IsLookedAt t o s r before after = ((is_mine t s o ≡ false) × (r ≡ s) × (after ≡ before)) ⊎ ((is_mine t s o ≡ true) × (r ≡ with_shared (λ x. eqb x o) s) × Adds s.heap o (size_of (s.objects o)) before after)
+
+-- an object of the tables where it is private to the thread
+abbrev pub private_of : ThreadId → Option table.Object → Option table.Object
+private_of t None = None
+private_of t (Some object) = cond (is_owner t object.owner) (Some object) None
