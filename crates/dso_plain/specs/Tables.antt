@@ -1,6 +1,6 @@
 -- Which plain state the tables stand for: each part of it is a function of keys that reads one table.
 use Rattle.std.specs.BTreeMap.{BTreeMap}
-use Rattle.std.specs.Prelude.{ℕ, Bool, false, eqb, ltb, ◌&&◌, Option, Some, None, List, [], reverse}
+use Rattle.std.specs.Prelude.{ℕ, ◌≡◌, Bool, false, eqb, ltb, ◌&&◌, Option, Some, None, List, [], reverse}
 use Rattle.std.specs.Option.{option_map, unwrap_or}
 use Rattle.std.specs.declared.cmp.Ordering.{Ordering}
 use Rattle.std.specs.Ordering.{nat_cmp, ordering_then}
@@ -87,3 +87,19 @@ blank = record {
   lost = λ c. false;
   unguarded = 0;
 }
+
+-- the tables are empty
+pub record IsBlank (tables : Tables) : Type 0 where
+  pub objects : tables.objects.entries ≡ []
+  pub made : tables.made.entries ≡ []
+  pub heap : tables.heap.entries ≡ []
+  pub past : tables.past.entries ≡ []
+  pub seen : tables.seen.entries ≡ []
+  pub holds : tables.holds.entries ≡ []
+  pub held : tables.held.entries ≡ []
+  pub waits : tables.waits.entries ≡ []
+  pub waiting : tables.waiting.entries ≡ []
+  pub output : tables.output.entries ≡ []
+  pub ended : tables.ended.entries ≡ []
+  pub lost : tables.lost.entries ≡ []
+  pub unguarded : tables.unguarded ≡ 0

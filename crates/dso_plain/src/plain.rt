@@ -3,8 +3,10 @@ ghost use Rattle.std.specs.Prelude.{◌≡◌, IfOk};
 ghost use Rattle.dso_plain.specs.State.{opening};
 ghost use Rattle.dso_plain.specs.Tables.{state_of};
 
-use crate::tables::Tables;
-use dso_base::{NoMemory, Shape};
+use crate::fields::{make_fields, open_fields};
+use crate::maps::put;
+use crate::tables::{Object, Tables};
+use dso_base::{ClassId, NoMemory, Shape};
 use std::alloc::Global;
 use std::marker::Model;
 
@@ -28,4 +30,22 @@ impl Model for Plain {
     ghost view = { λ plain. plain.tables };
 
     ghost invariant = { λ plain. KeepsTables plain.tables };
+}
+
+impl Plain {
+    /// The opening state: object 0 of the roots, with one null field for each.
+    pub fn new(alloc: Global, shape: &Shape) -> Result<Plain, NoMemory>
+        ensures { IfOk result (λ plain. state_of plain ≡ opening shape.now) }
+    {
+        let mut tables = Tables::blank(alloc);
+        let roots = Object {
+            class: ClassId::Roots,
+            size: shape.roots,
+            owner: None,
+        };
+        put(&mut tables.objects, 0, roots)?;
+        make_fields(&mut tables.heap, shape, ClassId::Roots, 0, shape.roots)?;
+        open_fields(alloc, &tables.heap, &mut tables.past, 0, shape.roots)?;
+        Ok(Plain { tables })
+    }
 }

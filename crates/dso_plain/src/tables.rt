@@ -1,6 +1,9 @@
 //! The tables that keep one heap with plain monitors.
+ghost use Rattle.dso_plain.specs.Tables.{IsBlank};
+
 use crate::count::Count;
 use dso_base::{ClassId, Fault, Items, Level, LockName, ThreadId, Value};
+use std::alloc::Global;
 use std::collections::BTreeMap;
 
 /// An object: its class, how many fields or elements it has, and the thread it is private to; None is shared.
@@ -44,4 +47,27 @@ pub struct Tables {
     pub ended: BTreeMap<ThreadId, Option<Fault>>,
     pub lost: BTreeMap<u8, bool>,
     pub unguarded: Count,
+}
+
+impl Tables {
+    /// Tables in which nothing stands. It takes no memory.
+    pub(crate) fn blank(alloc: Global) -> Tables
+        ensures { IsBlank result }
+    {
+        Tables {
+            objects: BTreeMap::new(alloc),
+            made: BTreeMap::new(alloc),
+            heap: BTreeMap::new(alloc),
+            past: BTreeMap::new(alloc),
+            seen: BTreeMap::new(alloc),
+            holds: BTreeMap::new(alloc),
+            held: BTreeMap::new(alloc),
+            waits: BTreeMap::new(alloc),
+            waiting: BTreeMap::new(alloc),
+            output: BTreeMap::new(alloc),
+            ended: BTreeMap::new(alloc),
+            lost: BTreeMap::new(alloc),
+            unguarded: Count::zero(alloc),
+        }
+    }
 }
