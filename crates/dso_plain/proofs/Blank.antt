@@ -1,5 +1,5 @@
 -- Empty tables stand for the state in which nothing is there, and with object 0 added for the opening state.
-use Rattle.std.proofs.Common.{ℕ, ◌-◌, ◌≤◌, ◌≡◌, inl, inr, refl, sym, ◌∙◌, ap, subst, Bool, true, false, cond, eqb, ltb, ◌&&◌, is_some, Option, Some, None, List, [], ◌∷◌, length, arith}
+use Rattle.std.proofs.Common.{ℕ, ◌-◌, ◌≤◌, ◌≡◌, inl, inr, refl, sym, ◌∙◌, ap, subst, Bool, true, false, cond, eqb, ltb, ◌&&◌, ◌||◌, is_some, Option, Some, None, List, [], ◌∷◌, length, arith}
 use Rattle.std.proofs.lemmas.Bool.{le-ltb}
 use Rattle.std.proofs.Math.Path.{fun_ext}
 use Rattle.std.specs.Option.{option_map, unwrap_or}
@@ -18,8 +18,8 @@ use Rattle.dso_plain.specs.Maps.{look, in_row, look_in}
 use Rattle.dso_plain.specs.State.{Object, PlainState, opening, roots_object}
 use Rattle.dso_plain.specs.After.{present}
 use Rattle.dso_plain.specs.Kept.{PastIsKept, MonitorsAreKept}
-use Rattle.dso_plain.specs.Keeps.{KeepsTables}
-use Rattle.dso_plain.specs.Tables.{lock_order, thread_order, field_order, view_order, object_of, hold_of, newest_first, pasts_of, state_of, is_below, blank, IsBlank}
+use Rattle.dso_plain.specs.Keeps.{Agrees, KeepsTables}
+use Rattle.dso_plain.specs.Tables.{lock_order, thread_order, field_order, view_order, object_of, hold_of, newest_first, pasts_of, either, state_of, is_below, blank, IsBlank}
 use Rattle.dso_plain.proofs.Orders.{number_at}
 use Rattle.dso_plain.proofs.Writing.{through}
 
@@ -40,6 +40,7 @@ blank_state tables b =
     let seen = nothing_found view_order tables.seen b.seen in
     let holds = no_row lock_order thread_order tables.holds b.holds in
     let waits = no_row lock_order thread_order tables.waits b.waits in
+    let marked = no_row lock_order thread_order tables.marked b.marked in
     let output = nothing_found thread_order tables.output b.output in
     let ended = nothing_found thread_order tables.ended b.ended in
     let lost = nothing_found nat_cmp tables.lost b.lost in
@@ -51,8 +52,8 @@ blank_state tables b =
       past = λ key. newest_first (past i key);
       seen = λ key. unwrap_or (seen i key) 0;
       monitors = λ key. option_map hold_of (holds i key);
-      asleep = λ key. option_map (λ waiter. waiter.count) (waits i key);
-      marked = λ key. unwrap_or (option_map (λ waiter. waiter.marked) (waits i key)) false;
+      asleep = λ key. either (waits i key) (marked i key);
+      marked = λ key. is_some (marked i key);
       output = λ t. newest_first (output i t);
       ended = ended i;
       lost = λ c. unwrap_or (lost i c) false;
@@ -78,20 +79,23 @@ blank_monitors = record {
   out = λ l t e. (refl, refl);
 }
 
--- two tables of rows without entries agree
-rows_agree : (tables : Tables) → IsBlank tables → ((l : _) (t : _) → is_some (look_in thread_order lock_order tables.held (t, l)) ≡ is_some (look_in lock_order thread_order tables.holds (l, t)))
-rows_agree tables b = λ l t. ap (λ f. is_some (f (t, l))) (no_row thread_order lock_order tables.held b.held) ∙ sym (ap (λ f. is_some (f (l, t))) (no_row lock_order thread_order tables.holds b.holds))
-
-waits_agree : (tables : Tables) → IsBlank tables → ((l : _) (t : _) → is_some (look_in thread_order lock_order tables.waiting (t, l)) ≡ is_some (look_in lock_order thread_order tables.waits (l, t)))
-waits_agree tables b = λ l t. ap (λ f. is_some (f (t, l))) (no_row thread_order lock_order tables.waiting b.waiting) ∙ sym (ap (λ f. is_some (f (l, t))) (no_row lock_order thread_order tables.waits b.waits))
+-- empty tables agree
+blank_agrees : (tables : Tables) → IsBlank tables → Agrees tables
+blank_agrees tables b =
+    let is = blank_state tables b in
+    record {
+      held = λ l t. ap (λ f. is_some (f (t, l))) (no_row thread_order lock_order tables.held b.held) ∙ sym (ap (λ s. is_some (s.monitors (l, t))) is);
+      waiting = λ l t. ap (λ f. is_some (f (t, l))) (no_row thread_order lock_order tables.waiting b.waiting) ∙ sym (ap (λ s. is_some (s.asleep (l, t))) is);
+      apart = λ l t. ap (λ f. is_some (f (l, t)) && is_some (look_in lock_order thread_order tables.marked (l, t))) (no_row lock_order thread_order tables.waits b.waits);
+      listed = λ l t e. absurd (cc (sym (ap (λ s. is_some (s.monitors (l, t)) || is_some (s.asleep (l, t))) is) ∙ e));
+    }
 
 -- empty tables keep what is kept
 pub blank_keeps : (tables : Tables) → IsBlank tables → KeepsTables tables
 blank_keeps tables b = record {
   past = subst (λ s. PastIsKept s) (sym (blank_state tables b)) blank_past;
   monitors = subst (λ s. MonitorsAreKept s) (sym (blank_state tables b)) blank_monitors;
-  held = rows_agree tables b;
-  waiting = waits_agree tables b;
+  agrees = blank_agrees tables b;
 }
 
 -- object 0 of the tables

@@ -1,6 +1,6 @@
 -- Which plain state the tables stand for: each part of it is a function of keys that reads one table.
 use Rattle.std.specs.BTreeMap.{BTreeMap}
-use Rattle.std.specs.Prelude.{ℕ, ◌≡◌, Bool, false, eqb, ltb, ◌&&◌, Option, Some, None, List, [], reverse}
+use Rattle.std.specs.Prelude.{ℕ, ◌≡◌, Bool, false, eqb, ltb, ◌&&◌, is_some, Option, Some, None, List, [], reverse}
 use Rattle.std.specs.Option.{option_map, unwrap_or}
 use Rattle.std.specs.declared.cmp.Ordering.{Ordering}
 use Rattle.std.specs.Ordering.{nat_cmp, ordering_then}
@@ -13,7 +13,6 @@ use Rattle.dso_base.specs.declared.value.Value.{Value}
 use Rattle.dso_plain.specs.declared.tables.Hold as table_hold
 use Rattle.dso_plain.specs.declared.tables.Object as table_object
 use Rattle.dso_plain.specs.declared.tables.Tables.{Tables}
-use Rattle.dso_plain.specs.declared.tables.Waiter.{Waiter}
 use Rattle.dso_plain.specs.Maps.{look, look_in}
 use Rattle.dso_plain.specs.State.{Object, Hold, PlainState}
 
@@ -46,6 +45,11 @@ abbrev pub newest_first : {A : Type 0} → Option (List A) → List A
 newest_first None = []
 newest_first (Some row) = reverse row
 
+-- the first where it is there, else the second
+abbrev pub either : {A : Type 0} → Option A → Option A → Option A
+either None second = second
+either (Some x) second = Some x
+
 -- the pasts of a table
 abbrev pub pasts_of : BTreeMap (ℕ × ℕ) (List Value) → ℕ × ℕ → List Value
 pasts_of table key = newest_first (look field_order table key)
@@ -59,8 +63,8 @@ state_of tables = record {
   past = pasts_of tables.past;
   seen = λ key. unwrap_or (look view_order tables.seen key) 0;
   monitors = λ key. option_map hold_of (look_in lock_order thread_order tables.holds key);
-  asleep = λ key. option_map (λ waiter. waiter.count) (look_in lock_order thread_order tables.waits key);
-  marked = λ key. unwrap_or (option_map (λ waiter. waiter.marked) (look_in lock_order thread_order tables.waits key)) false;
+  asleep = λ key. either (look_in lock_order thread_order tables.waits key) (look_in lock_order thread_order tables.marked key);
+  marked = λ key. is_some (look_in lock_order thread_order tables.marked key);
   output = λ t. newest_first (look thread_order tables.output t);
   ended = λ t. look thread_order tables.ended t;
   lost = λ c. unwrap_or (look nat_cmp tables.lost c) false;
@@ -98,7 +102,9 @@ pub record IsBlank (tables : Tables) : Type 0 where
   pub holds : tables.holds.entries ≡ []
   pub held : tables.held.entries ≡ []
   pub waits : tables.waits.entries ≡ []
+  pub marked : tables.marked.entries ≡ []
   pub waiting : tables.waiting.entries ≡ []
+  pub threads : tables.threads.entries ≡ []
   pub output : tables.output.entries ≡ []
   pub ended : tables.ended.entries ≡ []
   pub lost : tables.lost.entries ≡ []

@@ -13,4 +13,4 @@ mod tables;
 
 pub use count::Count;
 pub use plain::Plain;
-pub use tables::{Hold, Object, Tables, Waiter};
+pub use tables::{Hold, Object, Tables};

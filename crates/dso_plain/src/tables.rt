@@ -21,17 +21,12 @@ pub struct Hold {
     pub count: Count,
 }
 
-/// A thread that waits on a lock: the count of the hold that it is to have again, and whether it was notified.
-#[derive(Drop)]
-pub struct Waiter {
-    pub count: Count,
-    pub marked: bool,
-}
-
 /// What is known of one heap, its monitors and its threads. Lists have the newest last.
 ///
-/// Holds and waits stand by lock and then by thread; `held` and `waiting` tell the locks by thread, so that no question
-/// about a thread looks through the locks, nor one about a lock through the threads.
+/// Holds and waits stand by lock and then by thread, the waits of those that were notified for themselves, each with
+/// the count of the hold that the thread is to have again. `held` and `waiting` tell the locks by thread, so that no
+/// question about a thread looks through the locks, nor one about a lock through the threads; `threads` tells, by client,
+/// the threads that have entered a lock.
 #[derive(Drop)]
 pub struct Tables {
     pub objects: BTreeMap<u64, Object>,
@@ -41,8 +36,10 @@ pub struct Tables {
     pub seen: BTreeMap<(ThreadId, u64, u32), usize>,
     pub holds: BTreeMap<LockName, BTreeMap<ThreadId, Hold>>,
     pub held: BTreeMap<ThreadId, BTreeMap<LockName, ()>>,
-    pub waits: BTreeMap<LockName, BTreeMap<ThreadId, Waiter>>,
+    pub waits: BTreeMap<LockName, BTreeMap<ThreadId, Count>>,
+    pub marked: BTreeMap<LockName, BTreeMap<ThreadId, Count>>,
     pub waiting: BTreeMap<ThreadId, BTreeMap<LockName, ()>>,
+    pub threads: BTreeMap<u8, BTreeMap<ThreadId, ()>>,
     pub output: BTreeMap<ThreadId, Items<Value>>,
     pub ended: BTreeMap<ThreadId, Option<Fault>>,
     pub lost: BTreeMap<u8, bool>,
@@ -63,7 +60,9 @@ impl Tables {
             holds: BTreeMap::new(alloc),
             held: BTreeMap::new(alloc),
             waits: BTreeMap::new(alloc),
+            marked: BTreeMap::new(alloc),
             waiting: BTreeMap::new(alloc),
+            threads: BTreeMap::new(alloc),
             output: BTreeMap::new(alloc),
             ended: BTreeMap::new(alloc),
             lost: BTreeMap::new(alloc),

@@ -18,6 +18,5 @@ invariant_of-result c =
     record {
       past = subst (λ s. PastIsKept s) (sym is) (past.opening_kept c.args.shape.now);
       monitors = subst (λ s. MonitorsAreKept s) (sym is) (monitors.opening_kept c.args.shape.now);
-      held = blank.held;
-      waiting = blank.waiting;
+      agrees = record { held = blank.agrees.held; waiting = blank.agrees.waiting; apart = blank.agrees.apart; listed = blank.agrees.listed };
     }
