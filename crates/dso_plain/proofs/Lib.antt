@@ -2,6 +2,7 @@ pub mod Keys
 pub mod Rows
 pub mod Listing
 pub mod Sharing
+pub mod Standing
 pub mod Blank
 pub mod Writing
 pub mod Orders

@@ -1,5 +1,5 @@
 -- Changes of a map of rows, as changes of the function of both keys.
-use Rattle.std.proofs.Common.{◌≡◌, ◌↔◌, IsTrue, length, arith, refl, ◌∙◌, ap, Bool, true, false, cond, ◌&&◌, Option, Some, None, List, [], ◌∷◌}
+use Rattle.std.proofs.Common.{◌≡◌, ◌≢◌, ◌↔◌, not, IsTrue, length, arith, refl, ◌∙◌, ap, Bool, true, false, cond, ◌&&◌, Option, Some, None, List, [], ◌∷◌}
 use Rattle.std.proofs.Math.Path.{fun_ext}
 use Rattle.std.specs.declared.cmp.Ordering.{Ordering}
 use Rattle.std.specs.declared.cmp.Ordering.TheVariants.{Less, Equal, Greater}
@@ -56,3 +56,25 @@ row_empty {K = K} {V = V} R {S} o rows row at b tells found = rw (← found) (λ
     empty : (es : List (K × V)) → length es ≡ 0 → (key : K) → lookup (is_at (S key)) es ≡ None
     empty [] e key = refl
     empty (x ∷ es) e key = absurd (omega arith)
+
+-- a row that has entries has something at some key
+pub row_taken : {J K V : Type 0} (R : J → J → Ordering) {S : K → K → Ordering} (o : IsTotalOrder S) (rows : BTreeMap J (BTreeMap K V)) (row : BTreeMap K V) (at : J) (b : Bool) → (IsTrue b ↔ (length row.entries ≡ 0)) → Some row ≡ get R rows at → IsTrue (not b) ↔ ((key : K) × (look_in R S rows (at, key) ≢ None))
+row_taken {K = K} {V = V} R {S} o rows row at b tells found = rw (← found) (by b row.entries tells)
+  where
+    head : (e : K × V) (es : List (K × V)) → lookup (is_at (S e.0)) (e ∷ es) ≢ None
+    head e es h =
+        let t : is_at (S e.0) e.0 ≡ true = ap is_eq (tied_itself o e.0) in
+        let f : cond true (Some e.1) (lookup (is_at (S e.0)) es) ≡ None = rw t at h in
+        absurd (cc f)
+
+    by : (b : Bool) (es : List (K × V)) → (IsTrue b ↔ (length es ≡ 0)) → IsTrue (not b) ↔ ((key : K) × (lookup (is_at (S key)) es ≢ None))
+    by b [] tells = (λ h. absurd (no b (tells.1 refl) h), λ h. absurd (h.1 refl))
+      where
+        no : (b : Bool) → IsTrue b → IsTrue (not b) → ⊥
+        no true t f = absurd (cc f)
+        no false t f = absurd (cc t)
+    by true (e ∷ es) tells = absurd (some (tells.0 refl))
+      where
+        some : length (e ∷ es) ≡ 0 → ⊥
+        some h = omega arith
+    by false (e ∷ es) tells = (λ _. (e.0, head e es), λ _. refl)

@@ -7,8 +7,11 @@ mod count;
 pub mod laws;
 mod maps;
 mod fields;
+mod grants;
 mod plain;
+mod possible;
 mod publish;
+mod reads;
 mod tables;
 
 pub use count::Count;

@@ -1,5 +1,5 @@
 //! Changes of ordered maps, seen as functions from keys.
-ghost use Rattle.std.specs.Prelude.{◌≡◌, ◌↔◌, None, OnOk, IfOk, IsTrue};
+ghost use Rattle.std.specs.Prelude.{◌≡◌, ◌≢◌, ◌↔◌, None, Some, OnOk, IfOk, IsTrue, MatchOption};
 ghost use Rattle.std.specs.Option.{option_copied};
 ghost use Rattle.std.specs.BTreeMap.{is_at};
 ghost use Rattle.dso_plain.specs.Keys.{writes, written};
@@ -97,5 +97,28 @@ pub(crate) fn is_row_empty<J: Ord, K: Ord, V>(rows: &BTreeMap<J, BTreeMap<K, V>>
     match rows.get(at) {
         Some(row) => row.is_empty(),
         None => true,
+    }
+}
+
+/// Whether something stands in a row.
+pub(crate) fn is_row_taken<J: Ord, K: Ord, V>(rows: &BTreeMap<J, BTreeMap<K, V>>, at: &J) -> bool
+    ensures { IsTrue result ↔ ((key : K) × (look_in J.cmp K.cmp rows.now (at.now, key) ≢ None)) }
+{
+    match rows.get(at) {
+        Some(row) => !row.is_empty(),
+        None => false,
+    }
+}
+
+/// The first of a row, None where nothing stands in it.
+pub(crate) fn first_in<'a, J: Ord, K: Ord, V>(rows: &'a BTreeMap<J, BTreeMap<K, V>>, at: &J) -> Option<&'a V>
+    ensures { MatchOption (option_copied result) ((key : K) → look_in J.cmp K.cmp rows.now (at.now, key) ≡ None) (λ value. (key : K) × (look_in J.cmp K.cmp rows.now (at.now, key) ≡ Some value)) }
+{
+    match rows.get(at) {
+        Some(row) => match row.first_key_value() {
+            Some((_, value)) => Some(value),
+            None => None,
+        },
+        None => None,
     }
 }
