@@ -2,6 +2,8 @@ pub mod Keys
 pub mod Rows
 pub mod Listing
 pub mod Sharing
+pub mod Agreement
+pub mod Holdings
 pub mod Standing
 pub mod Blank
 pub mod Writing

@@ -13,4 +13,5 @@ pub mod Monitors
 pub mod Laws
 pub mod Tables
 pub mod Keeps
+pub mod Changes
 pub mod Publishing

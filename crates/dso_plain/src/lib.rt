@@ -4,6 +4,7 @@
 #![tactic(auto)]
 
 mod count;
+mod holds;
 pub mod laws;
 mod maps;
 mod fields;
