@@ -2,7 +2,13 @@ pub mod Keys
 pub mod Rows
 pub mod Listing
 pub mod Sharing
+pub mod Unchanged
+pub mod Losing
+pub mod Clearing
+pub mod Putting
 pub mod Agreement
+pub mod Marking
+pub mod Monitoring
 pub mod Holdings
 pub mod Standing
 pub mod Blank

@@ -58,7 +58,11 @@ field_at o f key = both_equal (nat_cmp o key.0) (nat_cmp f key.1) ∙ both_tests
 
 -- one view is another
 pub view_at : (t : ThreadId) (o f : ℕ) (key : ThreadId × ℕ × ℕ) → is_at (view_order (t, o, f)) key ≡ is_view t o f key
-view_at t o f key = both_equal (thread_order t key.0) (ordering_then (nat_cmp o key.1) (nat_cmp f key.2)) ∙ both_tests (thread_at t key.0) (both_equal (nat_cmp o key.1) (nat_cmp f key.2) ∙ both_tests (number_at o key.1) (number_at f key.2))
+view_at t o f key = both_equal (ordering_then (thread_order t key.0) (nat_cmp o key.1)) (nat_cmp f key.2) ∙ (both_tests (both_equal (thread_order t key.0) (nat_cmp o key.1) ∙ both_tests (thread_at t key.0) (number_at o key.1)) (number_at f key.2) ∙ regrouped (is_thread t key.0) (eqb key.1 o) (eqb key.2 f))
+  where
+    regrouped : (a b c : Bool) → ((a && b) && c) ≡ (a && (b && c))
+    regrouped true b c = refl
+    regrouped false b c = refl
 
 -- one lock with a thread is another
 pub place_at : (l : LockName) (t : ThreadId) (key : LockName × ThreadId) → is_at_pair lock_order thread_order l t key ≡ is_place l t key

@@ -1,12 +1,14 @@
 -- Changes of a map of rows, as changes of the function of both keys.
-use Rattle.std.proofs.Common.{◌≡◌, ◌≢◌, ◌↔◌, not, IsTrue, length, arith, refl, ◌∙◌, ap, Bool, true, false, cond, ◌&&◌, Option, Some, None, List, [], ◌∷◌}
+use Rattle.std.proofs.Common.{◌≡◌, ◌≢◌, ◌<◌, ◌↔◌, not, IsTrue, length, arith, refl, ◌∙◌, ap, Bool, true, false, cond, ◌&&◌, Option, Some, None, List, [], ◌∷◌, ◌++◌, reverse}
 use Rattle.std.proofs.Math.Path.{fun_ext}
+use Rattle.std.proofs.lemmas.List.{reverse-append}
+use Rattle.dso_plain.specs.Tables.{newest_first, lists_of}
 use Rattle.std.specs.declared.cmp.Ordering.{Ordering}
 use Rattle.std.specs.declared.cmp.Ordering.TheVariants.{Less, Equal, Greater}
 use Rattle.std.specs.Ordering.{is_eq}
 use Rattle.std.specs.Cmp.{IsTotalOrder, tied_itself}
 use Rattle.std.specs.Map.{lookup}
-use Rattle.std.specs.BTreeMap.{BTreeMap, get, is_at}
+use Rattle.std.specs.BTreeMap.{BTreeMap, get, is_at, Updates}
 use Rattle.dso_plain.specs.Keys.{writes, or_old, written}
 use Rattle.dso_plain.specs.Maps.{look, in_row, look_in, is_at_pair}
 
@@ -78,3 +80,30 @@ row_taken {K = K} {V = V} R {S} o rows row at b tells found = rw (← found) (by
         some : length (e ∷ es) ≡ 0 → ⊥
         some h = omega arith
     by false (e ∷ es) tells = (λ _. (e.0, head e es), λ _. refl)
+
+-- a list that is taken out, has one value more at its end and is put back
+pub list_pushed : {K V : Type 0} (R : K → K → Ordering) (old mid new : BTreeMap K (List V)) (items pushed : List V) (key : K) (v : V) → reverse items ≡ lists_of R old key → look R mid ≡ written (writes (is_at (R key)) (λ _. None)) (look R old) → pushed ≡ items ++ v ∷ [] → look R new ≡ written (writes (is_at (R key)) (λ _. Some pushed)) (look R mid) → lists_of R new ≡ written (writes (is_at (R key)) (λ _. v ∷ lists_of R old key)) (lists_of R old)
+list_pushed R old mid new items pushed key v was gone more puts = fun_ext (λ q. λ i. newest_first (puts i q)) ∙ (fun_ext (λ q. λ i. newest_first (or_old (cond (is_at (R key) q) (Some (Some pushed)) None) (gone i q))) ∙ fun_ext (λ q. by q (is_at (R key) q)))
+  where
+    list : reverse pushed ≡ v ∷ lists_of R old key
+    list = ap (λ xs. reverse xs) more ∙ (reverse-append items (v ∷ []) ∙ ap (λ xs. v ∷ xs) was)
+
+    by : (q : _) (b : Bool) → newest_first (or_old (cond b (Some (Some pushed)) None) (or_old (cond b (Some None) None) (look R old q))) ≡ or_old (cond b (Some (v ∷ lists_of R old key)) None) (lists_of R old q)
+    by q true = list
+    by q false = refl
+
+-- a change at one key as a write
+pub changed_by : {K V : Type 0} (R : K → K → Ordering) (m n : BTreeMap K V) (key : K) (w : Option V) → Updates R m n key w → look R n ≡ written (writes (is_at (R key)) (λ _. w)) (look R m)
+changed_by R m n key w h = fun_ext (λ q. h.0 q ∙ by (is_at (R key) q) (get R m q))
+  where
+    by : (b : Bool) (x : Option _) → cond b w x ≡ or_old (cond b (Some w) None) x
+    by true x = refl
+    by false x = refl
+
+-- a map from which nothing can be taken
+pub emptied : {K V : Type 0} (R : K → K → Ordering) (m : BTreeMap K V) → (0 < length m.entries → ⊥) → look R m ≡ (λ _. None)
+emptied {K} {V} R m none = fun_ext (λ key. by m.entries none key)
+  where
+    by : (es : List (K × V)) → (0 < length es → ⊥) → (key : K) → lookup (is_at (R key)) es ≡ None
+    by [] h key = refl
+    by (e ∷ es) h key = absurd (h (omega arith))

@@ -30,7 +30,7 @@ field_order a b = ordering_then (nat_cmp a.0 b.0) (nat_cmp a.1 b.1)
 
 -- the order of what threads have seen: by thread, and then by object and field
 abbrev pub view_order : ThreadId × ℕ × ℕ → ThreadId × ℕ × ℕ → Ordering
-view_order a b = ordering_then (thread_order a.0 b.0) (ordering_then (nat_cmp a.1 b.1) (nat_cmp a.2 b.2))
+view_order a b = ordering_then (ordering_then (thread_order a.0 b.0) (nat_cmp a.1 b.1)) (nat_cmp a.2 b.2)
 
 -- an object of the tables
 abbrev pub object_of : table_object.Object → Object
@@ -49,6 +49,10 @@ newest_first (Some row) = reverse row
 abbrev pub either : {A : Type 0} → Option A → Option A → Option A
 either None second = second
 either (Some x) second = Some x
+
+-- a table of lists that keep the newest last, as a function to lists that have it first
+abbrev pub lists_of : {K A : Type 0} → (K → K → Ordering) → BTreeMap K (List A) → K → List A
+lists_of cmp table key = newest_first (look cmp table key)
 
 -- the pasts of a table
 abbrev pub pasts_of : BTreeMap (ℕ × ℕ) (List Value) → ℕ × ℕ → List Value

@@ -74,7 +74,11 @@ pub(crate) fn make_fields(
     ensures { OnOk result (look field_order heap.new ≡ written (writes (is_below object size) (λ key. Some (opening_value (kind_of shape.now class key.1)))) (look field_order heap.old)) }
 {
     for field in 0..size {
-        put(heap, (object, field), opening(field_kind(shape, class, field)))?;
+        put(
+            heap,
+            (object, field),
+            opening(field_kind(shape, class, field)),
+        )?;
     }
     Ok(())
 }

@@ -8,7 +8,10 @@ ghost use Rattle.dso_plain.specs.Tables.{state_of};
 
 use crate::possible::{answers_get, answers_look, answers_new, answers_put};
 use crate::publish::is_owner;
-use crate::reads::{first_level, has_no_unmarked, holds_nothing, is_awake, is_free, is_going, is_lost, is_marked, is_unmarked, level, object};
+use crate::reads::{
+    first_level, has_no_unmarked, holds_nothing, is_awake, is_free, is_going, is_lost, is_marked,
+    is_unmarked, level, object,
+};
 use crate::tables::Tables;
 use dso_base::{Event, Fault, Level, LockName, Reply, Request, Shape, ThreadId};
 
@@ -73,7 +76,13 @@ fn is_admitted(tables: &Tables, thread: ThreadId, lock: LockName, wanted: Level)
 }
 
 /// Whether the reply is possible for Enter.
-fn answers_enter(tables: &Tables, thread: ThreadId, lock: LockName, wanted: Level, reply: Reply) -> bool
+fn answers_enter(
+    tables: &Tables,
+    thread: ThreadId,
+    lock: LockName,
+    wanted: Level,
+    reply: Reply,
+) -> bool
     requires { MonitorsAreKept (state_of tables.now) }
     ensures { IsTrue result ↔ AnswersEnter thread lock wanted reply (state_of tables.now) }
 {
@@ -151,7 +160,9 @@ fn answers(tables: &Tables, shape: &Shape, thread: ThreadId, request: Request, r
         Request::Put(id, field, _) => answers_put(tables, shape, thread, id, field, reply),
         Request::Enter(lock, level) => answers_enter(tables, thread, lock, level, reply),
         Request::Exit(lock) => answers_exit(tables, thread, lock, reply),
-        Request::Wait(lock) | Request::Notify(lock) | Request::NotifyAll(lock) => answers_monitor(tables, thread, lock, reply),
+        Request::Wait(lock) | Request::Notify(lock) | Request::NotifyAll(lock) => answers_monitor(
+            tables, thread, lock, reply,
+        ),
         Request::Resume(lock) => answers_resume(tables, thread, lock, reply),
         Request::Print(_) | Request::Pause => is_done(reply),
         Request::End(_) => answers_end(tables, thread, reply),

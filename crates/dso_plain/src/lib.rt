@@ -3,17 +3,22 @@
 //! Its definition stands in `specs/`, its laws are the contracts of the functions in [`laws`].
 #![tactic(auto)]
 
+mod changes;
+mod clears;
 mod count;
+mod fields;
+mod grants;
 mod holds;
 pub mod laws;
 mod maps;
-mod fields;
-mod grants;
+mod marks;
 mod plain;
 mod possible;
 mod publish;
 mod reads;
+mod steps;
 mod tables;
+mod writes;
 
 pub use count::Count;
 pub use plain::Plain;

@@ -1,11 +1,12 @@
 //! Changes of ordered maps, seen as functions from keys.
-ghost use Rattle.std.specs.Prelude.{◌≡◌, ◌≢◌, ◌↔◌, None, Some, OnOk, IfOk, IsTrue, MatchOption};
+ghost use Rattle.std.specs.Prelude.{◌≡◌, ◌≢◌, ◌↔◌, None, Some, OnOk, IfOk, IsTrue, MatchOption, reverse, ◌∷◌};
 ghost use Rattle.std.specs.Option.{option_copied};
 ghost use Rattle.std.specs.BTreeMap.{is_at};
 ghost use Rattle.dso_plain.specs.Keys.{writes, written};
+ghost use Rattle.dso_plain.specs.Tables.{lists_of};
 ghost use Rattle.dso_plain.specs.Maps.{look, in_row, look_in, is_at_pair};
 
-use dso_base::NoMemory;
+use dso_base::{Items, NoMemory};
 use std::alloc::Global;
 use std::collections::BTreeMap;
 
@@ -111,7 +112,10 @@ pub(crate) fn is_row_taken<J: Ord, K: Ord, V>(rows: &BTreeMap<J, BTreeMap<K, V>>
 }
 
 /// The first of a row, None where nothing stands in it.
-pub(crate) fn first_in<'a, J: Ord, K: Ord, V>(rows: &'a BTreeMap<J, BTreeMap<K, V>>, at: &J) -> Option<&'a V>
+pub(crate) fn first_in<'a, J: Ord, K: Ord, V>(
+    rows: &'a BTreeMap<J, BTreeMap<K, V>>,
+    at: &J,
+) -> Option<&'a V>
     ensures { MatchOption (option_copied result) ((key : K) → look_in J.cmp K.cmp rows.now (at.now, key) ≡ None) (λ value. (key : K) × (look_in J.cmp K.cmp rows.now (at.now, key) ≡ Some value)) }
 {
     match rows.get(at) {
@@ -121,4 +125,47 @@ pub(crate) fn first_in<'a, J: Ord, K: Ord, V>(rows: &'a BTreeMap<J, BTreeMap<K, 
         },
         None => None,
     }
+}
+
+/// Takes out the list of a key, an empty one where there is none.
+fn take_items<K: Ord + Drop, V: Drop>(
+    alloc: Global,
+    map: &mut BTreeMap<K, Items<V>>,
+    key: &K,
+) -> Items<V>
+    ensures items { reverse result ≡ lists_of K.cmp map.old key.now }
+    ensures gone { look K.cmp map.new ≡ written (writes (is_at (K.cmp key.now)) (λ _. None)) (look K.cmp map.old) }
+{
+    match take(map, key) {
+        Some(items) => items,
+        None => Items::new(alloc),
+    }
+}
+
+/// Puts a value before the others of a key's list.
+pub(crate) fn push_at<K: Ord + Drop, V: Drop>(
+    alloc: Global,
+    map: &mut BTreeMap<K, Items<V>>,
+    key: K,
+    value: V,
+) -> Result<(), NoMemory>
+    ensures { OnOk result (lists_of K.cmp map.new ≡ written (writes (is_at (K.cmp key)) (λ _. value ∷ lists_of K.cmp map.old key)) (lists_of K.cmp map.old)) }
+{
+    let mut items = take_items(alloc, map, &key);
+    items.push(value)?;
+    put(map, key, items)?;
+    Ok(())
+}
+
+/// Drops what stands at a key of a row.
+pub(crate) fn discard_in<J: Ord + Drop, K: Ord + Drop, V: Drop>(
+    alloc: Global,
+    rows: &mut BTreeMap<J, BTreeMap<K, V>>,
+    at: J,
+    key: &K,
+) -> Result<(), NoMemory>
+    ensures { OnOk result (look_in J.cmp K.cmp rows.new ≡ written (writes (is_at_pair J.cmp K.cmp at key.now) (λ _. None)) (look_in J.cmp K.cmp rows.old)) }
+{
+    let _ = take_in(alloc, rows, at, key)?;
+    Ok(())
 }

@@ -30,11 +30,19 @@ fn can_be_made(shape: &Shape, class: ClassId, size: u32) -> bool
 }
 
 /// Whether the reply is possible for New.
-pub(crate) fn answers_new(tables: &Tables, shape: &Shape, class: ClassId, size: u32, reply: Reply) -> bool
+pub(crate) fn answers_new(
+    tables: &Tables,
+    shape: &Shape,
+    class: ClassId,
+    size: u32,
+    reply: Reply,
+) -> bool
     ensures { IsTrue result ↔ AnswersNew shape.now class size reply (state_of tables.now) }
 {
     match reply {
-        Reply::Made(id) => id >= 1 && object(tables, id).is_none() && can_be_made(shape, class, size),
+        Reply::Made(id) => id >= 1
+            && object(tables, id).is_none()
+            && can_be_made(shape, class, size),
         _ => false,
     }
 }
@@ -52,7 +60,9 @@ pub(crate) fn answers_look(tables: &Tables, thread: ThreadId, id: u64, reply: Re
 {
     match reply {
         Reply::Seen(class, size) => match object(tables, id) {
-            Some(object) => is_seen_by(thread, object) && object.class.same(&class) && object.size == size,
+            Some(object) => is_seen_by(thread, object)
+                && object.class.same(&class)
+                && object.size == size,
             None => false,
         },
         _ => false,
@@ -60,7 +70,14 @@ pub(crate) fn answers_look(tables: &Tables, thread: ThreadId, id: u64, reply: Re
 }
 
 /// The level at which the thread holds the guard of a field, None where it does not.
-fn guard_level(tables: &Tables, shape: &Shape, thread: ThreadId, id: u64, field: u32, object: Object) -> Option<Level>
+pub(crate) fn guard_level(
+    tables: &Tables,
+    shape: &Shape,
+    thread: ThreadId,
+    id: u64,
+    field: u32,
+    object: Object,
+) -> Option<Level>
     requires { look nat_cmp tables.now.objects id ≡ Some object }
     ensures { result ≡ level_of (hold_on_guard shape.now thread id field (state_of tables.now)) }
 {
@@ -78,7 +95,15 @@ fn has_value(tables: &Tables, id: u64, field: u32, wanted: Value) -> bool
 }
 
 /// Whether a read of a shared object may give the value.
-fn reads_shared(tables: &Tables, shape: &Shape, thread: ThreadId, id: u64, field: u32, wanted: Value, object: Object) -> bool
+fn reads_shared(
+    tables: &Tables,
+    shape: &Shape,
+    thread: ThreadId,
+    id: u64,
+    field: u32,
+    wanted: Value,
+    object: Object,
+) -> bool
     requires there { look nat_cmp tables.now.objects id ≡ Some object }
     requires shared { is_none object.owner ≡ true }
     ensures { IsTrue result ↔ AnswersGet shape.now thread id field (Reply.Val wanted) (state_of tables.now) }
@@ -90,7 +115,14 @@ fn reads_shared(tables: &Tables, shape: &Shape, thread: ThreadId, id: u64, field
 }
 
 /// Whether the reply is possible for Get.
-pub(crate) fn answers_get(tables: &Tables, shape: &Shape, thread: ThreadId, id: u64, field: u32, reply: Reply) -> bool
+pub(crate) fn answers_get(
+    tables: &Tables,
+    shape: &Shape,
+    thread: ThreadId,
+    id: u64,
+    field: u32,
+    reply: Reply,
+) -> bool
     ensures { IsTrue result ↔ AnswersGet shape.now thread id field reply (state_of tables.now) }
 {
     match reply {
@@ -109,7 +141,15 @@ pub(crate) fn answers_get(tables: &Tables, shape: &Shape, thread: ThreadId, id: 
 }
 
 /// Whether a put into a shared object may have the reply.
-fn puts_shared(tables: &Tables, shape: &Shape, thread: ThreadId, id: u64, field: u32, reply: Reply, object: Object) -> bool
+fn puts_shared(
+    tables: &Tables,
+    shape: &Shape,
+    thread: ThreadId,
+    id: u64,
+    field: u32,
+    reply: Reply,
+    object: Object,
+) -> bool
     requires agrees { Agrees tables.now }
     requires there { look nat_cmp tables.now.objects id ≡ Some object }
     requires shared { is_none object.owner ≡ true }
@@ -125,7 +165,14 @@ fn puts_shared(tables: &Tables, shape: &Shape, thread: ThreadId, id: u64, field:
 }
 
 /// Whether the reply is possible for Put.
-pub(crate) fn answers_put(tables: &Tables, shape: &Shape, thread: ThreadId, id: u64, field: u32, reply: Reply) -> bool
+pub(crate) fn answers_put(
+    tables: &Tables,
+    shape: &Shape,
+    thread: ThreadId,
+    id: u64,
+    field: u32,
+    reply: Reply,
+) -> bool
     requires { Agrees tables.now }
     ensures { IsTrue result ↔ AnswersPut shape.now thread id field reply (state_of tables.now) }
 {

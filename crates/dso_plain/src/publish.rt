@@ -3,6 +3,7 @@ ghost use Rattle.std.specs.Prelude.{ℕ, ◌≡◌, ◌≤◌, ◌+◌, ◌↔�
 ghost use Rattle.std.specs.Ordering.{nat_cmp};
 ghost use Rattle.dso_plain.specs.Maps.{look};
 ghost use Rattle.dso_plain.specs.Past.{IsListed};
+ghost use Rattle.dso_plain.specs.Keeps.{Agrees};
 ghost use Rattle.dso_plain.specs.Kept.{PastIsKept};
 ghost use Rattle.dso_plain.specs.State as State;
 ghost use Rattle.dso_plain.specs.State.{is_mine, size_of};
@@ -55,7 +56,8 @@ fn share(alloc: Global, tables: &mut Tables, object: u64, private: Object) -> Re
     requires there { look nat_cmp tables.old.objects object ≡ Some private }
     requires unpublished { (f : ℕ) → (state_of tables.old).past (object, f) ≡ [] }
     requires fields { (f : ℕ) → is_some ((state_of tables.old).heap (object, f)) ≡ ltb f private.size }
-    ensures { OnOk result (state_of tables.new ≡ with_shared (λ x. eqb x object) (state_of tables.old)) }
+    ensures state { OnOk result (state_of tables.new ≡ with_shared (λ x. eqb x object) (state_of tables.old)) }
+    ensures agrees { OnOk result (Agrees tables.old → Agrees tables.new) }
 {
     let shared = Object {
         class: private.class,
@@ -105,6 +107,7 @@ fn look_at(
     requires fields { (f : ℕ) → is_some ((state_of tables.old).heap (object, f)) ≡ ltb f (size_of ((state_of tables.old).objects object)) }
     ensures looked { OnOk result (IsLookedAt thread object (state_of tables.old) (state_of tables.new) found.old.items found.new.items) }
     ensures few { OnOk result (length found.new.items ≤ length found.old.items + 4294967295) }
+    ensures agrees { OnOk result (Agrees tables.old → Agrees tables.new) }
 {
     match private_object(&tables.objects, thread, object) {
         Some(private) => {
@@ -138,7 +141,8 @@ pub(crate) fn publish(
     value: Value,
 ) -> Result<(), NoMemory>
     requires { PastIsKept (state_of tables.old) }
-    ensures { OnOk result (state_of tables.new ≡ with_shared (published thread value (state_of tables.old)) (state_of tables.old)) }
+    ensures state { OnOk result (state_of tables.new ≡ with_shared (published thread value (state_of tables.old)) (state_of tables.old)) }
+    ensures agrees { OnOk result (Agrees tables.old → Agrees tables.new) }
 {
     let mut found = named_first(alloc, value)?;
     while let Some(object) = found.pop() {

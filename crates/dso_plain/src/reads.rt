@@ -146,7 +146,13 @@ fn stands_in(items: &[Value], place: usize, value: Value) -> bool
 }
 
 /// Whether the value stands in a field's past at or after a place.
-pub(crate) fn stands_from(tables: &Tables, object: u64, field: u32, place: usize, value: Value) -> bool
+pub(crate) fn stands_from(
+    tables: &Tables,
+    object: u64,
+    field: u32,
+    place: usize,
+    value: Value,
+) -> bool
     ensures { IsTrue result ↔ StandsFrom place value ((state_of tables.now).past (object, field)) }
 {
     match tables.past.get(&(object, field)) {
