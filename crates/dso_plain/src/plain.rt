@@ -1,15 +1,18 @@
 //! The plain state, as a value that a program computes.
-ghost use Rattle.std.specs.Prelude.{◌≡◌, true, false, IfOk};
+ghost use Rattle.std.specs.Prelude.{◌≡◌, ◌↔◌, true, false, None, IfOk, IsTrue, length, reverse, slice_get};
 ghost use Rattle.dso_plain.specs.After.{after};
 ghost use Rattle.dso_plain.specs.Possible.{May};
 ghost use Rattle.dso_plain.specs.State.{opening};
-ghost use Rattle.dso_plain.specs.Tables.{state_of};
+ghost use Rattle.dso_plain.specs.Tables.{state_of, object_of};
+ghost use Rattle.dso_base.specs.declared.lock.LockName.{LockName};
+ghost use Rattle.std.specs.Option.{option_map};
 
 use crate::fields::{make_fields, open_fields};
 use crate::maps::put;
+use crate::reads;
 use crate::steps::step;
 use crate::tables::{Object, Tables};
-use dso_base::{ClassId, Event, NoMemory, Shape};
+use dso_base::{ClassId, Event, Fault, NoMemory, Shape, ThreadId, Value};
 use std::alloc::Global;
 use std::marker::Model;
 
@@ -65,5 +68,62 @@ impl Plain {
                 Err(refused)
             }
         }
+    }
+
+    /// How many values the thread printed. It takes no memory.
+    pub fn printed(&self, thread: ThreadId) -> usize
+        ensures { result ≡ length ((state_of self.now).output thread) }
+    {
+        reads::printed(&self.tables, thread)
+    }
+
+    /// What the thread printed at a place, counted from its first value; None past its last. It takes no memory.
+    pub fn output(&self, thread: ThreadId, at: usize) -> Option<Value>
+        ensures { result ≡ slice_get (reverse ((state_of self.now).output thread)) at }
+    {
+        reads::output(&self.tables, thread, at)
+    }
+
+    /// Whether the thread has ended, and with which fault. It takes no memory.
+    pub fn ended(&self, thread: ThreadId) -> Option<Option<Fault>>
+        ensures { result ≡ (state_of self.now).ended thread }
+    {
+        self.tables.ended.get(&thread).copied()
+    }
+
+    /// Whether the thread waits on some lock. It takes no memory.
+    pub fn waits(&self, thread: ThreadId) -> bool
+        ensures { IsTrue result ↔ (((l : LockName) → (state_of self.now).asleep (l, thread) ≡ None) → ⊥) }
+    {
+        !reads::is_awake(&self.tables, thread)
+    }
+
+    /// Whether the client is lost. It takes no memory.
+    pub fn is_lost(&self, client: u8) -> bool
+        ensures { result ≡ (state_of self.now).lost client }
+    {
+        reads::is_lost(&self.tables, client)
+    }
+
+    /// The object of an id: its class, its size and the thread it is private to; None where there is none. It takes no
+    /// memory.
+    pub fn object(&self, id: u64) -> Option<Object>
+        ensures { option_map object_of result ≡ (state_of self.now).objects id }
+    {
+        reads::object(&self.tables, id)
+    }
+
+    /// The value of a field, None where there is no such field. It takes no memory.
+    pub fn value(&self, object: u64, field: u32) -> Option<Value>
+        ensures { result ≡ (state_of self.now).heap (object, field) }
+    {
+        reads::value(&self.tables, object, field)
+    }
+
+    /// How many unguarded reads there were. It takes no memory.
+    pub fn unguarded(&self) -> usize
+        ensures { result ≡ (state_of self.now).unguarded }
+    {
+        self.tables.unguarded.get()
     }
 }

@@ -1,5 +1,5 @@
 //! What the tables tell of threads, locks and objects. Nothing here takes memory.
-ghost use Rattle.std.specs.Prelude.{◌≡◌, ◌≢◌, ◌↔◌, true, false, None, Some, IsTrue, MatchOption, reverse};
+ghost use Rattle.std.specs.Prelude.{◌≡◌, ◌≢◌, ◌↔◌, true, false, None, Some, IsTrue, MatchOption, length, reverse, slice_get};
 ghost use Rattle.std.specs.Option.{option_map, option_copied};
 ghost use Rattle.std.specs.Ordering.{nat_cmp};
 ghost use Rattle.dso_base.specs.declared.lock.LockName.{LockName};
@@ -158,5 +158,25 @@ pub(crate) fn stands_from(
     match tables.past.get(&(object, field)) {
         Some(past) => stands_in(past.as_slice(), place, value),
         None => false,
+    }
+}
+
+/// How many values the thread printed.
+pub(crate) fn printed(tables: &Tables, thread: ThreadId) -> usize
+    ensures { result ≡ length ((state_of tables.now).output thread) }
+{
+    match tables.output.get(&thread) {
+        Some(values) => values.len(),
+        None => 0,
+    }
+}
+
+/// What the thread printed at a place, counted from its first value.
+pub(crate) fn output(tables: &Tables, thread: ThreadId, at: usize) -> Option<Value>
+    ensures { result ≡ slice_get (reverse ((state_of tables.now).output thread)) at }
+{
+    match tables.output.get(&thread) {
+        Some(values) => values.get(at).copied(),
+        None => None,
     }
 }
