@@ -1,4 +1,19 @@
 pub mod Keys
+pub mod Rows
+pub mod Listing
+pub mod Sharing
+pub mod Unchanged
+pub mod Losing
+pub mod Clearing
+pub mod Putting
+pub mod Agreement
+pub mod Marking
+pub mod Monitoring
+pub mod Holdings
+pub mod Standing
+pub mod Blank
+pub mod Writing
+pub mod Orders
 pub mod Commute
 pub mod Guarded
 pub mod Quiet
@@ -8,6 +23,7 @@ pub mod Diamond
 pub mod Past
 pub mod Loss
 pub mod Published
+pub mod Worklist
 pub mod Legal
 pub mod Monitors
 pub mod Rechoice

@@ -19,26 +19,11 @@ use Rattle.dso_plain.specs.State.{Hold, PlainState, opening, is_shared, level_of
 use Rattle.dso_plain.specs.Possible.{IsPossible, May, Beside, NoConflict}
 use Rattle.dso_plain.specs.After.{change_of, apply, after, put, read, read_shared, notifies, notifies_all, waits, loses, entered, exited, count_of, resumed}
 use Rattle.dso_plain.specs.History.{Runs, end_of, last_state}
+use Rattle.dso_plain.specs.Kept.{KeptMonitors, IsOut, MonitorsAreKept}
 use Rattle.dso_plain.specs.Monitors.{HasNoPart, KeepsMonitors}
 use Rattle.dso_plain.proofs.Keys.{same_thread, same_place}
 use Rattle.dso_plain.proofs.Guarded.{exited_level}
 use Rattle.dso_plain.proofs.Quiet.{differ}
-
--- a thread that has ended, or whose client is lost
-abbrev pub IsOut : (ℕ → Bool) → (ThreadId → Option (Option Fault)) → ThreadId → Type 0
-IsOut lost ended t = (lost t.client ≡ true) ⊎ (ended t ≢ None)
-
--- What is kept from step to step, of the parts that it speaks of.
-pub record Kept (monitors : LockName × ThreadId → Option Hold) (asleep : LockName × ThreadId → Option ℕ) (marked : LockName × ThreadId → Bool) (ended : ThreadId → Option (Option Fault)) (lost : ℕ → Bool) : Type 0 where
-  pub beside : (l : LockName) (t w : ThreadId) (x : Level) → t ≢ w → level_of (monitors (l, t)) ≡ Some x → Beside x (level_of (monitors (l, w)))
-  pub counted : (l : LockName) (t : ThreadId) (hold : Hold) → monitors (l, t) ≡ Some hold → 1 ≤ hold.count
-  pub counted_waits : (l : LockName) (t : ThreadId) (count : ℕ) → asleep (l, t) ≡ Some count → 1 ≤ count
-  pub only_waiters : (l : LockName) (t : ThreadId) → marked (l, t) ≡ true → asleep (l, t) ≢ None
-  pub out : (l : LockName) (t : ThreadId) → IsOut lost ended t → (monitors (l, t) ≡ None) × (asleep (l, t) ≡ None)
-
--- of a whole state
-abbrev pub KeptIn : PlainState → Type 0
-KeptIn s = Kept s.monitors s.asleep s.marked s.ended s.lost
 
 -- beside a hold at Write there is none
 alone : (hold : Option Hold) → Beside Write (level_of hold) → hold ≡ None
@@ -46,7 +31,7 @@ alone None b = refl
 alone (Some hold) b = absurd b
 
 -- what is kept says all of the law
-pub kept_monitors : (s : PlainState) → KeptIn s → KeepsMonitors s
+pub kept_monitors : (s : PlainState) → MonitorsAreKept s → KeepsMonitors s
 kept_monitors s k = record {
   exclusion = λ l t w ne write. alone (s.monitors (l, w)) (k.beside l t w Write ne write);
   counted = k.counted;
@@ -57,7 +42,7 @@ kept_monitors s k = record {
 }
 
 -- nobody holds or waits at first
-pub opening_kept : (shape : Shape) → KeptIn (opening shape)
+pub opening_kept : (shape : Shape) → MonitorsAreKept (opening shape)
 opening_kept shape = record {
   beside = λ l t w x ne e. tt;
   counted = λ l t hold e. absurd (cc e);
@@ -78,7 +63,7 @@ flipped_hold x None ok = tt
 flipped_hold x (Some hold) ok = flipped hold.level x (ok hold.level refl)
 
 -- a new hold of thread t on lock l
-module _ (l : LockName) (t : ThreadId) (new : Option Hold) (s : PlainState) (k : KeptIn s) where
+module _ (l : LockName) (t : ThreadId) (new : Option Hold) (s : PlainState) (k : MonitorsAreKept s) where
   -- a key that is there is the thread's
   place_thread : (key : LockName × ThreadId) → is_place l t key ≡ true → key.1 ≡ t
   place_thread key e = ap (λ x. x.1) (same_place l t key e)
@@ -105,7 +90,7 @@ module _ (l : LockName) (t : ThreadId) (new : Option Hold) (s : PlainState) (k :
   hold_out going m u false d e = (k.out m u e).0
 
   -- entered or exited
-  hold_kept : (IsOut s.lost s.ended t → ⊥) → ((x : Level) → level_of new ≡ Some x → NoConflict t l x s) → ((hold : Hold) → new ≡ Some hold → 1 ≤ hold.count) → Kept (written (writes (is_place l t) (λ _. new)) s.monitors) s.asleep s.marked s.ended s.lost
+  hold_kept : (IsOut s.lost s.ended t → ⊥) → ((x : Level) → level_of new ≡ Some x → NoConflict t l x s) → ((hold : Hold) → new ≡ Some hold → 1 ≤ hold.count) → KeptMonitors (written (writes (is_place l t) (λ _. new)) s.monitors) s.asleep s.marked s.ended s.lost
   hold_kept going ok counts = record {
     beside = λ m u w x ne e. hold_beside ok m u w x (is_place l t (m, u)) (is_place l t (m, w)) refl refl ne e;
     counted = λ m u hold e. hold_counted counts m u (is_place l t (m, u)) hold e;
@@ -128,7 +113,7 @@ module _ (l : LockName) (t : ThreadId) (new : Option Hold) (s : PlainState) (k :
     wait_out going m u true d e = absurd (going (subst (λ v. IsOut s.lost s.ended v) (place_thread (m, u) d) e))
     wait_out going m u false d e = (k.out m u e).1
 
-    wait_kept : (IsOut s.lost s.ended t → ⊥) → ((x : Level) → level_of new ≡ Some x → NoConflict t l x s) → ((hold : Hold) → new ≡ Some hold → 1 ≤ hold.count) → ((count : ℕ) → wait ≡ Some count → 1 ≤ count) → Kept (written (writes (is_place l t) (λ _. new)) s.monitors) (written (writes (is_place l t) (λ _. wait)) s.asleep) (written (writes (is_place l t) (λ _. false)) s.marked) s.ended s.lost
+    wait_kept : (IsOut s.lost s.ended t → ⊥) → ((x : Level) → level_of new ≡ Some x → NoConflict t l x s) → ((hold : Hold) → new ≡ Some hold → 1 ≤ hold.count) → ((count : ℕ) → wait ≡ Some count → 1 ≤ count) → KeptMonitors (written (writes (is_place l t) (λ _. new)) s.monitors) (written (writes (is_place l t) (λ _. wait)) s.asleep) (written (writes (is_place l t) (λ _. false)) s.marked) s.ended s.lost
     wait_kept going ok counts waits = record {
       beside = λ m u w x ne e. hold_beside ok m u w x (is_place l t (m, u)) (is_place l t (m, w)) refl refl ne e;
       counted = λ m u hold e. hold_counted counts m u (is_place l t (m, u)) hold e;
@@ -137,7 +122,7 @@ module _ (l : LockName) (t : ThreadId) (new : Option Hold) (s : PlainState) (k :
       out = λ m u e. (hold_out going m u (is_place l t (m, u)) refl e, wait_out going m u (is_place l t (m, u)) refl e);
     }
 
-module _ (shape : Shape) (t : ThreadId) (s : PlainState) (k : KeptIn s) where
+module _ (shape : Shape) (t : ThreadId) (s : PlainState) (k : MonitorsAreKept s) where
   -- a thread that may act is not out
   going : (request : Request) (reply : Reply) (woken : Option ThreadId) → IsPossible shape t request reply woken s → IsOut s.lost s.ended t → ⊥
   going request reply woken p (inl e) = differ (s.lost t.client) p.connected e
@@ -187,7 +172,7 @@ module _ (shape : Shape) (t : ThreadId) (s : PlainState) (k : KeptIn s) where
   resume_counted l (Some count) new d e = subst (λ x. 1 ≤ count_of x) e (k.counted_waits l t count d)
 
   -- a notification of a waiter keeps it
-  notify_kept : (l : LockName) (woken : Option ThreadId) → ((w : ThreadId) → woken ≡ Some w → s.asleep (l, w) ≢ None) → KeptIn (apply (notifies l woken) s)
+  notify_kept : (l : LockName) (woken : Option ThreadId) → ((w : ThreadId) → woken ≡ Some w → s.asleep (l, w) ≢ None) → MonitorsAreKept (apply (notifies l woken) s)
   notify_kept l None ok = k
   notify_kept l (Some w) ok = record {
     beside = k.beside;
@@ -202,7 +187,7 @@ module _ (shape : Shape) (t : ThreadId) (s : PlainState) (k : KeptIn s) where
       marks m u false d e = k.only_waiters m u e
 
   -- and so does one of all
-  notify_all_kept : (l : LockName) → KeptIn (apply (notifies_all l s) s)
+  notify_all_kept : (l : LockName) → MonitorsAreKept (apply (notifies_all l s) s)
   notify_all_kept l = record {
     beside = k.beside;
     counted = k.counted;
@@ -217,22 +202,22 @@ module _ (shape : Shape) (t : ThreadId) (s : PlainState) (k : KeptIn s) where
       marks m u b (Some count) d e = λ h. absurd (cc h)
 
   -- a put does not bear on it
-  put_kept : (o f : ℕ) (v : Value) (b : Bool) → KeptIn (apply (put t o f v b s) s)
+  put_kept : (o f : ℕ) (v : Value) (b : Bool) → MonitorsAreKept (apply (put t o f v b s) s)
   put_kept o f v true = k
   put_kept o f v false = k
 
   -- nor does a read of a shared object
-  read_shared_kept : (o f : ℕ) (hold : Option Hold) → KeptIn (apply (read_shared t o f hold s) s)
+  read_shared_kept : (o f : ℕ) (hold : Option Hold) → MonitorsAreKept (apply (read_shared t o f hold s) s)
   read_shared_kept o f None = k
   read_shared_kept o f (Some hold) = k
 
   -- nor any read
-  read_kept : (o f : ℕ) (b : Bool) → KeptIn (apply (read shape t o f b s) s)
+  read_kept : (o f : ℕ) (b : Bool) → MonitorsAreKept (apply (read shape t o f b s) s)
   read_kept o f true = read_shared_kept o f (hold_on_guard shape t o f s)
   read_kept o f false = k
 
   -- an end of a thread that has no part in a lock keeps it
-  end_kept : (fault : Option Fault) → ((l : LockName) → HasNoPart l t s) → KeptIn (apply (change_of shape t (End fault) Done None s) s)
+  end_kept : (fault : Option Fault) → ((l : LockName) → HasNoPart l t s) → MonitorsAreKept (apply (change_of shape t (End fault) Done None s) s)
   end_kept fault none_left = record {
     beside = k.beside;
     counted = k.counted;
@@ -246,7 +231,7 @@ module _ (shape : Shape) (t : ThreadId) (s : PlainState) (k : KeptIn s) where
       outs l u false d e = k.out l u e
 
   -- each act keeps it
-  act_kept : (request : Request) (reply : Reply) (woken : Option ThreadId) → IsPossible shape t request reply woken s → KeptIn (apply (change_of shape t request reply woken s) s)
+  act_kept : (request : Request) (reply : Reply) (woken : Option ThreadId) → IsPossible shape t request reply woken s → MonitorsAreKept (apply (change_of shape t request reply woken s) s)
   act_kept (New class n) (Made o) woken p = k
   act_kept (Get o f) (Val v) woken p = read_kept o f (is_shared (s.objects o))
   act_kept (Put o f v) Done woken p = put_kept o f v (is_shared (s.objects o))
@@ -262,7 +247,7 @@ module _ (shape : Shape) (t : ThreadId) (s : PlainState) (k : KeptIn s) where
   act_kept request reply woken p = k
 
 -- the lost client's threads are out
-lost_kept : (client : ℕ) (s : PlainState) → KeptIn s → KeptIn (apply (loses client) s)
+lost_kept : (client : ℕ) (s : PlainState) → MonitorsAreKept s → MonitorsAreKept (apply (loses client) s)
 lost_kept client s k = record {
   beside = λ l t w x ne e. cleared_beside l t w x (eqb t.client client) (eqb w.client client) ne e;
   counted = λ l t hold e. cleared_counted l t hold (eqb t.client client) e;
@@ -293,12 +278,12 @@ lost_kept client s k = record {
     cleared_out l t false e = k.out l t e
 
 -- each event keeps it
-pub event_kept : (shape : Shape) (e : Event) (s : PlainState) → May shape e s → KeptIn s → KeptIn (after shape e s)
+pub event_kept : (shape : Shape) (e : Event) (s : PlainState) → May shape e s → MonitorsAreKept s → MonitorsAreKept (after shape e s)
 event_kept shape (Act t request reply woken) s m k = act_kept shape t s k request reply woken m
 event_kept shape (Lost client) s m k = lost_kept client s k
 
 -- a run keeps it
-pub run_kept : (shape : Shape) (es : List Event) (s : PlainState) → Runs shape es s → KeptIn s → KeptIn (end_of shape es s)
+pub run_kept : (shape : Shape) (es : List Event) (s : PlainState) → Runs shape es s → MonitorsAreKept s → MonitorsAreKept (end_of shape es s)
 run_kept shape [] s m k = k
 run_kept shape (e ∷ es) s m k = run_kept shape es (after shape e s) m.1 (event_kept shape e s m.0 k)
 

@@ -20,22 +20,11 @@ use Rattle.dso_plain.specs.State.{Object, Hold, PlainState, opening, roots_objec
 use Rattle.dso_plain.specs.Possible.{May, Answers, AnswersPut}
 use Rattle.dso_plain.specs.After.{change_of, apply, after, read, read_shared, put, published, shared, present, opening_field, opening_value, new_object, made_new, notifies}
 use Rattle.dso_plain.specs.History.{Runs, end_of, last_state}
+use Rattle.dso_plain.specs.Kept.{PastIsKept}
 use Rattle.dso_plain.specs.Past.{newest, IsListed, KeepsPast, PastsGrow}
 use Rattle.dso_plain.proofs.Keys.{same_number, same_thread, thread_self, same_field, both, unwritten, written_is}
 use Rattle.dso_plain.proofs.Guarded.{guarded, published_private, private_unshared, shared_private}
 use Rattle.dso_plain.proofs.Quiet.{differ, private_or_shared, absent_shared}
-
--- What is kept from step to step, of the parts that it speaks of.
-pub record Kept (objects : ℕ → Option Object) (made : ThreadId → List ℕ) (heap : ℕ × ℕ → Option Value) (past : ℕ × ℕ → List Value) (seen : ThreadId × ℕ × ℕ → ℕ) : Type 0 where
-  pub newest_is_heap : (o f : ℕ) → is_shared (objects o) ≡ true → newest (past (o, f)) ≡ heap (o, f)
-  pub none_before : (o f : ℕ) → is_shared (objects o) ≡ false → past (o, f) ≡ []
-  pub within : (t : ThreadId) (o f : ℕ) → seen (t, o, f) ≤ length (past (o, f)) - 1
-  pub fields : (o f : ℕ) → is_some (heap (o, f)) ≡ ltb f (size_of (objects o))
-  pub private_listed : (t : ThreadId) (o : ℕ) → is_private_to t (objects o) ≡ true → IsListed o (made t)
-
--- of a whole state
-abbrev pub KeptIn : PlainState → Type 0
-KeptIn s = Kept s.objects s.made s.heap s.past s.seen
 
 -- a past whose newest is there is not empty
 has_one : (past : List Value) (v : Value) → newest past ≡ Some v → 0 < length past
@@ -43,7 +32,7 @@ has_one [] v e = absurd (cc e)
 has_one (x ∷ older) v e = omega arith
 
 -- what is kept says all of the law
-pub kept_past : (s : PlainState) → KeptIn s → KeepsPast s
+pub kept_past : (s : PlainState) → PastIsKept s → KeepsPast s
 kept_past s k = record {
   newest_is_heap = k.newest_is_heap;
   none_before = k.none_before;
@@ -73,7 +62,7 @@ some_where true v = refl
 some_where false v = refl
 
 -- the roots' object alone is there at first
-pub opening_kept : (shape : Shape) → KeptIn (opening shape)
+pub opening_kept : (shape : Shape) → PastIsKept (opening shape)
 opening_kept shape = record {
   newest_is_heap = λ o f e. first (eqb o 0 && ltb f shape.roots);
   none_before = λ o f e. before (eqb o 0) (ltb f shape.roots) e;
@@ -99,7 +88,7 @@ opening_kept shape = record {
     nobody t false e = absurd (cc e)
 
 -- a new object
-module _ (shape : Shape) (t : ThreadId) (class : ClassId) (n o : ℕ) (s : PlainState) (k : KeptIn s) (absent : s.objects o ≡ None) where
+module _ (shape : Shape) (t : ThreadId) (class : ClassId) (n o : ℕ) (s : PlainState) (k : PastIsKept s) (absent : s.objects o ≡ None) where
   -- other objects' pasts are as they were
   new_newest : (p f : ℕ) (b : Bool) → is_shared (or_old (cond b (Some (Some (new_object t class n))) None) (s.objects p)) ≡ true → newest (s.past (p, f)) ≡ or_old (cond b (Some (opening_field shape class n f)) None) (s.heap (p, f))
   new_newest p f true e = absurd (cc e)
@@ -123,7 +112,7 @@ module _ (shape : Shape) (t : ThreadId) (class : ClassId) (n o : ℕ) (s : Plain
   new_listed w p false false d d' e = k.private_listed w p e
 
   -- so a new object keeps it
-  new_kept : KeptIn (apply (made_new shape t class n o s) s)
+  new_kept : PastIsKept (apply (made_new shape t class n o s) s)
   new_kept = record {
     newest_is_heap = λ p f e. new_newest p f (eqb p o) e;
     none_before = λ p f e. new_before p f (eqb p o) refl e;
@@ -133,7 +122,7 @@ module _ (shape : Shape) (t : ThreadId) (class : ClassId) (n o : ℕ) (s : Plain
   }
 
 -- a place that is seen
-module _ (t : ThreadId) (o f : ℕ) (s : PlainState) (k : KeptIn s) where
+module _ (t : ThreadId) (o f : ℕ) (s : PlainState) (k : PastIsKept s) where
   -- the last place is in the past
   seen_within : (w : ThreadId) (p g : ℕ) (b : Bool) → is_view t o f (w, p, g) ≡ b → or_old (cond b (Some (length (s.past (o, f)) - 1)) None) (s.seen (w, p, g)) ≤ length (s.past (p, g)) - 1
   seen_within w p g true e =
@@ -142,7 +131,7 @@ module _ (t : ThreadId) (o f : ℕ) (s : PlainState) (k : KeptIn s) where
   seen_within w p g false e = k.within w p g
 
   -- a read of a shared object keeps it
-  read_shared_kept : (hold : Option Hold) → KeptIn (apply (read_shared t o f hold s) s)
+  read_shared_kept : (hold : Option Hold) → PastIsKept (apply (read_shared t o f hold s) s)
   read_shared_kept None = k
   read_shared_kept (Some hold) = record {
     newest_is_heap = k.newest_is_heap;
@@ -153,7 +142,7 @@ module _ (t : ThreadId) (o f : ℕ) (s : PlainState) (k : KeptIn s) where
   }
 
   -- and so does any read
-  read_kept : (shape : Shape) (b : Bool) → KeptIn (apply (read shape t o f b s) s)
+  read_kept : (shape : Shape) (b : Bool) → PastIsKept (apply (read shape t o f b s) s)
   read_kept shape false = k
   read_kept shape true = read_shared_kept (hold_on_guard shape t o f s)
 
@@ -173,12 +162,12 @@ shared_is t None e = absurd (cc e)
 shared_is t (Some object) e = refl
 
 -- and has its size
-shared_size : (object : Option Object) → size_of (shared object) ≡ size_of object
+pub shared_size : (object : Option Object) → size_of (shared object) ≡ size_of object
 shared_size None = refl
 shared_size (Some object) = refl
 
 -- a put
-module _ (t : ThreadId) (o f : ℕ) (v : Value) (s : PlainState) (k : KeptIn s) (has : HasField o f s) where
+module _ (t : ThreadId) (o f : ℕ) (v : Value) (s : PlainState) (k : PastIsKept s) (has : HasField o f s) where
   -- the field is one that the object has
   put_field : (key : ℕ × ℕ) → is_field o f key ≡ true → ltb key.1 (size_of (s.objects key.0)) ≡ true
   put_field key e = subst (λ x. ltb x.1 (size_of (s.objects x.0)) ≡ true) (sym (same_field o f key e)) (lt-ltb f (size_of (s.objects o)) has)
@@ -193,7 +182,7 @@ module _ (t : ThreadId) (o f : ℕ) (v : Value) (s : PlainState) (k : KeptIn s) 
     own_fields p g true d = sym (put_field (p, g) d)
     own_fields p g false d = k.fields p g
 
-    put_own_kept : KeptIn (apply (put t o f v false s) s)
+    put_own_kept : PastIsKept (apply (put t o f v false s) s)
     put_own_kept = record {
       newest_is_heap = λ p g e. own_newest p g (is_field o f (p, g)) refl e;
       none_before = k.none_before;
@@ -243,7 +232,7 @@ module _ (t : ThreadId) (o f : ℕ) (v : Value) (s : PlainState) (k : KeptIn s) 
     common_listed w p true e = differ (is_private_to w (shared (s.objects p))) (shared_private w (s.objects p)) e
     common_listed w p false e = k.private_listed w p e
 
-    put_shared_kept : KeptIn (apply (put t o f v true s) s)
+    put_shared_kept : PastIsKept (apply (put t o f v true s) s)
     put_shared_kept = record {
       newest_is_heap = λ p g e. common_newest p g (is_field o f (p, g)) (published t v s p) e;
       none_before = λ p g e. common_before p g (is_field o f (p, g)) (published t v s p) refl refl e;
@@ -254,19 +243,19 @@ module _ (t : ThreadId) (o f : ℕ) (v : Value) (s : PlainState) (k : KeptIn s) 
 
 module _ (shape : Shape) (t : ThreadId) (s : PlainState) where
   -- a put keeps it
-  put_kept : (o f : ℕ) (v : Value) → AnswersPut shape t o f Done s → KeptIn s → KeptIn (apply (put t o f v (is_shared (s.objects o)) s) s)
+  put_kept : (o f : ℕ) (v : Value) → AnswersPut shape t o f Done s → PastIsKept s → PastIsKept (apply (put t o f v (is_shared (s.objects o)) s) s)
   put_kept o f v a k = elim a.1 [
-    | inl own ↦ subst (λ b. KeptIn (apply (put t o f v b s) s)) (sym (private_unshared t (s.objects o) own)) (put_own_kept t o f v s k a.0 own)
-    | inr h ↦ subst (λ b. KeptIn (apply (put t o f v b s) s)) (sym h.0) (put_shared_kept t o f v s k a.0 h.0)
+    | inl own ↦ subst (λ b. PastIsKept (apply (put t o f v b s) s)) (sym (private_unshared t (s.objects o) own)) (put_own_kept t o f v s k a.0 own)
+    | inr h ↦ subst (λ b. PastIsKept (apply (put t o f v b s) s)) (sym h.0) (put_shared_kept t o f v s k a.0 h.0)
   ]
 
   -- a notification does not bear on it
-  notify_kept : (l : LockName) (woken : Option ThreadId) → KeptIn s → KeptIn (apply (notifies l woken) s)
+  notify_kept : (l : LockName) (woken : Option ThreadId) → PastIsKept s → PastIsKept (apply (notifies l woken) s)
   notify_kept l None k = k
   notify_kept l (Some w) k = k
 
   -- each act keeps it
-  act_kept : (request : Request) (reply : Reply) (woken : Option ThreadId) → Answers shape t request reply s → KeptIn s → KeptIn (apply (change_of shape t request reply woken s) s)
+  act_kept : (request : Request) (reply : Reply) (woken : Option ThreadId) → Answers shape t request reply s → PastIsKept s → PastIsKept (apply (change_of shape t request reply woken s) s)
   act_kept (New class n) (Made o) woken a k = new_kept shape t class n o s k a.1
   act_kept (Get o f) (Val v) woken a k = read_kept t o f s k shape (is_shared (s.objects o))
   act_kept (Put o f v) Done woken a k = put_kept o f v a k
@@ -281,12 +270,12 @@ module _ (shape : Shape) (t : ThreadId) (s : PlainState) where
   act_kept request reply woken a k = k
 
 -- each event keeps it
-pub event_kept : (shape : Shape) (e : Event) (s : PlainState) → May shape e s → KeptIn s → KeptIn (after shape e s)
+pub event_kept : (shape : Shape) (e : Event) (s : PlainState) → May shape e s → PastIsKept s → PastIsKept (after shape e s)
 event_kept shape (Act t request reply woken) s m k = act_kept shape t s request reply woken m.answers k
 event_kept shape (Lost client) s m k = k
 
 -- a run keeps it
-pub run_kept : (shape : Shape) (es : List Event) (s : PlainState) → Runs shape es s → KeptIn s → KeptIn (end_of shape es s)
+pub run_kept : (shape : Shape) (es : List Event) (s : PlainState) → Runs shape es s → PastIsKept s → PastIsKept (end_of shape es s)
 run_kept shape [] s m k = k
 run_kept shape (e ∷ es) s m k = run_kept shape es (after shape e s) m.1 (event_kept shape e s m.0 k)
 

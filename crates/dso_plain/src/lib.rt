@@ -3,4 +3,23 @@
 //! Its definition stands in `specs/`, its laws are the contracts of the functions in [`laws`].
 #![tactic(auto)]
 
+mod changes;
+mod clears;
+mod count;
+mod fields;
+mod grants;
+mod holds;
 pub mod laws;
+mod maps;
+mod marks;
+mod plain;
+mod possible;
+mod publish;
+mod reads;
+mod steps;
+mod tables;
+mod writes;
+
+pub use count::Count;
+pub use plain::Plain;
+pub use tables::{Hold, Object, Tables};

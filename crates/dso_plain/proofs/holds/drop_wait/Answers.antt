@@ -1,0 +1,8 @@
+use Rattle.dso_plain.proofs.Holdings.{wait_drop_state, wait_drop_agrees}
+use Rattle.dso_plain.proofs.holds.drop_wait.Goals as goal
+
+pub returns-clause-state : goal.returns-clause-state
+returns-clause-state c = wait_drop_state c.args.tables.now c.requires c.args.lock c.args.thread c.take_in-2.new.rows c.take_in.new.rows c.take_in-3.new.rows c.in_ok-take_in.ensures.gone c.in_ok-count.ensures.gone c.in_ok-take_in-2.ensures.gone
+
+pub returns-clause-agrees : goal.returns-clause-agrees
+returns-clause-agrees c = wait_drop_agrees c.args.tables.now c.requires c.args.lock c.args.thread c.take_in-2.new.rows c.take_in.new.rows c.take_in-3.new.rows c.in_ok-take_in.ensures.gone c.in_ok-count.ensures.gone c.in_ok-take_in-2.ensures.gone

@@ -1,0 +1,11 @@
+use Rattle.std.proofs.Common.{sym, ◌∙◌}
+use Rattle.dso_plain.specs.Maps.{look_in}
+use Rattle.dso_plain.specs.Tables.{lock_order, thread_order}
+use Rattle.dso_plain.proofs.Marking.{mark_state, mark_agrees, not_marked}
+use Rattle.dso_plain.proofs.marks.mark.Goals as goal
+
+pub returns-in_ok-put_in-in-Some-clause-state : goal.returns-in_ok-put_in-in-Some-clause-state
+returns-in_ok-put_in-in-Some-clause-state c = mark_state c.args.tables.now c.requires.agrees c.args.lock c.args.thread c.in-Some.count c.take_in.new.rows c.put_in.new.rows (sym c.in-Some.is ∙ c.in_ok-count.ensures.was) c.in_ok-count.ensures.gone c.in_ok-put_in-in-Some.ensures
+
+pub returns-in_ok-put_in-in-Some-clause-agrees : goal.returns-in_ok-put_in-in-Some-clause-agrees
+returns-in_ok-put_in-in-Some-clause-agrees c = mark_agrees c.args.tables.now c.requires.agrees c.args.lock c.args.thread c.in-Some.count c.take_in.new.rows c.put_in.new.rows (sym c.in-Some.is ∙ c.in_ok-count.ensures.was) c.in_ok-count.ensures.gone c.in_ok-put_in-in-Some.ensures

@@ -1,0 +1,13 @@
+use Rattle.std.proofs.Common.{◌∷◌}
+use Rattle.std.specs.BTreeMap.{is_at}
+use Rattle.dso_plain.specs.Keys.{is_thread}
+use Rattle.dso_plain.specs.Tables.{state_of, lists_of, thread_order}
+use Rattle.dso_plain.proofs.Orders.{thread_at}
+use Rattle.dso_plain.proofs.Writing.{renamed}
+use Rattle.dso_plain.proofs.writes.print.Goals as goal
+
+pub returns-clause-state : goal.returns-clause-state
+returns-clause-state c =
+    let t = c.args.thread in
+    let e = renamed (is_at (thread_order t)) (is_thread t) (c.args.value ∷ lists_of thread_order c.args.tables.now.output t) (lists_of thread_order c.args.tables.now.output) (lists_of thread_order c.push_at.new.map) (thread_at t) c.in_ok-push_at.ensures in
+    λ i. record (state_of c.args.tables.now) { output = e i }

@@ -1,0 +1,7 @@
+use Rattle.dso_plain.specs.Maps.{look}
+use Rattle.dso_plain.specs.Tables.{field_order}
+use Rattle.dso_plain.proofs.Putting.{own_put}
+use Rattle.dso_plain.proofs.writes.put_own.Goals as goal
+
+pub returns-clause-state : goal.returns-clause-state
+returns-clause-state c = own_put c.args.thread c.args.id c.args.field c.args.value c.args.tables.now (look field_order c.put.new.map) c.in_ok-put.ensures

@@ -1,0 +1,228 @@
+//! When a reply is possible for a request, of monitors and waits, and when an event is possible.
+ghost use Rattle.std.specs.Prelude.{◌≡◌, ◌≢◌, ◌↔◌, ◌⊎◌, IsTrue, None};
+ghost use Rattle.dso_plain.specs.Possible.{IsPrivateMonitor, IsClusterLock, IsUpgrade, NoConflict, AnswersEnter, AnswersExit, AnswersMonitor, AnswersResume, AnswersDone, AnswersEnd, Answers, Wakes, IsAwakeFor, IsPossible, May};
+ghost use Rattle.dso_plain.specs.Keeps.{Agrees, KeepsTables};
+ghost use Rattle.dso_plain.specs.Kept.{MonitorsAreKept};
+ghost use Rattle.dso_plain.specs.State.{level_of};
+ghost use Rattle.dso_plain.specs.Tables.{state_of};
+
+use crate::possible::{answers_get, answers_look, answers_new, answers_put};
+use crate::publish::is_owner;
+use crate::reads::{
+    first_level, has_no_unmarked, holds_nothing, is_awake, is_free, is_going, is_lost, is_marked,
+    is_unmarked, level, object,
+};
+use crate::tables::Tables;
+use dso_base::{Event, Fault, Level, LockName, Reply, Request, Shape, ThreadId};
+
+/// Whether the lock is the monitor of a private object of the thread.
+fn is_private_monitor(tables: &Tables, thread: ThreadId, lock: LockName) -> bool
+    ensures { IsTrue result ↔ IsPrivateMonitor thread lock (state_of tables.now) }
+{
+    match lock {
+        LockName::Mon(id) => match object(tables, id) {
+            Some(object) => is_owner(thread, object.owner),
+            None => false,
+        },
+        LockName::Name(_) => false,
+    }
+}
+
+/// Whether the lock is one of the cluster.
+fn is_cluster_lock(tables: &Tables, lock: LockName) -> bool
+    ensures { IsTrue result ↔ IsClusterLock lock (state_of tables.now) }
+{
+    match lock {
+        LockName::Mon(id) => match object(tables, id) {
+            Some(object) => object.owner.is_none() && id != 0,
+            None => false,
+        },
+        LockName::Name(_) => true,
+    }
+}
+
+/// Whether the level is Write and the hold's Read.
+fn is_upgrade(tables: &Tables, thread: ThreadId, lock: LockName, wanted: Level) -> bool
+    ensures { IsTrue result ↔ IsUpgrade wanted ((state_of tables.now).monitors (lock, thread)) }
+{
+    match (wanted, level(tables, lock, thread)) {
+        (Level::Write, Some(Level::Read)) => true,
+        _ => false,
+    }
+}
+
+/// Whether no other thread holds the lock in conflict, for a thread that does not hold it.
+fn has_no_conflict(tables: &Tables, thread: ThreadId, lock: LockName, wanted: Level) -> bool
+    requires kept { MonitorsAreKept (state_of tables.now) }
+    requires absent { (state_of tables.now).monitors (lock, thread) ≡ None }
+    ensures { IsTrue result ↔ NoConflict thread lock wanted (state_of tables.now) }
+{
+    match (wanted, first_level(tables, lock)) {
+        (_, None) => true,
+        (Level::Read, Some(Level::Read)) => true,
+        _ => false,
+    }
+}
+
+/// Whether the thread can enter the lock as far as holds go.
+fn is_admitted(tables: &Tables, thread: ThreadId, lock: LockName, wanted: Level) -> bool
+    requires { MonitorsAreKept (state_of tables.now) }
+    ensures { IsTrue result ↔ (((state_of tables.now).monitors (lock, thread) ≢ None) ⊎ NoConflict thread lock wanted (state_of tables.now)) }
+{
+    match level(tables, lock, thread) {
+        Some(_) => true,
+        None => has_no_conflict(tables, thread, lock, wanted),
+    }
+}
+
+/// Whether the reply is possible for Enter.
+fn answers_enter(
+    tables: &Tables,
+    thread: ThreadId,
+    lock: LockName,
+    wanted: Level,
+    reply: Reply,
+) -> bool
+    requires { MonitorsAreKept (state_of tables.now) }
+    ensures { IsTrue result ↔ AnswersEnter thread lock wanted reply (state_of tables.now) }
+{
+    match reply {
+        Reply::Local => is_private_monitor(tables, thread, lock),
+        Reply::Refused(Fault::LockUpgrade) => is_upgrade(tables, thread, lock, wanted),
+        Reply::Done => is_cluster_lock(tables, lock)
+            && !is_upgrade(tables, thread, lock, wanted)
+            && is_admitted(tables, thread, lock, wanted),
+        _ => false,
+    }
+}
+
+/// Whether the reply is possible for Exit.
+fn answers_exit(tables: &Tables, thread: ThreadId, lock: LockName, reply: Reply) -> bool
+    ensures { IsTrue result ↔ AnswersExit thread lock reply (state_of tables.now) }
+{
+    match (reply, level(tables, lock, thread)) {
+        (Reply::Done, Some(_)) => true,
+        _ => false,
+    }
+}
+
+/// Whether the reply is possible for Wait, Notify and NotifyAll.
+fn answers_monitor(tables: &Tables, thread: ThreadId, lock: LockName, reply: Reply) -> bool
+    ensures { IsTrue result ↔ AnswersMonitor thread lock reply (state_of tables.now) }
+{
+    match (reply, level(tables, lock, thread)) {
+        (Reply::Done, Some(Level::Write)) => true,
+        (Reply::Refused(Fault::IllegalMonitor), Some(Level::Read) | None) => true,
+        _ => false,
+    }
+}
+
+/// Whether the reply is possible for Resume.
+fn answers_resume(tables: &Tables, thread: ThreadId, lock: LockName, reply: Reply) -> bool
+    ensures { IsTrue result ↔ AnswersResume thread lock reply (state_of tables.now) }
+{
+    match reply {
+        Reply::Done => is_marked(tables, lock, thread) && is_free(tables, lock),
+        _ => false,
+    }
+}
+
+/// Whether the reply is Done.
+fn is_done(reply: Reply) -> bool
+    ensures { IsTrue result ↔ AnswersDone reply }
+{
+    match reply {
+        Reply::Done => true,
+        _ => false,
+    }
+}
+
+/// Whether the reply is possible for End.
+fn answers_end(tables: &Tables, thread: ThreadId, reply: Reply) -> bool
+    requires { Agrees tables.now }
+    ensures { IsTrue result ↔ AnswersEnd thread reply (state_of tables.now) }
+{
+    match reply {
+        Reply::Done => holds_nothing(tables, thread),
+        _ => false,
+    }
+}
+
+/// Whether the reply is possible for the request.
+fn answers(tables: &Tables, shape: &Shape, thread: ThreadId, request: Request, reply: Reply) -> bool
+    requires { KeepsTables tables.now }
+    ensures { IsTrue result ↔ Answers shape.now thread request reply (state_of tables.now) }
+{
+    match request {
+        Request::New(class, size) => answers_new(tables, shape, class, size, reply),
+        Request::Look(id) => answers_look(tables, thread, id, reply),
+        Request::Get(id, field) => answers_get(tables, shape, thread, id, field, reply),
+        Request::Put(id, field, _) => answers_put(tables, shape, thread, id, field, reply),
+        Request::Enter(lock, level) => answers_enter(tables, thread, lock, level, reply),
+        Request::Exit(lock) => answers_exit(tables, thread, lock, reply),
+        Request::Wait(lock) | Request::Notify(lock) | Request::NotifyAll(lock) => answers_monitor(
+            tables, thread, lock, reply,
+        ),
+        Request::Resume(lock) => answers_resume(tables, thread, lock, reply),
+        Request::Print(_) | Request::Pause => is_done(reply),
+        Request::End(_) => answers_end(tables, thread, reply),
+    }
+}
+
+/// Whether the act wakes whom it says.
+fn wakes(tables: &Tables, request: Request, reply: Reply, woken: Option<ThreadId>) -> bool
+    requires { Agrees tables.now }
+    ensures { IsTrue result ↔ Wakes request reply woken (state_of tables.now) }
+{
+    match (request, reply, woken) {
+        (Request::Notify(lock), Reply::Done, Some(thread)) => is_unmarked(tables, lock, thread),
+        (Request::Notify(lock), Reply::Done, None) => has_no_unmarked(tables, lock),
+        (_, _, woken) => woken.is_none(),
+    }
+}
+
+/// Whether the thread is awake, as far as the request needs it.
+fn is_awake_for(tables: &Tables, request: Request, thread: ThreadId) -> bool
+    requires { Agrees tables.now }
+    ensures { IsTrue result ↔ IsAwakeFor request thread (state_of tables.now) }
+{
+    match request {
+        Request::Resume(_) => true,
+        _ => is_awake(tables, thread),
+    }
+}
+
+/// Whether the act is possible.
+fn is_possible(
+    tables: &Tables,
+    shape: &Shape,
+    thread: ThreadId,
+    request: Request,
+    reply: Reply,
+    woken: Option<ThreadId>,
+) -> bool
+    requires { KeepsTables tables.now }
+    ensures { IsTrue result ↔ IsPossible shape.now thread request reply woken (state_of tables.now) }
+{
+    !is_lost(tables, thread.client)
+        && is_going(tables, thread)
+        && is_awake_for(tables, request, thread)
+        && answers(tables, shape, thread, request, reply)
+        && wakes(tables, request, reply, woken)
+}
+
+/// Whether the event is possible.
+pub(crate) fn may(tables: &Tables, shape: &Shape, event: &Event) -> bool
+    requires { KeepsTables tables.now }
+    ensures { IsTrue result ↔ May shape.now event.now (state_of tables.now) }
+{
+    match event {
+        Event::Act {
+            thread,
+            request,
+            reply,
+            woken,
+        } => is_possible(tables, shape, *thread, *request, *reply, *woken),
+        Event::Lost(client) => !is_lost(tables, *client),
+    }
+}

@@ -1,0 +1,62 @@
+//! Notifications in the tables.
+ghost use Rattle.std.specs.Prelude.{◌≡◌, Some, OnOk};
+ghost use Rattle.dso_plain.specs.After as After;
+ghost use Rattle.dso_plain.specs.Keeps.{Agrees};
+ghost use Rattle.dso_plain.specs.Possible.{IsUnmarkedWaiter};
+ghost use Rattle.dso_plain.specs.Changes.{moved};
+ghost use Rattle.dso_plain.specs.Maps.{look, look_in};
+ghost use Rattle.dso_plain.specs.Tables.{state_of, lock_order, thread_order};
+
+use crate::count::Count;
+use crate::maps::{put_in, take_in, take_row};
+use crate::tables::Tables;
+use dso_base::{LockName, NoMemory, ThreadId};
+use std::alloc::Global;
+use std::collections::BTreeMap;
+
+/// Notifies a waiter.
+pub(crate) fn mark(
+    alloc: Global,
+    tables: &mut Tables,
+    lock: LockName,
+    thread: ThreadId,
+) -> Result<(), NoMemory>
+    requires agrees { Agrees tables.old }
+    requires waits { IsUnmarkedWaiter lock thread (state_of tables.old) }
+    ensures state { OnOk result (state_of tables.new ≡ After.apply (After.notifies lock (Some thread)) (state_of tables.old)) }
+    ensures agrees { OnOk result (Agrees tables.new) }
+{
+    match take_in(alloc, &mut tables.waits, lock, &thread)? {
+        Some(count) => {
+            put_in(alloc, &mut tables.marked, lock, thread, count)?;
+            Ok(())
+        }
+        None => Ok(()),
+    }
+}
+
+/// Moves the waits of a row to those that were notified.
+fn move_row(
+    alloc: Global,
+    mut row: BTreeMap<ThreadId, Count>,
+    marked: &mut BTreeMap<LockName, BTreeMap<ThreadId, Count>>,
+    lock: LockName,
+) -> Result<(), NoMemory>
+    ensures { OnOk result (look_in lock_order thread_order marked.new ≡ moved lock (look thread_order row) (look_in lock_order thread_order marked.old)) }
+{
+    while let Some((thread, count)) = row.pop_first() {
+        put_in(alloc, marked, lock, thread, count)?;
+    }
+    Ok(())
+}
+
+/// Notifies all waiters of a lock.
+pub(crate) fn mark_all(alloc: Global, tables: &mut Tables, lock: LockName) -> Result<(), NoMemory>
+    requires { Agrees tables.old }
+    ensures state { OnOk result (state_of tables.new ≡ After.apply (After.notifies_all lock (state_of tables.old)) (state_of tables.old)) }
+    ensures agrees { OnOk result (Agrees tables.new) }
+{
+    let row = take_row(alloc, &mut tables.waits, &lock);
+    move_row(alloc, row, &mut tables.marked, lock)?;
+    Ok(())
+}

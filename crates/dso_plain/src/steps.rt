@@ -1,0 +1,163 @@
+//! One step in the tables.
+ghost use Rattle.std.specs.Prelude.{◌≡◌, true, false, Some, OnOk, IfOk};
+ghost use Rattle.dso_base.specs.declared.lock.ThreadId.{ThreadId};
+ghost use Rattle.dso_base.specs.declared.request.Reply.TheVariants as Reply;
+ghost use Rattle.dso_plain.specs.After as After;
+ghost use Rattle.dso_plain.specs.Keeps.{Agrees, KeepsTables};
+ghost use Rattle.dso_plain.specs.Kept.{PastIsKept};
+ghost use Rattle.dso_plain.specs.Possible.{IsPossible, IsUnmarkedWaiter, AnswersPut, May};
+ghost use Rattle.dso_plain.specs.State.{is_shared};
+ghost use Rattle.dso_plain.specs.Tables.{state_of};
+
+use crate::changes::{enter, exit, resume, wait};
+use crate::clears::lose;
+use crate::grants::may;
+use crate::marks::{mark, mark_all};
+use crate::possible::guard_level;
+use crate::reads::object;
+use crate::tables::Tables;
+use crate::writes::{count_read, end, make_object, print, put_own, put_shared, see};
+use dso_base::{Event, LockName, NoMemory, Reply, Request, Shape, ThreadId, Value};
+use std::alloc::Global;
+
+/// A read: under the guard the thread has seen the last place, without it the read is counted.
+fn read(
+    tables: &mut Tables,
+    shape: &Shape,
+    thread: ThreadId,
+    id: u64,
+    field: u32,
+) -> Result<(), NoMemory>
+    requires { Agrees tables.old }
+    ensures state { OnOk result (state_of tables.new ≡ After.apply (After.read shape.now thread id field (is_shared ((state_of tables.old).objects id)) (state_of tables.old)) (state_of tables.old)) }
+    ensures agrees { OnOk result (Agrees tables.new) }
+{
+    let Some(object) = object(tables, id) else {
+        return Ok(());
+    };
+    if object.owner.is_some() {
+        return Ok(());
+    }
+    match guard_level(tables, shape, thread, id, field, object) {
+        Some(_) => see(tables, thread, id, field),
+        None => count_read(tables),
+    }
+}
+
+/// A put that may be done.
+fn put_field(
+    alloc: Global,
+    tables: &mut Tables,
+    thread: ThreadId,
+    id: u64,
+    field: u32,
+    value: Value,
+) -> Result<(), NoMemory>
+    requires agrees { Agrees tables.old }
+    requires past { PastIsKept (state_of tables.old) }
+    ensures state { OnOk result (state_of tables.new ≡ After.apply (After.put thread id field value (is_shared ((state_of tables.old).objects id)) (state_of tables.old)) (state_of tables.old)) }
+    ensures agrees { OnOk result (Agrees tables.new) }
+{
+    match object(tables, id) {
+        Some(object) => {
+            if object.owner.is_none() {
+                put_shared(alloc, tables, thread, id, field, value)
+            } else {
+                put_own(tables, thread, id, field, value)
+            }
+        }
+        None => put_own(tables, thread, id, field, value),
+    }
+}
+
+/// A notification of one waiter, or of nobody.
+fn notify(
+    alloc: Global,
+    tables: &mut Tables,
+    lock: LockName,
+    woken: Option<ThreadId>,
+) -> Result<(), NoMemory>
+    requires agrees { Agrees tables.old }
+    requires waits { (w : ThreadId) → woken ≡ Some w → IsUnmarkedWaiter lock w (state_of tables.old) }
+    ensures state { OnOk result (state_of tables.new ≡ After.apply (After.notifies lock woken) (state_of tables.old)) }
+    ensures agrees { OnOk result (Agrees tables.new) }
+{
+    match woken {
+        Some(thread) => mark(alloc, tables, lock, thread),
+        None => Ok(()),
+    }
+}
+
+/// An act that is possible is made.
+fn act(
+    alloc: Global,
+    tables: &mut Tables,
+    shape: &Shape,
+    thread: ThreadId,
+    request: Request,
+    reply: Reply,
+    woken: Option<ThreadId>,
+) -> Result<(), NoMemory>
+    requires kept { KeepsTables tables.old }
+    requires possible { IsPossible shape.now thread request reply woken (state_of tables.old) }
+    ensures state { OnOk result (state_of tables.new ≡ After.apply (After.change_of shape.now thread request reply woken (state_of tables.old)) (state_of tables.old)) }
+    ensures agrees { OnOk result (Agrees tables.new) }
+{
+    match (request, reply) {
+        (Request::New(class, size), Reply::Made(id)) => make_object(
+            alloc, tables, shape, thread, class, size, id,
+        ),
+        (Request::Get(id, field), Reply::Val(_)) => read(tables, shape, thread, id, field),
+        (Request::Put(id, field, value), Reply::Done) => put_field(
+            alloc, tables, thread, id, field, value,
+        ),
+        (Request::Enter(lock, level), Reply::Done) => enter(alloc, tables, thread, lock, level),
+        (Request::Exit(lock), Reply::Done) => exit(alloc, tables, thread, lock),
+        (Request::Wait(lock), Reply::Done) => wait(alloc, tables, thread, lock),
+        (Request::Resume(lock), Reply::Done) => resume(alloc, tables, thread, lock),
+        (Request::Notify(lock), Reply::Done) => notify(alloc, tables, lock, woken),
+        (Request::NotifyAll(lock), Reply::Done) => mark_all(alloc, tables, lock),
+        (Request::Print(value), Reply::Done) => print(alloc, tables, thread, value),
+        (Request::End(fault), Reply::Done) => end(tables, thread, fault),
+        (Request::Look(_), _) => Ok(()),
+        (Request::Pause, _) => Ok(()),
+        _ => Ok(()),
+    }
+}
+
+/// An event that is possible is made.
+fn make(alloc: Global, tables: &mut Tables, shape: &Shape, event: &Event) -> Result<(), NoMemory>
+    requires kept { KeepsTables tables.old }
+    requires possible { May shape.now event.now (state_of tables.old) }
+    ensures state { OnOk result (state_of tables.new ≡ After.after shape.now event.now (state_of tables.old)) }
+    ensures agrees { OnOk result (Agrees tables.new) }
+{
+    match event {
+        Event::Act {
+            thread,
+            request,
+            reply,
+            woken,
+        } => act(alloc, tables, shape, *thread, *request, *reply, *woken),
+        Event::Lost(client) => lose(alloc, tables, *client),
+    }
+}
+
+/// Makes the event where it is possible, and answers whether it was.
+pub(crate) fn step(
+    alloc: Global,
+    tables: &mut Tables,
+    shape: &Shape,
+    event: &Event,
+) -> Result<bool, NoMemory>
+    requires { KeepsTables tables.old }
+    ensures made { IfOk result (λ made. made ≡ true → May shape.now event.now (state_of tables.old) × (state_of tables.new ≡ After.after shape.now event.now (state_of tables.old))) }
+    ensures refused { IfOk result (λ made. made ≡ false → (May shape.now event.now (state_of tables.old) → ⊥) × (state_of tables.new ≡ state_of tables.old)) }
+    ensures kept { OnOk result (KeepsTables tables.new) }
+{
+    if !may(tables, shape, event) {
+        return Ok(false);
+    }
+    make(alloc, tables, shape, event)?;
+    Ok(true)
+}

@@ -1,0 +1,146 @@
+//! What a request changes in the tables, of objects, threads and output.
+ghost use Rattle.std.specs.Prelude.{suc, ◌-◌, ◌≡◌, length, ◌∷◌, Some, None, true, false, OnOk};
+ghost use Rattle.dso_plain.specs.After as After;
+ghost use Rattle.dso_plain.specs.Keeps.{Agrees};
+ghost use Rattle.dso_plain.specs.Kept.{PastIsKept};
+ghost use Rattle.dso_plain.specs.State.{IsShared};
+ghost use Rattle.dso_plain.specs.Keys.{is_thread, is_view, writes, written};
+ghost use Rattle.dso_plain.specs.Tables.{state_of};
+
+use crate::fields::make_fields;
+use crate::maps::{push_at, put};
+use crate::publish::publish;
+use crate::tables::{Object, Tables};
+use dso_base::{ClassId, Fault, NoMemory, Shape, ThreadId, Value};
+use std::alloc::Global;
+
+/// The thread prints a value.
+pub(crate) fn print(
+    alloc: Global,
+    tables: &mut Tables,
+    thread: ThreadId,
+    value: Value,
+) -> Result<(), NoMemory>
+    requires { Agrees tables.old }
+    ensures state { OnOk result (state_of tables.new ≡ record (state_of tables.old) { output = written (writes (is_thread thread) (λ _. value ∷ (state_of tables.old).output thread)) (state_of tables.old).output }) }
+    ensures agrees { OnOk result (Agrees tables.new) }
+{
+    push_at(alloc, &mut tables.output, thread, value)?;
+    Ok(())
+}
+
+/// The thread ends.
+pub(crate) fn end(
+    tables: &mut Tables,
+    thread: ThreadId,
+    fault: Option<Fault>,
+) -> Result<(), NoMemory>
+    requires { Agrees tables.old }
+    ensures state { OnOk result (state_of tables.new ≡ record (state_of tables.old) { ended = written (writes (is_thread thread) (λ _. Some fault)) (state_of tables.old).ended }) }
+    ensures agrees { OnOk result (Agrees tables.new) }
+{
+    put(&mut tables.ended, thread, fault)?;
+    Ok(())
+}
+
+/// The length of a field's past.
+fn past_length(tables: &Tables, id: u64, field: u32) -> usize
+    ensures { result ≡ length ((state_of tables.now).past (id, field)) }
+{
+    match tables.past.get(&(id, field)) {
+        Some(past) => past.len(),
+        None => 0,
+    }
+}
+
+/// The thread has seen the last place of a field's past.
+pub(crate) fn see(
+    tables: &mut Tables,
+    thread: ThreadId,
+    id: u64,
+    field: u32,
+) -> Result<(), NoMemory>
+    requires { Agrees tables.old }
+    ensures state { OnOk result (state_of tables.new ≡ record (state_of tables.old) { seen = written (writes (is_view thread id field) (λ _. length ((state_of tables.old).past (id, field)) - 1)) (state_of tables.old).seen }) }
+    ensures agrees { OnOk result (Agrees tables.new) }
+{
+    let place = past_length(tables, id, field).saturating_sub(1);
+    put(&mut tables.seen, (thread, id, field), place)?;
+    Ok(())
+}
+
+/// An unguarded read is counted.
+pub(crate) fn count_read(tables: &mut Tables) -> Result<(), NoMemory>
+    requires { Agrees tables.old }
+    ensures state { OnOk result (state_of tables.new ≡ record (state_of tables.old) { unguarded = suc (state_of tables.old).unguarded }) }
+    ensures agrees { OnOk result (Agrees tables.new) }
+{
+    tables.unguarded.add()?;
+    Ok(())
+}
+
+/// The thread makes an object, private to it.
+pub(crate) fn make_object(
+    alloc: Global,
+    tables: &mut Tables,
+    shape: &Shape,
+    thread: ThreadId,
+    class: ClassId,
+    size: u32,
+    id: u64,
+) -> Result<(), NoMemory>
+    requires agrees { Agrees tables.old }
+    requires past { PastIsKept (state_of tables.old) }
+    requires absent { (state_of tables.old).objects id ≡ None }
+    ensures state { OnOk result (state_of tables.new ≡ After.apply (After.made_new shape.now thread class size id (state_of tables.old)) (state_of tables.old)) }
+    ensures agrees { OnOk result (Agrees tables.new) }
+{
+    let object = Object {
+        class,
+        size,
+        owner: Some(thread),
+    };
+    put(&mut tables.objects, id, object)?;
+    make_fields(&mut tables.heap, shape, class, id, size)?;
+    push_at(alloc, &mut tables.made, thread, id)?;
+    Ok(())
+}
+
+/// A put into a private object.
+pub(crate) fn put_own(
+    tables: &mut Tables,
+    thread: ThreadId,
+    id: u64,
+    field: u32,
+    value: Value,
+) -> Result<(), NoMemory>
+    requires { Agrees tables.old }
+    ensures state { OnOk result (state_of tables.new ≡ After.apply (After.put thread id field value false (state_of tables.old)) (state_of tables.old)) }
+    ensures agrees { OnOk result (Agrees tables.new) }
+{
+    put(&mut tables.heap, (id, field), value)?;
+    Ok(())
+}
+
+/// A put into a shared object, which publishes what is found from the value.
+pub(crate) fn put_shared(
+    alloc: Global,
+    tables: &mut Tables,
+    thread: ThreadId,
+    id: u64,
+    field: u32,
+    value: Value,
+) -> Result<(), NoMemory>
+    requires agrees { Agrees tables.old }
+    requires past { PastIsKept (state_of tables.old) }
+    requires shared { IsShared id (state_of tables.old) }
+    ensures state { OnOk result (state_of tables.new ≡ After.apply (After.put thread id field value true (state_of tables.old)) (state_of tables.old)) }
+    ensures agrees { OnOk result (Agrees tables.new) }
+{
+    let place = past_length(tables, id, field);
+    publish(alloc, tables, thread, value)?;
+    push_at(alloc, &mut tables.past, (id, field), value)?;
+    put(&mut tables.heap, (id, field), value)?;
+    put(&mut tables.seen, (thread, id, field), place)?;
+    Ok(())
+}
