@@ -1,5 +1,5 @@
 -- A thread waits at one client, and a thread of another client notifies it.
-use Rattle.std.specs.Prelude.{ℕ, pos, true, false, Option, Some, None, List, [], ◌∷◌, length, slice_get}
+use Rattle.std.specs.Prelude.{true, false, Option, Some, None, List, [], ◌∷◌, length, slice_get}
 use Rattle.dso_base.specs.declared.journal.Entry.{Entry}
 use Rattle.dso_base.specs.declared.journal.Input.TheVariants as input
 use Rattle.dso_base.specs.declared.journal.Node.TheVariants.{Server, Client}
@@ -12,8 +12,6 @@ use Rattle.dso_base.specs.declared.message.Up.TheVariants as up
 use Rattle.dso_base.specs.declared.record.Choice.TheVariants as choice
 use Rattle.dso_base.specs.declared.record.Ending.TheVariants as ending
 use Rattle.dso_base.specs.declared.request.Event.{Event}
-use Rattle.dso_base.specs.declared.request.Event.TheVariants.{Lost}
-use Rattle.dso_base.specs.declared.request.Fault.TheVariants as fault
 use Rattle.dso_base.specs.declared.request.Reply.TheVariants as reply
 use Rattle.dso_base.specs.declared.request.Request.{Request}
 use Rattle.dso_base.specs.declared.request.Request.TheVariants as request
@@ -22,9 +20,9 @@ use Rattle.dso_base.specs.declared.value.ClassId.TheVariants as class
 use Rattle.dso_base.specs.declared.value.Kind.TheVariants as kind
 use Rattle.dso_base.specs.declared.value.Value.TheVariants as value
 use Rattle.dso_law.specs.Settings.{Settings}
-use Rattle.dso_legal.specs.Slots.{Slot, Acts, TakesDown, Flushes, TakesUp, Loses, Breaks}
+use Rattle.dso_legal.specs.Slots.{Slot, Acts, TakesDown, TakesUp}
 use Rattle.dso_legal.specs.examples.Run.{IsRun}
-use Rattle.dso_legal.specs.examples.Words.{thread, body, set, note, txn, act, entry, trigger, class_of_fields, script_of}
+use Rattle.dso_legal.specs.examples.Words.{thread, body, set, note, txn, act, entry, class_of_fields, script_of}
 
 -- one class with one boolean field, one root, two clients with a thread each
 abbrev pub settings : Settings
@@ -432,6 +430,7 @@ entry_96 = entry 65 (Client 1) (input.TookDown (down.Ack 5)) [] None
 -- the entries, the newest first
 abbrev pub entries : List Entry
 entries = entry_96 ∷ entry_95 ∷ entry_94 ∷ entry_93 ∷ entry_92 ∷ entry_91 ∷ entry_90 ∷ entry_89 ∷ entry_88 ∷ entry_87 ∷ entry_86 ∷ entry_85 ∷ entry_84 ∷ entry_83 ∷ entry_82 ∷ entry_81 ∷ entry_80 ∷ entry_79 ∷ entry_78 ∷ entry_77 ∷ entry_76 ∷ entry_75 ∷ entry_74 ∷ entry_73 ∷ entry_72 ∷ entry_71 ∷ entry_70 ∷ entry_69 ∷ entry_68 ∷ entry_67 ∷ entry_66 ∷ entry_65 ∷ entry_64 ∷ entry_63 ∷ entry_62 ∷ entry_61 ∷ entry_60 ∷ entry_59 ∷ entry_58 ∷ entry_57 ∷ entry_56 ∷ entry_55 ∷ entry_54 ∷ entry_53 ∷ entry_52 ∷ entry_51 ∷ entry_50 ∷ entry_49 ∷ entry_48 ∷ entry_47 ∷ entry_46 ∷ entry_45 ∷ entry_44 ∷ entry_43 ∷ entry_42 ∷ entry_41 ∷ entry_40 ∷ entry_39 ∷ entry_38 ∷ entry_37 ∷ entry_36 ∷ entry_35 ∷ entry_34 ∷ entry_33 ∷ entry_32 ∷ entry_31 ∷ entry_30 ∷ entry_29 ∷ entry_28 ∷ entry_27 ∷ entry_26 ∷ entry_25 ∷ entry_24 ∷ entry_23 ∷ entry_22 ∷ entry_21 ∷ entry_20 ∷ entry_19 ∷ entry_18 ∷ entry_17 ∷ entry_16 ∷ entry_15 ∷ entry_14 ∷ entry_13 ∷ entry_12 ∷ entry_11 ∷ entry_10 ∷ entry_9 ∷ entry_8 ∷ entry_7 ∷ entry_6 ∷ entry_5 ∷ entry_4 ∷ entry_3 ∷ entry_2 ∷ entry_1 ∷ []
+
 -- the slots that are open before each entry, the last entry first
 abbrev pub opens : List (List Slot)
 opens = ((TakesDown 1) ∷ [])

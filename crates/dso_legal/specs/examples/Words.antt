@@ -1,5 +1,5 @@
 -- Short words to write journals down.
-use Rattle.std.specs.Prelude.{ℕ, cond, Option, Some, None, List, [], ◌∷◌}
+use Rattle.std.specs.Prelude.{ℕ, cond, Option, List, [], ◌∷◌}
 use Rattle.dso_base.specs.declared.journal.Entry.{Entry}
 use Rattle.dso_base.specs.declared.journal.Input.{Input}
 use Rattle.dso_base.specs.declared.journal.Node.{Node}
@@ -63,4 +63,3 @@ class_of_fields fields = record { fields = fields }
 abbrev pub script_of : ThreadId → List (ThreadId × List Request) → List Request
 script_of t [] = []
 script_of t (script ∷ scripts) = cond (is_thread t script.0) script.1 (script_of t scripts)
-
