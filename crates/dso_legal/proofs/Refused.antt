@@ -79,7 +79,7 @@ reply_in (Some r) = r
 
 -- what an act that is answered Done sends
 abbrev SendsDone : Settings → ℕ → ThreadId → Request → (ThreadId → Option Request) → (ThreadId → Option Request) → Entry → List Entry → Reply → Type 0
-SendsDone p c t request before after e es r = e.sent ≡ map ToServer (commits p t (Act t request r (woken_by request r es)) es ++ returns p c after (unsent e ∷ es) ++ asks_again p c before after (after t) e es)
+SendsDone p c t request before after e es r = e.sent ≡ map ToServer (commits p t (Act t request r (woken_by request r es)) es ++ returns p c after (unsent e ∷ es) ++ asks_again p c before after (after t) (unsent e ∷ es) es)
 
 does_done : (p : Settings) (c : ℕ) (t : ThreadId) (request : Request) (before after : ThreadId → Option Request) (e : Entry) (es : List Entry)
     → Does p c t request before after e es → reply_of p t request es ≡ Some reply.Done → SendsDone p c t request before after e es reply.Done
