@@ -1,3 +1,4 @@
 pub mod Prefixes
 pub mod Lists
 pub mod Among
+pub mod Steps

@@ -45,17 +45,17 @@ abbrev pub returns : Settings → ℕ → (ThreadId → Option Request) → List
 returns p c after es = map (λ l. up.Return l (client_list l es)) (due p c after es)
 
 -- the acting thread next enters a lock at Write whose lease wasn't closing before the entry and which the entry returns:
--- it asks again at once
-abbrev pub asks_again : Settings → ℕ → (ThreadId → Option Request) → (ThreadId → Option Request) → Option Request → Entry → List Entry → List Up
-asks_again p c before after (Some (Enter l Write)) e es = cond (not (is_closing p c before l es) && has (is_lock l) (due p c after (unsent e ∷ es))) (up.Request l Write ∷ []) []
-asks_again p c before after request e es = []
+-- it asks again at once; `now` are the entries with this one, es those before it
+abbrev pub asks_again : Settings → ℕ → (ThreadId → Option Request) → (ThreadId → Option Request) → Option Request → List Entry → List Entry → List Up
+asks_again p c before after (Some (Enter l Write)) now es = cond (not (is_closing p c before l es) && has (is_lock l) (due p c after now)) (up.Request l Write ∷ []) []
+asks_again p c before after request now es = []
 
 -- the entry has the event, and sends the record, the leases given back and the request for one of them, in this order
 pub record Does (p : Settings) (c : ℕ) (t : ThreadId) (request : Request) (before after : ThreadId → Option Request) (e : Entry) (es : List Entry) : Type 0 where
   pub reply : Reply
   pub answered : reply_of p t request es ≡ Some reply
   pub event : e.event ≡ Some (Act t request reply (woken_by request reply es))
-  pub sends : e.sent ≡ map ToServer (commits p t (Act t request reply (woken_by request reply es)) es ++ returns p c after (unsent e ∷ es) ++ asks_again p c before after (after t) e es)
+  pub sends : e.sent ≡ map ToServer (commits p t (Act t request reply (woken_by request reply es)) es ++ returns p c after (unsent e ∷ es) ++ asks_again p c before after (after t) (unsent e ∷ es) es)
 
 -- the entry has no event, and sends what is asked for the need, behind the leases given back
 pub record Asks (p : Settings) (c : ℕ) (need : Need) (after : ThreadId → Option Request) (e : Entry) (es : List Entry) : Type 0 where
@@ -155,14 +155,15 @@ ClientStepOn p c other before after e es = ⊥
 abbrev pub ClientStep : Settings → ℕ → (ThreadId → Option Request) → (ThreadId → Option Request) → Entry → List Entry → Type 0
 ClientStep p c before after e es = ClientStepOn p c e.input before after e es
 
--- whether the client rule has an act of the thread: it has a next request, and its needs are met or asked for
+-- whether the client can answer a request whose needs are met, or ask for the need that isn't met
+abbrev pub can_do : Settings → ThreadId → Request → Option Need → List Entry → Bool
+can_do p t request None es = is_some (reply_of p t request es)
+can_do p t request (Some need) es = is_some (ask_for need es)
+
+-- so for a thread's next request, if it has one
 abbrev pub can_act : Settings → ℕ → (ThreadId → Option Request) → ThreadId → Option Request → List Entry → Bool
 can_act p c next t None es = false
-can_act p c next t (Some request) es = is_met (unmet p c next t request es)
-  where
-    is_met : Option Need → Bool
-    is_met None = true
-    is_met (Some need) = is_some (ask_for need es)
+can_act p c next t (Some request) es = can_do p t request (unmet p c next t request es) es
 
 -- May act: the client rule has an act entry of the thread.
 abbrev pub may_act : Settings → ℕ → (ThreadId → Option Request) → ThreadId → List Entry → Bool

@@ -18,3 +18,4 @@ pub mod Waking
 pub mod FitsUp
 pub mod ServerStep
 pub mod Prefixes
+pub mod Laws

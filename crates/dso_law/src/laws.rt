@@ -1,8 +1,24 @@
 //! Laws of the readings of a journal. Each is the contract of a function that does nothing.
+ghost use Rattle.dso_law.specs.Laws.{HoldsAfter, WorkGoesOn, ActsAreOpen};
 ghost use Rattle.dso_law.specs.Prefixes.{Prefixes};
 
 /// Each message that is taken is the first on its way exactly where, at each entry and for each client, the messages
 /// taken are a prefix of those sent.
 pub fn channels()
     ensures { Prefixes }
+{}
+
+/// After a lock is held as said, or no longer, each lock is held so or as before.
+pub fn holds()
+    ensures { HoldsAfter }
+{}
+
+/// An event that is no ending adds to the work in hand as the event says; an ending leaves the private objects alone.
+pub fn work()
+    ensures { WorkGoesOn }
+{}
+
+/// The client rule has an act of a thread exactly where there is an entry that it allows.
+pub fn acts()
+    ensures { ActsAreOpen }
 {}

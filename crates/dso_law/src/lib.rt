@@ -6,6 +6,8 @@
 mod copies;
 pub mod laws;
 mod readings;
+#[cfg(test)]
+mod tests;
 
 pub use copies::copy_of;
 pub use readings::{Standing, leased};

@@ -1,9 +1,8 @@
 -- Small facts that the examples' proofs share.
-use Rattle.std.specs.Prelude.{ℕ, suc, ◌≡◌, ◌≢◌, ◌↔◌, Bool, true, false, Option, Some, None, is_some}
+use Rattle.std.specs.Prelude.{ℕ, suc, ◌≡◌, ◌≢◌, ◌↔◌, true, Option, Some, None, is_some}
 use Rattle.std.proofs.Common.{refl, arith}
 use Rattle.dso_base.specs.declared.lock.Level.TheVariants.{Read, Write}
 use Rattle.dso_base.specs.declared.value.Kind.{Kind}
-use Rattle.dso_base.specs.declared.value.ClassId.{ClassId}
 use Rattle.dso_base.specs.declared.value.ClassId.TheVariants.{Plain, Array, Roots}
 
 -- what is there isn't None

@@ -1,18 +1,15 @@
 -- That the journal is lawful: a client that keeps one object flushes, and faults an object in again.
-use Rattle.std.proofs.Common.{refl, ◌≡◌, List, [], ◌∷◌, inl, inr, lit<, lit≤}
+use Rattle.std.proofs.Common.{refl, List, [], ◌∷◌, inr, lit<, lit≤}
 use Rattle.dso_base.specs.declared.journal.Entry.{Entry}
-use Rattle.std.specs.Prelude.{pos, true, false, Some, None}
-use Rattle.dso_base.specs.declared.lock.Level.TheVariants.{Read, Write}
-use Rattle.dso_base.specs.declared.lock.LockName.TheVariants.{Mon, Name}
+use Rattle.dso_base.specs.declared.lock.Level.TheVariants.{Write}
+use Rattle.dso_base.specs.declared.lock.LockName.TheVariants.{Name}
 use Rattle.dso_base.specs.declared.message.Up.TheVariants as up
-use Rattle.dso_base.specs.declared.request.Fault.TheVariants as fault
 use Rattle.dso_base.specs.declared.request.Reply.TheVariants as reply
 use Rattle.dso_base.specs.declared.value.ClassId.TheVariants as class
-use Rattle.dso_base.specs.declared.value.Kind.TheVariants as kind
 use Rattle.dso_base.specs.declared.value.Value.TheVariants as value
 use Rattle.dso_legal.specs.Lawful.{AllFollow, MayFollow, IsLawful}
 use Rattle.dso_legal.specs.examples.Flush.{settings, next, entries, FlushJournal, entry_1, entry_2, entry_3, entry_4, entry_5, entry_6, entry_7, entry_8, entry_9, entry_10, entry_11, entry_12, entry_13, entry_14, entry_15, entry_16, entry_17, entry_18, entry_19, entry_20, entry_21, entry_22, entry_23, entry_24, entry_25, entry_26, entry_27, entry_28, entry_29, entry_30, entry_31, entry_32, entry_33, entry_34, entry_35, entry_36}
-use Rattle.dso_legal.proofs.Facts.{is_there, not_zero, isnt_roots, both_roots, neither_roots, neither_roots_array, isnt_roots_array, not_read}
+use Rattle.dso_legal.proofs.Facts.{is_there, not_zero, isnt_roots, both_roots, neither_roots}
 
 -- the first entries, the newest first
 abbrev first_0 : List Entry

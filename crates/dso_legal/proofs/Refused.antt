@@ -1,13 +1,12 @@
 -- That each of the wrong entries is refused: the clause that it breaks would make two different numbers equal.
-use Rattle.std.specs.Prelude.{ℕ, zero, suc, ◌≡◌, ◌≢◌, ◌+◌, ◌≤◌, eqb, Bool, true, false, cond, Option, Some, None, is_some, List, [], ◌∷◌, ◌++◌, map, length, sum_by}
+use Rattle.std.specs.Prelude.{ℕ, suc, ◌≡◌, ◌≢◌, ◌≤◌, eqb, Bool, false, cond, Option, Some, None, List, [], ◌∷◌, ◌++◌, map, length, sum_by}
 use Rattle.std.proofs.Common.{refl, sym, ◌∙◌, ap, subst, arith}
 use Rattle.dso_base.specs.declared.journal.Sent.{Sent}
 use Rattle.dso_base.specs.declared.journal.Sent.TheVariants.{ToServer, ToClient}
-use Rattle.dso_base.specs.declared.message.Down.{Down}
 use Rattle.dso_base.specs.declared.message.Down.TheVariants as down
 use Rattle.dso_base.specs.declared.message.Up.TheVariants as up
 use Rattle.dso_base.specs.declared.request.Event.{Event}
-use Rattle.dso_base.specs.declared.request.Event.TheVariants.{Act, Lost}
+use Rattle.dso_base.specs.declared.request.Event.TheVariants.{Act}
 use Rattle.dso_base.specs.declared.request.Reply.{Reply}
 use Rattle.dso_base.specs.declared.request.Reply.TheVariants as reply
 use Rattle.dso_base.specs.Weight.{sent_values_of}
@@ -80,7 +79,7 @@ reply_in (Some r) = r
 
 -- what an act that is answered Done sends
 abbrev SendsDone : Settings → ℕ → ThreadId → Request → (ThreadId → Option Request) → (ThreadId → Option Request) → Entry → List Entry → Reply → Type 0
-SendsDone p c t request before after e es r = e.sent ≡ map ToServer (commits p t (Act t request r (woken_by request r es)) es ++ returns p c after (unsent e ∷ es) ++ asks_again p c before after (after t) e es)
+SendsDone p c t request before after e es r = e.sent ≡ map ToServer (commits p t (Act t request r (woken_by request r es)) es ++ returns p c after (unsent e ∷ es) ++ asks_again p c before after (after t) (unsent e ∷ es) es)
 
 does_done : (p : Settings) (c : ℕ) (t : ThreadId) (request : Request) (before after : ThreadId → Option Request) (e : Entry) (es : List Entry)
     → Does p c t request before after e es → reply_of p t request es ≡ Some reply.Done → SendsDone p c t request before after e es reply.Done

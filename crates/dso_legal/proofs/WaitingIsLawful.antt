@@ -1,18 +1,17 @@
 -- That the journal is lawful: a thread waits at one client, and a thread of another client notifies it.
-use Rattle.std.proofs.Common.{refl, ◌≡◌, List, [], ◌∷◌, inl, inr, lit<, lit≤}
+use Rattle.std.proofs.Common.{refl, List, [], ◌∷◌, inr, lit<, lit≤}
 use Rattle.dso_base.specs.declared.journal.Entry.{Entry}
-use Rattle.std.specs.Prelude.{pos, true, false, Some, None}
+use Rattle.std.specs.Prelude.{true, false}
 use Rattle.dso_base.specs.declared.lock.Level.TheVariants.{Read, Write}
 use Rattle.dso_base.specs.declared.lock.LockName.TheVariants.{Mon, Name}
 use Rattle.dso_base.specs.declared.message.Up.TheVariants as up
-use Rattle.dso_base.specs.declared.request.Fault.TheVariants as fault
 use Rattle.dso_base.specs.declared.request.Reply.TheVariants as reply
 use Rattle.dso_base.specs.declared.value.ClassId.TheVariants as class
-use Rattle.dso_base.specs.declared.value.Kind.TheVariants as kind
 use Rattle.dso_base.specs.declared.value.Value.TheVariants as value
 use Rattle.dso_legal.specs.Lawful.{AllFollow, MayFollow, IsLawful}
-use Rattle.dso_legal.specs.examples.Waiting.{settings, next, entries, WaitingJournal, entry_1, entry_2, entry_3, entry_4, entry_5, entry_6, entry_7, entry_8, entry_9, entry_10, entry_11, entry_12, entry_13, entry_14, entry_15, entry_16, entry_17, entry_18, entry_19, entry_20, entry_21, entry_22, entry_23, entry_24, entry_25, entry_26, entry_27, entry_28, entry_29, entry_30, entry_31, entry_32, entry_33, entry_34, entry_35, entry_36, entry_37, entry_38, entry_39, entry_40, entry_41, entry_42, entry_43, entry_44, entry_45, entry_46, entry_47, entry_48, entry_49, entry_50, entry_51, entry_52, entry_53, entry_54, entry_55, entry_56, entry_57, entry_58, entry_59, entry_60, entry_61, entry_62, entry_63, entry_64, entry_65, entry_66, entry_67, entry_68, entry_69, entry_70, entry_71, entry_72, entry_73, entry_74, entry_75, entry_76, entry_77, entry_78, entry_79, entry_80, entry_81, entry_82, entry_83, entry_84, entry_85, entry_86, entry_87, entry_88, entry_89, entry_90, entry_91, entry_92, entry_93, entry_94, entry_95, entry_96}
-use Rattle.dso_legal.proofs.Facts.{is_there, not_zero, isnt_roots, both_roots, neither_roots, neither_roots_array, isnt_roots_array, not_read}
+use Rattle.dso_legal.specs.examples.Waiting.{settings, next, entries, WaitingJournal, entry_52, entry_53, entry_54, entry_55, entry_56, entry_57, entry_58, entry_59, entry_60, entry_61, entry_62, entry_63, entry_64, entry_65, entry_66, entry_67, entry_68, entry_69, entry_70, entry_71, entry_72, entry_73, entry_74, entry_75, entry_76, entry_77, entry_78, entry_79, entry_80, entry_81, entry_82, entry_83, entry_84, entry_85, entry_86, entry_87, entry_88, entry_89, entry_90, entry_91, entry_92, entry_93, entry_94, entry_95, entry_96}
+use Rattle.dso_legal.specs.examples.WaitingStart.{entry_1, entry_2, entry_3, entry_4, entry_5, entry_6, entry_7, entry_8, entry_9, entry_10, entry_11, entry_12, entry_13, entry_14, entry_15, entry_16, entry_17, entry_18, entry_19, entry_20, entry_21, entry_22, entry_23, entry_24, entry_25, entry_26, entry_27, entry_28, entry_29, entry_30, entry_31, entry_32, entry_33, entry_34, entry_35, entry_36, entry_37, entry_38, entry_39, entry_40, entry_41, entry_42, entry_43, entry_44, entry_45, entry_46, entry_47, entry_48, entry_49, entry_50, entry_51}
+use Rattle.dso_legal.proofs.Facts.{is_there, not_zero, isnt_roots, both_roots, neither_roots, not_read}
 
 -- the first entries, the newest first
 abbrev first_0 : List Entry

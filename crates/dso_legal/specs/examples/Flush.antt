@@ -1,19 +1,16 @@
 -- A client that keeps one object flushes, and faults an object in again.
-use Rattle.std.specs.Prelude.{ℕ, pos, true, false, Option, Some, None, List, [], ◌∷◌, length, slice_get}
+use Rattle.std.specs.Prelude.{Option, Some, None, List, [], ◌∷◌, length, slice_get}
 use Rattle.dso_base.specs.declared.journal.Entry.{Entry}
 use Rattle.dso_base.specs.declared.journal.Input.TheVariants as input
 use Rattle.dso_base.specs.declared.journal.Node.TheVariants.{Server, Client}
 use Rattle.dso_base.specs.declared.journal.Sent.TheVariants.{ToServer, ToClient}
-use Rattle.dso_base.specs.declared.lock.Level.TheVariants.{Read, Write}
-use Rattle.dso_base.specs.declared.lock.LockName.TheVariants.{Mon, Name}
+use Rattle.dso_base.specs.declared.lock.Level.TheVariants.{Write}
+use Rattle.dso_base.specs.declared.lock.LockName.TheVariants.{Name}
 use Rattle.dso_base.specs.declared.lock.ThreadId.{ThreadId}
 use Rattle.dso_base.specs.declared.message.Down.TheVariants as down
 use Rattle.dso_base.specs.declared.message.Up.TheVariants as up
-use Rattle.dso_base.specs.declared.record.Choice.TheVariants as choice
 use Rattle.dso_base.specs.declared.record.Ending.TheVariants as ending
 use Rattle.dso_base.specs.declared.request.Event.{Event}
-use Rattle.dso_base.specs.declared.request.Event.TheVariants.{Lost}
-use Rattle.dso_base.specs.declared.request.Fault.TheVariants as fault
 use Rattle.dso_base.specs.declared.request.Reply.TheVariants as reply
 use Rattle.dso_base.specs.declared.request.Request.{Request}
 use Rattle.dso_base.specs.declared.request.Request.TheVariants as request
@@ -22,9 +19,9 @@ use Rattle.dso_base.specs.declared.value.ClassId.TheVariants as class
 use Rattle.dso_base.specs.declared.value.Kind.TheVariants as kind
 use Rattle.dso_base.specs.declared.value.Value.TheVariants as value
 use Rattle.dso_law.specs.Settings.{Settings}
-use Rattle.dso_legal.specs.Slots.{Slot, Acts, TakesDown, Flushes, TakesUp, Loses, Breaks}
+use Rattle.dso_legal.specs.Slots.{Slot, Acts, TakesDown, Flushes, TakesUp}
 use Rattle.dso_legal.specs.examples.Run.{IsRun}
-use Rattle.dso_legal.specs.examples.Words.{thread, body, set, note, txn, act, entry, trigger, class_of_fields, script_of}
+use Rattle.dso_legal.specs.examples.Words.{thread, body, set, txn, act, entry, class_of_fields, script_of}
 
 -- one class with one reference field, one root, one client with one thread that keeps one object
 abbrev pub settings : Settings
