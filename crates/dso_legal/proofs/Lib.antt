@@ -6,3 +6,11 @@ pub mod BrokenIsLawful
 pub mod LostClientIsLawful
 pub mod WaitingIsLawful
 pub mod Refused
+pub mod Agreement
+pub mod Ways
+pub mod Locks
+pub mod LeaseTurns
+pub mod ClientLeases
+pub mod Queues
+pub mod ServerLeases
+pub mod Tokens

@@ -112,6 +112,7 @@ entry_16 = entry 11 (Client 1) (input.TookDown (down.Ack 1)) [] None
 -- the entries, the newest first
 abbrev pub entries : List Entry
 entries = entry_16 ∷ entry_15 ∷ entry_14 ∷ entry_13 ∷ entry_12 ∷ entry_11 ∷ entry_10 ∷ entry_9 ∷ entry_8 ∷ entry_7 ∷ entry_6 ∷ entry_5 ∷ entry_4 ∷ entry_3 ∷ entry_2 ∷ entry_1 ∷ []
+
 -- the slots that are open before each entry, the last entry first
 abbrev pub opens : List (List Slot)
 opens = ((TakesDown 1) ∷ [])

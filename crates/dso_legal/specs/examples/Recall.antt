@@ -220,6 +220,7 @@ entry_43 = entry 29 (Client 2) (input.TookDown (down.Ack 2)) [] None
 -- the entries, the newest first
 abbrev pub entries : List Entry
 entries = entry_43 ∷ entry_42 ∷ entry_41 ∷ entry_40 ∷ entry_39 ∷ entry_38 ∷ entry_37 ∷ entry_36 ∷ entry_35 ∷ entry_34 ∷ entry_33 ∷ entry_32 ∷ entry_31 ∷ entry_30 ∷ entry_29 ∷ entry_28 ∷ entry_27 ∷ entry_26 ∷ entry_25 ∷ entry_24 ∷ entry_23 ∷ entry_22 ∷ entry_21 ∷ entry_20 ∷ entry_19 ∷ entry_18 ∷ entry_17 ∷ entry_16 ∷ entry_15 ∷ entry_14 ∷ entry_13 ∷ entry_12 ∷ entry_11 ∷ entry_10 ∷ entry_9 ∷ entry_8 ∷ entry_7 ∷ entry_6 ∷ entry_5 ∷ entry_4 ∷ entry_3 ∷ entry_2 ∷ entry_1 ∷ []
+
 -- the slots that are open before each entry, the last entry first
 abbrev pub opens : List (List Slot)
 opens = ((TakesDown 2) ∷ [])

@@ -70,14 +70,14 @@ pub record WrongSendings : Type 0 where
   pub record_missing : Refused counter.settings counter.next (record counter.entry_14 { sent = [] }) (first 13 counter.entries)
   pub ack_missing : Refused counter.settings counter.next (record counter.entry_15 { sent = [] }) (first 14 counter.entries)
   pub output_missing : Refused counter.settings counter.next (record counter.entry_34 {
-    sent = ToServer (up.Commit (txn 3 (thread 1 1) [] (set 1 0 (value.Long (pos 1)) ∷ []) [] [] (ending.Exit (Mon 1)))) ∷ []
+    sent = ToServer (up.Commit (txn 3 (thread 1 1) [] (set 1 0 (value.Long (pos 1)) ∷ []) [] [] (ending.Exit (Mon 1)))) ∷ [];
   }) (first 33 counter.entries)
   pub write_granted_beside_write : Refused recall.settings recall.next (record recall.entry_16 { sent = ToClient 2 (down.Grant (Name 0) Write) ∷ [] }) (first 15 recall.entries)
   pub changes_miss_a_holder : Refused waiting.settings waiting.next (record waiting.entry_76 {
-    sent = ToClient 2 (down.Ack 3) ∷ ToClient 1 (down.Wake (Mon 1) (thread 1 1)) ∷ []
+    sent = ToClient 2 (down.Ack 3) ∷ ToClient 1 (down.Wake (Mon 1) (thread 1 1)) ∷ [];
   }) (first 75 waiting.entries)
   pub notify_wakes_nobody : Refused waiting.settings waiting.next (record waiting.entry_76 {
-    sent = ToClient 2 (down.Ack 3) ∷ ToClient 1 (down.Changes (set 1 0 (value.Bool true) ∷ [])) ∷ []
+    sent = ToClient 2 (down.Ack 3) ∷ ToClient 1 (down.Changes (set 1 0 (value.Bool true) ∷ [])) ∷ [];
   }) (first 75 waiting.entries)
   pub lost_client_answered : Refused lost.settings lost.next (record lost.entry_28 { sent = ToClient 1 (down.Ack 1) ∷ [] }) (first 27 lost.entries)
   pub loss_serves_nobody : Refused lost.settings lost.next (record lost.entry_18 { sent = [] }) (first 17 lost.entries)

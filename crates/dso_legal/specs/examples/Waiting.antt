@@ -432,6 +432,7 @@ entry_96 = entry 65 (Client 1) (input.TookDown (down.Ack 5)) [] None
 -- the entries, the newest first
 abbrev pub entries : List Entry
 entries = entry_96 ∷ entry_95 ∷ entry_94 ∷ entry_93 ∷ entry_92 ∷ entry_91 ∷ entry_90 ∷ entry_89 ∷ entry_88 ∷ entry_87 ∷ entry_86 ∷ entry_85 ∷ entry_84 ∷ entry_83 ∷ entry_82 ∷ entry_81 ∷ entry_80 ∷ entry_79 ∷ entry_78 ∷ entry_77 ∷ entry_76 ∷ entry_75 ∷ entry_74 ∷ entry_73 ∷ entry_72 ∷ entry_71 ∷ entry_70 ∷ entry_69 ∷ entry_68 ∷ entry_67 ∷ entry_66 ∷ entry_65 ∷ entry_64 ∷ entry_63 ∷ entry_62 ∷ entry_61 ∷ entry_60 ∷ entry_59 ∷ entry_58 ∷ entry_57 ∷ entry_56 ∷ entry_55 ∷ entry_54 ∷ entry_53 ∷ entry_52 ∷ entry_51 ∷ entry_50 ∷ entry_49 ∷ entry_48 ∷ entry_47 ∷ entry_46 ∷ entry_45 ∷ entry_44 ∷ entry_43 ∷ entry_42 ∷ entry_41 ∷ entry_40 ∷ entry_39 ∷ entry_38 ∷ entry_37 ∷ entry_36 ∷ entry_35 ∷ entry_34 ∷ entry_33 ∷ entry_32 ∷ entry_31 ∷ entry_30 ∷ entry_29 ∷ entry_28 ∷ entry_27 ∷ entry_26 ∷ entry_25 ∷ entry_24 ∷ entry_23 ∷ entry_22 ∷ entry_21 ∷ entry_20 ∷ entry_19 ∷ entry_18 ∷ entry_17 ∷ entry_16 ∷ entry_15 ∷ entry_14 ∷ entry_13 ∷ entry_12 ∷ entry_11 ∷ entry_10 ∷ entry_9 ∷ entry_8 ∷ entry_7 ∷ entry_6 ∷ entry_5 ∷ entry_4 ∷ entry_3 ∷ entry_2 ∷ entry_1 ∷ []
+
 -- the slots that are open before each entry, the last entry first
 abbrev pub opens : List (List Slot)
 opens = ((TakesDown 1) ∷ [])

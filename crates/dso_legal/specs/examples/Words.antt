@@ -63,4 +63,3 @@ class_of_fields fields = record { fields = fields }
 abbrev pub script_of : ThreadId → List (ThreadId × List Request) → List Request
 script_of t [] = []
 script_of t (script ∷ scripts) = cond (is_thread t script.0) script.1 (script_of t scripts)
-
