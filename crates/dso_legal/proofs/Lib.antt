@@ -12,5 +12,7 @@ pub mod Locks
 pub mod LeaseTurns
 pub mod ClientLeases
 pub mod Queues
+pub mod Granting
 pub mod ServerLeases
 pub mod Tokens
+pub mod Lent

@@ -108,7 +108,7 @@ no_grant_deaf l (down.Grant k level) e = other_grant l k level e
 no_grant_deaf l m e = λ s. (tt, refl)
 
 -- what is no grant of the lock is deaf
-no_grants_deaf : (l : LockName) (c : ℕ) (out : List Sent) → NoGrants l out → AllDeaf (MayGoDown l) (standing_down l) (told_to c out)
+pub no_grants_deaf : (l : LockName) (c : ℕ) (out : List Sent) → NoGrants l out → AllDeaf (MayGoDown l) (standing_down l) (told_to c out)
 no_grants_deaf l c [] h = record { comes = λ s. tt; stays = λ s. refl }
 no_grants_deaf l c (ToServer m ∷ out) h = no_grants_deaf l c out h
 no_grants_deaf l c (ToClient d m ∷ out) h = by (eqb c d) (no_grants_deaf l c out h.1)
@@ -194,7 +194,7 @@ grants_first false c l waiter rest queue s e count q = record {
 }
 
 -- a grant of the lock, as the client sees it
-abbrev lent : Bool → Level → Standing → Standing
+abbrev pub lent : Bool → Level → Standing → Standing
 lent b level s = cond b (record { lease = Some level; is_asked = false }) s
 
 -- a grant, and what follows it
@@ -228,7 +228,7 @@ lock_self (Name n) = number_self n
 
 module _ (p : Settings) (l : LockName) where
   -- recalls are no grants
-  recalls_no_grants : (k : LockName) (waiter : Waiter) (served : Served) → NoGrants l (recalls p k waiter served)
+  pub recalls_no_grants : (k : LockName) (waiter : Waiter) (served : Served) → NoGrants l (recalls p k waiter served)
   recalls_no_grants k waiter served = no_grants_map l (λ d. d) (λ d. down.Recall k) _ (λ d. tt)
 
   serve_one : (b : Bool) (c : ℕ) (waiter : Waiter) (rest queue : List Waiter) (served : Served) (s : Standing) → Queued c queue s

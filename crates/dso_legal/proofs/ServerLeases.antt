@@ -35,6 +35,7 @@ use Rattle.dso_legal.proofs.LeaseTurns.{unless_true, if_true, no_both, IsPlain}
 use Rattle.dso_legal.proofs.ClientLeases.{neither}
 use Rattle.dso_legal.proofs.Locks.{Distinct, rising_distinct, requested_rises}
 use Rattle.dso_legal.proofs.Queues.{queued, asks, Queued, queued_append, queued_without, NoGrants, no_grants_append, no_grants_each, no_grants_map, MayTell, tells_no_grant, tells_append, no_grants_first, lock_self, serve_tells, serve_other}
+use Rattle.dso_legal.proofs.Granting.{OneServing, ServesOnce, all_served, answered}
 use Rattle.dso_legal.proofs.Ways.{told_to, told_status, if_to}
 
 -- Of every lock and client the queue and how the lock stands agree; the entries are those that count.
@@ -105,137 +106,79 @@ module _ (c d : ℕ) (l : LockName) (es : List Entry) where
   lost_one true e q = record { count = queued_without c d (queue_of l es) ∙ if_true (eqb c d) 0 (queued c (queue_of l es)) e; plain = λ e. refl }
   lost_one false e q = record { count = queued_without c d (queue_of l es) ∙ unless_true (eqb c d) 0 (queued c (queue_of l es)) e ∙ q.count; plain = q.plain }
 
--- The entries are those that count, and the entry, without what it sends, stands in front of them.
-module _ (p : Settings) (c : ℕ) (l : LockName) (es : List Entry) (q : Queued c (queue_of l es) (standing_with c l es)) where
-  -- what is served of one lock
-  serve_lock : (k : LockName) (b : Bool) → is_lock l k ≡ b → MayTell c l (serves p k es) (queue_of l es) (standing_with c l es)
-  serve_lock k true e = subst (λ j. MayTell c l (serves p j es) (queue_of l es) (standing_with c l es)) (sym (same_lock l k e))
-      (serve_tells p l c (queue_of l es) (queue_of l es) (served_so_far l es) (standing_with c l es) q.count q)
-  serve_lock k false e = tells_no_grant c l (serves p k es) (queue_of l es) (standing_with c l es) (serve_other p l k (queue_of k es) (served_so_far k es) e) q
+-- what serving a lock once tells may come
+pub tells_one : (p : Settings) (c : ℕ) (l : LockName) (out : List Sent) (es : List Entry) → OneServing p l out es → Queued c (queue_of l es) (standing_with c l es) → MayTell c l out (queue_of l es) (standing_with c l es)
+tells_one p c l out es (inl none) q = tells_no_grant c l out (queue_of l es) (standing_with c l es) none q
+tells_one p c l out es (inr once) q =
+    let served = serve_tells p l c (queue_of l es) (queue_of l es) (served_so_far l es) (standing_with c l es) q.count q in
+    subst (λ out. MayTell c l out (queue_of l es) (standing_with c l es)) (sym once.whole)
+    (no_grants_first c l once.front (serves p l es ++ once.behind) (queue_of l es) (standing_with c l es) once.none_in_front
+    (tells_append c l (serves p l es) once.behind (queue_of l es) (standing_with c l es) served.comes
+    (tells_no_grant c l once.behind (by_told (queue_told l) (serves p l es) (queue_of l es)) (after (standing_down l) (told_to c (serves p l es)) (standing_with c l es)) once.none_behind served.queued)))
 
-  -- what is served of other locks
-  serve_others : (locks : List LockName) → has (is_lock l) locks ≡ false → NoGrants l (flat_map (λ k. serves p k es) locks)
-  serve_others [] e = tt
-  serve_others (k ∷ locks) e =
-      let no = neither (is_lock l k) (has (is_lock l) locks) e in
-      no_grants_append l (serves p k es) (flat_map (λ k. serves p k es) locks) (serve_other p l k (queue_of k es) (served_so_far k es) no.0) (serve_others locks no.1)
-
-  serve_next : (k : LockName) (locks : List LockName) (b : Bool) → is_lock l k ≡ b → has (is_lock k) locks ≡ false → MayTell c l (flat_map (λ k. serves p k es) locks) (queue_of l es) (standing_with c l es)
-      → MayTell c l (serves p k es ++ flat_map (λ k. serves p k es) locks) (queue_of l es) (standing_with c l es)
-  serve_next k locks true e alone later =
-      let first = serve_lock k true e in
-      tells_append c l (serves p k es) (flat_map (λ k. serves p k es) locks) (queue_of l es) (standing_with c l es) first.comes
-      (tells_no_grant c l (flat_map (λ k. serves p k es) locks) _ _ (serve_others locks (subst (λ j. has (is_lock j) locks ≡ false) (same_lock l k e) alone)) first.queued)
-  serve_next k locks false e alone later = no_grants_first c l (serves p k es) (flat_map (λ k. serves p k es) locks) (queue_of l es) (standing_with c l es)
-      (serve_other p l k (queue_of k es) (served_so_far k es) e) later
-
-  -- what is served of distinct locks
-  serve_locks : (locks : List LockName) → Distinct locks → MayTell c l (flat_map (λ k. serves p k es) locks) (queue_of l es) (standing_with c l es)
-  serve_locks [] h = tells_no_grant c l [] (queue_of l es) (standing_with c l es) tt q
-  serve_locks (k ∷ locks) h = serve_next k locks (is_lock l k) refl h.0 (serve_locks locks h.1)
-
-  -- and after a loss
-  pub serve_all : MayTell c l (serves_all p es) (queue_of l es) (standing_with c l es)
-  serve_all = serve_locks (requested es) (rising_distinct (requested es) (requested_rises es))
-
-  -- what is no grant
-  none_granted : (out : List Sent) → NoGrants l out → MayTell c l out (queue_of l es) (standing_with c l es)
-  none_granted out none = tells_no_grant c l out (queue_of l es) (standing_with c l es) none q
-
-  -- an object, changes and wakings are no grants
-  object_no_grant : (d : ℕ) (body : Option Body) → NoGrants l (object_to d body)
-  object_no_grant d None = tt
-  object_no_grant d (Some body) = (tt, tt)
-
-  changes_no_grant : (d : ℕ) (sets : List Set) → NoGrants l (changes_to d sets)
-  changes_no_grant d [] = tt
-  changes_no_grant d (set ∷ sets) = (tt, tt)
-
-  changes_if : (b : Bool) (d : ℕ) (sets : List Set) → NoGrants l (cond b [] (changes_to d sets))
-  changes_if true d sets = tt
-  changes_if false d sets = changes_no_grant d sets
-
-  wakes_no_grant : (notes : List Note) (lists : LockName → List ThreadId) → NoGrants l (wakes notes lists)
-  wakes_no_grant [] lists = tt
-  wakes_no_grant (note ∷ notes) lists = no_grants_append l (wake_each note.lock (woken_of note.choice (lists note.lock))) (wakes notes (lists_after note.lock note.choice lists))
-      (no_grants_map l (λ (t : ThreadId). t.client) (λ t. down.Wake note.lock t) (woken_of note.choice (lists note.lock)) (λ t. tt))
-      (wakes_no_grant notes (lists_after note.lock note.choice lists))
-
-  -- the answer to a message of client d
-  pub answered : (d : ℕ) (m : Up) → MayTell c l (answers p d m es) (queue_of l es) (standing_with c l es)
-  answered d up.IdAsk = none_granted _ (tt, tt)
-  answered d (up.Fault o) = none_granted _ (object_no_grant d (stored p.shape o es))
-  answered d (up.Flushed o) = none_granted [] tt
-  answered d (up.Request k level) = serve_lock k (is_lock l k) refl
-  answered d (up.Return k threads) = serve_lock k (is_lock l k) refl
-  answered d (up.Commit txn) = none_granted _ (
-    tt,
-    no_grants_append l (changes_of p d txn es) (wakes txn.notes (λ l. waiters_of l es))
-        (no_grants_each l (λ x. cond (eqb x d) [] (changes_to x (sets_for x txn es))) (clients_of p) (λ x. changes_if (eqb x d) x (sets_for x txn es)))
-        (wakes_no_grant txn.notes (λ l. waiters_of l es)),
-  )
-
--- What a server's entry does, after its entries es: a message of a lost client changes and sends nothing; else what it
--- tells each client of each lock may come.
-pub record Tells (e : Entry) (es : List Entry) : Type 0 where
+-- What a server's entry does, after its entries es: a message of a lost client changes and sends nothing; else its input
+-- keeps the queues, and of each lock it grants what serving the lock once grants.
+pub record Tells (p : Settings) (e : Entry) (es : List Entry) : Type 0 where
   pub kept : (c : ℕ) (l : LockName) → QueuedBy c l e.input es
-  pub comes : (c : ℕ) (l : LockName) → MayTell c l e.sent (queue_by l e.input (queue_of l es)) (standing_by c l e.input (standing_with c l es))
+  pub serving : (l : LockName) → OneServing p l e.sent (unsent e ∷ es)
 
 pub record IsSkipped (e : Entry) (es : List Entry) : Type 0 where
   pub skipped : is_of_lost e.input es ≡ true
   pub silent : e.sent ≡ []
 
-pub record IsCounted (e : Entry) (es : List Entry) : Type 0 where
+pub record IsCounted (p : Settings) (e : Entry) (es : List Entry) : Type 0 where
   pub counts : is_of_lost e.input es ≡ false
-  pub tells : Tells e (counted es)
+  pub tells : Tells p e (counted es)
 
 module _ (p : Settings) (e : Entry) (es : List Entry) (all : AllQueued (counted es)) where
-  -- where the input keeps the queues, and what is sent is said
-  tells : (out : List Sent) → e.sent ≡ out → ((c : ℕ) (l : LockName) → QueuedBy c l e.input (counted es))
-      → ((c : ℕ) (l : LockName) → Queued c (queue_of l (unsent e ∷ counted es)) (standing_with c l (unsent e ∷ counted es)) → MayTell c l out (queue_of l (unsent e ∷ counted es)) (standing_with c l (unsent e ∷ counted es)))
-      → Tells e (counted es)
-  tells out sent kept may = record { kept = kept; comes = λ c l. subst (λ out. MayTell c l out (queue_of l (unsent e ∷ counted es)) (standing_with c l (unsent e ∷ counted es))) (sym sent) (may c l (kept c l)) }
+  -- where the input keeps the queues, and what is sent serves each lock once
+  tells : (out : List Sent) → e.sent ≡ out → ((c : ℕ) (l : LockName) → QueuedBy c l e.input (counted es)) → ((l : LockName) → OneServing p l out (unsent e ∷ counted es)) → Tells p e (counted es)
+  tells out sent kept serving = record { kept = kept; serving = λ l. subst (λ out. OneServing p l out (unsent e ∷ counted es)) (sym sent) (serving l) }
 
-  heard_or_lost : (d : ℕ) (m : Up) (b : Bool) → e.input ≡ input.TookUp d m → is_lost d es ≡ b → HeardOrLost p d m b e (counted es) → IsSkipped e es ⊎ IsCounted e es
+  heard_or_lost : (d : ℕ) (m : Up) (b : Bool) → e.input ≡ input.TookUp d m → is_lost d es ≡ b → HeardOrLost p d m b e (counted es) → IsSkipped e es ⊎ IsCounted p e es
   heard_or_lost d m true is lost h = inl (record { skipped = ap (λ i. is_of_lost i es) is ∙ lost; silent = h })
   heard_or_lost d m false is lost h = inr (record {
     counts = ap (λ i. is_of_lost i es) is ∙ lost;
     tells = tells (answers p d m (unsent e ∷ counted es)) h.sends
         (λ c l. subst (λ i. QueuedBy c l i (counted es)) (sym is) (heard c d l (counted es) p m h.fits (all c l)))
-        (λ c l q. answered p c l (unsent e ∷ counted es) q d m);
+        (λ l. answered p l (unsent e ∷ counted es) d m);
   })
 
-  quiet : (input : Input) → e.input ≡ input → is_of_lost input es ≡ false → e.sent ≡ [] → ((c : ℕ) (l : LockName) → QueuedBy c l input (counted es)) → IsSkipped e es ⊎ IsCounted e es
+  quiet : (input : Input) → e.input ≡ input → is_of_lost input es ≡ false → e.sent ≡ [] → ((c : ℕ) (l : LockName) → QueuedBy c l input (counted es)) → IsSkipped e es ⊎ IsCounted p e es
   quiet input is counts silent kept = inr (record {
     counts = ap (λ i. is_of_lost i es) is ∙ counts;
     tells = tells [] silent (λ c l. subst (λ i. QueuedBy c l i (counted es)) (sym is) (kept c l))
-        (λ c l q. tells_no_grant c l [] (queue_of l (unsent e ∷ counted es)) (standing_with c l (unsent e ∷ counted es)) tt q);
+        (λ l. inl tt);
   })
 
-  by_input : (input : Input) → e.input ≡ input → ServerStepOn p input e es → IsSkipped e es ⊎ IsCounted e es
+  by_input : (input : Input) → e.input ≡ input → ServerStepOn p input e es → IsSkipped e es ⊎ IsCounted p e es
   by_input (input.TookUp d m) is h = heard_or_lost d m (is_lost d es) is refl h.heard
   by_input (input.Lose d) is h = inr (record {
     counts = ap (λ i. is_of_lost i es) is;
     tells = tells (serves_all p (unsent e ∷ counted es)) h.sends
         (λ c l. subst (λ i. QueuedBy c l i (counted es)) (sym is) (lost_one c d l (counted es) (eqb c d) refl (all c l)))
-        (λ c l q. serve_all p c l (unsent e ∷ counted es) q);
+        (λ l. all_served p l (unsent e ∷ counted es));
   })
   by_input (input.Break d) is h = quiet (input.Break d) is refl h.sends (λ c l. all c l)
   by_input (input.Rejoin d) is h = quiet (input.Rejoin d) is refl h.sends (λ c l. all c l)
   by_input other is h = absurd h
 
   -- What the server's entry does.
-  pub server_does : ServerStep p e es → IsSkipped e es ⊎ IsCounted e es
+  pub server_does : ServerStep p e es → IsSkipped e es ⊎ IsCounted p e es
   server_does h = by_input e.input refl h
 
 -- how the lock stands after what is told
 pub standing_after_told : (c : ℕ) (l : LockName) (e : Entry) (es : List Entry) → standing_with c l (e ∷ es) ≡ after (standing_down l) (told_to c e.sent) (standing_by c l e.input (standing_with c l es))
 standing_after_told c l e es = told_status c (standing_down l) e.sent (standing_by c l e.input (standing_with c l es))
 
+-- what is told may come
+pub tells_comes : (p : Settings) (c : ℕ) (l : LockName) (e : Entry) (es : List Entry) → Tells p e es → MayTell c l e.sent (queue_by l e.input (queue_of l es)) (standing_by c l e.input (standing_with c l es))
+tells_comes p c l e es tells = tells_one p c l e.sent (unsent e ∷ es) (tells.serving l) (tells.kept c l)
+
 -- the queues after an entry of the server
 pub queued_after : (p : Settings) (e : Entry) (es : List Entry) → AllQueued (counted es) → ServerStep p e es → AllQueued (counted (e ∷ es))
 queued_after p e es all h c l = elim (server_does p e es all h) [
   | inl skip ↦ subst (λ js. Queued c (queue_of l js) (standing_with c l js)) (sym (if_true (is_of_lost e.input es) (counted es) (e ∷ counted es) skip.skipped)) (all c l)
   | inr here ↦ subst (λ js. Queued c (queue_of l js) (standing_with c l js)) (sym (unless_true (is_of_lost e.input es) (counted es) (e ∷ counted es) here.counts))
-      (subst (λ s. Queued c (queue_of l (e ∷ counted es)) s) (sym (standing_after_told c l e (counted es))) (here.tells.comes c l).queued)
+      (subst (λ s. Queued c (queue_of l (e ∷ counted es)) s) (sym (standing_after_told c l e (counted es))) (tells_comes p c l e (counted es) here.tells).queued)
 ]

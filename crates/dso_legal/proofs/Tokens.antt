@@ -28,7 +28,7 @@ use Rattle.dso_legal.specs.Tokens.{MayGoUp, MayGoDown, AgreeOnLock, LeasesAreTok
 use Rattle.dso_legal.proofs.LeaseTurns.{ClientSpeaks, ServerSpeaks, lock_turns, unless_true, if_true, no_both, IsPlain}
 use Rattle.dso_legal.proofs.ClientLeases.{neither, Says, client_says}
 use Rattle.dso_legal.proofs.Queues.{queued, asks, MayTell, lock_self}
-use Rattle.dso_legal.proofs.ServerLeases.{AllQueued, IsSkipped, IsCounted, server_does, queued_after}
+use Rattle.dso_legal.proofs.ServerLeases.{AllQueued, IsSkipped, IsCounted, server_does, tells_comes, queued_after}
 use Rattle.dso_legal.proofs.Ways.{if_to, client_takes, server_hears, client_sends, server_sends}
 
 -- the agreement, at these ways and standings
@@ -91,7 +91,7 @@ module _ (p : Settings) (next : ThreadId → List Event → Option Request) (e :
       (subst (λ js. Agreed l (messages (way_up c es)) (messages (way_down c es)) (standing_with c l js) (standing l (entries_of (Client c) es))) (sym same) (kept.agree c l before)))
 
   -- and one that counts
-  agree_counted : (c : ℕ) (l : LockName) → TakesFirst e.input Server es → is_lost c (e ∷ entries_of Server es) ≡ false → IsCounted e (entries_of Server es)
+  agree_counted : (c : ℕ) (l : LockName) → TakesFirst e.input Server es → is_lost c (e ∷ entries_of Server es) ≡ false → IsCounted p e (entries_of Server es)
       → Agreed l (messages (way_up_after c e Server (way_up c es))) (messages (way_down_after c e Server (way_down c es))) (standing_with c l (counted (e ∷ entries_of Server es))) (standing l (entries_of (Client c) es))
   agree_counted c l first alive here =
       let alive_here = neither (loses c e.input) (is_lost c (entries_of Server es)) alive in
@@ -101,12 +101,12 @@ module _ (p : Settings) (next : ThreadId → List Event → Option Request) (e :
       subst (λ js. Agreed l (messages (way_up_after c e Server (way_up c es))) (messages (way_down_after c e Server (way_down c es))) (standing_with c l js) (standing l (entries_of (Client c) es))) (sym same)
       (server_sends (MayGoUp l) (standing_up l) (MayGoDown l) (standing_down l) ClientSpeaks ServerSpeaks (lock_turns l) c e.clock e.sent
       (messages (way_up_after c e Server (way_up c es))) (way_down c es) (standing_by c l e.input (standing_with c l (counted (entries_of Server es)))) (standing l (entries_of (Client c) es))
-      (here.tells.comes c l).comes
+      (tells_comes p c l e (counted (entries_of Server es)) here.tells).comes
       (subst (λ s. Agreed l (messages (way_up_after c e Server (way_up c es))) (messages (way_down c es)) s (standing l (entries_of (Client c) es))) (sym heard)
       (server_hears (MayGoUp l) (standing_up l) (MayGoDown l) (standing_down l) c e.input es (messages (way_down c es)) (standing_with c l (counted (entries_of Server es))) (standing l (entries_of (Client c) es)) first
       (kept.agree c l alive_here.1))))
 
-  agree_server : (c : ℕ) (l : LockName) → TakesFirst e.input Server es → is_lost c (e ∷ entries_of Server es) ≡ false → IsSkipped e (entries_of Server es) ⊎ IsCounted e (entries_of Server es)
+  agree_server : (c : ℕ) (l : LockName) → TakesFirst e.input Server es → is_lost c (e ∷ entries_of Server es) ≡ false → IsSkipped e (entries_of Server es) ⊎ IsCounted p e (entries_of Server es)
       → Agreed l (messages (way_up_after c e Server (way_up c es))) (messages (way_down_after c e Server (way_down c es))) (standing_with c l (counted (e ∷ entries_of Server es))) (standing l (entries_of (Client c) es))
   agree_server c l first alive (inl skip) = agree_skipped c l alive skip
   agree_server c l first alive (inr here) = agree_counted c l first alive here
