@@ -1,5 +1,5 @@
--- Two ends that keep a status by the same steps of messages agree, whatever the status and the messages are: it is always
--- one end's turn to speak.
+-- Two ends that keep a status by the same steps of messages agree, whatever the status and the messages are, where
+-- messages of the two ways commute; so they do where it is always one end's turn to speak.
 use Rattle.std.proofs.Common.{◌≡◌, ◌⊎◌, inl, inr, refl, sym, ◌∙◌, ap, subst, List, [], ◌∷◌, ◌++◌}
 use Rattle.std.proofs.lemmas.List.{append_assoc, append-nil}
 use Rattle.dso_legal.specs.Agreement.{after, EachMay, Agree}
@@ -31,14 +31,6 @@ module _ {M S : Type 0} (may : M → S → Type 0) (step : M → S → S) where
     stays = λ s. h.stays (step m s) ∙ (d s).1;
   }
 
-  -- Where only one kind of status lets through a message that isn't deaf, none but deaf ones come in any other.
-  pub none_comes : (Speaks : S → Type 0) → ((m : M) (s : S) → may m s → IsDeaf m ⊎ Speaks s) → (ms : List M) (s : S) → (Speaks s → ⊥) → EachMay may step ms s → AllDeaf ms
-  none_comes Speaks kind [] s not p = record { comes = λ q. tt; stays = λ q. refl }
-  none_comes Speaks kind (m ∷ ms) s not p = elim (kind m s p.0) [
-    | inl d ↦ more_deaf m ms d (none_comes Speaks kind ms s not (subst (EachMay may step ms) (d s).1 p.1))
-    | inr speaks ↦ absurd (not speaks)
-  ]
-
 module _ {U D S : Type 0} (may_up : U → S → Type 0) (step_up : U → S → S) (may_down : D → S → Type 0) (step_down : D → S → S) where
   -- the server takes the first on the way up
   pub took_up : (m : U) (up : List U) (down : List D) (server client : S) → Agree may_up step_up may_down step_down (m ∷ up) down server client
@@ -50,62 +42,118 @@ module _ {U D S : Type 0} (may_up : U → S → Type 0) (step_up : U → S → S
       → Agree may_up step_up may_down step_down up down server (step_down m client)
   took_down m up down server client a = record { ups = a.ups; downs = a.downs.1; meet = a.meet }
 
-module _ {U D S : Type 0} (may_up : U → S → Type 0) (step_up : U → S → S) (may_down : D → S → Type 0) (step_down : D → S → S) (UpSpeaks DownSpeaks : S → Type 0) where
+module _ {U D S : Type 0} (may_up : U → S → Type 0) (step_up : U → S → S) (may_down : D → S → Type 0) (step_down : D → S → S) where
+  -- a message up and one down that may both come in a status: each may come after the other, and the order makes no
+  -- difference
+  pub record Commute (m : U) (d : D) (s : S) : Type 0 where
+    pub down_later : may_down d (step_up m s)
+    pub up_later : may_up m (step_down d s)
+    pub same : step_down d (step_up m s) ≡ step_up m (step_down d s)
+
+  -- Messages commute wherever both may come.
+  abbrev pub Commutes : Type 0
+  Commutes = (m : U) (d : D) (s : S) → may_up m s → may_down d s → Commute m d s
+
+  -- a message up that is deaf commutes with each down
+  pub deaf_up : (m : U) (d : D) (s : S) → IsDeaf may_up step_up m → may_down d s → Commute m d s
+  deaf_up m d s deaf may = record {
+    down_later = subst (may_down d) (sym (deaf s).1) may;
+    up_later = (deaf (step_down d s)).0;
+    same = ap (step_down d) (deaf s).1 ∙ sym (deaf (step_down d s)).1;
+  }
+
+  -- and one down that is deaf with each up
+  pub deaf_down : (m : U) (d : D) (s : S) → IsDeaf may_down step_down d → may_up m s → Commute m d s
+  deaf_down m d s deaf may = record {
+    down_later = (deaf (step_up m s)).0;
+    up_later = subst (may_up m) (sym (deaf s).1) may;
+    same = (deaf (step_up m s)).1 ∙ ap (step_up m) (sym (deaf s).1);
+  }
+
   -- The turns: a message up that isn't deaf comes only in a status in which the client speaks, one down only in one in
   -- which the server speaks, and never do both.
-  pub record Turns : Type 0 where
+  pub record Turns (UpSpeaks DownSpeaks : S → Type 0) : Type 0 where
     pub up : (m : U) (s : S) → may_up m s → IsDeaf may_up step_up m ⊎ UpSpeaks s
     pub down : (m : D) (s : S) → may_down m s → IsDeaf may_down step_down m ⊎ DownSpeaks s
     pub never_both : (s : S) → UpSpeaks s → DownSpeaks s → ⊥
 
-  -- the client sends a message that may come in its status
-  pub sent_up : Turns → (m : U) (up : List U) (down : List D) (server client : S) → may_up m client → Agree may_up step_up may_down step_down up down server client
-      → Agree may_up step_up may_down step_down (up ++ m ∷ []) down server (step_up m client)
-  sent_up turns m up down server client may a = elim (turns.up m client may) [
-    | inl deaf ↦ record {
-      ups = may_append may_up step_up up (m ∷ []) server a.ups ((deaf (after step_up up server)).0, tt);
-      downs = subst (EachMay may_down step_down down) (sym (deaf client).1) a.downs;
-      meet = after_append step_up up (m ∷ []) server ∙ (deaf (after step_up up server)).1 ∙ a.meet ∙ ap (after step_down down) (sym (deaf client).1);
-    }
-    | inr speaks ↦
-        let none = none_comes may_down step_down DownSpeaks turns.down down client (turns.never_both client speaks) a.downs in
-        let same : after step_up up server ≡ client = a.meet ∙ none.stays client in
-        record {
-          ups = may_append may_up step_up up (m ∷ []) server a.ups (subst (may_up m) (sym same) may, tt);
-          downs = none.comes (step_up m client);
-          meet = after_append step_up up (m ∷ []) server ∙ ap (step_up m) same ∙ sym (none.stays (step_up m client));
-        }
+  -- Where the ends take turns, messages commute.
+  pub turns_commute : (UpSpeaks DownSpeaks : S → Type 0) → Turns UpSpeaks DownSpeaks → Commutes
+  turns_commute UpSpeaks DownSpeaks turns m d s up down = elim (turns.up m s up) [
+    | inl deaf ↦ deaf_up m d s deaf down
+    | inr client ↦ elim (turns.down d s down) [
+      | inl deaf ↦ deaf_down m d s deaf up
+      | inr server ↦ absurd (turns.never_both s client server)
+    ]
   ]
 
-  -- the server sends a message that may come in its status
-  pub sent_down : Turns → (m : D) (up : List U) (down : List D) (server client : S) → may_down m server → Agree may_up step_up may_down step_down up down server client
-      → Agree may_up step_up may_down step_down up (down ++ m ∷ []) (step_down m server) client
-  sent_down turns m up down server client may a = elim (turns.down m server may) [
-    | inl deaf ↦ record {
-      ups = subst (EachMay may_up step_up up) (sym (deaf server).1) a.ups;
-      downs = may_append may_down step_down down (m ∷ []) client a.downs ((deaf (after step_down down client)).0, tt);
-      meet = ap (after step_up up) (deaf server).1 ∙ a.meet ∙ sym (after_append step_down down (m ∷ []) client ∙ (deaf (after step_down down client)).1);
-    }
-    | inr speaks ↦
-        let none = none_comes may_up step_up UpSpeaks turns.up up server (λ yes. turns.never_both server yes speaks) a.ups in
-        let same : after step_down down client ≡ server = sym a.meet ∙ none.stays server in
+  -- a message up and all on the way down
+  record UpPast (m : U) (down : List D) (s : S) : Type 0 where
+    comes : EachMay may_down step_down down (step_up m s)
+    may : may_up m (after step_down down s)
+    same : after step_down down (step_up m s) ≡ step_up m (after step_down down s)
+
+  -- a message down and all on the way up
+  record DownPast (d : D) (up : List U) (s : S) : Type 0 where
+    comes : EachMay may_up step_up up (step_down d s)
+    may : may_down d (after step_up up s)
+    same : after step_up up (step_down d s) ≡ step_down d (after step_up up s)
+
+  module _ (commutes : Commutes) where
+    up_past : (m : U) (down : List D) (s : S) → may_up m s → EachMay may_down step_down down s → UpPast m down s
+    up_past m [] s may downs = record { comes = tt; may = may; same = refl }
+    up_past m (d ∷ down) s may downs =
+        let first = commutes m d s may downs.0 in
+        let rest = up_past m down (step_down d s) first.up_later downs.1 in
         record {
-          ups = none.comes (step_down m server);
-          downs = may_append may_down step_down down (m ∷ []) client a.downs (subst (may_down m) (sym same) may, tt);
-          meet = none.stays (step_down m server) ∙ ap (step_down m) (sym same) ∙ sym (after_append step_down down (m ∷ []) client);
+          comes = (first.down_later, subst (EachMay may_down step_down down) (sym first.same) rest.comes);
+          may = rest.may;
+          same = ap (after step_down down) first.same ∙ rest.same;
         }
-  ]
 
-  -- the client sends messages, each of which may come where it stands
-  pub all_sent_up : Turns → (ms : List U) (up : List U) (down : List D) (server client : S) → EachMay may_up step_up ms client
-      → Agree may_up step_up may_down step_down up down server client → Agree may_up step_up may_down step_down (up ++ ms) down server (after step_up ms client)
-  all_sent_up turns [] up down server client may a = subst (λ up. Agree may_up step_up may_down step_down up down server client) (sym (append-nil up)) a
-  all_sent_up turns (m ∷ ms) up down server client may a = subst (λ up. Agree may_up step_up may_down step_down up down server (after step_up ms (step_up m client))) (append_assoc up (m ∷ []) ms)
-      (all_sent_up turns ms (up ++ m ∷ []) down server (step_up m client) may.1 (sent_up turns m up down server client may.0 a))
+    down_past : (d : D) (up : List U) (s : S) → may_down d s → EachMay may_up step_up up s → DownPast d up s
+    down_past d [] s may ups = record { comes = tt; may = may; same = refl }
+    down_past d (m ∷ up) s may ups =
+        let first = commutes m d s ups.0 may in
+        let rest = down_past d up (step_up m s) first.down_later ups.1 in
+        record {
+          comes = (first.up_later, subst (EachMay may_up step_up up) first.same rest.comes);
+          may = rest.may;
+          same = ap (after step_up up) (sym first.same) ∙ rest.same;
+        }
 
-  -- and so does the server
-  pub all_sent_down : Turns → (ms : List D) (up : List U) (down : List D) (server client : S) → EachMay may_down step_down ms server
-      → Agree may_up step_up may_down step_down up down server client → Agree may_up step_up may_down step_down up (down ++ ms) (after step_down ms server) client
-  all_sent_down turns [] up down server client may a = subst (λ down. Agree may_up step_up may_down step_down up down server client) (sym (append-nil down)) a
-  all_sent_down turns (m ∷ ms) up down server client may a = subst (λ down. Agree may_up step_up may_down step_down up down (after step_down ms (step_down m server)) client) (append_assoc down (m ∷ []) ms)
-      (all_sent_down turns ms up (down ++ m ∷ []) (step_down m server) client may.1 (sent_down turns m up down server client may.0 a))
+    -- the client sends a message that may come in its status
+    pub sent_up : (m : U) (up : List U) (down : List D) (server client : S) → may_up m client → Agree may_up step_up may_down step_down up down server client
+        → Agree may_up step_up may_down step_down (up ++ m ∷ []) down server (step_up m client)
+    sent_up m up down server client may a =
+        let past = up_past m down client may a.downs in
+        record {
+          ups = may_append may_up step_up up (m ∷ []) server a.ups (subst (may_up m) (sym a.meet) past.may, tt);
+          downs = past.comes;
+          meet = after_append step_up up (m ∷ []) server ∙ ap (step_up m) a.meet ∙ sym past.same;
+        }
+
+    -- the server sends a message that may come in its status
+    pub sent_down : (d : D) (up : List U) (down : List D) (server client : S) → may_down d server → Agree may_up step_up may_down step_down up down server client
+        → Agree may_up step_up may_down step_down up (down ++ d ∷ []) (step_down d server) client
+    sent_down d up down server client may a =
+        let past = down_past d up server may a.ups in
+        record {
+          ups = past.comes;
+          downs = may_append may_down step_down down (d ∷ []) client a.downs (subst (may_down d) a.meet past.may, tt);
+          meet = past.same ∙ ap (step_down d) a.meet ∙ sym (after_append step_down down (d ∷ []) client);
+        }
+
+    -- the client sends messages, each of which may come where it stands
+    pub all_sent_up : (ms : List U) (up : List U) (down : List D) (server client : S) → EachMay may_up step_up ms client
+        → Agree may_up step_up may_down step_down up down server client → Agree may_up step_up may_down step_down (up ++ ms) down server (after step_up ms client)
+    all_sent_up [] up down server client may a = subst (λ up. Agree may_up step_up may_down step_down up down server client) (sym (append-nil up)) a
+    all_sent_up (m ∷ ms) up down server client may a = subst (λ up. Agree may_up step_up may_down step_down up down server (after step_up ms (step_up m client))) (append_assoc up (m ∷ []) ms)
+        (all_sent_up ms (up ++ m ∷ []) down server (step_up m client) may.1 (sent_up m up down server client may.0 a))
+
+    -- and so does the server
+    pub all_sent_down : (ms : List D) (up : List U) (down : List D) (server client : S) → EachMay may_down step_down ms server
+        → Agree may_up step_up may_down step_down up down server client → Agree may_up step_up may_down step_down up (down ++ ms) (after step_down ms server) client
+    all_sent_down [] up down server client may a = subst (λ down. Agree may_up step_up may_down step_down up down server client) (sym (append-nil down)) a
+    all_sent_down (d ∷ ms) up down server client may a = subst (λ down. Agree may_up step_up may_down step_down up down (after step_down ms (step_down d server)) client) (append_assoc down (d ∷ []) ms)
+        (all_sent_down ms up (down ++ d ∷ []) (step_down d server) client may.1 (sent_down d up down server client may.0 a))

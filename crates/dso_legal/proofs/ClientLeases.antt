@@ -143,7 +143,7 @@ not_there None e = refl
 not_there (Some x) e = absurd (cc e)
 
 -- what is asked, and that nothing was before
-ask_is : (b : Bool) (x m : Up) → unless_asked b x ≡ Some m → (m ≡ x) × (b ≡ false)
+pub ask_is : (b : Bool) (x m : Up) → unless_asked b x ≡ Some m → (m ≡ x) × (b ≡ false)
 ask_is true x m e = absurd (cc e)
 ask_is false x m e = (cc e, refl)
 

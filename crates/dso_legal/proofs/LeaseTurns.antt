@@ -13,7 +13,7 @@ use Rattle.dso_law.specs.declared.readings.Standing.{Standing}
 use Rattle.dso_law.specs.Entries.{by_taken}
 use Rattle.dso_law.specs.Leases.{idle, standing_up, standing_down}
 use Rattle.dso_legal.specs.Tokens.{asked, IsLeased, MayGoUp, MayGoDown}
-use Rattle.dso_legal.proofs.Agreement.{IsDeaf, Turns}
+use Rattle.dso_legal.proofs.Agreement.{IsDeaf, Turns, Commutes, turns_commute}
 
 -- what a test that fails leaves
 pub unless_true : {X : Type 0} (b : Bool) (x y : X) → b ≡ false → cond b x y ≡ y
@@ -78,6 +78,10 @@ lock_turns l = record {
   down = turn_down l;
   never_both = λ s e f. no_both s.is_asked f e;
 }
+
+-- so messages of the two ways commute
+pub lock_commutes : (l : LockName) → Commutes (MayGoUp l) (standing_up l) (MayGoDown l) (standing_down l)
+lock_commutes l = turns_commute (MayGoUp l) (standing_up l) (MayGoDown l) (standing_down l) ClientSpeaks ServerSpeaks (lock_turns l)
 
 -- A lock that is asked for isn't leased.
 abbrev pub IsPlain : Standing → Type 0

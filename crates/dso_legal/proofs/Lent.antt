@@ -38,7 +38,7 @@ use Rattle.dso_legal.proofs.Locks.{Distinct, rising_distinct, requested_rises}
 use Rattle.dso_legal.proofs.Queues.{queued, asks, Queued, NoGrants, no_grants_append, no_grants_deaf, recalls_no_grants, lent, lock_self}
 use Rattle.dso_legal.proofs.Granting.{OneServing, ServesOnce}
 use Rattle.dso_legal.proofs.ServerLeases.{AllQueued, IsSkipped, IsCounted, server_does, standing_after_told, QueuedBy, tells_comes}
-use Rattle.dso_legal.proofs.Tokens.{kept}
+use Rattle.dso_legal.proofs.Tokens.{known}
 use Rattle.dso_legal.proofs.Ways.{told_to, told_append}
 
 -- How a lock stands with each client: leases of two clients don't conflict, and with nobody else is it leased or asked for.
@@ -264,7 +264,7 @@ lent_at p next (Client d) e es queues h all = all
 -- over a whole journal
 pub all_lent : (p : Settings) (next : ThreadId → List Event → Option Request) (es : List Entry) → AllFollow p next es → AllLent p (counted (entries_of Server es))
 all_lent p next [] h = λ l. record { compatible = λ c d level ne e. none_conflicts level; outsiders = λ c out. refl }
-all_lent p next (e ∷ es) h = lent_at p next e.node e es (kept p next es h.0).queues h.1.rule (all_lent p next es h.0)
+all_lent p next (e ∷ es) h = lent_at p next e.node e es (known p next es h.0).queues h.1.rule (all_lent p next es h.0)
 
 pub leases_are_compatible : LeasesAreCompatible
 leases_are_compatible p next es h c d l level = (all_lent p next es h.follow l).compatible c d level

@@ -14,5 +14,9 @@ pub mod ClientLeases
 pub mod Queues
 pub mod Granting
 pub mod ServerLeases
+pub mod ClientSends
+pub mod ServerSent
+pub mod Ends
+pub mod Numbered
 pub mod Tokens
 pub mod Lent

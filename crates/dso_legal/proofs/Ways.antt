@@ -13,7 +13,7 @@ use Rattle.dso_plain.proofs.Keys.{same_number, number_self}
 use Rattle.dso_law.specs.Entries.{by_said, by_told, by_taken, by_heard}
 use Rattle.dso_law.specs.Channels.{Letter, posted, posted_to, takes_up, takes_down, way_up, way_down, IsFirst, TakesFirst}
 use Rattle.dso_legal.specs.Agreement.{messages, after, EachMay, Agree}
-use Rattle.dso_legal.proofs.Agreement.{Turns, all_sent_up, all_sent_down, took_up, took_down}
+use Rattle.dso_legal.proofs.Agreement.{Commutes, all_sent_up, all_sent_down, took_up, took_down}
 
 -- the messages to the server among those sent
 abbrev pub said_of : List Sent → List Up
@@ -124,7 +124,7 @@ module _ {S : Type 0} (may_up : Up → S → Type 0) (step_up : Up → S → S) 
   server_hears c (TookUp d m) es down server client f a = server_takes (eqb c d) c d m es down server client refl f a
   server_hears c input es down server client f a = a
 
-  module _ (UpSpeaks DownSpeaks : S → Type 0) (turns : Turns may_up step_up may_down step_down UpSpeaks DownSpeaks) where
+  module _ (commutes : Commutes may_up step_up may_down step_down) where
     -- what the client's entry sends
     pub client_sends : (clock : ℕ) (out : List Sent) (letters : List (Letter Up)) (down : List Down) (server client : S) → EachMay may_up step_up (said_of out) client
         → Agree may_up step_up may_down step_down (messages letters) down server client
@@ -132,7 +132,7 @@ module _ {S : Type 0} (may_up : Up → S → Type 0) (step_up : Up → S → S) 
     client_sends clock out letters down server client may a =
         subst (λ s. Agree may_up step_up may_down step_down (messages (by_said (posted clock) out letters)) down server s) (sym (said_status step_up out client))
         (subst (λ up. Agree may_up step_up may_down step_down up down server (after step_up (said_of out) client)) (sym (said_letters clock out letters))
-        (all_sent_up may_up step_up may_down step_down UpSpeaks DownSpeaks turns (said_of out) (messages letters) down server client may a))
+        (all_sent_up may_up step_up may_down step_down commutes (said_of out) (messages letters) down server client may a))
 
     -- what the server's entry sends to the client
     pub server_sends : (c clock : ℕ) (out : List Sent) (up : List Up) (letters : List (Letter Down)) (server client : S) → EachMay may_down step_down (told_to c out) server
@@ -141,4 +141,4 @@ module _ {S : Type 0} (may_up : Up → S → Type 0) (step_up : Up → S → S) 
     server_sends c clock out up letters server client may a =
         subst (λ s. Agree may_up step_up may_down step_down up (messages (by_told (posted_to c clock) out letters)) s client) (sym (told_status c step_down out server))
         (subst (λ down. Agree may_up step_up may_down step_down up down (after step_down (told_to c out) server) client) (sym (told_letters c clock out letters))
-        (all_sent_down may_up step_up may_down step_down UpSpeaks DownSpeaks turns (told_to c out) up (messages letters) server client may a))
+        (all_sent_down may_up step_up may_down step_down commutes (told_to c out) up (messages letters) server client may a))

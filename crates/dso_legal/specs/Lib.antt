@@ -3,4 +3,5 @@ pub mod Committed
 pub mod Slots
 pub mod Agreement
 pub mod Tokens
+pub mod Numbered
 pub mod examples
