@@ -6,3 +6,17 @@ pub mod BrokenIsLawful
 pub mod LostClientIsLawful
 pub mod WaitingIsLawful
 pub mod Refused
+pub mod Agreement
+pub mod Ways
+pub mod Locks
+pub mod LeaseTurns
+pub mod ClientLeases
+pub mod Queues
+pub mod Granting
+pub mod ServerLeases
+pub mod ClientSends
+pub mod ServerSent
+pub mod Ends
+pub mod Numbered
+pub mod Tokens
+pub mod Lent

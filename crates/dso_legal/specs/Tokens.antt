@@ -1,0 +1,84 @@
+-- Leases are tokens: what the client and the server say of a lock's lease is one thing, once all on the way is taken.
+use Rattle.std.specs.Prelude.{ℕ, ◌≡◌, ◌≢◌, Bool, true, false, eqb, Option, Some, None, List}
+use Rattle.dso_base.specs.declared.journal.Entry.{Entry}
+use Rattle.dso_base.specs.declared.journal.Node.TheVariants.{Server, Client}
+use Rattle.dso_base.specs.declared.lock.Level.{Level}
+use Rattle.dso_base.specs.declared.lock.LockName.{LockName}
+use Rattle.dso_base.specs.declared.lock.ThreadId.{ThreadId}
+use Rattle.dso_base.specs.declared.message.Down.{Down}
+use Rattle.dso_base.specs.declared.message.Down.TheVariants as down
+use Rattle.dso_base.specs.declared.message.Up.{Up}
+use Rattle.dso_base.specs.declared.message.Up.TheVariants as up
+use Rattle.dso_base.specs.declared.request.Event.{Event}
+use Rattle.dso_base.specs.declared.request.Request.{Request}
+use Rattle.dso_plain.specs.Keys.{is_lock}
+use Rattle.dso_law.specs.declared.readings.Standing.{Standing}
+use Rattle.dso_law.specs.Settings.{Settings, has}
+use Rattle.dso_law.specs.Entries.{entries_of}
+use Rattle.dso_law.specs.Channels.{way_up, way_down, IsFirst}
+use Rattle.dso_law.specs.Leases.{idle, standing_up, standing_down, standing, is_asked_for}
+use Rattle.dso_law.specs.Needs.{conflicts}
+use Rattle.dso_law.specs.Served.{is_lost, counted}
+use Rattle.dso_law.specs.Serving.{standing_with, leased_to, queue_of}
+use Rattle.dso_legal.specs.Agreement.{messages, Agree}
+use Rattle.dso_legal.specs.Lawful.{IsLawful}
+
+-- asked for and not leased
+abbrev pub asked : Standing
+asked = record { lease = None; is_asked = true }
+
+-- leased and not asked for
+pub record IsLeased (s : Standing) : Type 0 where
+  pub leased : s.lease ≢ None
+  pub unasked : s.is_asked ≡ false
+
+-- a request of the lock may come where it is idle, a return where it is leased
+abbrev pub MayGoUp : LockName → Up → Standing → Type 0
+MayGoUp l (up.Request k level) s = is_lock l k ≡ true → s ≡ idle
+MayGoUp l (up.Return k threads) s = is_lock l k ≡ true → IsLeased s
+MayGoUp l m s = Unit {0}
+
+-- a grant of the lock may come where it is asked for
+abbrev pub MayGoDown : LockName → Down → Standing → Type 0
+MayGoDown l (down.Grant k level) s = is_lock l k ≡ true → s ≡ asked
+MayGoDown l m s = Unit {0}
+
+-- The client and the server agree on the lock: each request on the way up stands where the lock is idle, each return
+-- where it is leased, each grant on the way down where it is asked for; once all is taken both say the same.
+abbrev pub AgreeOnLock : ℕ → LockName → List Entry → Type 0
+AgreeOnLock c l es = Agree (MayGoUp l) (standing_up l) (MayGoDown l) (standing_down l) (messages (way_up c es)) (messages (way_down c es))
+    (standing_with c l (counted (entries_of Server es))) (standing l (entries_of (Client c) es))
+
+-- Leases are tokens: in a lawful journal, for each client that isn't lost, both agree on each lock.
+abbrev pub LeasesAreTokens : Type 0
+LeasesAreTokens = (p : Settings) (next : ThreadId → List Event → Option Request) (es : List Entry) → IsLawful p next es
+    → (c : ℕ) (l : LockName) → is_lost c (entries_of Server es) ≡ false → AgreeOnLock c l es
+
+-- how a message fits, at the server, by its leases and queue: a request finds neither a lease nor a request of the client,
+-- a return finds the lease
+abbrev pub LeaseFitsUp : ℕ → Up → List Entry → Type 0
+LeaseFitsUp c (up.Request l level) server = (leased_to c l server ≡ None) × (has (λ waiter. eqb waiter.client c) (queue_of l server) ≡ false)
+LeaseFitsUp c (up.Return l threads) server = leased_to c l server ≢ None
+LeaseFitsUp c m server = Unit {0}
+
+-- and at the client: a grant was asked for
+abbrev pub LeaseFitsDown : Down → List Entry → Type 0
+LeaseFitsDown (down.Grant l level) client = is_asked_for l client ≡ true
+LeaseFitsDown m client = Unit {0}
+
+-- the first message on each way of a client fits
+pub record FirstFits (c : ℕ) (es : List Entry) : Type 0 where
+  pub ups : (m : Up) → IsFirst m (way_up c es) → LeaseFitsUp c m (counted (entries_of Server es))
+  pub downs : (m : Down) → IsFirst m (way_down c es) → LeaseFitsDown m (entries_of (Client c) es)
+
+-- Leases fit: in a lawful journal, for each client that isn't lost, the first message on each way fits the leases of the
+-- end that takes it.
+abbrev pub LeasesFit : Type 0
+LeasesFit = (p : Settings) (next : ThreadId → List Event → Option Request) (es : List Entry) → IsLawful p next es
+    → (c : ℕ) → is_lost c (entries_of Server es) ≡ false → FirstFits c es
+
+-- Leases are compatible: in a lawful journal, of each lock the leases of two clients at the server don't conflict.
+abbrev pub LeasesAreCompatible : Type 0
+LeasesAreCompatible = (p : Settings) (next : ThreadId → List Event → Option Request) (es : List Entry) → IsLawful p next es
+    → (c d : ℕ) (l : LockName) (level : Level) → eqb c d ≡ false → leased_to c l (counted (entries_of Server es)) ≡ Some level
+    → conflicts level (leased_to d l (counted (entries_of Server es))) ≡ false

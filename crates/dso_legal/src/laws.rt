@@ -1,0 +1,33 @@
+//! Laws of lawful journals, of any number of clients and threads and for every program. Each is the contract of a function
+//! that does nothing.
+ghost use Rattle.dso_legal.specs.Tokens.{LeasesAreTokens, LeasesFit, LeasesAreCompatible};
+ghost use Rattle.dso_legal.specs.Numbered.{RecordsStayInOrder, RecordsFit};
+
+/// For each client that isn't lost and each lock: each message on the way may come where it stands, and once all are taken
+/// the client and the server say the same of the lock's lease.
+pub fn leases_are_tokens()
+    ensures { LeasesAreTokens }
+{}
+
+/// For each client that isn't lost the first message on each way fits the leases of the end that takes it: a grant was
+/// asked for, a request finds neither a lease nor a request of the client, a return finds the lease.
+pub fn leases_fit()
+    ensures { LeasesFit }
+{}
+
+/// Of each lock the leases of two clients at the server don't conflict.
+pub fn leases_are_compatible()
+    ensures { LeasesAreCompatible }
+{}
+
+/// For each client that isn't lost: the records on the way up have the numbers after the server's last one, up to the
+/// client's; and those unacknowledged are those on the way up behind those whose acknowledgements are on the way down.
+pub fn records_stay_in_order()
+    ensures { RecordsStayInOrder }
+{}
+
+/// For each client that isn't lost: a record that comes has the server's next number, and an acknowledgement that comes
+/// is of the first record that isn't acknowledged.
+pub fn records_fit()
+    ensures { RecordsFit }
+{}
