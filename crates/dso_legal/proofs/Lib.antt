@@ -18,5 +18,6 @@ pub mod ClientSends
 pub mod ServerSent
 pub mod Ends
 pub mod Numbered
+pub mod Batches
 pub mod Tokens
 pub mod Lent

@@ -46,7 +46,7 @@ taken_unchanged (input.TookDown m) s = refl
 taken_unchanged other s = refl
 
 -- a choice between a thing and itself
-same_either : {X : Type 0} (b : Bool) (x : X) → cond b x x ≡ x
+pub same_either : {X : Type 0} (b : Bool) (x : X) → cond b x x ≡ x
 same_either true x = refl
 same_either false x = refl
 
