@@ -19,5 +19,6 @@ pub mod ServerSent
 pub mod Ends
 pub mod Numbered
 pub mod Batches
+pub mod GivenOnce
 pub mod Tokens
 pub mod Lent

@@ -5,4 +5,5 @@ pub mod Agreement
 pub mod Tokens
 pub mod Numbered
 pub mod Batches
+pub mod GivenOnce
 pub mod examples

@@ -2,6 +2,7 @@
 //! that does nothing.
 ghost use Rattle.dso_legal.specs.Tokens.{LeasesAreTokens, LeasesFit, LeasesAreCompatible};
 ghost use Rattle.dso_legal.specs.Numbered.{RecordsStayInOrder, RecordsFit};
+ghost use Rattle.dso_legal.specs.GivenOnce.{IdsAreGivenOnce};
 ghost use Rattle.dso_legal.specs.Batches.{BatchesStayInOrder, BatchesFit};
 
 /// For each client that isn't lost and each lock: each message on the way may come where it stands, and once all are taken
@@ -42,4 +43,9 @@ pub fn batches_stay_in_order()
 /// For each client that isn't lost: a batch that comes was asked for, and is above those that the client has.
 pub fn batches_fit()
     ensures { BatchesFit }
+{}
+
+/// The server gives no id to two clients.
+pub fn ids_are_given_once()
+    ensures { IdsAreGivenOnce }
 {}
