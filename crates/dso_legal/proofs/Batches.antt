@@ -16,21 +16,21 @@ use Rattle.dso_base.specs.declared.record.Body.{Body}
 use Rattle.dso_base.specs.declared.request.Event.{Event}
 use Rattle.dso_base.specs.declared.request.Request.{Request}
 use Rattle.dso_law.specs.Settings.{Settings, Each}
-use Rattle.dso_law.specs.Entries.{is_node, unsent, entries_of, by_taken, by_heard, by_said, by_told}
+use Rattle.dso_law.specs.Entries.{is_node, unsent, entries_of, by_taken, by_heard, by_told}
 use Rattle.dso_law.specs.Records.{batches_by, batches, batch_by_taken, batch_by_said, is_batch_asked}
-use Rattle.dso_law.specs.Served.{loses, is_of_lost, counted, Batch, batch_by, batches_given, next_batch}
+use Rattle.dso_law.specs.Served.{is_of_lost, counted, Batch, batch_by, batches_given, next_batch}
 use Rattle.dso_law.specs.ServerStep.{object_to, ServerStep}
 use Rattle.dso_law.specs.Store.{stored}
-use Rattle.dso_legal.specs.Agreement.{after, EachMay, Agree}
-use Rattle.dso_legal.specs.Batches.{MayAskIds, MayGiveIds, IsAbove, given_by, given_to, BatchesStayInOrder, BatchesFit}
-use Rattle.dso_legal.specs.Lawful.{next_after, ClientFollows, ServerFollows, NodeFollows, AllFollow}
+use Rattle.dso_legal.specs.Agreement.{after, EachMay}
+use Rattle.dso_legal.specs.Batches.{MayAskIds, MayGiveIds, IsAbove, given_to, BatchesStayInOrder, BatchesFit}
+use Rattle.dso_legal.specs.Lawful.{next_after, NodeFollows, AllFollow}
 use Rattle.dso_legal.specs.Numbered.{Always, unchanged}
-use Rattle.dso_legal.proofs.Agreement.{AllDeaf, IsDeaf, more_deaf, may_append, after_append, Commutes, Turns, turns_commute, deaf_up}
-use Rattle.dso_legal.proofs.ClientSends.{IsRecord, AtMostRecord, IsAboutLock, EachAboutLock, IsAskOrFlush, AtMostAsk, ClientSent, client_sent}
-use Rattle.dso_legal.proofs.Ends.{ClientEnd, ServerEnd, Ends, ends_agree, first_may_down}
+use Rattle.dso_legal.proofs.Agreement.{AllDeaf, IsDeaf, more_deaf, may_append, after_append, Commutes, turns_commute, deaf_up}
+use Rattle.dso_legal.proofs.ClientSends.{AtMostRecord, IsAboutLock, EachAboutLock, IsAskOrFlush, AtMostAsk, ClientSent, client_sent}
+use Rattle.dso_legal.proofs.Ends.{Ends, ends_agree, first_may_down}
 use Rattle.dso_legal.proofs.LeaseTurns.{unless_true, if_true, no_both}
-use Rattle.dso_legal.proofs.Numbered.{each_always, after_unchanged, taken_unchanged, same_either}
-use Rattle.dso_legal.proofs.ServerSent.{EachTold, told_each_deaf, told_each_so, IsNoReply, reply_to, reply_on, ServerSent, server_sent}
+use Rattle.dso_legal.proofs.Numbered.{each_always, after_unchanged, same_either}
+use Rattle.dso_legal.proofs.ServerSent.{EachTold, told_each_deaf, told_each_so, IsNoReply, reply_on, ServerSent, server_sent}
 use Rattle.dso_legal.proofs.Ways.{said_of, told_to, told_append, said_status, told_status, if_to}
 
 -- whose turn it is: the client's where nothing is asked for, the server's where something is

@@ -27,7 +27,7 @@ use Rattle.dso_law.specs.Waits.{client_list}
 use Rattle.dso_law.specs.Records.{records, is_batch_asked, batch_by_taken}
 use Rattle.dso_law.specs.Leases.{leased, is_asked_for}
 use Rattle.dso_law.specs.Closing.{is_closing, due}
-use Rattle.dso_law.specs.Needs.{Need, NeedsId, NeedsObject, NeedsClass, NeedsMark, NeedsLease, NeedsOthersOut, unmet, unless_asked, ask_for}
+use Rattle.dso_law.specs.Needs.{Need, NeedsId, NeedsObject, NeedsClass, NeedsMark, NeedsLease, NeedsOthersOut, unmet, ask_for}
 use Rattle.dso_law.specs.Replies.{woken_by}
 use Rattle.dso_law.specs.ClientStep.{record_of, commits, returns, asks_again, Does, Asks, DoesOrAsks, ActsOn, ClientStepOn, ClientStep}
 use Rattle.dso_legal.proofs.ClientLeases.{ask_is}

@@ -1,5 +1,5 @@
 -- Each id is given to one client: batches are numbered as they are given.
-use Rattle.std.proofs.Common.{ℕ, suc, ◌+◌, ◌*◌, ◌<◌, ◌≤◌, ◌≡◌, ◌⊎◌, inl, inr, refl, sym, ◌∙◌, ap, subst, Bool, true, false, cond, eqb, ◌&&◌, ◌||◌, Option, Some, None, List, [], ◌∷◌, ◌++◌, length, arith}
+use Rattle.std.proofs.Common.{ℕ, suc, ◌+◌, ◌*◌, ◌<◌, ◌≤◌, ◌≡◌, refl, sym, ◌∙◌, ap, subst, Bool, true, false, cond, eqb, ◌&&◌, ◌||◌, Option, List, [], ◌∷◌, length, arith}
 use Rattle.std.specs.Prelude.{leb, ltb}
 use Rattle.std.proofs.lemmas.Bool.Decides.{nat_tests}
 use Rattle.dso_base.specs.declared.journal.Entry.{Entry}
@@ -7,24 +7,21 @@ use Rattle.dso_base.specs.declared.journal.Input.{Input}
 use Rattle.dso_base.specs.declared.journal.Input.TheVariants as input
 use Rattle.dso_base.specs.declared.journal.Node.{Node}
 use Rattle.dso_base.specs.declared.journal.Node.TheVariants.{Server, Client}
-use Rattle.dso_base.specs.declared.journal.Sent.{Sent}
-use Rattle.dso_base.specs.declared.journal.Sent.TheVariants.{ToServer, ToClient}
 use Rattle.dso_base.specs.declared.lock.ThreadId.{ThreadId}
-use Rattle.dso_base.specs.declared.message.Down.TheVariants as down
 use Rattle.dso_base.specs.declared.message.Up.TheVariants as up
 use Rattle.dso_base.specs.declared.request.Event.{Event}
 use Rattle.dso_base.specs.declared.request.Request.{Request}
 use Rattle.dso_plain.proofs.Keys.{both, same_number}
 use Rattle.dso_law.specs.Settings.{Settings, has}
 use Rattle.dso_law.specs.Entries.{is_node, unsent, entries_of, by_told}
-use Rattle.dso_law.specs.Served.{is_of_lost, counted, Batch, batch_by, batches_given, is_in_batch, is_given_to}
+use Rattle.dso_law.specs.Served.{is_of_lost, counted, Batch, batch_by, batches_given, is_in_batch}
 use Rattle.dso_law.specs.ServerStep.{object_to, ServerStep}
 use Rattle.dso_law.specs.Store.{stored}
 use Rattle.dso_legal.specs.GivenOnce.{IdsAreGivenOnce}
 use Rattle.dso_legal.specs.Lawful.{NodeFollows, AllFollow}
 use Rattle.dso_legal.proofs.Batches.{IsNoIds, no_reply_no_ids, no_batches, object_no_ids, told_by_append}
 use Rattle.dso_legal.proofs.LeaseTurns.{unless_true, if_true}
-use Rattle.dso_legal.proofs.ServerSent.{EachTold, told_each_so, IsNoReply, reply_on, ServerSent, server_sent}
+use Rattle.dso_legal.proofs.ServerSent.{told_each_so, IsNoReply, reply_on, ServerSent, server_sent}
 
 -- each batch begins after as many batches of 256 as were given before it, from 1 on; the latest stands first
 abbrev pub InTurn : List Batch → Type 0

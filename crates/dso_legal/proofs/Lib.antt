@@ -20,5 +20,6 @@ pub mod Ends
 pub mod Numbered
 pub mod Batches
 pub mod GivenOnce
+pub mod OfBatches
 pub mod Tokens
 pub mod Lent

@@ -13,7 +13,7 @@ use Rattle.dso_law.specs.Settings.{Settings, Each}
 use Rattle.dso_law.specs.Entries.{entries_of, by_told}
 use Rattle.dso_law.specs.Channels.{way_up, way_down, IsFirst}
 use Rattle.dso_law.specs.Records.{batches_by, batches, batch_by_taken, batch_by_said, is_batch_asked}
-use Rattle.dso_law.specs.Served.{is_lost, counted, next_batch, is_given_to}
+use Rattle.dso_law.specs.Served.{is_lost, counted}
 use Rattle.dso_legal.specs.Agreement.{messages, Agree}
 use Rattle.dso_legal.specs.Lawful.{IsLawful}
 use Rattle.dso_legal.specs.Numbered.{Always, unchanged}

@@ -2,7 +2,7 @@
 //! that does nothing.
 ghost use Rattle.dso_legal.specs.Tokens.{LeasesAreTokens, LeasesFit, LeasesAreCompatible};
 ghost use Rattle.dso_legal.specs.Numbered.{RecordsStayInOrder, RecordsFit};
-ghost use Rattle.dso_legal.specs.GivenOnce.{IdsAreGivenOnce};
+ghost use Rattle.dso_legal.specs.GivenOnce.{IdsAreGivenOnce, IdsAreOfBatches};
 ghost use Rattle.dso_legal.specs.Batches.{BatchesStayInOrder, BatchesFit};
 
 /// For each client that isn't lost and each lock: each message on the way may come where it stands, and once all are taken
@@ -48,4 +48,9 @@ pub fn batches_fit()
 /// The server gives no id to two clients.
 pub fn ids_are_given_once()
     ensures { IdsAreGivenOnce }
+{}
+
+/// For each client that isn't lost: the id that its next new object gets was given to it.
+pub fn ids_are_of_batches()
+    ensures { IdsAreOfBatches }
 {}
