@@ -21,5 +21,6 @@ pub mod Numbered
 pub mod Batches
 pub mod GivenOnce
 pub mod OfBatches
+pub mod Lacks
 pub mod Tokens
 pub mod Lent
