@@ -1,16 +1,14 @@
 -- What a client's entry says of a lock may come where the lock stands with it.
-use Rattle.std.proofs.Common.{ℕ, ◌≡◌, ◌≢◌, ◌⊎◌, inl, inr, refl, sym, ◌∙◌, ap, subst, Bool, true, false, cond, not, eqb, ◌&&◌, ◌||◌, is_some, Option, Some, None, List, [], ◌∷◌, ◌++◌, map}
+use Rattle.std.proofs.Common.{ℕ, ◌≡◌, refl, sym, ◌∙◌, ap, subst, Bool, true, false, cond, not, ◌&&◌, ◌||◌, is_some, Option, Some, None, List, [], ◌∷◌, ◌++◌, map}
 use Rattle.std.proofs.lemmas.List.{append_assoc}
 use Rattle.dso_base.specs.declared.journal.Entry.{Entry}
 use Rattle.dso_base.specs.declared.journal.Input.{Input}
 use Rattle.dso_base.specs.declared.journal.Input.TheVariants as input
-use Rattle.dso_base.specs.declared.journal.Sent.{Sent}
 use Rattle.dso_base.specs.declared.journal.Sent.TheVariants.{ToServer}
 use Rattle.dso_base.specs.declared.lock.Level.{Level}
 use Rattle.dso_base.specs.declared.lock.Level.TheVariants.{Write}
 use Rattle.dso_base.specs.declared.lock.LockName.{LockName}
 use Rattle.dso_base.specs.declared.lock.ThreadId.{ThreadId}
-use Rattle.dso_base.specs.declared.message.Down.{Down}
 use Rattle.dso_base.specs.declared.message.Up.{Up}
 use Rattle.dso_base.specs.declared.message.Up.TheVariants as up
 use Rattle.dso_base.specs.declared.record.Ending.{Ending}
@@ -22,19 +20,19 @@ use Rattle.dso_plain.specs.Keys.{is_lock}
 use Rattle.dso_plain.proofs.Keys.{both, same_lock}
 use Rattle.dso_law.specs.declared.readings.Standing.{Standing}
 use Rattle.dso_law.specs.Settings.{Settings, has, Each}
-use Rattle.dso_law.specs.Entries.{unsent, by_taken, by_said}
+use Rattle.dso_law.specs.Entries.{unsent, by_taken}
 use Rattle.dso_law.specs.Threads.{locks_of, ending_of}
 use Rattle.dso_law.specs.Waits.{client_list}
 use Rattle.dso_law.specs.Leases.{idle, standing_up, standing_down, standing, leased, is_asked_for, granted, leased_locks}
 use Rattle.dso_law.specs.Closing.{is_closing, is_due, due}
 use Rattle.dso_law.specs.Needs.{Need, NeedsId, NeedsObject, NeedsClass, NeedsMark, NeedsLease, NeedsOthersOut, unmet, unless_asked, ask_for}
 use Rattle.dso_law.specs.Replies.{woken_by}
-use Rattle.dso_law.specs.ClientStep.{record_of, commits, returns, asks_again, Does, Asks, DoesOrAsks, ActsOn, ActStep, TakenStep, FlushStep, RejoinStep, ClientStepOn, ClientStep}
+use Rattle.dso_law.specs.ClientStep.{record_of, commits, returns, asks_again, Does, Asks, DoesOrAsks, ActsOn, ClientStepOn, ClientStep}
 use Rattle.dso_legal.specs.Agreement.{after, EachMay}
 use Rattle.dso_legal.specs.Tokens.{IsLeased, MayGoUp}
 use Rattle.dso_legal.proofs.Agreement.{AllDeaf, IsDeaf, more_deaf, may_append, after_append}
 use Rattle.dso_legal.proofs.Facts.{is_there}
-use Rattle.dso_legal.proofs.LeaseTurns.{unless_true, if_true, no_both, other_request, other_return, IsPlain, leased_plain, is_idle, plain_taken}
+use Rattle.dso_legal.proofs.LeaseTurns.{if_true, other_return, IsPlain, leased_plain, is_idle, plain_taken}
 use Rattle.dso_legal.proofs.Locks.{Distinct, rising_distinct, granted_rises, distinct_filter, each_filter, each_passes}
 use Rattle.dso_legal.proofs.Ways.{said_of, said_status, said_all}
 

@@ -22,14 +22,15 @@ use Rattle.dso_plain.specs.Keys.{is_lock}
 use Rattle.dso_law.specs.Settings.{Settings, has}
 use Rattle.dso_law.specs.Entries.{unsent, by_taken}
 use Rattle.dso_law.specs.Threads.{locks_of, ending_of, open_block, privates_before}
-use Rattle.dso_law.specs.Copies.{is_object_asked, asked_by_taken}
+use Rattle.dso_law.specs.Copies.{is_object_asked, asked_by_taken, is_resident, resident_by_taken, unless_flushed}
 use Rattle.dso_law.specs.Waits.{client_list}
 use Rattle.dso_law.specs.Records.{records, is_batch_asked, batch_by_taken}
 use Rattle.dso_law.specs.Leases.{leased, is_asked_for}
 use Rattle.dso_law.specs.Closing.{is_closing, due}
-use Rattle.dso_law.specs.Needs.{Need, NeedsId, NeedsObject, NeedsClass, NeedsMark, NeedsLease, NeedsOthersOut, unmet, unless_asked, ask_for}
+use Rattle.dso_law.specs.Needs.{Need, NeedsId, NeedsObject, NeedsClass, NeedsMark, NeedsLease, NeedsOthersOut, unmet, ask_for}
 use Rattle.dso_law.specs.Replies.{woken_by}
 use Rattle.dso_law.specs.ClientStep.{record_of, commits, returns, asks_again, Does, Asks, DoesOrAsks, ActsOn, ClientStepOn, ClientStep}
+use Rattle.dso_legal.proofs.Lacks.{IsLacking, lacking}
 use Rattle.dso_legal.proofs.ClientLeases.{ask_is}
 use Rattle.dso_legal.proofs.Ways.{said_of, said_all}
 
@@ -56,11 +57,11 @@ abbrev pub EachAboutLock : List Up → Type 0
 EachAboutLock [] = Unit {0}
 EachAboutLock (m ∷ ms) = IsAboutLock m × EachAboutLock ms
 
--- an ask for what isn't asked for, a request of a lock, or the flush that the entry is; the entry, without what it sends,
+-- an ask for what is neither asked for nor there, a request of a lock, or the flush that the entry is; the entry, without what it sends,
 -- stands in front of the entries
 abbrev pub IsAskOrFlush : Input → List Entry → Up → Type 0
 IsAskOrFlush i es up.IdAsk = is_batch_asked es ≡ false
-IsAskOrFlush i es (up.Fault o) = is_object_asked o es ≡ false
+IsAskOrFlush i es (up.Fault o) = (is_object_asked o es ≡ false) × (is_resident o es ≡ false)
 IsAskOrFlush i es (up.Flushed o) = i ≡ input.Flush o
 IsAskOrFlush i es (up.Request l level) = Unit {0}
 IsAskOrFlush i es m = ⊥
@@ -99,16 +100,17 @@ at_most_record p t event (Some ending) es = record {
 
 -- an ask is none that was asked
 ask_is_new : (need : Need) (before : List Entry) (m : Up) (input : Input) (es : List Entry) → is_batch_asked es ≡ is_batch_asked before → ((o : ℕ) → is_object_asked o es ≡ is_object_asked o before)
+    → ((o : ℕ) → is_resident o es ≡ is_resident o before) → IsLacking before (Some need)
     → ask_for need before ≡ Some m → IsAskOrFlush input es m
-ask_is_new NeedsId before m input es batch object ask =
+ask_is_new NeedsId before m input es batch object there lacks ask =
     let it = ask_is (is_batch_asked before) up.IdAsk m ask in subst (IsAskOrFlush input es) (sym it.0) (batch ∙ it.1)
-ask_is_new (NeedsObject o) before m input es batch object ask =
-    let it = ask_is (is_object_asked o before) (up.Fault o) m ask in subst (IsAskOrFlush input es) (sym it.0) (object o ∙ it.1)
-ask_is_new (NeedsLease k level) before m input es batch object ask =
+ask_is_new (NeedsObject o) before m input es batch object there lacks ask =
+    let it = ask_is (is_object_asked o before) (up.Fault o) m ask in subst (IsAskOrFlush input es) (sym it.0) (object o ∙ it.1, there o ∙ lacks)
+ask_is_new (NeedsLease k level) before m input es batch object there lacks ask =
     let it = ask_is (is_some (leased k before) || is_asked_for k before) (up.Request k level) m ask in subst (IsAskOrFlush input es) (sym it.0) tt
-ask_is_new (NeedsClass o) before m input es batch object ask = absurd (cc ask)
-ask_is_new (NeedsMark k) before m input es batch object ask = absurd (cc ask)
-ask_is_new (NeedsOthersOut k) before m input es batch object ask = absurd (cc ask)
+ask_is_new (NeedsClass o) before m input es batch object there lacks ask = absurd (cc ask)
+ask_is_new (NeedsMark k) before m input es batch object there lacks ask = absurd (cc ask)
+ask_is_new (NeedsOthersOut k) before m input es batch object there lacks ask = absurd (cc ask)
 
 module _ (p : Settings) (c : ℕ) (before after_it : ThreadId → Option Request) (e : Entry) (es : List Entry) where
   about_again_if : (k : LockName) (b : Bool) → EachAboutLock (cond b (up.Request k Write ∷ []) [])
@@ -141,8 +143,12 @@ module _ (p : Settings) (c : ℕ) (before after_it : ThreadId → Option Request
         asks = tt;
       }
 
-  sent_asks : (need : Need) (index : ℕ) → e.input ≡ input.Act index → Asks p c need after_it e es → ClientSent e es
-  sent_asks need index is asks = record {
+  -- an act leaves what is resident
+  still_there : {index : ℕ} (o : ℕ) → e.input ≡ input.Act index → is_resident o (unsent e ∷ es) ≡ is_resident o es
+  still_there o is = ap (λ i. unless_flushed o i (by_taken (resident_by_taken o) i (is_resident o es))) is
+
+  sent_asks : (need : Need) (index : ℕ) → e.input ≡ input.Act index → IsLacking es (Some need) → Asks p c need after_it e es → ClientSent e es
+  sent_asks need index is lacks asks = record {
     first = [];
     locks = returns p c after_it (unsent e ∷ es);
     last = asks.message ∷ [];
@@ -150,16 +156,17 @@ module _ (p : Settings) (c : ℕ) (before after_it : ThreadId → Option Request
     records = tt;
     about_locks = about_given;
     asks = ask_is_new need es asks.message e.input (unsent e ∷ es) (ap (λ i. by_taken batch_by_taken i (is_batch_asked es)) is)
-        (λ o. ap (λ i. by_taken (asked_by_taken o) i (is_object_asked o es)) is) asks.asked;
+        (λ o. ap (λ i. by_taken (asked_by_taken o) i (is_object_asked o es)) is)
+        (λ o. still_there o is) lacks asks.asked;
   }
 
-  sent_or_asks : (t : ThreadId) (request : Request) (need : Option Need) (index : ℕ) → e.input ≡ input.Act index → DoesOrAsks p c t request need before after_it e es → ClientSent e es
-  sent_or_asks t request None index is h = sent_does t request h
-  sent_or_asks t request (Some need) index is h = sent_asks need index is h
+  sent_or_asks : (t : ThreadId) (request : Request) (need : Option Need) (index : ℕ) → e.input ≡ input.Act index → IsLacking es need → DoesOrAsks p c t request need before after_it e es → ClientSent e es
+  sent_or_asks t request None index is lacks h = sent_does t request h
+  sent_or_asks t request (Some need) index is lacks h = sent_asks need index is lacks h
 
   sent_acts : (t : ThreadId) (request : Option Request) (index : ℕ) → e.input ≡ input.Act index → ActsOn p c t request before after_it e es → ClientSent e es
   sent_acts t None index is h = absurd h
-  sent_acts t (Some request) index is h = sent_or_asks t request (unmet p c before t request es) index is h
+  sent_acts t (Some request) index is h = sent_or_asks t request (unmet p c before t request es) index is (lacking p c before t es request) h
 
   sent_by : (i : Input) → e.input ≡ i → ClientStepOn p c i before after_it e es → ClientSent e es
   sent_by (input.Act index) is h = sent_acts (record { client = c; index = index }) (before (record { client = c; index = index })) index is h.acts

@@ -1,6 +1,6 @@
 -- The two ends of a client's ways, over lawful journals: where each end's reading steps with the messages, and each message
 -- sent may come where the sender's reading stands, both agree while the client isn't lost.
-use Rattle.std.proofs.Common.{ℕ, ◌≡◌, ◌⊎◌, inl, inr, refl, sym, ◌∙◌, ap, subst, Bool, true, false, cond, eqb, ◌||◌, List, [], ◌∷◌}
+use Rattle.std.proofs.Common.{ℕ, ◌≡◌, refl, sym, ◌∙◌, ap, subst, Bool, true, false, cond, eqb, List, [], ◌∷◌}
 use Rattle.std.specs.Prelude.{Option, drop}
 use Rattle.dso_base.specs.declared.journal.Entry.{Entry}
 use Rattle.dso_base.specs.declared.journal.Input.{Input}
@@ -17,7 +17,7 @@ use Rattle.dso_law.specs.Settings.{Settings}
 use Rattle.dso_law.specs.Entries.{is_node, entries_of, by_taken, by_heard, by_said, by_told}
 use Rattle.dso_law.specs.Channels.{Letter, takes_up, takes_down, way_up, way_up_after, way_down, way_down_after, IsFirst, TakesFirst, posted, posted_to}
 use Rattle.dso_law.specs.Served.{loses, is_lost, is_of_lost, counted}
-use Rattle.dso_law.specs.ServerStep.{HeardOrLost, ServerStepOn, ServerStep}
+use Rattle.dso_law.specs.ServerStep.{HeardOrLost, ServerStepOn}
 use Rattle.dso_legal.specs.Agreement.{messages, EachMay, Agree}
 use Rattle.dso_legal.specs.Lawful.{ClientFollows, ServerFollows, NodeFollows, AllFollow}
 use Rattle.dso_legal.proofs.Agreement.{Commutes}

@@ -1,43 +1,40 @@
 -- The leases of a lock at the server are compatible, and only clients of the cluster have any.
-use Rattle.std.proofs.Common.{ℕ, zero, suc, ◌≡◌, ◌≢◌, ◌⊎◌, inl, inr, refl, sym, ◌∙◌, ap, subst, Bool, true, false, cond, not, eqb, ◌&&◌, ◌||◌, Option, Some, None, List, [], ◌∷◌, ◌++◌, arith}
-use Rattle.std.specs.Prelude.{filter, flat_map}
+use Rattle.std.proofs.Common.{ℕ, suc, ◌≡◌, ◌≢◌, ◌⊎◌, inl, inr, refl, sym, ◌∙◌, ap, subst, Bool, true, false, cond, not, eqb, ◌&&◌, ◌||◌, Option, Some, None, List, [], ◌∷◌, ◌++◌, arith}
 use Rattle.dso_base.specs.declared.journal.Entry.{Entry}
 use Rattle.dso_base.specs.declared.journal.Input.{Input}
 use Rattle.dso_base.specs.declared.journal.Input.TheVariants as input
 use Rattle.dso_base.specs.declared.journal.Node.{Node}
 use Rattle.dso_base.specs.declared.journal.Node.TheVariants.{Server, Client}
 use Rattle.dso_base.specs.declared.journal.Sent.{Sent}
-use Rattle.dso_base.specs.declared.journal.Sent.TheVariants.{ToServer, ToClient}
+use Rattle.dso_base.specs.declared.journal.Sent.TheVariants.{ToClient}
 use Rattle.dso_base.specs.declared.lock.Level.{Level}
 use Rattle.dso_base.specs.declared.lock.Level.TheVariants.{Read, Write}
 use Rattle.dso_base.specs.declared.lock.LockName.{LockName}
 use Rattle.dso_base.specs.declared.lock.ThreadId.{ThreadId}
-use Rattle.dso_base.specs.declared.message.Down.{Down}
 use Rattle.dso_base.specs.declared.message.Down.TheVariants as down
 use Rattle.dso_base.specs.declared.message.Up.{Up}
 use Rattle.dso_base.specs.declared.message.Up.TheVariants as up
 use Rattle.dso_base.specs.declared.request.Event.{Event}
 use Rattle.dso_base.specs.declared.request.Request.{Request}
 use Rattle.dso_plain.specs.Keys.{is_lock}
-use Rattle.dso_plain.proofs.Keys.{same_lock, same_number, number_self}
+use Rattle.dso_plain.proofs.Keys.{same_number, number_self}
 use Rattle.dso_law.specs.declared.readings.Standing.{Standing}
 use Rattle.dso_law.specs.Settings.{Settings, has, clients_of}
 use Rattle.dso_law.specs.Entries.{is_node, entries_of, unsent}
 use Rattle.dso_law.specs.Leases.{idle, standing_up, standing_down}
 use Rattle.dso_law.specs.Needs.{conflicts}
-use Rattle.dso_law.specs.Served.{is_lost, is_of_lost, counted}
-use Rattle.dso_law.specs.Serving.{Waiter, Served, queue_of, standing_by, standing_with, with_grant, is_against, recalls, serve_queue, serves, serves_all, served_so_far, requested}
-use Rattle.dso_law.specs.ServerStep.{answers, HeardOrLost, ServerStepOn, ServerStep}
+use Rattle.dso_law.specs.Served.{is_of_lost, counted}
+use Rattle.dso_law.specs.Serving.{Waiter, Served, queue_of, standing_by, standing_with, with_grant, is_against, recalls, serve_queue, serves, served_so_far}
+use Rattle.dso_law.specs.ServerStep.{ServerStepOn, ServerStep}
 use Rattle.dso_legal.specs.Agreement.{after}
-use Rattle.dso_legal.specs.Lawful.{NodeFollows, AllFollow, IsLawful}
+use Rattle.dso_legal.specs.Lawful.{NodeFollows, AllFollow}
 use Rattle.dso_legal.specs.Tokens.{LeasesAreCompatible}
 use Rattle.dso_legal.proofs.Agreement.{after_append}
 use Rattle.dso_legal.proofs.LeaseTurns.{unless_true, if_true, no_both}
 use Rattle.dso_legal.proofs.ClientLeases.{neither}
-use Rattle.dso_legal.proofs.Locks.{Distinct, rising_distinct, requested_rises}
-use Rattle.dso_legal.proofs.Queues.{queued, asks, Queued, NoGrants, no_grants_append, no_grants_deaf, recalls_no_grants, lent, lock_self}
-use Rattle.dso_legal.proofs.Granting.{OneServing, ServesOnce}
-use Rattle.dso_legal.proofs.ServerLeases.{AllQueued, IsSkipped, IsCounted, server_does, standing_after_told, QueuedBy, tells_comes}
+use Rattle.dso_legal.proofs.Queues.{queued, asks, Queued, NoGrants, no_grants_deaf, recalls_no_grants, lent, lock_self}
+use Rattle.dso_legal.proofs.Granting.{OneServing}
+use Rattle.dso_legal.proofs.ServerLeases.{AllQueued, server_does, standing_after_told}
 use Rattle.dso_legal.proofs.Tokens.{known}
 use Rattle.dso_legal.proofs.Ways.{told_to, told_append}
 

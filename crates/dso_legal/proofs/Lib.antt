@@ -18,5 +18,9 @@ pub mod ClientSends
 pub mod ServerSent
 pub mod Ends
 pub mod Numbered
+pub mod Batches
+pub mod GivenOnce
+pub mod OfBatches
+pub mod Lacks
 pub mod Tokens
 pub mod Lent

@@ -1,5 +1,5 @@
 -- Lists of locks that rise have each lock once.
-use Rattle.std.proofs.Common.{ℕ, suc, ◌+◌, ◌<◌, ◌≡◌, ◌≢◌, ◌⊎◌, inl, inr, refl, sym, ◌∙◌, ap, subst, Bool, true, false, cond, eqb, ◌||◌, List, [], ◌∷◌, ◌++◌, arith}
+use Rattle.std.proofs.Common.{ℕ, ◌≡◌, refl, ◌∙◌, ap, Bool, true, false, cond, eqb, ◌||◌, List, [], ◌∷◌, arith}
 use Rattle.std.specs.Prelude.{ltb, filter}
 use Rattle.std.proofs.lemmas.Bool.Decides.{nat_tests}
 use Rattle.dso_base.specs.declared.journal.Entry.{Entry}
@@ -9,10 +9,8 @@ use Rattle.dso_base.specs.declared.lock.LockName.{LockName}
 use Rattle.dso_base.specs.declared.lock.LockName.TheVariants.{Mon, Name}
 use Rattle.dso_base.specs.declared.message.Down.{Down}
 use Rattle.dso_base.specs.declared.message.Down.TheVariants as down
-use Rattle.dso_base.specs.declared.message.Up.{Up}
 use Rattle.dso_base.specs.declared.message.Up.TheVariants as up
 use Rattle.dso_plain.specs.Keys.{is_lock}
-use Rattle.dso_plain.proofs.Keys.{same_lock}
 use Rattle.dso_law.specs.Settings.{has, Each}
 use Rattle.dso_law.specs.Entries.{by_taken}
 use Rattle.dso_law.specs.Leases.{is_lock_before, insert_lock, granted_by, granted}

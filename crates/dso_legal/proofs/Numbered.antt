@@ -1,6 +1,5 @@
 -- The records of a client are numbered and acknowledged in order.
-use Rattle.std.proofs.Common.{ℕ, suc, ◌≡◌, refl, sym, ◌∙◌, ap, subst, Bool, true, false, cond, eqb, Option, Some, None, List, [], ◌∷◌, ◌++◌}
-use Rattle.std.specs.Prelude.{drop}
+use Rattle.std.proofs.Common.{ℕ, ◌≡◌, refl, sym, ◌∙◌, ap, subst, Bool, true, false, cond, eqb, Option, Some, None, List, [], ◌∷◌, ◌++◌}
 use Rattle.dso_base.specs.declared.journal.Entry.{Entry}
 use Rattle.dso_base.specs.declared.journal.Input.{Input}
 use Rattle.dso_base.specs.declared.journal.Input.TheVariants as input
@@ -15,19 +14,18 @@ use Rattle.dso_base.specs.declared.record.Txn.{Txn}
 use Rattle.dso_base.specs.declared.request.Event.{Event}
 use Rattle.dso_base.specs.declared.request.Request.{Request}
 use Rattle.dso_law.specs.Settings.{Settings}
-use Rattle.dso_law.specs.Entries.{unsent, entries_of, by_taken, by_heard, by_said, by_told}
-use Rattle.dso_law.specs.FitsDown.{FitsAck}
+use Rattle.dso_law.specs.Entries.{unsent, entries_of, by_taken, by_heard}
 use Rattle.dso_law.specs.Records.{records_by, records, unacked_by_taken, unacked_by_said, unacked}
-use Rattle.dso_law.specs.Served.{loses, is_of_lost, counted, number_by, last_number, next_batch}
+use Rattle.dso_law.specs.Served.{counted, number_by, last_number, next_batch}
 use Rattle.dso_law.specs.Store.{stored}
 use Rattle.dso_law.specs.ServerStep.{object_to}
-use Rattle.dso_legal.specs.Agreement.{after, EachMay, Agree}
-use Rattle.dso_legal.specs.Lawful.{next_after, ClientFollows, ServerFollows, AllFollow}
+use Rattle.dso_legal.specs.Agreement.{after, EachMay}
+use Rattle.dso_legal.specs.Lawful.{next_after}
 use Rattle.dso_legal.specs.Numbered.{Always, unchanged, HasNextNumber, number_said, IsOfFirst, RecordsStayInOrder, RecordsFit}
 use Rattle.dso_legal.proofs.Agreement.{AllDeaf, IsDeaf, more_deaf, may_append, after_append, Commute, Commutes, deaf_down}
-use Rattle.dso_legal.proofs.ClientSends.{IsRecord, AtMostRecord, IsAboutLock, EachAboutLock, IsAskOrFlush, AtMostAsk, ClientSent, client_sent}
-use Rattle.dso_legal.proofs.Ends.{ClientEnd, ServerEnd, Ends, ends_agree, first_may_up, first_may_down}
-use Rattle.dso_legal.proofs.ServerSent.{EachTold, told_each_deaf, told_each_so, IsNoReply, reply_to, reply_on, ServerSent, server_sent}
+use Rattle.dso_legal.proofs.ClientSends.{AtMostRecord, IsAboutLock, EachAboutLock, IsAskOrFlush, AtMostAsk, ClientSent, client_sent}
+use Rattle.dso_legal.proofs.Ends.{Ends, ends_agree, first_may_up, first_may_down}
+use Rattle.dso_legal.proofs.ServerSent.{told_each_deaf, told_each_so, IsNoReply, reply_on, ServerSent, server_sent}
 use Rattle.dso_legal.proofs.Ways.{said_of, told_to, told_append, said_status, told_status, if_to}
 
 -- messages that may always come
@@ -46,7 +44,7 @@ taken_unchanged (input.TookDown m) s = refl
 taken_unchanged other s = refl
 
 -- a choice between a thing and itself
-same_either : {X : Type 0} (b : Bool) (x : X) → cond b x x ≡ x
+pub same_either : {X : Type 0} (b : Bool) (x : X) → cond b x x ≡ x
 same_either true x = refl
 same_either false x = refl
 

@@ -1,8 +1,7 @@
 -- Of each lock the server's queue has a client exactly once where the lock is asked for by it; and what the server sends
 -- of a lock may come where the lock stands with the client.
-use Rattle.std.proofs.Common.{ℕ, zero, suc, ◌+◌, ◌≡◌, ◌≢◌, ◌⊎◌, inl, inr, refl, sym, ◌∙◌, ap, subst, Bool, true, false, cond, not, eqb, ◌&&◌, ◌||◌, Option, Some, None, List, [], ◌∷◌, ◌++◌, map, arith}
-use Rattle.std.specs.Prelude.{filter, flat_map}
-use Rattle.std.proofs.lemmas.Bool.Decides.{nat_tests}
+use Rattle.std.proofs.Common.{ℕ, suc, ◌≡◌, ◌≢◌, refl, sym, ◌∙◌, ap, subst, Bool, true, false, cond, not, eqb, Some, List, [], ◌∷◌, ◌++◌, map, arith}
+use Rattle.std.specs.Prelude.{flat_map}
 use Rattle.dso_base.specs.declared.journal.Sent.{Sent}
 use Rattle.dso_base.specs.declared.journal.Sent.TheVariants.{ToServer, ToClient}
 use Rattle.dso_base.specs.declared.lock.Level.{Level}
@@ -11,18 +10,16 @@ use Rattle.dso_base.specs.declared.lock.LockName.TheVariants.{Mon, Name}
 use Rattle.dso_base.specs.declared.message.Down.{Down}
 use Rattle.dso_base.specs.declared.message.Down.TheVariants as down
 use Rattle.dso_plain.specs.Keys.{is_lock}
-use Rattle.dso_plain.proofs.Keys.{same_lock, same_number, number_self}
+use Rattle.dso_plain.proofs.Keys.{same_number, number_self}
 use Rattle.dso_law.specs.declared.readings.Standing.{Standing}
 use Rattle.dso_law.specs.Settings.{Settings, has, clients_of}
 use Rattle.dso_law.specs.Entries.{by_told}
-use Rattle.dso_law.specs.Leases.{idle, standing_up, standing_down}
-use Rattle.dso_law.specs.Serving.{Waiter, Served, without_client, queue_told, with_grant, is_against, to_each, recalls, serve_queue}
+use Rattle.dso_law.specs.Leases.{standing_down}
+use Rattle.dso_law.specs.Serving.{Waiter, Served, without_client, queue_told, with_grant, is_against, recalls, serve_queue}
 use Rattle.dso_legal.specs.Agreement.{after, EachMay}
 use Rattle.dso_legal.specs.Tokens.{asked, MayGoDown}
 use Rattle.dso_legal.proofs.Agreement.{AllDeaf, IsDeaf, more_deaf, may_append, after_append}
-use Rattle.dso_legal.proofs.LeaseTurns.{unless_true, if_true, no_both, other_grant, IsPlain, asked_plain, plain_granted}
-use Rattle.dso_legal.proofs.ClientLeases.{neither}
-use Rattle.dso_legal.proofs.Locks.{Distinct}
+use Rattle.dso_legal.proofs.LeaseTurns.{unless_true, if_true, other_grant, IsPlain, asked_plain}
 use Rattle.dso_legal.proofs.Ways.{told_to, told_append}
 
 -- how often the client stands in the queue

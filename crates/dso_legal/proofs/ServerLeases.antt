@@ -1,42 +1,29 @@
 -- What a server's entry tells a client of a lock may come where the lock stands with the client.
-use Rattle.std.proofs.Common.{ℕ, zero, suc, ◌+◌, ◌≡◌, ◌≢◌, ◌⊎◌, inl, inr, refl, sym, ◌∙◌, ap, subst, Bool, true, false, cond, not, eqb, ◌&&◌, ◌||◌, Option, Some, None, List, [], ◌∷◌, ◌++◌, map, arith}
-use Rattle.std.specs.Prelude.{filter, flat_map}
+use Rattle.std.proofs.Common.{ℕ, suc, ◌≡◌, ◌≢◌, ◌⊎◌, inl, inr, refl, sym, ◌∙◌, ap, subst, Bool, true, false, cond, eqb, None, List, [], ◌∷◌, ◌++◌, arith}
 use Rattle.dso_base.specs.declared.journal.Entry.{Entry}
 use Rattle.dso_base.specs.declared.journal.Input.{Input}
 use Rattle.dso_base.specs.declared.journal.Input.TheVariants as input
 use Rattle.dso_base.specs.declared.journal.Sent.{Sent}
-use Rattle.dso_base.specs.declared.journal.Sent.TheVariants.{ToServer, ToClient}
 use Rattle.dso_base.specs.declared.lock.Level.{Level}
 use Rattle.dso_base.specs.declared.lock.LockName.{LockName}
-use Rattle.dso_base.specs.declared.lock.ThreadId.{ThreadId}
-use Rattle.dso_base.specs.declared.message.Down.{Down}
-use Rattle.dso_base.specs.declared.message.Down.TheVariants as down
 use Rattle.dso_base.specs.declared.message.Up.{Up}
 use Rattle.dso_base.specs.declared.message.Up.TheVariants as up
-use Rattle.dso_base.specs.declared.record.Body.{Body}
-use Rattle.dso_base.specs.declared.record.Note.{Note}
-use Rattle.dso_base.specs.declared.record.Set.{Set}
-use Rattle.dso_base.specs.declared.record.Txn.{Txn}
 use Rattle.dso_plain.specs.Keys.{is_lock}
 use Rattle.dso_plain.proofs.Keys.{same_lock, same_number, number_self}
 use Rattle.dso_law.specs.declared.readings.Standing.{Standing}
-use Rattle.dso_law.specs.Settings.{Settings, has, clients_of}
+use Rattle.dso_law.specs.Settings.{Settings, has}
 use Rattle.dso_law.specs.Entries.{unsent, by_told}
-use Rattle.dso_law.specs.FitsUp.{FitsRequest, FitsUp}
-use Rattle.dso_law.specs.Leases.{idle, standing_up, standing_down}
+use Rattle.dso_law.specs.FitsUp.{FitsUp}
+use Rattle.dso_law.specs.Leases.{idle, standing_down}
 use Rattle.dso_law.specs.Served.{is_lost, is_of_lost, counted}
-use Rattle.dso_law.specs.Serving.{Waiter, without_client, queue_by_message, queue_by, queue_told, queue_of, standing_by, standing_told, standing_with, serves, serves_all, served_so_far, requested}
-use Rattle.dso_law.specs.Store.{stored}
-use Rattle.dso_law.specs.Waking.{waiters_of, woken_of, lists_after, wake_each, wakes}
-use Rattle.dso_law.specs.ServerStep.{object_to, sets_for, changes_to, changes_of, answers, HeardStep, HeardOrLost, TookStep, ServerStepOn, ServerStep}
-use Rattle.dso_legal.specs.Agreement.{after, EachMay}
-use Rattle.dso_legal.specs.Tokens.{MayGoDown}
-use Rattle.dso_legal.proofs.LeaseTurns.{unless_true, if_true, no_both, IsPlain}
+use Rattle.dso_law.specs.Serving.{Waiter, without_client, queue_by, queue_told, queue_of, standing_by, standing_with, serves, serves_all, served_so_far}
+use Rattle.dso_law.specs.ServerStep.{answers, HeardOrLost, ServerStepOn, ServerStep}
+use Rattle.dso_legal.specs.Agreement.{after}
+use Rattle.dso_legal.proofs.LeaseTurns.{unless_true, if_true, no_both}
 use Rattle.dso_legal.proofs.ClientLeases.{neither}
-use Rattle.dso_legal.proofs.Locks.{Distinct, rising_distinct, requested_rises}
-use Rattle.dso_legal.proofs.Queues.{queued, asks, Queued, queued_append, queued_without, NoGrants, no_grants_append, no_grants_each, no_grants_map, MayTell, tells_no_grant, tells_append, no_grants_first, lock_self, serve_tells, serve_other}
-use Rattle.dso_legal.proofs.Granting.{OneServing, ServesOnce, all_served, answered}
-use Rattle.dso_legal.proofs.Ways.{told_to, told_status, if_to}
+use Rattle.dso_legal.proofs.Queues.{queued, asks, Queued, queued_append, queued_without, MayTell, tells_no_grant, tells_append, no_grants_first, serve_tells}
+use Rattle.dso_legal.proofs.Granting.{OneServing, all_served, answered}
+use Rattle.dso_legal.proofs.Ways.{told_to, told_status}
 
 -- Of every lock and client the queue and how the lock stands agree; the entries are those that count.
 abbrev pub AllQueued : List Entry → Type 0

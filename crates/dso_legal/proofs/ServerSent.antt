@@ -22,7 +22,7 @@ use Rattle.dso_law.specs.Served.{is_lost, is_of_lost, counted, next_batch}
 use Rattle.dso_law.specs.Serving.{Waiter, Served, queue_of, with_grant, is_against, recalls, serve_queue, serves, serves_all, served_so_far, requested}
 use Rattle.dso_law.specs.Store.{stored}
 use Rattle.dso_law.specs.Waking.{waiters_of, woken_of, lists_after, wake_each, wakes}
-use Rattle.dso_law.specs.ServerStep.{object_to, sets_for, changes_to, changes_of, answers, HeardStep, HeardOrLost, ServerStepOn, ServerStep}
+use Rattle.dso_law.specs.ServerStep.{object_to, sets_for, changes_to, changes_of, answers, HeardOrLost, ServerStepOn, ServerStep}
 use Rattle.dso_legal.proofs.Agreement.{AllDeaf, IsDeaf, more_deaf}
 use Rattle.dso_legal.proofs.LeaseTurns.{no_both}
 use Rattle.dso_legal.proofs.Ways.{told_to}

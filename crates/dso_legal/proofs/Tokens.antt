@@ -1,6 +1,5 @@
 -- Leases are tokens, over lawful journals.
-use Rattle.std.proofs.Common.{ℕ, suc, arith, ◌≡◌, ◌≢◌, ◌⊎◌, inl, inr, refl, sym, ◌∙◌, ap, subst, Bool, true, false, cond, eqb, ◌||◌, Option, Some, None, List, [], ◌∷◌, ◌++◌}
-use Rattle.std.specs.Prelude.{drop}
+use Rattle.std.proofs.Common.{ℕ, suc, arith, ◌≡◌, ◌≢◌, inl, inr, refl, sym, ◌∙◌, ap, subst, Bool, true, false, cond, eqb, ◌||◌, Option, List, [], ◌∷◌}
 use Rattle.dso_base.specs.declared.journal.Entry.{Entry}
 use Rattle.dso_base.specs.declared.journal.Input.{Input}
 use Rattle.dso_base.specs.declared.journal.Input.TheVariants.{TookUp, Lose}
@@ -17,21 +16,21 @@ use Rattle.dso_base.specs.declared.request.Request.{Request}
 use Rattle.dso_plain.proofs.Keys.{same_number, number_self}
 use Rattle.dso_law.specs.declared.readings.Standing.{Standing}
 use Rattle.dso_law.specs.Settings.{Settings, has}
-use Rattle.dso_law.specs.Entries.{is_node, entries_of, by_taken, by_heard, by_said, by_told}
-use Rattle.dso_law.specs.Channels.{Letter, takes_up, takes_down, way_up, way_up_after, way_down, way_down_after, IsFirst, TakesFirst, posted, posted_to}
+use Rattle.dso_law.specs.Entries.{entries_of, by_heard, by_told}
+use Rattle.dso_law.specs.Channels.{way_up, way_down, IsFirst}
 use Rattle.dso_law.specs.Leases.{idle, standing_up, standing_down, standing}
 use Rattle.dso_law.specs.Served.{loses, is_lost, is_of_lost, counted}
 use Rattle.dso_law.specs.Serving.{Waiter, standing_by, standing_with, queue_of}
-use Rattle.dso_legal.specs.Agreement.{messages, after, EachMay, Agree}
-use Rattle.dso_legal.specs.Lawful.{next_after, ClientFollows, ServerFollows, NodeFollows, MayFollow, AllFollow, IsLawful}
+use Rattle.dso_legal.specs.Agreement.{EachMay}
+use Rattle.dso_legal.specs.Lawful.{next_after, ClientFollows, ServerFollows, NodeFollows, AllFollow, IsLawful}
 use Rattle.dso_legal.specs.Tokens.{MayGoUp, MayGoDown, AgreeOnLock, LeasesAreTokens, LeaseFitsUp, LeaseFitsDown, LeasesFit}
-use Rattle.dso_legal.proofs.LeaseTurns.{lock_commutes, unless_true, if_true, no_both, IsPlain}
-use Rattle.dso_legal.proofs.ClientLeases.{neither, Says, client_says}
-use Rattle.dso_legal.proofs.Queues.{queued, asks, MayTell, lock_self}
-use Rattle.dso_legal.proofs.ServerLeases.{AllQueued, IsSkipped, IsCounted, server_does, tells_comes, queued_after}
+use Rattle.dso_legal.proofs.LeaseTurns.{lock_commutes, unless_true, no_both, IsPlain}
+use Rattle.dso_legal.proofs.ClientLeases.{Says, client_says}
+use Rattle.dso_legal.proofs.Queues.{queued, asks, lock_self}
+use Rattle.dso_legal.proofs.ServerLeases.{AllQueued, server_does, tells_comes, queued_after}
 use Rattle.dso_legal.proofs.Ends.{server_with, client_with, ServerEnd, Ends, ends_agree, first_may_up, first_may_down}
 use Rattle.dso_legal.proofs.Ways.{told_to}
-use Rattle.dso_legal.proofs.Ways.{if_to, client_takes, server_hears, client_sends, server_sends}
+use Rattle.dso_legal.proofs.Ways.{if_to}
 
 -- what the server takes, where the client isn't lost
 heard_alive : (c : ℕ) (l : LockName) (input : Input) (s : Standing) → loses c input ≡ false → standing_by c l input s ≡ by_heard (if_to c (standing_up l)) input s

@@ -9,7 +9,7 @@ use Rattle.dso_base.specs.declared.journal.Sent.{Sent}
 use Rattle.dso_base.specs.declared.journal.Sent.TheVariants.{ToServer, ToClient}
 use Rattle.dso_base.specs.declared.message.Down.{Down}
 use Rattle.dso_base.specs.declared.message.Up.{Up}
-use Rattle.dso_plain.proofs.Keys.{same_number, number_self}
+use Rattle.dso_plain.proofs.Keys.{same_number}
 use Rattle.dso_law.specs.Entries.{by_said, by_told, by_taken, by_heard}
 use Rattle.dso_law.specs.Channels.{Letter, posted, posted_to, takes_up, takes_down, way_up, way_down, IsFirst, TakesFirst}
 use Rattle.dso_legal.specs.Agreement.{messages, after, EachMay, Agree}

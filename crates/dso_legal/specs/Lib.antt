@@ -4,4 +4,6 @@ pub mod Slots
 pub mod Agreement
 pub mod Tokens
 pub mod Numbered
+pub mod Batches
+pub mod GivenOnce
 pub mod examples

@@ -1,5 +1,5 @@
 -- Leases are tokens: what the client and the server say of a lock's lease is one thing, once all on the way is taken.
-use Rattle.std.specs.Prelude.{ℕ, ◌≡◌, ◌≢◌, Bool, true, false, eqb, Option, Some, None, List}
+use Rattle.std.specs.Prelude.{ℕ, ◌≡◌, ◌≢◌, true, false, eqb, Option, Some, None, List}
 use Rattle.dso_base.specs.declared.journal.Entry.{Entry}
 use Rattle.dso_base.specs.declared.journal.Node.TheVariants.{Server, Client}
 use Rattle.dso_base.specs.declared.lock.Level.{Level}
