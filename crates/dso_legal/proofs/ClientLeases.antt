@@ -224,7 +224,7 @@ module _ (p : Settings) (c : ℕ) (l : LockName) (before after_it : ThreadId →
 
   -- a request for one of the locks given back, behind the returns
   again : (request : Option Request) (s : Standing) → s ≡ without_lease (has (is_lock l) (due p c after_it (unsent e ∷ es))) so_far → IsPlain so_far → IsPlain s
-      → MaySay l (asks_again p c before after_it request e es) s
+      → MaySay l (asks_again p c before after_it request (unsent e ∷ es) es) s
   again (Some (Enter k Write)) s is plain_so_far plain = again_one p c l after_it (unsent e ∷ es) plain_so_far k
       (not (is_closing p c before k es) && has (is_lock k) (due p c after_it (unsent e ∷ es))) s is plain
       (λ yes. (both (not (is_closing p c before k es)) (has (is_lock k) (due p c after_it (unsent e ∷ es))) yes).1)
@@ -234,9 +234,9 @@ module _ (p : Settings) (c : ℕ) (l : LockName) (before after_it : ThreadId →
   client_does t request plain does =
       let event : Event = Act t request does.reply (woken_by request does.reply es) in
       says _ does.sends (subst (λ ms. MaySay l ms so_far)
-      (sym (append_assoc (commits p t event es) (returns p c after_it (unsent e ∷ es)) (asks_again p c before after_it (after_it t) e es)))
+      (sym (append_assoc (commits p t event es) (returns p c after_it (unsent e ∷ es)) (asks_again p c before after_it (after_it t) (unsent e ∷ es) es)))
       (deaf_first l (commits p t event es) _ so_far (commits_deaf p l t event (ending_of event (locks_of t es)) es)
-      (gives_back_then p c l after_it (unsent e ∷ es) plain (asks_again p c before after_it (after_it t) e es)
+      (gives_back_then p c l after_it (unsent e ∷ es) plain (asks_again p c before after_it (after_it t) (unsent e ∷ es) es)
       (λ s is plain_s. again (after_it t) s is plain plain_s))))
 
   client_asks : (need : Need) → IsPlain so_far → standing l es ≡ so_far → Asks p c need after_it e es → Says

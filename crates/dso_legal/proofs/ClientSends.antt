@@ -117,7 +117,7 @@ module _ (p : Settings) (c : ℕ) (before after_it : ThreadId → Option Request
   about_again_if k true = (tt, tt)
   about_again_if k false = tt
 
-  about_again : (request : Option Request) → EachAboutLock (asks_again p c before after_it request e es)
+  about_again : (request : Option Request) → EachAboutLock (asks_again p c before after_it request (unsent e ∷ es) es)
   about_again (Some (Enter k Write)) = about_again_if k (not (is_closing p c before k es) && has (is_lock k) (due p c after_it (unsent e ∷ es)))
   about_again request = tt
 
@@ -131,7 +131,7 @@ module _ (p : Settings) (c : ℕ) (before after_it : ThreadId → Option Request
   sent_does : (t : ThreadId) (request : Request) → Does p c t request before after_it e es → ClientSent e es
   sent_does t request does =
       let event : Event = Act t request does.reply (woken_by request does.reply es) in
-      let again : List Up = asks_again p c before after_it (after_it t) e es in
+      let again : List Up = asks_again p c before after_it (after_it t) (unsent e ∷ es) es in
       record {
         first = commits p t event es;
         locks = returns p c after_it (unsent e ∷ es) ++ again;

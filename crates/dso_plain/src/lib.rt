@@ -17,6 +17,8 @@ mod possible;
 mod publish;
 mod reads;
 mod steps;
+#[cfg(test)]
+mod table;
 mod tables;
 mod writes;
 
