@@ -1,0 +1,9 @@
+use Rattle.std.proofs.Common.{◌≡◌, ◌-◌, length}
+use Rattle.dso_syntax.specs.ProgramReader.{names}
+use Rattle.dso_syntax.specs.Gives.{input}
+use Rattle.dso_syntax.proofs.Listed.{with_front}
+use Rattle.dso_syntax.proofs.member.names.Given as goal
+
+-- what was read, and what is read of the rest, is what is read of all
+abbrev pub invariant-loop : goal.invariant-loop
+invariant-loop l = (with_front l.all (names (length l.rest.tokens.now - l.counter) (input l.left)) ≡ names (length l.rest.tokens.now) (input l.rest)) × (l.left.room ≡ l.rest.room)

@@ -1,0 +1,16 @@
+pub mod Bytes
+pub mod Classes
+pub mod Spelling
+pub mod Token
+pub mod Scan
+pub mod Reading
+pub mod Grammar
+pub mod Program
+pub mod Faults
+pub mod Reader
+pub mod ProgramReader
+pub mod Answer
+pub mod Gives
+pub mod Parts
+pub mod Levels
+pub mod Blocks

@@ -1,0 +1,73 @@
+//! Text literals.
+
+ghost use Rattle.std.specs.Prelude.{◌≡◌, ◌<◌, ◌≤◌, ◌-◌, ◌^◌, false, length, IfOk, IfSome};
+ghost use Rattle.dso_syntax.specs.Scan as spec;
+
+use crate::bytes::is_printable;
+use crate::token::Form;
+use dso_base::{Items, NoMemory, Word};
+use std::alloc::Global;
+
+/// What a byte of a text literal is, from behind the opening quote on.
+#[derive(Clone, Copy, Debug)]
+pub enum Bite {
+    Close,
+    Backslash,
+    Content,
+    Bad,
+}
+
+const LONGEST_CONTENT: usize = 255;
+
+/// What a byte is, behind a backslash or not.
+fn bite_of(after_backslash: bool, b: u8) -> Bite
+    ensures { result ≡ spec.bite_of after_backslash b }
+{
+    match (after_backslash, b) {
+        (true, b'"' | b'\\') => Bite::Content,
+        (true, _) => Bite::Bad,
+        (false, b'"') => Bite::Close,
+        (false, b'\\') => Bite::Backslash,
+        (false, other) if is_printable(other) => Bite::Content,
+        _ => Bite::Bad,
+    }
+}
+
+/// The content of a text literal from behind its opening quote, and its length with the closing quote.
+#[tactic(auto, using(crate::proofs::Content::at_close, crate::proofs::Content::at_backslash, crate::proofs::Content::at_content, crate::proofs::Content::at_bad))]
+fn content_at(alloc: Global, text: &[u8]) -> Result<Option<(Word, usize)>, NoMemory>
+    ensures value { IfOk result (λ found. found ≡ spec.content_at false text.now) }
+    ensures within { IfOk result (λ found. IfSome found (λ taken. taken.1 ≤ length text.now)) }
+{
+    let mut text = text;
+    let mut content = Items::new(alloc);
+    let mut len = 0;
+    let mut after_backslash = false;
+    while let [b, rest @ ..] = text {
+        len += 1;
+        text = rest;
+        match bite_of(after_backslash, *b) {
+            Bite::Close => return Ok(Some((content, len))),
+            Bite::Backslash => after_backslash = true,
+            Bite::Content => {
+                content.push(*b)?;
+                after_backslash = false;
+            }
+            Bite::Bad => return Ok(None),
+        }
+    }
+    Ok(None)
+}
+
+/// A text literal from behind its opening quote.
+pub fn literal_at(alloc: Global, text: &[u8]) -> Result<Option<(Form, usize)>, NoMemory>
+    requires { length text.now < 2 ^ 63 }
+    ensures { IfOk result (λ found. found ≡ spec.literal_of (spec.content_at false text.now)) }
+{
+    match content_at(alloc, text)? {
+        Some((content, len)) if content.len() <= LONGEST_CONTENT => {
+            Ok(Some((Form::Text(content), len + 1)))
+        }
+        _ => Ok(None),
+    }
+}

@@ -1,0 +1,98 @@
+//! Whole program texts.
+
+ghost use Rattle.std.specs.Prelude.{◌≡◌, ◌≤◌, ◌<◌, Err, length, IfOk, IfErr};
+ghost use Rattle.dso_syntax.specs.Answer as answer;
+ghost use Rattle.dso_syntax.specs.Faults.{IsText};
+ghost use Rattle.dso_syntax.specs.declared.fault.SyntaxFault.TheVariants as fault;
+
+use crate::cursor::Rest;
+use crate::fault::SyntaxFault;
+use crate::item::items;
+use crate::lex::{Lexed, tokens_of};
+use crate::stop::Stop;
+use crate::token::{Ending, Token};
+use crate::tree::Ast;
+use std::alloc::Global;
+
+const LONGEST_TEXT: usize = 1_048_576;
+
+/// The most levels of nesting.
+const MOST_LEVELS: u32 = 64;
+
+/// What is wrong behind all tokens.
+fn fault_behind(ending: Ending) -> SyntaxFault
+    ensures { result ≡ answer.fault_behind ending }
+{
+    match ending {
+        Ending::End(place) => SyntaxFault::Unexpected(place),
+        Ending::BadByte(place) => SyntaxFault::BadByte(place),
+        Ending::BadToken(place) => SyntaxFault::BadToken(place),
+    }
+}
+
+/// The place of the next token, None where no token is left.
+fn place_of(tokens: &[Token]) -> Option<u64>
+    ensures { result ≡ answer.place_of tokens.now }
+{
+    match tokens {
+        [token, ..] => Some(token.place),
+        [] => None,
+    }
+}
+
+/// The fault for which reading stops.
+fn fault_of(stop: Stop<'_>, ending: Ending) -> SyntaxFault
+    ensures { result ≡ answer.fault_of stop.entry ending }
+{
+    match stop {
+        Stop::NoMemory => SyntaxFault::NoMemory,
+        Stop::Unexpected(tokens) => match place_of(tokens) {
+            Some(place) => SyntaxFault::Unexpected(place),
+            None => fault_behind(ending),
+        },
+        Stop::TooWide(tokens) => match place_of(tokens) {
+            Some(place) => SyntaxFault::NumberTooWide(place),
+            None => fault_behind(ending),
+        },
+        Stop::TooDeep(tokens) => match place_of(tokens) {
+            Some(place) => SyntaxFault::NestTooDeep(place),
+            None => fault_behind(ending),
+        },
+    }
+}
+
+/// The tree of a text by its tokens, or its fault.
+#[tactic(auto, using(crate::proofs::Answer::tree_answered, crate::proofs::Answer::end_answered, crate::proofs::Answer::stop_answered))]
+fn tree_of(alloc: Global, lexed: &Lexed) -> Result<Ast, SyntaxFault>
+    ensures { answer.Answers result (answer.answer_of lexed.now.tokens lexed.now.ending) }
+{
+    let rest = Rest {
+        tokens: lexed.tokens.as_slice(),
+        room: MOST_LEVELS,
+    };
+    match items(alloc, rest) {
+        Ok((items, _)) => match lexed.ending {
+            Ending::End(_) => Ok(Ast { items }),
+            ending => Err(fault_behind(ending)),
+        },
+        Err(stop) => Err(fault_of(stop, lexed.ending)),
+    }
+}
+
+/// Reads a program text of at most 1,048,576 bytes.
+///
+/// The answer is its one tree, or why it is no program, or that an allocation was refused.
+#[tactic(auto, using(crate::proofs::Answer::tree_given, crate::proofs::Answer::refusal_given))]
+pub fn parse(alloc: Global, text: &[u8]) -> Result<Ast, SyntaxFault>
+    ensures too_long { 1048576 < length text.now → result ≡ Err fault.TooLong }
+    ensures tree { IfOk result (λ ast. IsText text.now ast) }
+    ensures refused { IfErr result (λ fault. answer.Refuses text.now fault) }
+{
+    if text.len() > LONGEST_TEXT {
+        return Err(SyntaxFault::TooLong);
+    }
+    let Ok(lexed) = tokens_of(alloc, text) else {
+        return Err(SyntaxFault::NoMemory);
+    };
+    tree_of(alloc, &lexed)
+}
