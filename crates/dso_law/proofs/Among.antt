@@ -1,13 +1,15 @@
--- Whether an object is among bodies, found from the front on.
-use Rattle.std.proofs.Common.{ℕ, ◌≡◌, Bool, false, eqb, ◌||◌, List}
-use Rattle.std.specs.Prelude.{fold}
+-- Whether an object is among bodies.
+use Rattle.std.proofs.Common.{ℕ, ◌≡◌, refl, ◌∙◌, ap, Bool, true, false, cond, eqb, ◌||◌, is_some, Option, Some, List, [], ◌∷◌}
 use Rattle.dso_base.specs.declared.record.Body.{Body}
+use Rattle.dso_base.specs.Block.{body_in}
 use Rattle.dso_law.specs.Copies.{is_among}
-use Rattle.dso_law.proofs.Lists.{has_fold}
 
--- found before, or now
-abbrev pub found_by : ℕ → Bool → Body → Bool
-found_by o found body = found || eqb body.object o
+-- the first body is of it, or one behind
+found_here : (b : Bool) (body : Body) (rest : Option Body) → is_some (cond b (Some body) rest) ≡ (b || is_some rest)
+found_here true body rest = refl
+found_here false body rest = refl
 
-pub found_among : (o : ℕ) (bodies : List Body) → fold (found_by o) false bodies ≡ is_among o bodies
-found_among o bodies = has_fold (λ body. eqb body.object o) bodies
+-- a body is found exactly where one is of the object
+pub found_among : (o : ℕ) (bodies : List Body) → is_some (body_in o bodies) ≡ is_among o bodies
+found_among o [] = refl
+found_among o (body ∷ bodies) = found_here (eqb body.object o) body (body_in o bodies) ∙ ap (λ rest. eqb body.object o || rest) (found_among o bodies)

@@ -2,3 +2,13 @@ pub mod Prefixes
 pub mod Lists
 pub mod Among
 pub mod Steps
+pub mod Classes
+pub mod Numbers
+pub mod Ways
+pub mod Batches
+pub mod StoreBodies
+pub mod Insert
+pub mod NewObjects
+pub mod Search
+pub mod Counting
+pub mod Folding

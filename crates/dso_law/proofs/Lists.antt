@@ -1,19 +1,7 @@
--- Tests of lists.
-use Rattle.std.proofs.Common.{◌≡◌, refl, ◌∙◌, Bool, true, false, ◌||◌, List, [], ◌∷◌}
-use Rattle.std.specs.Prelude.{fold}
-use Rattle.dso_law.specs.Settings.{has}
+-- Lists, the newest item first.
+use Rattle.std.proofs.Common.{ℕ, ◌+◌, ◌<◌, ◌≡◌, sym, ◌∙◌, ap, List, [], ◌∷◌, ◌++◌, length, get_or, take, reverse}
+use Rattle.std.proofs.lemmas.List.{take_more, reverse-append}
 
--- one of three tests
-or_assoc : (a b c : Bool) → ((a || b) || c) ≡ (a || (b || c))
-or_assoc true b c = refl
-or_assoc false b c = refl
-
--- whether one passed before, or one of the list does
-has_from : {X : Type 0} (test : X → Bool) (before : Bool) (xs : List X) → fold (λ found x. found || test x) before xs ≡ (before || has test xs)
-has_from test true [] = refl
-has_from test false [] = refl
-has_from test before (x ∷ xs) = has_from test (before || test x) xs ∙ or_assoc before (test x) (has test xs)
-
--- whether one passes, found from the front on
-pub has_fold : {X : Type 0} (test : X → Bool) (xs : List X) → fold (λ found x. found || test x) false xs ≡ has test xs
-has_fold test xs = has_from test false xs
+-- those taken with the next of them, that is at its place
+pub one_newer : {X : Type 0} (xs : List X) (i : ℕ) (x : X) → i < length xs → x ≡ get_or xs i x → reverse (take (i + 1) xs) ≡ x ∷ reverse (take i xs)
+one_newer xs i x here is = ap reverse (take_more xs i x here ∙ ap (λ y. take i xs ++ y ∷ []) (sym is)) ∙ reverse-append (take i xs) (x ∷ [])

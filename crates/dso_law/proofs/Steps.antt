@@ -7,63 +7,20 @@ use Rattle.dso_base.specs.declared.journal.Sent.TheVariants.{ToServer}
 use Rattle.dso_base.specs.declared.lock.LockName.{LockName}
 use Rattle.dso_base.specs.declared.lock.ThreadId.{ThreadId}
 use Rattle.dso_base.specs.declared.message.Up.{Up}
-use Rattle.dso_base.specs.declared.record.Body.{Body}
-use Rattle.dso_base.specs.declared.record.Ending.{Ending}
-use Rattle.dso_base.specs.declared.request.Event.{Event}
 use Rattle.dso_base.specs.declared.request.Event.TheVariants.{Act}
 use Rattle.dso_base.specs.declared.request.Reply.{Reply}
 use Rattle.dso_base.specs.declared.request.Request.{Request}
-use Rattle.dso_base.specs.declared.shape.Shape.{Shape}
-use Rattle.dso_base.specs.Block.{Work, start, work_after, worked}
 use Rattle.dso_plain.specs.Keys.{is_lock}
 use Rattle.dso_plain.specs.State.{Hold}
-use Rattle.dso_plain.specs.History.{is_act_of}
 use Rattle.dso_plain.proofs.Keys.{same_lock, number_self}
 use Rattle.std.proofs.lemmas.Bool.Decides.{eqb_tells}
 use Rattle.dso_base.specs.declared.lock.LockName.TheVariants.{Mon, Name}
 use Rattle.dso_law.specs.Settings.{Settings}
-use Rattle.dso_law.specs.Entries.{by_event}
-use Rattle.dso_law.specs.Threads.{Held, Locks, hold_in, hold_so, with_hold, ending_of, locks_of, open_block, block_after, privates_before, privates_after}
+use Rattle.dso_law.specs.Threads.{Held, hold_in, hold_so, with_hold}
 use Rattle.dso_law.specs.Needs.{Need, unmet, ask_for}
 use Rattle.dso_law.specs.Replies.{reply_of, woken_by}
 use Rattle.dso_law.specs.ClientStep.{Does, Asks, DoesOrAsks, ActsOn, commits, returns, asks_again, can_do, can_act}
-use Rattle.dso_law.specs.Laws.{HoldsAfter, WorkGoesOn, ActsAreOpen}
-
--- one more event is one more step of the work
-worked_more : (shape : Shape) (events : List Event) (event : Event) (work : Work) → worked shape (events ++ event ∷ []) work ≡ work_after shape event (worked shape events work)
-worked_more shape [] event work = refl
-worked_more shape (first ∷ events) event work = worked_more shape events event (work_after shape first work)
-
--- the work after an event of the thread: of the open block and the private objects that it leaves
-work_by_event : (shape : Shape) (event : Event) (locks : Locks) (block : List Event) (privates : List Body) → Work
-work_by_event shape event locks block privates = worked shape (block_after event locks block) (start (privates_after shape event locks block privates))
-
--- the work is so where the entry has the event
-work_is : (shape : Shape) (t : ThreadId) (event : Event) (es : List Entry) (o : Option Event) → o ≡ Some event → is_act_of t event ≡ true
-    → worked shape (by_event (λ ev block. cond (is_act_of t ev) (block_after ev (locks_of t es) block) block) o (open_block t es))
-    (start (by_event (λ ev privates. cond (is_act_of t ev) (privates_after shape ev (locks_of t es) (open_block t es) privates) privates) o (privates_before shape t es)))
-    ≡ worked shape (block_after event (locks_of t es) (open_block t es)) (start (privates_after shape event (locks_of t es) (open_block t es) (privates_before shape t es)))
-work_is shape t event es o e its = rw (e, its) refl
-
--- where it is no ending the block goes on
-going : (shape : Shape) (event : Event) (n : Option Ending) (block : List Event) (privates : List Body) → n ≡ None
-    → worked shape (cond (is_some n) [] (block ++ event ∷ [])) (start (cond (is_some n) (worked shape (block ++ event ∷ []) (start privates)).privates privates))
-    ≡ work_after shape event (worked shape block (start privates))
-going shape event None block privates e = worked_more shape block event (start privates)
-going shape event (Some ending) block privates e = absurd (cc e)
-
--- where it is one the private objects stay
-ending : (shape : Shape) (event : Event) (n : Option Ending) (block : List Event) (privates : List Body) → (n ≡ None → ⊥)
-    → worked shape (cond (is_some n) [] (block ++ event ∷ [])) (start (cond (is_some n) (worked shape (block ++ event ∷ []) (start privates)).privates privates))
-    ≡ start (work_after shape event (worked shape block (start privates))).privates
-ending shape event None block privates e = absurd (e refl)
-ending shape event (Some ended) block privates e = ap (λ work. start work.privates) (worked_more shape block event (start privates))
-
-pub work_goes_on : WorkGoesOn
-work_goes_on shape t event e es h = record {
-  goes_on = λ none. work_is shape t event es e.event h.event_is h.its ∙ going shape event (ending_of event (locks_of t es)) (open_block t es) (privates_before shape t es) none;
-  ends = λ some. work_is shape t event es e.event h.event_is h.its ∙ ending shape event (ending_of event (locks_of t es)) (open_block t es) (privates_before shape t es) some;
-}
+use Rattle.dso_law.specs.Laws.{HoldsAfter, ActsAreOpen}
 
 -- the entry that the rule allows where all needs are met
 abbrev does_entry : Settings → ℕ → ThreadId → Request → (ThreadId → Option Request) → (ThreadId → Option Request) → List Entry → Reply → Entry

@@ -1,11 +1,13 @@
 pub mod Settings
 pub mod Entries
 pub mod Channels
+pub mod Letters
 pub mod Threads
 pub mod Copies
 pub mod Leases
 pub mod Waits
 pub mod Records
+pub mod Places
 pub mod Closing
 pub mod Needs
 pub mod Replies
@@ -19,3 +21,6 @@ pub mod FitsUp
 pub mod ServerStep
 pub mod Prefixes
 pub mod Laws
+pub mod Publishing
+pub mod InHand
+pub mod Counts

@@ -1,5 +1,5 @@
 -- What a client's entries tell of one of its threads: its locks, its blocks, its own objects.
-use Rattle.std.specs.Prelude.{ℕ, Bool, false, cond, not, is_some, Option, Some, None, List, [], ◌∷◌, ◌++◌, filter}
+use Rattle.std.specs.Prelude.{ℕ, Bool, true, false, cond, not, ◌&&◌, ◌||◌, is_some, Option, Some, None, List, [], ◌∷◌, ◌++◌, filter}
 use Rattle.dso_base.specs.declared.journal.Entry.{Entry}
 use Rattle.dso_base.specs.declared.lock.Level.TheVariants.{Write}
 use Rattle.dso_base.specs.declared.lock.LockName.{LockName}
@@ -21,7 +21,8 @@ use Rattle.dso_plain.specs.Keys.{is_lock}
 use Rattle.dso_plain.specs.State.{Hold}
 use Rattle.dso_plain.specs.After.{entered, exited, count_of}
 use Rattle.dso_plain.specs.History.{is_act_of}
-use Rattle.dso_law.specs.Entries.{by_event}
+use Rattle.dso_law.specs.Settings.{has}
+use Rattle.dso_law.specs.Entries.{by_event, events_in}
 
 -- a lock that a thread holds, and how
 pub record Held : Type 0 where
@@ -158,3 +159,21 @@ seen_after t (Lost client) before = before
 abbrev pub last_seen : ThreadId → List Entry → Option (ClassId × ℕ)
 last_seen t [] = None
 last_seen t (e ∷ es) = by_event (seen_after t) e.event (last_seen t es)
+
+-- whether the request ends the thread
+abbrev pub asks_end : Request → Bool
+asks_end (End fault) = true
+asks_end request = false
+
+-- whether the event ends its thread
+abbrev pub ends_thread : Event → Bool
+ends_thread (Act thread request reply woken) = asks_end request
+ends_thread (Lost client) = false
+
+-- whether one of the thread's events is its end
+abbrev pub has_end_event : ThreadId → List Entry → Bool
+has_end_event t es = has ends_thread (events_in t es)
+
+-- whether the thread has ended after one more event
+abbrev pub ended_after : ThreadId → Event → Bool → Bool
+ended_after t event before = before || (is_act_of t event && ends_thread event)

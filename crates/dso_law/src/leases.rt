@@ -1,0 +1,164 @@
+ghost use Rattle.std.specs.Prelude.{◌≡◌, reverse};
+ghost use Rattle.dso_base.specs.declared.journal.Node.TheVariants.{Client};
+ghost use Rattle.dso_plain.specs.Keys.{is_lock};
+ghost use Rattle.dso_law.specs.Entries.{entries_of, by_taken, by_event, said};
+ghost use Rattle.dso_law.specs.Leases.{leased, standing, standing_up, standing_down, standing_after, is_entered, enters, entered_by, since_grant, is_recalled, recalled_by};
+
+use crate::Standing;
+use crate::readings::is_client;
+use dso_base::{Down, Entry, Event, Input, Journal, Level, LockName, Reply, Request, Sent, Up};
+
+/// The lease that the client has of the lock after a journal, None exactly where it has none. It takes no memory.
+pub fn leased(journal: &Journal, client: u8, lock: LockName) -> Option<Level>
+    ensures { result ≡ leased lock (entries_of (Client client) (reverse journal.now.entries)) }
+{
+    standing(journal.entries.as_slice(), client, lock).lease
+}
+
+/// How the lock stands with the client after these entries. It takes no memory.
+pub fn standing(entries: &[Entry], client: u8, lock: LockName) -> Standing
+    ensures { result ≡ standing lock (entries_of (Client client) (reverse entries.now)) }
+{
+    let mut standing = Standing {
+        lease: None,
+        is_asked: false,
+    };
+    for entry in entries {
+        if is_client(entry.node, client) {
+            standing = standing_after(entry, lock, standing);
+        }
+    }
+    standing
+}
+
+/// Whether a thread of the client entered the lock since it was last granted, after these entries. It takes no memory.
+pub fn is_entered(entries: &[Entry], client: u8, lock: LockName) -> bool
+    ensures { result ≡ is_entered lock (entries_of (Client client) (reverse entries.now)) }
+{
+    let mut entered = false;
+    for entry in entries {
+        if is_client(entry.node, client) {
+            let granted = since_grant(&entry.input, lock, entered);
+            entered = entered_by(&entry.event, lock, granted);
+        }
+    }
+    entered
+}
+
+/// Whether the lock was recalled of the client since it was last granted, after these entries. It takes no memory.
+pub fn is_recalled(entries: &[Entry], client: u8, lock: LockName) -> bool
+    ensures { result ≡ is_recalled lock (entries_of (Client client) (reverse entries.now)) }
+{
+    let mut recalled = false;
+    for entry in entries {
+        if is_client(entry.node, client) {
+            recalled = recalled_by(&entry.input, lock, recalled);
+        }
+    }
+    recalled
+}
+
+/// Whether the two locks are one.
+pub(crate) fn is_lock(lock: LockName, other: LockName) -> bool
+    ensures { result ≡ is_lock lock other }
+{
+    match (lock, other) {
+        (LockName::Mon(object), LockName::Mon(that)) => that == object,
+        (LockName::Name(number), LockName::Name(that)) => that == number,
+        _ => false,
+    }
+}
+
+/// How the lock stands after one more entry of the client.
+fn standing_after(entry: &Entry, lock: LockName, before: Standing) -> Standing
+    ensures { result ≡ standing_after lock entry.now before }
+{
+    let mut standing = standing_by_taken(&entry.input, lock, before);
+    for sent in entry.sent.as_slice() {
+        standing = standing_by_sent(sent, lock, standing);
+    }
+    standing
+}
+
+/// What the message that an entry takes makes of how the lock stands.
+fn standing_by_taken(input: &Input, lock: LockName, before: Standing) -> Standing
+    ensures { result ≡ by_taken (standing_down lock) input.now before }
+{
+    match input {
+        Input::TookDown(Down::Grant(name, level)) => if is_lock(lock, *name) {
+            Standing {
+                lease: Some(*level),
+                is_asked: false,
+            }
+        } else {
+            before
+        },
+        _ => before,
+    }
+}
+
+/// What a message sent makes of how the lock stands.
+fn standing_by_sent(sent: &Sent, lock: LockName, before: Standing) -> Standing
+    ensures { result ≡ said (standing_up lock) before sent.now }
+{
+    match sent {
+        Sent::ToServer(Up::Request(name, _)) => if is_lock(lock, *name) {
+            Standing {
+                lease: before.lease,
+                is_asked: true,
+            }
+        } else {
+            before
+        },
+        Sent::ToServer(Up::Return(name, _)) => if is_lock(lock, *name) {
+            Standing {
+                lease: None,
+                is_asked: before.is_asked,
+            }
+        } else {
+            before
+        },
+        _ => before,
+    }
+}
+
+/// A grant of the lock begins anew.
+fn since_grant(input: &Input, lock: LockName, before: bool) -> bool
+    ensures { result ≡ by_taken (since_grant lock) input.now before }
+{
+    match input {
+        Input::TookDown(Down::Grant(name, _)) => !is_lock(lock, *name) && before,
+        _ => before,
+    }
+}
+
+/// What an entry's event makes of whether the lock is entered.
+fn entered_by(event: &Option<Event>, lock: LockName, before: bool) -> bool
+    ensures { result ≡ by_event (entered_by lock) event.now before }
+{
+    match event {
+        Some(Event::Act { request, reply, .. }) => enters(*request, *reply, lock) || before,
+        _ => before,
+    }
+}
+
+/// Whether a request with this reply enters the lock.
+fn enters(request: Request, reply: Reply, lock: LockName) -> bool
+    ensures { result ≡ enters lock request reply }
+{
+    match (request, reply) {
+        (Request::Enter(name, _), Reply::Done) => is_lock(lock, name),
+        (Request::Resume(name), Reply::Done) => is_lock(lock, name),
+        _ => false,
+    }
+}
+
+/// What the message that an entry takes makes of whether the lock is recalled.
+fn recalled_by(input: &Input, lock: LockName, before: bool) -> bool
+    ensures { result ≡ by_taken (recalled_by lock) input.now before }
+{
+    match input {
+        Input::TookDown(Down::Recall(name)) => is_lock(lock, *name) || before,
+        _ => since_grant(input, lock, before),
+    }
+}
