@@ -1,5 +1,5 @@
 -- A client asks for an object only where it isn't resident.
-use Rattle.std.proofs.Common.{ℕ, ◌≡◌, refl, sym, ap, subst, Bool, true, false, cond, not, eqb, ◌&&◌, ◌||◌, is_some, Option, Some, None, List}
+use Rattle.std.proofs.Common.{ℕ, ◌≡◌, refl, Bool, true, false, cond, not, ◌&&◌, ◌||◌, is_some, Option, Some, None, List}
 use Rattle.dso_base.specs.declared.journal.Entry.{Entry}
 use Rattle.dso_base.specs.declared.lock.Level.{Level}
 use Rattle.dso_base.specs.declared.lock.Level.TheVariants.{Write}
@@ -15,7 +15,6 @@ use Rattle.dso_law.specs.Records.{next_id}
 use Rattle.dso_law.specs.Waits.{is_marked}
 use Rattle.dso_law.specs.Closing.{admits}
 use Rattle.dso_law.specs.Needs.{Need, NeedsId, NeedsObject, NeedsClass, NeedsMark, NeedsLease, NeedsOthersOut, is_enough, is_in_conflict, entry_need, look_need, access_need, unless, first_unmet, unmet}
-use Rattle.dso_legal.proofs.ClientLeases.{neither}
 
 -- What the need says, where it is an object: that it isn't resident.
 abbrev pub IsLacking : List Entry → Option Need → Type 0

@@ -24,3 +24,4 @@ pub mod OfBatches
 pub mod Lacks
 pub mod Tokens
 pub mod Lent
+pub mod Misfits

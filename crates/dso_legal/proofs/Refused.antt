@@ -20,15 +20,15 @@ use Rattle.dso_law.specs.Replies.{reply_of, woken_by}
 use Rattle.dso_legal.specs.examples.Refusals.{Refusals, WrongSendings}
 
 -- two numbers that are told apart aren't equal
-differ : {a b : ℕ} → eqb a b ≡ false → a ≡ b → ⊥
+pub differ : {a b : ℕ} → eqb a b ≡ false → a ≡ b → ⊥
 differ {a} {b} apart e = grind arith
 
 -- a test as a number
-abbrev number : Bool → ℕ
+abbrev pub number : Bool → ℕ
 number b = cond b 1 0
 
 -- whether there is something, as a number
-abbrev there : {X : Type 0} → Option X → ℕ
+abbrev pub there : {X : Type 0} → Option X → ℕ
 there None = 0
 there (Some x) = 1
 

@@ -8,3 +8,4 @@ pub mod LostClient
 pub mod WaitingStart
 pub mod Waiting
 pub mod Refusals
+pub mod Misfits

@@ -2,6 +2,7 @@
 //! each of its entries, it commits this history, and it weighs so much. Each is the contract of a function that does
 //! nothing.
 ghost use Rattle.dso_legal.specs.examples.Counter.{CounterJournal};
+ghost use Rattle.dso_legal.specs.examples.Misfits.{Misfits};
 ghost use Rattle.dso_legal.specs.examples.Refusals.{Refusals, WrongSendings};
 ghost use Rattle.dso_legal.specs.examples.Recall.{RecallJournal};
 ghost use Rattle.dso_legal.specs.examples.Flush.{FlushJournal};
@@ -40,7 +41,7 @@ pub fn lost_client()
     ensures { LostClientJournal }
 {}
 
-/// For each rule an entry that breaks it alone and so may not follow.
+/// Entries that break one rule each and so may not follow.
 pub fn refusals()
     ensures { Refusals }
 {}
@@ -48,4 +49,9 @@ pub fn refusals()
 /// And for what an entry sends.
 pub fn wrong_sendings()
     ensures { WrongSendings }
+{}
+
+/// And for each row that says how a message fits, messages that break it.
+pub fn misfits()
+    ensures { Misfits }
 {}

@@ -1,4 +1,4 @@
--- For each rule a journal that breaks it alone: the first entries of an example, and an entry that may not follow them.
+-- Journals that break one rule each: the first entries of an example, and an entry that may not follow them.
 use Rattle.std.specs.Prelude.{ℕ, ◌-◌, true, pos, Option, Some, None, List, [], ◌∷◌, length, drop}
 use Rattle.dso_base.specs.declared.journal.Entry.{Entry}
 use Rattle.dso_base.specs.declared.journal.Input.TheVariants as input
