@@ -1,6 +1,8 @@
 -- What a call of the program answers, and why.
-use Rattle.std.specs.Prelude.{◌≡◌, ◌≢◌, ℕ, ◌⊎◌, List, [], Option}
+use Rattle.std.specs.Prelude.{◌≡◌, ◌≢◌, ℕ, ◌⊎◌, List, [], Option, reverse}
 use Rattle.dso_base.specs.declared.journal.Entry.{Entry}
+use Rattle.dso_run.specs.declared.cluster.Outcome.{Outcome}
+use Rattle.dso_run.specs.declared.cluster.Outcome.TheVariants as outcome
 use Rattle.dso_run.specs.declared.form.FirstPath.{FirstPath}
 use Rattle.dso_run.specs.declared.main_call.Judged.{Judged}
 use Rattle.dso_run.specs.declared.main_call.Judged.TheVariants.{Refused, Accepted}
@@ -10,6 +12,7 @@ use Rattle.dso_run.specs.declared.status.Refusal.{Refusal}
 use Rattle.dso_run.specs.declared.status.Refusal.TheVariants.{Words, Reading, Config, Program}
 use Rattle.dso_run.specs.declared.status.Status.{Status}
 use Rattle.dso_run.specs.declared.status.Status.TheVariants.{Finished, Usage, BadConfig, BadProgram, ReadFault, WriteFault, Stuck, Budget, NoMemory}
+use Rattle.dso_run.specs.Ends.{EndsAs}
 use Rattle.dso_run.specs.Form.{IsFirstPath}
 use Rattle.dso_run.specs.Outside.{Told, MayGive, taken_after, TookPart}
 use Rattle.dso_run.specs.Status.{line_of}
@@ -76,10 +79,17 @@ pub record IsRefused (content : List ℕ → Told) (words : List (List ℕ)) (re
   pub says : line ≡ line_of refusal
   pub nothing_ran : entries ≡ []
 
--- What was to be written: the line of a refusal that has its cause, or the report of an accepted program.
+-- The program was accepted, and the entries are those of a run of it that ended so: the journal is lawful, each entry was
+-- made where the run went on and at the slot that round robin takes, within a budget of 1000000.
+pub record IsRan (content : List ℕ → Told) (words : List (List ℕ)) (entries : List Entry) (outcome : Outcome) : Type 0 where
+  pub program : FirstPath
+  pub accepted : IsAccepted content words program
+  pub ran : EndsAs program 1000000 outcome (reverse entries)
+
+-- What was to be written: the line of a refusal that has its cause, or the report of a run of an accepted program.
 abbrev pub IsDue : (List ℕ → Told) → List (List ℕ) → Type 0 → List Entry → List ℕ → Type 0
 IsDue content words reads_rose entries text =
-    ((refusal : Refusal) × IsRefused content words reads_rose entries refusal text) ⊎ ((p : FirstPath) × IsAccepted content words p)
+    ((refusal : Refusal) × IsRefused content words reads_rose entries refusal text) ⊎ ((outcome : Outcome) × IsRan content words entries outcome)
 
 -- What is told of the files before the call, the words, that the count of read faults rose; what the sink had taken
 -- before the call, what it has taken now, that its count of faults rose; the entries of the journal.
@@ -89,10 +99,9 @@ module _ (content : List ℕ → Told) (words : List (List ℕ)) (reads_rose : T
     pub refused : IsRefused content words reads_rose entries refusal (line_of refusal)
     pub took : now ≡ taken_after before (line_of refusal)
 
-  -- the program was accepted and run, and its report was written whole
-  pub record IsReported : Type 0 where
-    pub program : FirstPath
-    pub accepted : IsAccepted content words program
+  -- the program was accepted and run to this outcome, and its report was written whole
+  pub record IsReported (outcome : Outcome) : Type 0 where
+    pub ran : IsRan content words entries outcome
     pub report : List ℕ
     pub took : now ≡ taken_after before report
 
@@ -115,9 +124,9 @@ module _ (content : List ℕ → Told) (words : List (List ℕ)) (reads_rose : T
   Stands (BadConfig fault) = IsSaid (Config fault)
   Stands (BadProgram fault) = IsSaid (Program fault)
   Stands WriteFault = IsCutOff
-  Stands Finished = IsReported
-  Stands Stuck = IsReported
-  Stands Budget = IsReported
+  Stands Finished = IsReported outcome.Finished
+  Stands Stuck = IsReported outcome.Stuck
+  Stands Budget = IsReported outcome.Budget
   Stands NoMemory = IsOutOfMemory
 
 -- the words alone decide: the answer is Usage, or WriteFault in its place

@@ -9,3 +9,11 @@ pub mod Form
 pub mod Template
 pub mod Writing
 pub mod Answer
+pub mod Course
+pub mod Counting
+pub mod Rounds
+pub mod Steps
+pub mod Places
+pub mod Room
+pub mod Turns
+pub mod Ends

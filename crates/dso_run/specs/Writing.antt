@@ -1,8 +1,12 @@
 -- What was written of a text, and what is answered then.
-use Rattle.std.specs.Prelude.{◌≡◌, ◌⊎◌, ℕ, List, [], Option}
+use Rattle.std.specs.Prelude.{◌≡◌, ◌⊎◌, ℕ, List, [], Option, reverse}
 use Rattle.dso_base.specs.declared.journal.Entry.{Entry}
+use Rattle.dso_run.specs.declared.cluster.Outcome.{Outcome}
+use Rattle.dso_run.specs.declared.cluster.Outcome.TheVariants as outcome
+use Rattle.dso_run.specs.declared.form.FirstPath.{FirstPath}
 use Rattle.dso_run.specs.declared.status.Status.{Status}
 use Rattle.dso_run.specs.declared.status.Status.TheVariants.{Finished, WriteFault, Stuck, Budget, NoMemory}
+use Rattle.dso_run.specs.Ends.{EndsAs}
 use Rattle.dso_run.specs.Outside.{taken_after, TookPart}
 
 -- The sink took the whole text and the answer is this status, or it took a part and counted a fault, and the answer is
@@ -11,15 +15,15 @@ abbrev pub Wrote : Option (List ℕ) → Option (List ℕ) → Type 0 → List �
 Wrote before now sink_rose text status answer =
     ((answer ≡ status) × (now ≡ taken_after before text)) ⊎ ((answer ≡ WriteFault) × TookPart before text now × sink_rose)
 
--- the three ways in which a run ends
-abbrev pub IsOutcome : Status → Type 0
-IsOutcome Finished = Unit {0}
-IsOutcome Stuck = Unit {0}
-IsOutcome Budget = Unit {0}
-IsOutcome status = ⊥
+-- the entries, the first of them first, are those of a run of the program that ended in one of the three ways
+abbrev pub HasEntries : FirstPath → List Entry → Type 0
+HasEntries p entries = (outcome : Outcome) × EndsAs p 1000000 outcome (reverse entries)
 
 -- A report was written, whole with the run's outcome for an answer, or in part; or memory ran out before.
-abbrev pub WroteReport : Option (List ℕ) → Option (List ℕ) → Type 0 → List Entry → Status → Type 0
-WroteReport before now sink_rose entries NoMemory = (now ≡ before) × (entries ≡ [])
-WroteReport before now sink_rose entries WriteFault = ((report : List ℕ) × TookPart before report now) × sink_rose
-WroteReport before now sink_rose entries answer = IsOutcome answer × ((report : List ℕ) × (now ≡ taken_after before report))
+abbrev pub WroteReport : FirstPath → Option (List ℕ) → Option (List ℕ) → Type 0 → List Entry → Status → Type 0
+WroteReport p before now sink_rose entries NoMemory = (now ≡ before) × (entries ≡ [])
+WroteReport p before now sink_rose entries WriteFault = ((report : List ℕ) × TookPart before report now) × sink_rose × HasEntries p entries
+WroteReport p before now sink_rose entries Finished = EndsAs p 1000000 outcome.Finished (reverse entries) × ((report : List ℕ) × (now ≡ taken_after before report))
+WroteReport p before now sink_rose entries Stuck = EndsAs p 1000000 outcome.Stuck (reverse entries) × ((report : List ℕ) × (now ≡ taken_after before report))
+WroteReport p before now sink_rose entries Budget = EndsAs p 1000000 outcome.Budget (reverse entries) × ((report : List ℕ) × (now ≡ taken_after before report))
+WroteReport p before now sink_rose entries answer = ⊥

@@ -1,233 +1,198 @@
 //! The client's steps: its thread acts, or it takes a message.
+ghost use Rattle.std.specs.Prelude.{◌≡◌, ◌+◌, ◌<◌, ◌^◌, reverse, map, IfOk, IfSome, List, [], ◌∷◌, None, Some};
+ghost use Rattle.dso_base.specs.declared.journal.Node.TheVariants as node;
+ghost use Rattle.dso_base.specs.declared.journal.Sent.TheVariants as to;
+ghost use Rattle.dso_base.specs.declared.message.Up.{Up};
+ghost use Rattle.dso_law.specs.Channels.{last_clock};
+ghost use Rattle.dso_law.specs.ClientStep.{commits};
+ghost use Rattle.dso_law.specs.Records.{records};
+ghost use Rattle.dso_law.specs.Threads.{locks_of};
+ghost use Rattle.dso_legal.specs.Lawful.{next_after};
+ghost use Rattle.dso_run.specs.Counting.{the_thread, settings, next};
+ghost use Rattle.dso_run.specs.Room.{HasRoom};
+ghost use Rattle.dso_run.specs.Steps.{own, act, event_with, acts, takes_down};
+ghost use Rattle.dso_run.specs.Turns.{turn_of, entry_by, IsAsked};
 
-use crate::channels::next_down;
 use crate::form::FirstPath;
-use crate::own::{is_private, latest_put, own_size, own_value, record_of};
-use crate::readings::{
-    CLIENT, Hold, THREAD, awaits_ids, awaits_lease, awaits_object, copy_of, copy_size, free_id,
-    hold_of, holds_any, is_resident, last_clock, lease_of, open_block,
-};
+use crate::known::{CLIENT, THREAD};
 use crate::script::place_after;
-use dso_base::{
-    ClassId, Ending, Entry, Event, Fault, Input, Items, Kind, Level, LockName, NoMemory, Node,
-    Reply, Request, Sent, Up, Value,
+use crate::turn::{Turn, take_turn};
+use dso_base::{Entry, Event, Input, Items, NoMemory, Node, Reply, Request, Sent, Shape, Up};
+use dso_law::{
+    Locks, ending_of, events_in, first_down, last_clock, locks_of, record_of, records, work_of,
 };
 use std::alloc::Global;
-
-/// What the thread's turn comes to.
-enum Turn {
-    /// The request is answered.
-    Answered(Reply),
-    /// The client first asks the server for what is needed.
-    Asks(Up),
-    /// What is needed was asked for, and isn't there yet.
-    Waits,
-}
 
 /// The entry of the thread's act, None where it has none to make now.
 pub(crate) fn act(
     alloc: Global,
     program: &FirstPath,
+    shape: &Shape,
     entries: &[Entry],
-) -> Result<Option<Entry>, NoMemory> {
-    let events = events_of(alloc, entries)?;
-    let Some(request) = place_after(program, events.as_slice()).request() else {
-        return Ok(None);
-    };
-    let (sent, event) = match outcome_of(entries, request) {
-        Turn::Waits => return Ok(None),
-        Turn::Asks(message) => (message_alone(alloc, Sent::ToServer(message))?, None),
-        Turn::Answered(reply) => {
-            let event = Event::Act {
-                thread: THREAD,
-                request,
-                reply,
-                woken: None,
-            };
-            (released(alloc, entries, request)?, Some(event))
+) -> Result<Option<Entry>, NoMemory>
+    requires shape { shape.now ≡ settings.shape }
+    requires room { HasRoom (reverse entries.now) }
+    ensures { IfOk result (λ made. made ≡ acts program.now (reverse entries.now)) }
+{
+    match next_request(alloc, program, entries)? {
+        Some(request) => act_with(alloc, shape, entries, request),
+        None => Ok(None),
+    }
+}
+
+/// What the thread asks next, None after its end.
+fn next_request(
+    alloc: Global,
+    program: &FirstPath,
+    entries: &[Entry],
+) -> Result<Option<Request>, NoMemory>
+    ensures is { IfOk result (λ request. request ≡ next_after (next program.now) (reverse entries.now) the_thread) }
+    ensures asked { IfOk result (λ request. IfSome request IsAsked) }
+{
+    let events = events_in(alloc, entries, THREAD)?;
+    Ok(place_after(program, events.as_slice()).request())
+}
+
+/// The entry of the thread's act with this request, None where it has none to make now.
+fn act_with(
+    alloc: Global,
+    shape: &Shape,
+    entries: &[Entry],
+    request: Request,
+) -> Result<Option<Entry>, NoMemory>
+    requires asked { IsAsked request }
+    requires shape { shape.now ≡ settings.shape }
+    requires room { HasRoom (reverse entries.now) }
+    ensures { IfOk result (λ made. made ≡ entry_by request (turn_of request (own (reverse entries.now))) (reverse entries.now)) }
+{
+    let locks = locks_of(alloc, entries, THREAD)?;
+    let work = work_of(alloc, shape, entries, THREAD)?;
+    let turn = take_turn(entries, &locks, &work, request);
+    entry_of(alloc, shape, entries, &locks, request, turn)
+}
+
+/// The entry that the thread's turn comes to.
+fn entry_of(
+    alloc: Global,
+    shape: &Shape,
+    entries: &[Entry],
+    locks: &Locks,
+    request: Request,
+    turn: Turn,
+) -> Result<Option<Entry>, NoMemory>
+    requires shape { shape.now ≡ settings.shape }
+    requires room { HasRoom (reverse entries.now) }
+    requires locks { locks.now ≡ locks_of the_thread (own (reverse entries.now)) }
+    ensures { IfOk result (λ made. made ≡ entry_by request turn (reverse entries.now)) }
+{
+    match turn {
+        Turn::Answers(reply) => {
+            let event = event_with(request, reply);
+            Ok(Some(doing(alloc, shape, entries, locks, event)?))
         }
-    };
-    Ok(Some(Entry {
-        clock: last_clock(entries, Node::Client(CLIENT)).saturating_add(1),
+        Turn::Asks(message) => Ok(Some(asking(alloc, entries, message)?)),
+        Turn::Waits => Ok(None),
+    }
+}
+
+/// The entry of the thread's act with this event.
+fn doing(
+    alloc: Global,
+    shape: &Shape,
+    entries: &[Entry],
+    locks: &Locks,
+    event: Event,
+) -> Result<Entry, NoMemory>
+    requires shape { shape.now ≡ settings.shape }
+    requires room { HasRoom (reverse entries.now) }
+    requires locks { locks.now ≡ locks_of the_thread (own (reverse entries.now)) }
+    ensures { IfOk result (λ entry. entry ≡ act (commits settings the_thread event (own (reverse entries.now))) (Some event) (reverse entries.now)) }
+{
+    let sent = record_sent(alloc, shape, entries, locks, &event)?;
+    Ok(acting(entries, sent, Some(event)))
+}
+
+/// The entry of the thread's act in which its client asks by this message.
+fn asking(alloc: Global, entries: &[Entry], message: Up) -> Result<Entry, NoMemory>
+    requires { HasRoom (reverse entries.now) }
+    ensures { IfOk result (λ entry. entry ≡ act (message ∷ []) None (reverse entries.now)) }
+{
+    let sent = message_alone(alloc, message)?;
+    Ok(acting(entries, sent, None))
+}
+
+/// The thread's event with this request and reply.
+fn event_with(request: Request, reply: Reply) -> Event
+    ensures { result ≡ event_with request reply }
+{
+    Event::Act {
+        thread: THREAD,
+        request,
+        reply,
+        woken: None,
+    }
+}
+
+/// An entry of the thread's act.
+fn acting(entries: &[Entry], sent: Items<Sent>, event: Option<Event>) -> Entry
+    requires { last_clock (node.Client 1) (reverse entries.now) + 1 < 2 ^ 64 }
+    ensures { (ups : List Up) → sent ≡ map to.ToServer ups → result ≡ act ups event (reverse entries.now) }
+{
+    Entry {
+        clock: last_clock(entries, Node::Client(CLIENT)) + 1,
         node: Node::Client(CLIENT),
         input: Input::Act(THREAD.index),
         sent,
         event,
-    }))
-}
-
-/// The entry in which the client takes the next message, None where none is on the way.
-pub(crate) fn take(alloc: Global, entries: &[Entry]) -> Result<Option<Entry>, NoMemory> {
-    let Some(next) = next_down(entries) else {
-        return Ok(None);
-    };
-    let clock = last_clock(entries, Node::Client(CLIENT)).max(next.clock);
-    Ok(Some(Entry {
-        clock: clock.saturating_add(1),
-        node: Node::Client(CLIENT),
-        input: Input::TookDown(next.message.clone()?),
-        sent: Items::new(alloc),
-        event: None,
-    }))
-}
-
-/// The thread's events so far.
-fn events_of(alloc: Global, entries: &[Entry]) -> Result<Vec<Event>, NoMemory> {
-    let mut events = Vec::new(alloc);
-    for entry in entries {
-        if let Some(event) = entry.event {
-            events.push(event)?;
-        }
     }
-    Ok(events)
 }
 
-/// A list of one message.
-fn message_alone(alloc: Global, message: Sent) -> Result<Items<Sent>, NoMemory> {
+/// A message to the server, alone.
+fn message_alone(alloc: Global, message: Up) -> Result<Items<Sent>, NoMemory>
+    ensures { IfOk result (λ all. all ≡ map to.ToServer (message ∷ [])) }
+{
     let mut sent = Items::new(alloc);
-    sent.push(message)?;
+    sent.push(Sent::ToServer(message))?;
     Ok(sent)
 }
 
-/// What an answered request sends: the record of the block exactly where it ends one.
-fn released(alloc: Global, entries: &[Entry], request: Request) -> Result<Items<Sent>, NoMemory> {
-    match ending_of(entries, request) {
+/// The record of the thread's block exactly where the event ends it.
+fn record_sent(
+    alloc: Global,
+    shape: &Shape,
+    entries: &[Entry],
+    locks: &Locks,
+    event: &Event,
+) -> Result<Items<Sent>, NoMemory>
+    requires shape { shape.now ≡ settings.shape }
+    requires records { records (own (reverse entries.now)) + 1 < 2 ^ 64 }
+    requires locks { locks.now ≡ locks_of the_thread (own (reverse entries.now)) }
+    ensures { IfOk result (λ all. all ≡ map to.ToServer (commits settings the_thread event.now (own (reverse entries.now)))) }
+{
+    match ending_of(event, locks) {
         None => Ok(Items::new(alloc)),
         Some(ending) => {
-            let txn = record_of(alloc, entries, ending)?;
-            message_alone(alloc, Sent::ToServer(Up::Commit(txn)))
+            let number = records(entries, CLIENT) + 1;
+            let txn = record_of(alloc, shape, number, THREAD, entries, event, ending)?;
+            message_alone(alloc, Up::Commit(txn))
         }
     }
 }
 
-/// How the request ends the block, if it does: the full release of a lock, or the thread's end.
-fn ending_of(entries: &[Entry], request: Request) -> Option<Ending> {
-    match request {
-        Request::End(fault) => Some(Ending::End(fault)),
-        Request::Exit(lock) => match hold_of(entries, lock) {
-            Some(Hold { count: 1, .. }) => Some(Ending::Exit(lock)),
-            _ => None,
-        },
-        _ => None,
-    }
-}
-
-/// What the request comes to.
-fn outcome_of(entries: &[Entry], request: Request) -> Turn {
-    match request {
-        Request::New(..) => create(entries),
-        Request::Look(object) => look(entries, object),
-        Request::Get(object, field) => get(entries, object, field),
-        Request::Put(object, ..) => put(entries, object),
-        Request::Enter(lock, level) => enter(entries, lock, level),
-        _ => Turn::Answered(Reply::Done),
-    }
-}
-
-/// An object needs an id.
-fn create(entries: &[Entry]) -> Turn {
-    match free_id(entries) {
-        Some(object) => Turn::Answered(Reply::Made(object)),
-        None if awaits_ids(entries) => Turn::Waits,
-        None => Turn::Asks(Up::IdAsk),
-    }
-}
-
-/// A shared object needs a copy.
-fn fault(entries: &[Entry], object: u64) -> Turn {
-    if awaits_object(entries, object) {
-        Turn::Waits
-    } else {
-        Turn::Asks(Up::Fault(object))
-    }
-}
-
-/// The class and size of the thread's own object, else of the copy.
-fn look(entries: &[Entry], object: u64) -> Turn {
-    if let Some((class, size)) = own_size(entries, object) {
-        return Turn::Answered(Reply::Seen(class, size));
-    }
-    match copy_size(entries, object) {
-        Some((class, size)) if is_resident(entries, object) => Turn::Answered(Reply::Seen(
-            class, size,
-        )),
-        _ => fault(entries, object),
-    }
-}
-
-/// The value in the thread's own object, else the latest one that its open block put, else the copy's.
-fn get(entries: &[Entry], object: u64, field: u32) -> Turn {
-    if own_size(entries, object).is_some() {
-        return Turn::Answered(Reply::Val(own_value(entries, object, field)));
-    }
-    if !is_resident(entries, object) {
-        return fault(entries, object);
-    }
-    match latest_put(open_block(entries), object, field).or(copy_of(entries, object, field)) {
-        Some(value) => Turn::Answered(Reply::Val(value)),
-        None => fault(entries, object),
-    }
-}
-
-/// A put into the thread's private object is done; into a shared one where the guard is held at Write.
-fn put(entries: &[Entry], object: u64) -> Turn {
-    if is_private(entries, object) {
-        return Turn::Answered(Reply::Done);
-    }
-    if own_size(entries, object).is_none() && !is_resident(entries, object) {
-        return fault(entries, object);
-    }
-    Turn::Answered(match hold_of(entries, guard_of(object)) {
-        Some(
-            Hold {
-                level: Level::Write,
-                ..
-            },
-        ) => Reply::Done,
-        Some(
-            Hold {
-                level: Level::Read,
-                ..
-            },
-        ) => Reply::Refused(Fault::ReadOnly),
-        None if holds_any(entries) => Reply::Refused(Fault::WrongLock),
-        None => Reply::Refused(Fault::UnlockedSharedObject),
-    })
-}
-
-/// The guard of a field of the first path: the root's own lock, or the object's monitor.
-pub(crate) fn guard_of(object: u64) -> LockName {
-    if object == crate::script::ROOTS {
-        LockName::Name(0)
-    } else {
-        LockName::Mon(object)
-    }
-}
-
-/// An outer entry needs a lease of at least its level.
-fn enter(entries: &[Entry], lock: LockName, level: Level) -> Turn {
-    if let LockName::Mon(object) = lock {
-        if is_private(entries, object) {
-            return Turn::Answered(Reply::Local);
-        }
-    }
-    match (hold_of(entries, lock), level) {
-        (
-            Some(
-                Hold {
-                    level: Level::Read,
-                    ..
-                },
-            ),
-            Level::Write,
-        ) => return Turn::Answered(Reply::Refused(Fault::LockUpgrade)),
-        (Some(_), _) => return Turn::Answered(Reply::Done),
-        (None, _) => {}
-    }
-    match (lease_of(entries, lock), level) {
-        (Some(Level::Write), _) | (Some(Level::Read), Level::Read) => Turn::Answered(Reply::Done),
-        (Some(Level::Read), Level::Write) => Turn::Waits,
-        (None, _) if awaits_lease(entries, lock) => Turn::Waits,
-        (None, _) => Turn::Asks(Up::Request(lock, level)),
-    }
+/// The entry in which the client takes the next message, None where none is on the way.
+pub(crate) fn take(alloc: Global, entries: &[Entry]) -> Result<Option<Entry>, NoMemory>
+    requires { HasRoom (reverse entries.now) }
+    ensures { IfOk result (λ made. made ≡ takes_down (reverse entries.now)) }
+{
+    let Some((heard, message)) = first_down(entries, CLIENT) else {
+        return Ok(None);
+    };
+    let clock = last_clock(entries, Node::Client(CLIENT)).max(heard) + 1;
+    Ok(Some(Entry {
+        clock,
+        node: Node::Client(CLIENT),
+        input: Input::TookDown(message.clone()?),
+        sent: Items::new(alloc),
+        event: None,
+    }))
 }

@@ -1,15 +1,27 @@
 //! The run of the first path: one client, one thread and the server, step by step.
-
-ghost use Rattle.std.specs.Prelude.{◌≡◌, min};
-ghost use Rattle.dso_base.specs.Weight.{entry_weight_of, sent_values_of, txn_values_of};
+ghost use Rattle.std.specs.Prelude.{◌≡◌, ◌≤◌, false, min, reverse, IfOk};
+ghost use Rattle.dso_base.specs.Weight.{entry_weight_of};
+ghost use Rattle.dso_base.specs.declared.journal.Node.TheVariants as node;
+ghost use Rattle.dso_law.specs.Entries.{entries_of};
+ghost use Rattle.dso_law.specs.Served.{is_lost};
+ghost use Rattle.dso_legal.specs.Slots.{is_finished};
+ghost use Rattle.dso_run.specs.Counting.{settings};
+ghost use Rattle.dso_run.specs.Ends.{HasEnded};
+ghost use Rattle.dso_run.specs.Room.{HasRoom};
+ghost use Rattle.dso_run.specs.Rounds.{slot_at};
+ghost use Rattle.dso_run.specs.Steps.{last_done, tried_after};
 
 use crate::form::FirstPath;
-use crate::{channels, client, server};
-use dso_base::{Down, Entry, Event, Items, Journal, NoMemory, Request, Sent, Txn, Up};
+use crate::known::{CLIENT, THREAD};
+use crate::shape::shape;
+use crate::weighing::weight_of;
+use crate::{client, server};
+use dso_base::{Entry, Input, Items, Journal, NoMemory, Node, Shape};
+use dso_law::{first_down, first_up, has_ended};
 use std::alloc::Global;
 
 /// How much a journal may weigh.
-const STEPS: u64 = 1_000_000;
+pub(crate) const STEPS: u64 = 1_000_000;
 
 /// How a run ended.
 #[derive(Clone, Copy, Debug, PartialEq, Eq)]
@@ -26,38 +38,32 @@ pub(crate) struct Run {
     pub(crate) journal: Journal,
 }
 
-/// The places where a step may be possible, in their order.
-#[derive(Clone, Copy, PartialEq, Eq)]
-enum Slot {
-    Act,
-    TakeDown,
-    TakeUp,
+/// What was done last, as far as the order of the next round goes.
+#[derive(Clone, Copy)]
+pub(crate) enum Last {
+    Acted,
+    TookDown,
+    Other,
 }
 
-impl Slot {
-    /// The slots in the order in which round robin tries them after this one was taken last.
-    fn after(last: Slot) -> [Slot; 3] {
-        match last {
-            Slot::Act => [Slot::TakeDown, Slot::TakeUp, Slot::Act],
-            Slot::TakeDown => [Slot::TakeUp, Slot::Act, Slot::TakeDown],
-            Slot::TakeUp => [Slot::Act, Slot::TakeDown, Slot::TakeUp],
-        }
-    }
-}
-
-/// Runs the program by round robin until it is finished, is stuck, or has used up its budget. Each step makes one
-/// entry, and finds what it has to know in the entries before it.
-pub(crate) fn run_program(alloc: Global, program: &FirstPath) -> Result<Run, NoMemory> {
+/// Runs the program by round robin until it is finished, is stuck, or has used up its budget of so many steps. Each
+/// step makes one entry, and finds what it has to know in the entries before it.
+pub(crate) fn run_program(alloc: Global, program: &FirstPath, steps: u64) -> Result<Run, NoMemory>
+    requires { steps ≤ STEPS }
+    ensures { IfOk result (λ run. HasEnded program.now steps run) }
+{
+    let shape = shape(alloc)?;
     let mut entries = Vec::new(alloc);
     let mut weight = 0;
-    let mut last = Slot::TakeUp;
-    while weight < STEPS && !is_finished(entries.as_slice()) {
-        let Some((slot, entry)) = next_step(alloc, program, entries.as_slice(), last)? else {
+    let mut last = Last::Other;
+    while weight < steps && !is_finished(entries.as_slice()) {
+        let made = next_entry(alloc, program, &shape, entries.as_slice(), last)?;
+        let Some(entry) = made else {
             return Ok(ended(Outcome::Stuck, entries));
         };
-        weight += weight_of(&entry);
+        weight = (weight + weight_of(&entry)).min(STEPS);
+        last = done_by(&entry);
         entries.push(entry)?;
-        last = slot;
     }
     if is_finished(entries.as_slice()) {
         Ok(ended(Outcome::Finished, entries))
@@ -67,7 +73,10 @@ pub(crate) fn run_program(alloc: Global, program: &FirstPath) -> Result<Run, NoM
 }
 
 /// A run that ends here.
-fn ended(outcome: Outcome, entries: Vec<Entry>) -> Run {
+fn ended(outcome: Outcome, entries: Vec<Entry>) -> Run
+    ensures outcome { result.outcome ≡ outcome }
+    ensures entries { result.journal.entries ≡ entries.items }
+{
     Run {
         outcome,
         journal: Journal {
@@ -77,80 +86,61 @@ fn ended(outcome: Outcome, entries: Vec<Entry>) -> Run {
 }
 
 /// Whether the thread has ended and no message is on the way.
-fn is_finished(entries: &[Entry]) -> bool {
-    entries.iter().any(is_end)
-        && channels::next_up(entries).is_none()
-        && channels::next_down(entries).is_none()
+fn is_finished(entries: &[Entry]) -> bool
+    requires { is_lost 1 (entries_of node.Server (reverse entries.now)) ≡ false }
+    ensures { result ≡ is_finished settings (reverse entries.now) }
+{
+    has_ended(entries, THREAD)
+        && first_up(entries, CLIENT).is_none()
+        && first_down(entries, CLIENT).is_none()
 }
 
-/// Whether the entry is the end of the thread.
-fn is_end(entry: &Entry) -> bool {
-    matches!(
-        entry.event,
-        Some(Event::Act {
-            request: Request::End(_),
-            ..
-        })
-    )
+/// What was done by the entry.
+fn done_by(entry: &Entry) -> Last
+    ensures { result ≡ last_done (slot_at entry.now.node entry.now.input) }
+{
+    match (&entry.node, &entry.input) {
+        (Node::Client(_), Input::Act(_)) => Last::Acted,
+        (Node::Client(_), Input::TookDown(_)) => Last::TookDown,
+        (Node::Client(_), Input::Rejoin(_)) => Last::TookDown,
+        _ => Last::Other,
+    }
 }
 
-/// The first step that is possible after the last slot, going round; None where none is.
-fn next_step(
+/// The next entry, at the first place where a step can be made, going round from the one behind the last; None where
+/// none can be made.
+fn next_entry(
     alloc: Global,
     program: &FirstPath,
+    shape: &Shape,
     entries: &[Entry],
-    last: Slot,
-) -> Result<Option<(Slot, Entry)>, NoMemory> {
-    for slot in Slot::after(last) {
-        let entry = match slot {
-            Slot::Act => client::act(alloc, program, entries)?,
-            Slot::TakeDown => client::take(alloc, entries)?,
-            Slot::TakeUp => server::take(alloc, entries)?,
-        };
-        if let Some(entry) = entry {
-            return Ok(Some((slot, entry)));
-        }
-    }
-    Ok(None)
-}
-
-/// What the entry weighs, up to the whole budget.
-fn weight_of(entry: &Entry) -> u64
-    ensures { result ≡ min (entry_weight_of entry.now) STEPS }
+    last: Last,
+) -> Result<Option<Entry>, NoMemory>
+    requires shape { shape.now ≡ settings.shape }
+    requires room { HasRoom (reverse entries.now) }
+    ensures { IfOk result (λ made. made ≡ tried_after program.now last (reverse entries.now)) }
 {
-    let mut values = 0;
-    for sent in entry.sent.as_slice() {
-        values = (values + values_of(sent)).min(STEPS);
+    match last {
+        Last::Acted => match client::take(alloc, entries)? {
+            Some(entry) => Ok(Some(entry)),
+            None => match server::take(alloc, shape, entries)? {
+                Some(entry) => Ok(Some(entry)),
+                None => client::act(alloc, program, shape, entries),
+            },
+        },
+        Last::TookDown => match server::take(alloc, shape, entries)? {
+            Some(entry) => Ok(Some(entry)),
+            None => match client::act(alloc, program, shape, entries)? {
+                Some(entry) => Ok(Some(entry)),
+                None => client::take(alloc, entries),
+            },
+        },
+        Last::Other => match client::act(alloc, program, shape, entries)? {
+            Some(entry) => Ok(Some(entry)),
+            None => match client::take(alloc, entries)? {
+                Some(entry) => Ok(Some(entry)),
+                None => server::take(alloc, shape, entries),
+            },
+        },
     }
-    (values + 1).min(STEPS)
-}
-
-/// How many values a message has, up to the whole budget.
-fn values_of(sent: &Sent) -> u64
-    ensures { result ≡ min (sent_values_of sent.now) STEPS }
-{
-    match sent {
-        Sent::ToServer(Up::Commit(txn)) => txn_values(txn),
-        Sent::ToClient(_, Down::Object(body)) => capped(body.values.len()),
-        Sent::ToClient(_, Down::Changes(sets)) => capped(sets.len()),
-        _ => 0,
-    }
-}
-
-/// How many values a record has, up to the whole budget.
-fn txn_values(txn: &Txn) -> u64
-    ensures { result ≡ min (txn_values_of txn.now) STEPS }
-{
-    let mut values = 0;
-    for body in txn.news.as_slice() {
-        values = (values + capped(body.values.len())).min(STEPS);
-    }
-    (values + capped(txn.sets.len()) + capped(txn.outs.len())).min(STEPS)
-}
-
-/// A length, up to the whole budget.
-fn capped(length: usize) -> u64
-    ensures { result ≡ min length STEPS }
-{
-    (length as u64).min(STEPS)
 }

@@ -1,10 +1,12 @@
 //! What was committed: the thread's blocks whose records the server took.
 
-use crate::client::guard_of;
-use crate::own::own_size;
-use crate::readings::{hold_of, is_ending};
-use crate::server::record_taken;
-use dso_base::{Ending, Entry, Event, Fault, Items, NoMemory, Request, Value};
+use crate::known::{THREAD, guard_of};
+use crate::script::ROOTS;
+use dso_base::{
+    ClassId, Ending, Entry, Event, Fault, Input, Items, NoMemory, Request, Sent, Shape, Txn, Up,
+    Value,
+};
+use dso_law::{locks_of, work_of};
 use std::alloc::Global;
 
 /// How the thread stands in the committed history.
@@ -43,7 +45,11 @@ pub(crate) fn output_of(alloc: Global, entries: &[Entry]) -> Result<Items<Value>
 }
 
 /// How many committed reads of a shared object were made without the guard.
-pub(crate) fn unguarded_reads(entries: &[Entry]) -> u64 {
+pub(crate) fn unguarded_reads(
+    alloc: Global,
+    shape: &Shape,
+    entries: &[Entry],
+) -> Result<u64, NoMemory> {
     let mut left = entries
         .iter()
         .filter(|entry| record_taken(entry).is_some())
@@ -54,25 +60,55 @@ pub(crate) fn unguarded_reads(entries: &[Entry]) -> u64 {
             break;
         }
         let (before, _) = entries.split_at(at);
-        if is_unguarded_read(before, entry) {
+        if is_unguarded_read(alloc, shape, before, entry)? {
             reads = reads.saturating_add(1);
         }
-        if is_ending(entry) {
+        if sends_record(entry) {
             left -= 1;
         }
     }
-    reads
+    Ok(reads)
 }
 
 /// Whether the entry reads a shared object whose guard the thread doesn't hold.
-fn is_unguarded_read(before: &[Entry], entry: &Entry) -> bool {
-    match entry.event {
-        Some(
-            Event::Act {
-                request: Request::Get(object, _),
-                ..
-            },
-        ) => own_size(before, object).is_none() && hold_of(before, guard_of(object)).is_none(),
-        _ => false,
+fn is_unguarded_read(
+    alloc: Global,
+    shape: &Shape,
+    before: &[Entry],
+    entry: &Entry,
+) -> Result<bool, NoMemory> {
+    let Some(
+        Event::Act {
+            request: Request::Get(object, field),
+            ..
+        },
+    ) = entry.event
+    else {
+        return Ok(false);
+    };
+    let class = if object == ROOTS {
+        ClassId::Roots
+    } else {
+        ClassId::Plain(0)
+    };
+    let locks = locks_of(alloc, before, THREAD)?;
+    let work = work_of(alloc, shape, before, THREAD)?;
+    Ok(work.own(object).is_none() && !locks.holds(guard_of(class, object, field)))
+}
+
+/// The record that an entry takes, if it does.
+fn record_taken(entry: &Entry) -> Option<&Txn> {
+    match &entry.input {
+        Input::TookUp(_, Up::Commit(txn)) => Some(txn),
+        _ => None,
     }
+}
+
+/// Whether the entry sends a record.
+fn sends_record(entry: &Entry) -> bool {
+    entry
+        .sent
+        .as_slice()
+        .iter()
+        .any(|sent| matches!(sent, Sent::ToServer(Up::Commit(_))))
 }

@@ -1,23 +1,24 @@
 //! The top call: from the words and the files to what is printed.
 #![tactic(auto)]
 
-mod channels;
 mod client;
 mod cluster;
 mod form;
 mod history;
+mod known;
 mod lexer;
 mod main_call;
 mod mem_files;
 mod mem_sink;
 mod outside;
-mod own;
 mod pick;
-mod readings;
 mod report;
 mod reserved;
+#[cfg(test)]
+mod run_tests;
 mod script;
 mod server;
+mod shape;
 mod status;
 mod std_files;
 mod std_sink;
@@ -25,6 +26,8 @@ mod template;
 #[cfg(test)]
 mod tests;
 mod token;
+mod turn;
+mod weighing;
 mod words;
 mod writing;
 

@@ -1,12 +1,13 @@
 ghost use Rattle.std.specs.Prelude.{◌≡◌, ◌⊎◌, ℕ, ◌≤◌, List, [], Ok, map, IfOk};
 ghost use Rattle.std.specs.String.{string_bytes};
 ghost use Rattle.dso_run.specs.Answer.{IsVerdict, IsVerdictOfTexts, Stands, IsUsage};
-ghost use Rattle.dso_run.specs.Writing.{Wrote, WroteReport, IsOutcome};
+ghost use Rattle.dso_run.specs.Ends.{status_of_run};
+ghost use Rattle.dso_run.specs.Writing.{Wrote, WroteReport};
 ghost use Rattle.dso_run.specs.Outside.{Rose};
 ghost use Rattle.dso_run.specs.Status.{line_of, status_of};
 ghost use Rattle.dso_run.specs.Words.{AreUnlawful};
 
-use crate::cluster::{Outcome, run_program};
+use crate::cluster::{Outcome, STEPS, run_program};
 use crate::form::{FirstPath, first_path};
 use crate::report::report;
 use crate::status::Refusal;
@@ -81,9 +82,9 @@ fn refuse<K: Sink>(refusal: Refusal, out: &mut K) -> Status
 
 /// Runs an accepted program and writes the report of what was committed.
 fn run_and_report<K: Sink>(alloc: Global, program: &FirstPath, out: &mut K) -> Done
-    ensures { WroteReport (K.taken out.old) (K.taken out.new) (Rose (K.faults out.old) (K.faults out.new)) result.journal.entries result.status }
+    ensures { WroteReport program.now (K.taken out.old) (K.taken out.new) (Rose (K.faults out.old) (K.faults out.new)) result.journal.entries result.status }
 {
-    let Ok(run) = run_program(alloc, program) else {
+    let Ok(run) = run_program(alloc, program, STEPS) else {
         return nothing_ran(alloc, Status::NoMemory);
     };
     let Ok(text) = report(alloc, program, run.journal.entries.as_slice()) else {
@@ -101,7 +102,7 @@ fn run_and_report<K: Sink>(alloc: Global, program: &FirstPath, out: &mut K) -> D
 
 /// The status of a run whose report was written.
 fn status_of_run(outcome: Outcome) -> Status
-    ensures { IsOutcome result }
+    ensures { result ≡ status_of_run outcome }
 {
     match outcome {
         Outcome::Finished => Status::Finished,

@@ -3,8 +3,9 @@
 use crate::form::FirstPath;
 use crate::history::{State, output_of, state_of, unguarded_reads};
 use crate::script::ROOTS;
-use crate::server::body_of;
-use dso_base::{Entry, Fault, NoMemory, Value};
+use crate::shape::shape;
+use dso_base::{Entry, Fault, NoMemory, Shape, Value};
+use dso_law::stored;
 use std::alloc::{AllocError, Global};
 
 /// The report: the thread with what it printed, the count of unguarded reads, the root, and the object that it names.
@@ -14,12 +15,13 @@ pub(crate) fn report(
     program: &FirstPath,
     entries: &[Entry],
 ) -> Result<Vec<u8>, NoMemory> {
+    let shape = shape(alloc)?;
     let mut text = Vec::new(alloc);
     push_thread(alloc, &mut text, entries)?;
     push_texts(&mut text, &["unguarded "])?;
-    push_number(alloc, &mut text, unguarded_reads(entries))?;
+    push_number(alloc, &mut text, unguarded_reads(alloc, &shape, entries)?)?;
     push_texts(&mut text, &["\n"])?;
-    push_graph(alloc, &mut text, program, entries)?;
+    push_graph(alloc, &mut text, program, &shape, entries)?;
     Ok(text)
 }
 
@@ -43,19 +45,20 @@ fn push_graph(
     alloc: Global,
     text: &mut Vec<u8>,
     program: &FirstPath,
+    shape: &Shape,
     entries: &[Entry],
 ) -> Result<(), NoMemory> {
     push_texts(text, &["root "])?;
     text.extend_from_slice(program.holder.as_slice())?;
     push_texts(text, &["."])?;
     text.extend_from_slice(program.root.as_slice())?;
-    let Some(object) = object_of_root(alloc, entries)? else {
+    let Some(object) = object_of_root(alloc, shape, entries)? else {
         push_texts(text, &[" null\n"])?;
         return Ok(());
     };
     push_texts(text, &[" #1\n#1 "])?;
     text.extend_from_slice(program.class.as_slice())?;
-    if let Some(body) = body_of(alloc, entries, object)? {
+    if let Some(body) = stored(alloc, shape, entries, object)? {
         for value in body.values.as_slice() {
             push_texts(text, &[" "])?;
             text.extend_from_slice(program.field.as_slice())?;
@@ -68,8 +71,12 @@ fn push_graph(
 }
 
 /// The object that the root names.
-fn object_of_root(alloc: Global, entries: &[Entry]) -> Result<Option<u64>, NoMemory> {
-    let Some(roots) = body_of(alloc, entries, ROOTS)? else {
+fn object_of_root(
+    alloc: Global,
+    shape: &Shape,
+    entries: &[Entry],
+) -> Result<Option<u64>, NoMemory> {
+    let Some(roots) = stored(alloc, shape, entries, ROOTS)? else {
         return Ok(None);
     };
     Ok(match roots.values.get(0) {

@@ -1,110 +1,78 @@
 //! The server's steps: it takes a message and answers it.
+ghost use Rattle.std.specs.Prelude.{◌≡◌, ◌<◌, ◌^◌, reverse, map, IfOk, [], ◌∷◌};
+ghost use Rattle.dso_base.specs.declared.journal.Node.TheVariants as node;
+ghost use Rattle.dso_base.specs.declared.journal.Sent.TheVariants as to;
+ghost use Rattle.dso_law.specs.Entries.{entries_of};
+ghost use Rattle.dso_law.specs.Served.{next_batch};
+ghost use Rattle.dso_run.specs.Counting.{settings};
+ghost use Rattle.dso_run.specs.Room.{HasRoom};
+ghost use Rattle.dso_run.specs.Steps.{object_of, answer_to, takes_up};
 
-use crate::channels::next_up;
-use crate::readings::{BATCH, CLIENT, body_in, last_clock};
-use crate::script::ROOTS;
-use dso_base::{
-    Body, ClassId, Down, Entry, Input, Items, NoMemory, Node, Sent, Set, Txn, Up, Value,
-};
+use crate::known::CLIENT;
+use dso_base::{Body, Down, Entry, Input, Items, NoMemory, Node, Sent, Shape, Up};
+use dso_law::{first_up, last_clock, next_batch, stored};
 use std::alloc::Global;
 
 /// The entry in which the server takes the next message, None where none is on the way.
-pub(crate) fn take(alloc: Global, entries: &[Entry]) -> Result<Option<Entry>, NoMemory> {
-    let Some(next) = next_up(entries) else {
+pub(crate) fn take(
+    alloc: Global,
+    shape: &Shape,
+    entries: &[Entry],
+) -> Result<Option<Entry>, NoMemory>
+    requires shape { shape.now ≡ settings.shape }
+    requires room { HasRoom (reverse entries.now) }
+    ensures { IfOk result (λ made. made ≡ takes_up (reverse entries.now)) }
+{
+    let Some((heard, message)) = first_up(entries, CLIENT) else {
         return Ok(None);
     };
-    let clock = last_clock(entries, Node::Server).max(next.clock);
-    let mut sent = Items::new(alloc);
-    if let Some(answer) = answer(alloc, entries, next.message)? {
-        sent.push(Sent::ToClient(CLIENT, answer))?;
-    }
+    let clock = last_clock(entries, Node::Server).max(heard) + 1;
+    let sent = answers(alloc, shape, entries, message)?;
     Ok(Some(Entry {
-        clock: clock.saturating_add(1),
+        clock,
         node: Node::Server,
-        input: Input::TookUp(CLIENT, next.message.clone()?),
+        input: Input::TookUp(CLIENT, message.clone()?),
         sent,
         event: None,
     }))
 }
 
 /// What the server answers. The one client has no rival for a lease and none to tell of its changes.
-fn answer(alloc: Global, entries: &[Entry], message: &Up) -> Result<Option<Down>, NoMemory> {
-    Ok(match message {
-        Up::IdAsk => Some(Down::Ids(first_id(entries))),
-        Up::Fault(object) => body_of(alloc, entries, *object)?.map(Down::Object),
-        Up::Request(lock, level) => Some(Down::Grant(*lock, *level)),
-        Up::Commit(txn) => Some(Down::Ack(txn.seq)),
-        Up::Flushed(_) | Up::Return(..) => None,
-    })
-}
-
-/// The first id of the next batch: the first batch begins at 1.
-fn first_id(entries: &[Entry]) -> u64 {
-    let batches = entries
-        .iter()
-        .filter(|entry| matches!(entry.input, Input::TookUp(_, Up::IdAsk)))
-        .count() as u64;
-    batches.saturating_mul(BATCH).saturating_add(1)
-}
-
-/// The record that an entry takes, if it does.
-pub(crate) fn record_taken(entry: &Entry) -> Option<&Txn> {
-    match &entry.input {
-        Input::TookUp(_, Up::Commit(txn)) => Some(txn),
-        _ => None,
-    }
-}
-
-/// The object as the records taken leave it, None where there is none.
-pub(crate) fn body_of(
+fn answers(
     alloc: Global,
+    shape: &Shape,
     entries: &[Entry],
-    object: u64,
-) -> Result<Option<Body>, NoMemory> {
-    let mut body = opening_body(alloc, object)?;
-    for entry in entries {
-        let Some(txn) = record_taken(entry) else {
-            continue;
-        };
-        if let Some(new) = body_in(txn.news.as_slice(), object) {
-            body = Some(new.clone()?);
-        }
-        body = body.map(|body| with_sets(body, txn.sets.as_slice()));
+    message: &Up,
+) -> Result<Items<Sent>, NoMemory>
+    requires shape { shape.now ≡ settings.shape }
+    requires batches { next_batch (entries_of node.Server (reverse entries.now)) < 2 ^ 64 }
+    ensures { IfOk result (λ all. all ≡ map (to.ToClient 1) (answer_to message.now (reverse entries.now))) }
+{
+    match message {
+        Up::IdAsk => answer_alone(alloc, Down::Ids(next_batch(entries))),
+        Up::Fault(object) => object_sent(alloc, stored(alloc, shape, entries, *object)?),
+        Up::Request(lock, level) => answer_alone(alloc, Down::Grant(*lock, *level)),
+        Up::Commit(txn) => answer_alone(alloc, Down::Ack(txn.seq)),
+        Up::Flushed(_) => Ok(Items::new(alloc)),
+        Up::Return(..) => Ok(Items::new(alloc)),
     }
-    Ok(body)
 }
 
-/// The object before the first record: object 0 with its root, and no other.
-fn opening_body(alloc: Global, object: u64) -> Result<Option<Body>, NoMemory> {
-    if object != ROOTS {
-        return Ok(None);
+/// The object to the client, if it is there.
+fn object_sent(alloc: Global, body: Option<Body>) -> Result<Items<Sent>, NoMemory>
+    ensures { IfOk result (λ all. all ≡ map (to.ToClient 1) (object_of body)) }
+{
+    match body {
+        Some(body) => answer_alone(alloc, Down::Object(body)),
+        None => Ok(Items::new(alloc)),
     }
-    let mut values = Items::new(alloc);
-    values.push(Value::Null)?;
-    Ok(Some(Body {
-        object,
-        class: ClassId::Roots,
-        values,
-    }))
 }
 
-/// The object with its sets written into it.
-fn with_sets(body: Body, sets: &[Set]) -> Body {
-    let Body {
-        object,
-        class,
-        values,
-    } = body;
-    let mut values = values.into_vec();
-    for set in sets {
-        let field = set.field as usize;
-        if set.object == object && field < values.len() {
-            values[field] = set.value;
-        }
-    }
-    Body {
-        object,
-        class,
-        values: Items::from_vec(values),
-    }
+/// A message to the client, alone.
+fn answer_alone(alloc: Global, message: Down) -> Result<Items<Sent>, NoMemory>
+    ensures { IfOk result (λ all. all ≡ map (to.ToClient 1) (message ∷ [])) }
+{
+    let mut sent = Items::new(alloc);
+    sent.push(Sent::ToClient(CLIENT, message))?;
+    Ok(sent)
 }

@@ -16,7 +16,10 @@ pub struct StdFiles<R: Drop> {
 
 impl<R: rt::Files + Drop> StdFiles<R> {
     /// All counts are at 0.
-    pub fn new(runtime: R) -> StdFiles<R> {
+    pub fn new(runtime: R) -> StdFiles<R>
+        ensures reads { result.failed_reads ≡ 0 }
+        ensures writes { result.failed_writes ≡ 0 }
+    {
         StdFiles {
             runtime,
             failed_reads: 0,

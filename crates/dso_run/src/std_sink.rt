@@ -1,4 +1,4 @@
-ghost use Rattle.std.specs.Prelude.{None};
+ghost use Rattle.std.specs.Prelude.{◌≡◌, None};
 
 use crate::{Failed, Sink};
 use std::io;
@@ -12,7 +12,9 @@ pub struct StdSink<R: Drop> {
 
 impl<R: Print + Drop> StdSink<R> {
     /// The count is at 0.
-    pub fn new(runtime: R) -> StdSink<R> {
+    pub fn new(runtime: R) -> StdSink<R>
+        ensures { result.failed ≡ 0 }
+    {
         StdSink { runtime, failed: 0 }
     }
 }

@@ -8,9 +8,11 @@ use std::{env, io};
 fn main(rt: HostRuntime) -> ExitCode {
     let words = match words(&rt) {
         Ok(words) => words,
+        Err(error) if error.kind() == io::ErrorKind::OutOfMemory => {
+            return ExitCode::from(dso_run::Status::NoMemory.exit_number());
+        }
         // a word that isn't text is none of a lawful list
-        Err(error) if error.kind() == io::ErrorKind::InvalidData => Vec::new(rt.alloc()),
-        Err(_) => return ExitCode::from(dso_run::Status::NoMemory.exit_number()),
+        Err(_) => Vec::new(rt.alloc()),
     };
     let mut files = StdFiles::new(&rt);
     let mut out = StdSink::new(&rt);

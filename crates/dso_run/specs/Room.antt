@@ -1,0 +1,26 @@
+-- That what the client and the server count has room for one more entry. Entries stand with the newest first.
+use Rattle.std.specs.Prelude.{◌≡◌, ◌+◌, ◌<◌, ◌^◌, Some, List, [], ◌∷◌}
+use Rattle.dso_base.specs.declared.journal.Entry.{Entry}
+use Rattle.dso_base.specs.declared.journal.Node.TheVariants.{Server, Client}
+use Rattle.dso_law.specs.Settings.{Each}
+use Rattle.dso_law.specs.Entries.{entries_of}
+use Rattle.dso_law.specs.Channels.{way_up, way_down, last_clock}
+use Rattle.dso_law.specs.Records.{batches, records}
+use Rattle.dso_law.specs.Served.{next_batch}
+use Rattle.dso_run.specs.declared.form.FirstPath.{FirstPath}
+use Rattle.dso_run.specs.Steps.{own, next_entry}
+
+-- The last clocks, the clocks on the way, the number of records and the first ids of batches have room within 64 bits.
+pub record HasRoom (es : List Entry) : Type 0 where
+  pub client : last_clock (Client 1) es + 1 < 2 ^ 64
+  pub server : last_clock Server es + 1 < 2 ^ 64
+  pub up : Each (λ letter. letter.clock + 1 < 2 ^ 64) (way_up 1 es)
+  pub down : Each (λ letter. letter.clock + 1 < 2 ^ 64) (way_down 1 es)
+  pub records : records (own es) + 1 < 2 ^ 64
+  pub batches : Each (λ first. first + 256 < 2 ^ 64) (batches (own es))
+  pub next_batch : next_batch (entries_of Server es) < 2 ^ 64
+
+-- each entry is the one that the client or the server of the first path makes next
+abbrev pub AreMade : FirstPath → List Entry → Type 0
+AreMade p [] = Unit {0}
+AreMade p (e ∷ es) = AreMade p es × (next_entry p es ≡ Some e)
