@@ -1,6 +1,8 @@
 -- A call of the counter's method, from where it enters the monitor on.
-use Rattle.std.proofs.Common.{ℕ, suc, ◌≡◌, refl, sym, ap, subst, lit<, false, Option, Some, None, List, [], ◌∷◌, ℤ}
+use Rattle.std.proofs.Common.{ℕ, suc, ◌≡◌, refl, sym, ap, subst, lit<, false, Option, Some, None, List, [], ◌∷◌, ℤ, ◌++◌}
 use Rattle.std.specs.Prelude.{◌+ℤ◌, max}
+use Rattle.std.proofs.lemmas.List.{append-nil}
+use Rattle.dso_base.specs.declared.request.Event.{Event}
 use Rattle.std.specs.Int.{int_wrap}
 use mir.Syntax.{w64}
 use Rattle.dso_base.specs.declared.journal.Entry.{Entry}
@@ -25,21 +27,26 @@ use Rattle.dso_law.specs.FitsUp.{FitsStored, FitsRecord}
 use Rattle.dso_law.specs.Serving.{leased_to}
 use Rattle.dso_law.specs.Store.{stored}
 use Rattle.dso_legal.specs.Lawful.{next_after}
+use Rattle.dso_legal.specs.Committed.{ended_blocks, committed}
 use Rattle.dso_legal.specs.Slots.{TakesDown, TakesUp}
 use Rattle.dso_run.specs.declared.form.FirstPath.{FirstPath}
 use Rattle.dso_run.specs.Course.{Course, Asks}
-use Rattle.dso_run.specs.Counting.{the_thread, settings, next, fails, leaves, if_done, if_seen, if_value, prints, puts_sum, runs_method}
+use Rattle.dso_run.specs.Counting.{the_thread, settings, next, fails, leaves, if_done, if_seen, if_value, prints, puts_sum, runs_method, calls}
 use Rattle.dso_run.specs.Steps.{own, act, event_with}
 use Rattle.dso_run.proofs.Now.{ThreadStage, RecordStage, WayStage, Now}
 use Rattle.dso_run.proofs.Acting as Acting
 use Rattle.dso_run.proofs.Answering as Answering
+use Rattle.dso_run.proofs.Histories.{Takes, Told, told_after, told_more, taken_block}
+use Rattle.dso_run.proofs.PlainCalls.{call_events, call_runs, call_leaves}
 use Rattle.dso_run.proofs.Going.{Step, Goes, goes, acts_after_act, up_after_act}
+use Rattle.dso_run.proofs.Keeping as Keeping
 use Rattle.dso_run.proofs.Keeping.{goes_on, acted}
 use Rattle.dso_run.proofs.Quiet as Quiet
 use Rattle.dso_run.proofs.Quiet.{going}
 use Rattle.dso_run.proofs.Releasing as Releasing
 use Rattle.dso_run.proofs.Releasing.{plain_txn}
 use Rattle.dso_run.proofs.Storing as Storing
+use Rattle.dso_run.proofs.Sums.{sum}
 
 -- no lock is held
 abbrev pub no_locks : Locks
@@ -57,10 +64,6 @@ all_taken v s txn = record { held = v; stored = v; sent = s; taken = s; unacked 
 abbrev pub acknowledged : ℕ → ℕ → ℕ → ℕ → WayStage
 acknowledged seq clock c a = record { up = []; down = record { message = down.Ack seq; clock = clock } ∷ []; client = c; server = a; last = TakesUp 1 }
 
--- the sum that a call stores
-abbrev pub sum : ℤ → ℤ → ℤ
-sum v n = int_wrap w64 (v +ℤ n)
-
 -- the put of a call
 abbrev pub put_of : ℤ → ℤ → Set
 put_of v n = record { object = 1; field = 0; value = value.Long (sum v n) }
@@ -77,7 +80,8 @@ all_heard v s = record { held = v; stored = v; sent = s; taken = s; unacked = []
 abbrev pub all_quiet : ℕ → ℕ → WayStage
 all_quiet c a = record { up = []; down = []; client = c; server = a; last = TakesDown 1 }
 
-module _ {p : FirstPath} (n : ℤ) (rest : Course) (v : ℤ) (s c a : ℕ) {es_2 : List Entry} (now_2 : Now p (entering n rest) (all_heard v s) (all_quiet c a) es_2) where
+module _ {p : FirstPath} (n : ℤ) (rest : Course) (v : ℤ) (s c a : ℕ) {es_2 : List Entry} (now_2 : Now p (entering n rest) (all_heard v s) (all_quiet c a) es_2)
+    (told_2 : Told p (calls 1 n rest) v s es_2) where
   abbrev t_2 : ThreadStage
   t_2 = entering n rest
 
@@ -107,6 +111,9 @@ module _ {p : FirstPath} (n : ℤ) (rest : Course) (v : ℤ) (s c a : ℕ) {es_2
       (Answering.enter_needs p t_2 r_2 w_2 es_2 now_2 [] [] refl)
       (Answering.enter_replies p t_2 r_2 w_2 es_2 now_2 [] [] refl refl) refl refl refl refl
 
+  told_3 : Told p (calls 1 n rest) v s es_3
+  told_3 = told_after p (calls 1 n rest) v s es_2 told_2 _ (append-nil (committed es_2)) (Keeping.blocks_kept p t_2 r_2 w_2 es_2 now_2 (Enter (Mon 1) Write) (if_done fails (Asks (Look 1) (if_seen (leaves 1) (λ class. Asks (Get 1 0) (if_value (leaves 1) (puts_sum 1 n rest)))))) Done refl refl)
+
   -- the class is looked up
   abbrev es_4 : List Entry
   es_4 = act [] (Some (event_with (Look 1) (Seen (class.Plain 0) 1))) es_3 ∷ es_3
@@ -126,6 +133,9 @@ module _ {p : FirstPath} (n : ℤ) (rest : Course) (v : ℤ) (s c a : ℕ) {es_2
   now_4 = Quiet.still now_3 (Look 1) (if_seen (leaves 1) (λ class. Asks (Get 1 0) (if_value (leaves 1) (puts_sum 1 n rest)))) (Seen (class.Plain 0) 1) refl
       (Answering.look_needs p t_3 r_2 w_3 es_3 now_3 [] [] refl)
       (Answering.look_replies p t_3 r_2 w_3 es_3 now_3 [] [] refl) refl refl refl refl
+
+  told_4 : Told p (calls 1 n rest) v s es_4
+  told_4 = told_after p (calls 1 n rest) v s es_3 told_3 _ (append-nil (committed es_3)) (Keeping.blocks_kept p t_3 r_2 w_3 es_3 now_3 (Look 1) (if_seen (leaves 1) (λ class. Asks (Get 1 0) (if_value (leaves 1) (puts_sum 1 n rest)))) (Seen (class.Plain 0) 1) refl refl)
 
   -- the value is read
   abbrev es_5 : List Entry
@@ -147,6 +157,9 @@ module _ {p : FirstPath} (n : ℤ) (rest : Course) (v : ℤ) (s c a : ℕ) {es_2
       (Answering.get_needs p t_4 r_2 w_4 es_4 now_4 [] [] refl refl)
       (Answering.get_replies p t_4 r_2 w_4 es_4 now_4 [] [] refl (value.Long v) refl) refl refl refl refl
 
+  told_5 : Told p (calls 1 n rest) v s es_5
+  told_5 = told_after p (calls 1 n rest) v s es_4 told_4 _ (append-nil (committed es_4)) (Keeping.blocks_kept p t_4 r_2 w_4 es_4 now_4 (Get 1 0) (if_value (leaves 1) (puts_sum 1 n rest)) (Val (value.Long v)) refl refl)
+
   -- the class is looked up
   abbrev es_6 : List Entry
   es_6 = act [] (Some (event_with (Look 1) (Seen (class.Plain 0) 1))) es_5 ∷ es_5
@@ -166,6 +179,9 @@ module _ {p : FirstPath} (n : ℤ) (rest : Course) (v : ℤ) (s c a : ℕ) {es_2
   now_6 = Quiet.still now_5 (Look 1) (if_seen (leaves 1) (λ class. Asks (Put 1 0 (value.Long (sum v n))) (if_done (leaves 1) (prints 1 rest)))) (Seen (class.Plain 0) 1) refl
       (Answering.look_needs p t_5 r_2 w_5 es_5 now_5 [] [] refl)
       (Answering.look_replies p t_5 r_2 w_5 es_5 now_5 [] [] refl) refl refl refl refl
+
+  told_6 : Told p (calls 1 n rest) v s es_6
+  told_6 = told_after p (calls 1 n rest) v s es_5 told_5 _ (append-nil (committed es_5)) (Keeping.blocks_kept p t_5 r_2 w_5 es_5 now_5 (Look 1) (if_seen (leaves 1) (λ class. Asks (Put 1 0 (value.Long (sum v n))) (if_done (leaves 1) (prints 1 rest)))) (Seen (class.Plain 0) 1) refl refl)
 
   -- the sum is put
   abbrev es_7 : List Entry
@@ -187,6 +203,9 @@ module _ {p : FirstPath} (n : ℤ) (rest : Course) (v : ℤ) (s c a : ℕ) {es_2
       (Answering.put_needs p t_6 r_2 w_6 es_6 now_6 [] [] refl refl (value.Long (sum v n)))
       (Answering.put_replies p t_6 r_2 w_6 es_6 now_6 [] [] refl (value.Long (sum v n)) refl) refl refl refl refl
 
+  told_7 : Told p (calls 1 n rest) v s es_7
+  told_7 = told_after p (calls 1 n rest) v s es_6 told_6 _ (append-nil (committed es_6)) (Keeping.blocks_kept p t_6 r_2 w_6 es_6 now_6 (Put 1 0 (value.Long (sum v n))) (if_done (leaves 1) (prints 1 rest)) Done refl refl)
+
   -- the class is looked up
   abbrev es_8 : List Entry
   es_8 = act [] (Some (event_with (Look 1) (Seen (class.Plain 0) 1))) es_7 ∷ es_7
@@ -206,6 +225,9 @@ module _ {p : FirstPath} (n : ℤ) (rest : Course) (v : ℤ) (s c a : ℕ) {es_2
   now_8 = Quiet.still now_7 (Look 1) (if_seen (leaves 1) (λ class. Asks (Get 1 0) (if_value (leaves 1) (λ v. Asks (Print v) (if_done (leaves 1) (Asks (Exit (Mon 1)) (if_done fails rest))))))) (Seen (class.Plain 0) 1) refl
       (Answering.look_needs p t_7 r_2 w_7 es_7 now_7 (put_of v n ∷ []) [] refl)
       (Answering.look_replies p t_7 r_2 w_7 es_7 now_7 (put_of v n ∷ []) [] refl) refl refl refl refl
+
+  told_8 : Told p (calls 1 n rest) v s es_8
+  told_8 = told_after p (calls 1 n rest) v s es_7 told_7 _ (append-nil (committed es_7)) (Keeping.blocks_kept p t_7 r_2 w_7 es_7 now_7 (Look 1) (if_seen (leaves 1) (λ class. Asks (Get 1 0) (if_value (leaves 1) (λ v. Asks (Print v) (if_done (leaves 1) (Asks (Exit (Mon 1)) (if_done fails rest))))))) (Seen (class.Plain 0) 1) refl refl)
 
   -- the sum is read
   abbrev es_9 : List Entry
@@ -227,6 +249,9 @@ module _ {p : FirstPath} (n : ℤ) (rest : Course) (v : ℤ) (s c a : ℕ) {es_2
       (Answering.get_needs p t_8 r_2 w_8 es_8 now_8 (put_of v n ∷ []) [] refl refl)
       (Answering.get_replies p t_8 r_2 w_8 es_8 now_8 (put_of v n ∷ []) [] refl (value.Long (sum v n)) refl) refl refl refl refl
 
+  told_9 : Told p (calls 1 n rest) v s es_9
+  told_9 = told_after p (calls 1 n rest) v s es_8 told_8 _ (append-nil (committed es_8)) (Keeping.blocks_kept p t_8 r_2 w_8 es_8 now_8 (Get 1 0) (if_value (leaves 1) (λ v. Asks (Print v) (if_done (leaves 1) (Asks (Exit (Mon 1)) (if_done fails rest))))) (Val (value.Long (sum v n))) refl refl)
+
   -- and printed
   abbrev es_10 : List Entry
   es_10 = act [] (Some (event_with (Print (value.Long (sum v n))) Done)) es_9 ∷ es_9
@@ -246,6 +271,9 @@ module _ {p : FirstPath} (n : ℤ) (rest : Course) (v : ℤ) (s c a : ℕ) {es_2
   now_10 = Quiet.still now_9 (Print (value.Long (sum v n))) (if_done (leaves 1) (Asks (Exit (Mon 1)) (if_done fails rest))) Done refl
       refl
       refl refl refl refl refl
+
+  told_10 : Told p (calls 1 n rest) v s es_10
+  told_10 = told_after p (calls 1 n rest) v s es_9 told_9 _ (append-nil (committed es_9)) (Keeping.blocks_kept p t_9 r_2 w_9 es_9 now_9 (Print (value.Long (sum v n))) (if_done (leaves 1) (Asks (Exit (Mon 1)) (if_done fails rest))) Done refl refl)
 
   -- the monitor is left, and the record is on the way
   abbrev record_11 : Txn
@@ -313,8 +341,23 @@ module _ {p : FirstPath} (n : ℤ) (rest : Course) (v : ℤ) (s c a : ℕ) {es_2
   now_12 : Now p (between rest (Some (class.Plain 0, 1))) (all_taken (sum v n) (suc s) record_11) (acknowledged (suc s) (suc (max a (suc w_10.client))) (suc w_10.client) (suc (max a (suc w_10.client)))) (entry_12 ∷ es_11)
   now_12 = Storing.still p t_11 r_11 w_11 es_11 now_11 (put_of v n ∷ []) (value.Long (sum v n) ∷ []) (ending.Exit (Mon 1)) (suc w_10.client) [] (sum v n) refl fits refl
 
+  blocks_11 : ended_blocks (own es_11) ≡ ended_blocks (own es_10) ++ call_events v n ∷ []
+  blocks_11 = Releasing.block_added p t_10 r_2 w_10 es_10 now_10 (Exit (Mon 1)) (if_done fails rest) Done refl (put_of v n ∷ []) (value.Long (sum v n) ∷ []) (ending.Exit (Mon 1)) (sum v n) refl refl refl
+
+  -- the course takes the call
+  takes : Takes (calls 1 n rest) (call_events v n)
+  takes = (refl, refl, tt, (refl, refl, tt, (refl, refl, tt, (refl, refl, tt, (refl, refl, tt, (refl, refl, tt, (refl, refl, tt, (refl, refl, tt, (refl, refl, tt, (refl, refl, tt, tt))))))))))
+
+  commits_12 : committed (entry_12 ∷ es_11) ≡ committed es_11 ++ call_events v n
+  commits_12 = ap (λ (block : List Event). committed es_11 ++ block)
+      (taken_block es_11 record_11 s (ended_blocks (own es_10)) (call_events v n) now_11.server.not_lost refl told_10.many blocks_11 (λ lists. refl))
+
+  told_12 : Told p rest (sum v n) (suc s) (entry_12 ∷ es_11)
+  told_12 = told_more p (calls 1 n rest) v s es_10 told_10 es_11 entry_12 (call_events v n) (sum v n) rest (append-nil (committed es_10)) blocks_11 refl commits_12
+      (λ s. call_runs v n s) (λ s. call_leaves v n s) takes refl
+
   -- The call is made, and from its end on the run goes on.
   pub called_inside : ((next_txn : Txn) (next_k next_c next_a : ℕ) (later : List Entry)
-      → Now p (between rest (Some (class.Plain 0, 1))) (all_taken (sum v n) (suc s) next_txn) (acknowledged next_txn.seq next_k next_c next_a) later → Goes p later) → Goes p es_2
+      → Now p (between rest (Some (class.Plain 0, 1))) (all_taken (sum v n) (suc s) next_txn) (acknowledged next_txn.seq next_k next_c next_a) later → Told p rest (sum v n) (suc s) later → Goes p later) → Goes p es_2
   called_inside on = goes _ step_3 (goes _ step_4 (goes _ step_5 (goes _ step_6 (goes _ step_7 (goes _ step_8 (goes _ step_9 (goes _ step_10 (goes _ step_11 (goes _ step_12
-      (on record_11 (suc (max a (suc w_10.client))) (suc w_10.client) (suc (max a (suc w_10.client))) (entry_12 ∷ es_11) now_12))))))))))
+      (on record_11 (suc (max a (suc w_10.client))) (suc w_10.client) (suc (max a (suc w_10.client))) (entry_12 ∷ es_11) now_12 told_12))))))))))

@@ -29,3 +29,7 @@ pub mod Room
 pub mod Making
 pub mod Looping
 pub mod Lacking
+pub mod PlainCalls
+pub mod Histories
+pub mod Sums
+pub mod PlainOpening

@@ -7,15 +7,16 @@ use Rattle.dso_legal.specs.Slots.{is_finished, weight}
 use Rattle.dso_run.specs.declared.cluster.Last.{Last}
 use Rattle.dso_run.specs.declared.cluster.Last.TheVariants.{Other}
 use Rattle.dso_run.specs.declared.cluster.Outcome.{Outcome}
+use Rattle.dso_run.specs.declared.cluster.Outcome.TheVariants as outcome
 use Rattle.dso_run.specs.declared.cluster.Run.{Run}
 use Rattle.dso_run.specs.declared.form.FirstPath.{FirstPath}
 use Rattle.dso_run.specs.Counting.{settings, next}
-use Rattle.dso_run.specs.Ends.{EndsAs, HasEnded}
+use Rattle.dso_run.specs.Ends.{HasRun, HasEnded}
 use Rattle.dso_run.specs.Room.{HasRoom}
 use Rattle.dso_run.specs.Rounds.{slot_at, last_slot, EndsFinished, EndsOverBudget}
 use Rattle.dso_run.specs.Steps.{last_done, tried_after, next_entry}
 use Rattle.dso_run.proofs.Room.{has_room}
-use Rattle.dso_run.proofs.Running.{RunSoFar, is_run, runs_on, never_stuck, begins, long_weighs}
+use Rattle.dso_run.proofs.Running.{RunSoFar, is_run, is_legal, runs_on, never_stuck, begins, long_weighs}
 
 -- the run so far, what its journal weighs up to the whole budget, and what was done last
 pub record IsAt (p : FirstPath) (steps w : ℕ) (last : Last) (es : List Entry) : Type 0 where
@@ -48,17 +49,17 @@ module _ (p : FirstPath) (steps w : ℕ) (last : Last) (es : List Entry) (at : I
   pub no_stop : {A : Type 0} → is_finished settings es ≡ false → None ≡ tried_after p last es → A
   no_stop unfinished tried = absurd (never_stuck p steps es at.so_far (tried_is None tried) unfinished)
 
-  pub ends_finished : is_finished settings es ≡ true → EndsFinished settings (next p) steps es
-  ends_finished finished = record { run = is_run p steps es at.so_far; finished = finished }
+  pub ends_finished : is_finished settings es ≡ true → HasRun p steps outcome.Finished es
+  ends_finished finished = record { ended = record { run = is_run p steps es at.so_far; finished = finished }; legal = is_legal p steps es at.so_far }
 
-  pub ends_over : steps ≤ w → is_finished settings es ≡ false → EndsOverBudget settings (next p) steps es
-  ends_over heavy unfinished = record { run = is_run p steps es at.so_far; unfinished = unfinished; heavy = (let weighs : w ≡ min (weight es) 1000000 = at.weighs in omega arith) }
+  pub ends_over : steps ≤ w → is_finished settings es ≡ false → HasRun p steps outcome.Budget es
+  ends_over heavy unfinished = record { ended = record { run = is_run p steps es at.so_far; unfinished = unfinished; heavy = (let weighs : w ≡ min (weight es) 1000000 = at.weighs in omega arith) }; legal = is_legal p steps es at.so_far }
 
 pub at_same : (p : FirstPath) (steps w w' : ℕ) (last last' : Last) (es es' : List Entry) → w' ≡ w → last' ≡ last → es' ≡ es → IsAt p steps w last es → IsAt p steps w' last' es'
 at_same p steps w w' last last' es es' a b c at =
     subst (λ (x : List Entry). IsAt p steps w' last' x) (sym c) (subst (λ (l : Last). IsAt p steps w' l es) (sym b) (subst (λ (n : ℕ). IsAt p steps n last es) (sym a) at))
 
 -- a run that ended so
-pub has_ended : (p : FirstPath) (steps : ℕ) (run : Run) (outcome : Outcome) (entries : List Entry) → run.outcome ≡ outcome → run.journal.entries ≡ entries → EndsAs p steps outcome (reverse entries) → HasEnded p steps run
+pub has_ended : (p : FirstPath) (steps : ℕ) (run : Run) (outcome : Outcome) (entries : List Entry) → run.outcome ≡ outcome → run.journal.entries ≡ entries → HasRun p steps outcome (reverse entries) → HasEnded p steps run
 has_ended p steps run outcome entries is same ends =
-    subst (λ (o : Outcome). EndsAs p steps o (reverse run.journal.entries)) (sym is) (subst (λ (all : List Entry). EndsAs p steps outcome (reverse all)) (sym same) ends)
+    subst (λ (o : Outcome). HasRun p steps o (reverse run.journal.entries)) (sym is) (subst (λ (all : List Entry). HasRun p steps outcome (reverse all)) (sym same) ends)

@@ -12,7 +12,7 @@ use Rattle.dso_run.specs.declared.status.Refusal.{Refusal}
 use Rattle.dso_run.specs.declared.status.Refusal.TheVariants.{Words, Reading, Config, Program}
 use Rattle.dso_run.specs.declared.status.Status.{Status}
 use Rattle.dso_run.specs.declared.status.Status.TheVariants.{Finished, Usage, BadConfig, BadProgram, ReadFault, WriteFault, Stuck, Budget, NoMemory}
-use Rattle.dso_run.specs.Ends.{EndsAs}
+use Rattle.dso_run.specs.Ends.{HasRun}
 use Rattle.dso_run.specs.Form.{IsFirstPath}
 use Rattle.dso_run.specs.Outside.{Told, MayGive, taken_after, TookPart}
 use Rattle.dso_run.specs.Status.{line_of}
@@ -80,11 +80,12 @@ pub record IsRefused (content : List ℕ → Told) (words : List (List ℕ)) (re
   pub nothing_ran : entries ≡ []
 
 -- The program was accepted, and the entries are those of a run of it that ended so: the journal is lawful, each entry was
--- made where the run went on and at the slot that round robin takes, within a budget of 1000000.
+-- made where the run went on and at the slot that round robin takes, within a budget of 1000000; and the committed history
+-- is legal.
 pub record IsRan (content : List ℕ → Told) (words : List (List ℕ)) (entries : List Entry) (outcome : Outcome) : Type 0 where
   pub program : FirstPath
   pub accepted : IsAccepted content words program
-  pub ran : EndsAs program 1000000 outcome (reverse entries)
+  pub ran : HasRun program 1000000 outcome (reverse entries)
 
 -- What was to be written: the line of a refusal that has its cause, or the report of a run of an accepted program.
 abbrev pub IsDue : (List ℕ → Told) → List (List ℕ) → Type 0 → List Entry → List ℕ → Type 0

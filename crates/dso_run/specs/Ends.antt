@@ -1,6 +1,8 @@
 -- How a run of the first path ended.
 use Rattle.std.specs.Prelude.{ℕ, List, reverse}
 use Rattle.dso_base.specs.declared.journal.Entry.{Entry}
+use Rattle.dso_plain.specs.History.{IsLegal}
+use Rattle.dso_legal.specs.Committed.{committed}
 use Rattle.dso_run.specs.declared.cluster.Outcome.TheVariants.{Finished, Stuck, Budget}
 use Rattle.dso_run.specs.declared.cluster.Outcome.{Outcome}
 use Rattle.dso_run.specs.declared.cluster.Run.{Run}
@@ -8,6 +10,7 @@ use Rattle.dso_run.specs.declared.form.FirstPath.{FirstPath}
 use Rattle.dso_run.specs.declared.status.Status.{Status}
 use Rattle.dso_run.specs.declared.status.Status.TheVariants as status
 use Rattle.dso_run.specs.Counting.{settings, next}
+use Rattle.dso_run.specs.Listed.{Listed}
 use Rattle.dso_run.specs.Rounds.{EndsFinished, EndsStuck, EndsOverBudget}
 
 -- the entries, the newest first, are those of a run of the program that ended so
@@ -15,6 +18,12 @@ abbrev pub EndsAs : FirstPath → ℕ → Outcome → List Entry → Type 0
 EndsAs p budget Finished es = EndsFinished settings (next p) budget es
 EndsAs p budget Stuck es = EndsStuck settings (next p) budget es
 EndsAs p budget Budget es = EndsOverBudget settings (next p) budget es
+
+-- A run of the program that ended so: and the history that its journal commits is a legal history of one heap with plain
+-- monitors, in which the thread follows the program.
+pub record HasRun (p : FirstPath) (budget : ℕ) (outcome : Outcome) (es : List Entry) : Type 0 where
+  pub ended : EndsAs p budget outcome es
+  pub legal : IsLegal (next p) (Listed p) settings.shape (committed es)
 
 -- the status of a run that ended so
 abbrev pub status_of_run : Outcome → Status
@@ -24,4 +33,4 @@ status_of_run Budget = status.Budget
 
 -- so of a run's journal, whose first entry stands first
 abbrev pub HasEnded : FirstPath → ℕ → Run → Type 0
-HasEnded p budget run = EndsAs p budget run.outcome (reverse run.journal.entries)
+HasEnded p budget run = HasRun p budget run.outcome (reverse run.journal.entries)

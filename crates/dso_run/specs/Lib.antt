@@ -17,3 +17,4 @@ pub mod Places
 pub mod Room
 pub mod Turns
 pub mod Ends
+pub mod Listed
