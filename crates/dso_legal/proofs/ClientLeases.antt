@@ -104,7 +104,7 @@ returned l list [] s distinct leased = record { comes = tt; status = refl }
 returned l list (k ∷ locks) s distinct leased = return_one (is_lock l k) l list k locks s refl distinct leased (returned l list locks s distinct.1)
 
 -- what holds of each lock of a list holds of one that is in it
-has_is : (P : LockName → Type 0) (l : LockName) (locks : List LockName) → Each P locks → has (is_lock l) locks ≡ true → P l
+pub has_is : (P : LockName → Type 0) (l : LockName) (locks : List LockName) → Each P locks → has (is_lock l) locks ≡ true → P l
 has_is P l [] each e = absurd (cc e)
 has_is P l (k ∷ locks) each e = by (is_lock l k) refl e (has_is P l locks each.1)
   where

@@ -82,7 +82,7 @@ pub record ClientSent (e : Entry) (es : List Entry) : Type 0 where
   pub about_locks : EachAboutLock locks
   pub asks : AtMostAsk e.input (unsent e ∷ es) last
 
-about_append : (xs ys : List Up) → EachAboutLock xs → EachAboutLock ys → EachAboutLock (xs ++ ys)
+pub about_append : (xs ys : List Up) → EachAboutLock xs → EachAboutLock ys → EachAboutLock (xs ++ ys)
 about_append [] ys h k = k
 about_append (x ∷ xs) ys h k = (h.0, about_append xs ys h.1 k)
 
@@ -117,15 +117,15 @@ module _ (p : Settings) (c : ℕ) (before after_it : ThreadId → Option Request
   about_again_if k true = (tt, tt)
   about_again_if k false = tt
 
-  about_again : (request : Option Request) → EachAboutLock (asks_again p c before after_it request (unsent e ∷ es) es)
+  pub about_again : (request : Option Request) → EachAboutLock (asks_again p c before after_it request (unsent e ∷ es) es)
   about_again (Some (Enter k Write)) = about_again_if k (not (is_closing p c before k es) && has (is_lock k) (due p c after_it (unsent e ∷ es)))
   about_again request = tt
 
-  about_given : EachAboutLock (returns p c after_it (unsent e ∷ es))
+  pub about_given : EachAboutLock (returns p c after_it (unsent e ∷ es))
   about_given = about_returns (λ k. client_list k (unsent e ∷ es)) (due p c after_it (unsent e ∷ es))
 
   -- by the messages
-  said : (ms : List Up) → e.sent ≡ map ToServer ms → said_of e.sent ≡ ms
+  pub said : (ms : List Up) → e.sent ≡ map ToServer ms → said_of e.sent ≡ ms
   said ms sent = ap said_of sent ∙ said_all ms
 
   sent_does : (t : ThreadId) (request : Request) → Does p c t request before after_it e es → ClientSent e es

@@ -34,7 +34,7 @@ abbrev pub client_with : ℕ → Node → Entry → List Entry → List Entry
 client_with c node e es = cond (is_node (Client c) node) (e ∷ entries_of (Client c) es) (entries_of (Client c) es)
 
 -- who isn't lost at one more entry wasn't before
-not_lost_before : (c : ℕ) (node : Node) (e : Entry) (es : List Entry) → is_lost c (server_with node e es) ≡ false → is_lost c (entries_of Server es) ≡ false
+pub not_lost_before : (c : ℕ) (node : Node) (e : Entry) (es : List Entry) → is_lost c (server_with node e es) ≡ false → is_lost c (entries_of Server es) ≡ false
 not_lost_before c Server e es h = (neither (loses c e.input) (is_lost c (entries_of Server es)) h).1
 not_lost_before c (Client d) e es h = h
 
@@ -48,7 +48,7 @@ skipped_way c (input.TookUp d m) server skipped alive = by (eqb c d) refl
 skipped_way c other server skipped alive = refl
 
 -- and is answered by nothing
-skipped_silent : (p : Settings) (e : Entry) (server : List Entry) (input : Input) → ServerStepOn p input e server → is_of_lost input server ≡ true → e.sent ≡ []
+pub skipped_silent : (p : Settings) (e : Entry) (server : List Entry) (input : Input) → ServerStepOn p input e server → is_of_lost input server ≡ true → e.sent ≡ []
 skipped_silent p e server (input.TookUp d m) h skipped = subst (λ b. HeardOrLost p d m b e (counted server)) skipped h.heard
 skipped_silent p e server other h skipped = absurd (cc skipped)
 
@@ -74,9 +74,15 @@ module _ {S : Type 0} (p : Settings) (next : ThreadId → List Event → Option 
     pub at_server : (e : Entry) (es : List Entry) → AllFollow p next es → ServerFollows p next e es → is_of_lost e.input (entries_of Server es) ≡ false → loses c e.input ≡ false
         → ServerEnd e (counted (entries_of Server es))
 
-  module _ (commutes : Commutes may_up step_up may_down step_down) (ends : Ends) (e : Entry) (es : List Entry) (follow : AllFollow p next es) where
+  -- The two ends at one entry that takes what is first on its way.
+  pub record EndsAt (e : Entry) (es : List Entry) : Type 0 where
+    pub at_client : TakesFirst e.input (Client c) es → ClientFollows p next c e es → ClientEnd e (entries_of (Client c) es)
+    pub at_server : TakesFirst e.input Server es → ServerFollows p next e es → is_of_lost e.input (entries_of Server es) ≡ false → loses c e.input ≡ false
+        → ServerEnd e (counted (entries_of Server es))
+
+  module _ (commutes : Commutes may_up step_up may_down step_down) (e : Entry) (es : List Entry) (ends : EndsAt e es) where
     -- the ways and readings after an entry of this node
-    abbrev AgreeAfter : Node → Type 0
+    abbrev pub AgreeAfter : Node → Type 0
     AgreeAfter node = Agree may_up step_up may_down step_down (messages (way_up_after c e node (way_up c es))) (messages (way_down_after c e node (way_down c es)))
         (server (counted (server_with node e es))) (client (client_with c node e es))
 
@@ -103,7 +109,7 @@ module _ {S : Type 0} (p : Settings) (next : ThreadId → List Event → Option 
 
     agree_server : (b : Bool) → is_of_lost e.input (entries_of Server es) ≡ b → ServerFollows p next e es → TakesFirst e.input Server es → is_lost c (e ∷ entries_of Server es) ≡ false → AgreeAt es → AgreeAfter Server
     agree_server true counts h first alive a = agree_skipped h counts (neither (loses c e.input) (is_lost c (entries_of Server es)) alive).1 a
-    agree_server false counts h first alive a = agree_counted (ends.at_server e es follow h counts (neither (loses c e.input) (is_lost c (entries_of Server es)) alive).0) first counts a
+    agree_server false counts h first alive a = agree_counted (ends.at_server first h counts (neither (loses c e.input) (is_lost c (entries_of Server es)) alive).0) first counts a
 
     -- an entry of client d
     agree_client : (b : Bool) (d : ℕ) → eqb c d ≡ b → TakesFirst e.input (Client d) es → ClientFollows p next d e es → AgreeAt es
@@ -111,7 +117,7 @@ module _ {S : Type 0} (p : Settings) (next : ThreadId → List Event → Option 
         (messages (cond b (cond (takes_down e.input) (drop 1 (way_down c es)) (way_down c es)) (way_down c es)))
         (server (counted (entries_of Server es))) (client (cond b (e ∷ entries_of (Client c) es) (entries_of (Client c) es)))
     agree_client true d own first h a =
-        let end = ends.at_client e es follow (subst (λ n. ClientFollows p next n e es) (sym (same_number c d own)) h) in
+        let end = ends.at_client (subst (λ n. TakesFirst e.input (Client n) es) (sym (same_number c d own)) first) (subst (λ n. ClientFollows p next n e es) (sym (same_number c d own)) h) in
         subst (λ s. Agree may_up step_up may_down step_down (messages (by_said (posted e.clock) e.sent (way_up c es))) (messages (cond (takes_down e.input) (drop 1 (way_down c es)) (way_down c es))) (server (counted (entries_of Server es))) s)
         (sym end.reads)
         (client_sends may_up step_up may_down step_down commutes e.clock e.sent (way_up c es)
@@ -120,15 +126,17 @@ module _ {S : Type 0} (p : Settings) (next : ThreadId → List Event → Option 
         (subst (λ n. TakesFirst e.input (Client n) es) (sym (same_number c d own)) first) a))
     agree_client false d own first h a = a
 
-    agree_after : (node : Node) → TakesFirst e.input node es → NodeFollows p next node e es → is_lost c (server_with node e es) ≡ false → AgreeAt es → AgreeAfter node
+    -- Both ends agree after the entry.
+    pub agree_after : (node : Node) → TakesFirst e.input node es → NodeFollows p next node e es → is_lost c (server_with node e es) ≡ false → AgreeAt es → AgreeAfter node
     agree_after Server first h alive a = agree_server (is_of_lost e.input (entries_of Server es)) refl h first alive a
     agree_after (Client d) first h alive a = agree_client (eqb c d) d refl first h a
 
   -- Both ends agree after every lawful journal that doesn't lose the client.
   pub ends_agree : Commutes may_up step_up may_down step_down → Ends → (es : List Entry) → AllFollow p next es → is_lost c (entries_of Server es) ≡ false → AgreeAt es
   ends_agree commutes ends [] follow alive = record { ups = tt; downs = tt; meet = ends.start }
-  ends_agree commutes ends (e ∷ es) follow alive = agree_after commutes ends e es follow.0 e.node follow.1.channels follow.1.rule alive
-      (ends_agree commutes ends es follow.0 (not_lost_before c e.node e es alive))
+  ends_agree commutes ends (e ∷ es) follow alive = agree_after commutes e es
+      (record { at_client = λ first h. ends.at_client e es follow.0 h; at_server = λ first h. ends.at_server e es follow.0 h })
+      e.node follow.1.channels follow.1.rule alive (ends_agree commutes ends es follow.0 (not_lost_before c e.node e es alive))
 
   -- the first message on the way up may come where the server's reading stands
   first_up : (m : Up) (letters : List (Letter Up)) (s : S) → IsFirst m letters → EachMay may_up step_up (messages letters) s → may_up m s

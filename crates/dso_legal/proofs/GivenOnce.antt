@@ -61,11 +61,11 @@ module _ (p : Settings) (next : ThreadId → List Event → Option Request) wher
   in_turn (e ∷ es) h = turn_at e.node e es h.1.rule (in_turn es h.0)
 
 -- whether a batch is the client's and has the id
-abbrev gives : ℕ → ℕ → Batch → Bool
+abbrev pub gives : ℕ → ℕ → Batch → Bool
 gives c o batch = eqb batch.client c && is_in_batch o batch
 
 -- an id of a batch is within it
-within : (o first n : ℕ) → first ≡ 1 + 256 * n → (leb first o && ltb o (first + 256)) ≡ true → (1 + 256 * n ≤ o) × (o < 1 + 256 * suc n)
+pub within : (o first n : ℕ) → first ≡ 1 + 256 * n → (leb first o && ltb o (first + 256)) ≡ true → (1 + 256 * n ≤ o) × (o < 1 + 256 * suc n)
 within o first n e h =
     let it = both (leb first o) (ltb o (first + 256)) h in
     (above o first n e it.0, below o first n e it.1)
@@ -93,7 +93,7 @@ not_both : (o n : ℕ) → 1 + 256 * n ≤ o → o < 1 + 256 * n → ⊥
 not_both o n le lt = omega (arith, le, lt)
 
 -- an id is given to one client
-given_once : (c d o : ℕ) (given : List Batch) → InTurn given → has (gives c o) given ≡ true → has (gives d o) given ≡ true → c ≡ d
+pub given_once : (c d o : ℕ) (given : List Batch) → InTurn given → has (gives c o) given ≡ true → has (gives d o) given ≡ true → c ≡ d
 given_once c d o [] h e f = absurd (cc e)
 given_once c d o (b ∷ given) h e f = by (gives c o b) (gives d o b) refl refl e f (given_once c d o given h.1)
   where

@@ -56,7 +56,7 @@ none_conflicts Read = refl
 none_conflicts Write = refl
 
 -- conflicts go both ways
-conflict_back : (a b : Level) → conflicts a (Some b) ≡ false → conflicts b (Some a) ≡ false
+pub conflict_back : (a b : Level) → conflicts a (Some b) ≡ false → conflicts b (Some a) ≡ false
 conflict_back Read Read e = e
 conflict_back Read Write e = e
 conflict_back Write Read e = e
@@ -124,7 +124,7 @@ none_has test d (x ∷ xs) e f = by (eqb d x) refl f (neither (test x) (has test
     by false g f h later = later h.1 f
 
 -- the second test fails, where the first doesn't
-second_fails : (b x : Bool) → b ≡ false → (not b && x) ≡ false → x ≡ false
+pub second_fails : (b x : Bool) → b ≡ false → (not b && x) ≡ false → x ≡ false
 second_fails true x e f = absurd (cc e)
 second_fails false x e f = f
 

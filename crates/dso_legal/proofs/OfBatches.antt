@@ -21,7 +21,7 @@ use Rattle.dso_legal.proofs.Batches.{batches_stay_in_order}
 use Rattle.dso_legal.proofs.Numbered.{after_unchanged}
 
 -- whether the id is of the batch that begins so
-abbrev is_of : ℕ → ℕ → Bool
+abbrev pub is_of : ℕ → ℕ → Bool
 is_of o first = leb first o && ltb o (first + 256)
 
 -- an id of the batch
@@ -29,7 +29,7 @@ id_is_of : (first n o : ℕ) → ltb n 256 ≡ true → first + n ≡ o → is_o
 id_is_of first n o lt e = grind (arith, nat_tests)
 
 -- an id in order is of one of the batches
-id_in : (q : List ℕ) (n o : ℕ) → id_at q n ≡ Some o → has (is_of o) q ≡ true
+pub id_in : (q : List ℕ) (n o : ℕ) → id_at q n ≡ Some o → has (is_of o) q ≡ true
 id_in [] n o e = absurd (cc e)
 id_in (first ∷ rest) n o e = by (ltb n 256) refl e (id_in rest (n - 256) o)
   where
@@ -46,7 +46,7 @@ id_in (first ∷ rest) n o e = by (ltb n 256) refl e (id_in rest (n - 256) o)
     by false lt e rest_in = later (is_of o first) (rest_in e)
 
 -- what is in a list is in a longer one
-has_more : {X : Type 0} (test : X → Bool) (xs ys : List X) → has test xs ≡ true → has test (xs ++ ys) ≡ true
+pub has_more : {X : Type 0} (test : X → Bool) (xs ys : List X) → has test xs ≡ true → has test (xs ++ ys) ≡ true
 has_more test [] ys e = absurd (cc e)
 has_more test (x ∷ xs) ys e = by (test x) e (has_more test xs ys)
   where
@@ -58,7 +58,7 @@ taken_more : (test : ℕ → Bool) (m : Down) (q : List ℕ) → has test q ≡ 
 taken_more test (down.Ids first) q e = has_more test q (first ∷ []) e
 taken_more test m q e = e
 
-after_more : (test : ℕ → Bool) (ms : List Down) (q : List ℕ) → has test q ≡ true → has test (after batches_by ms q) ≡ true
+pub after_more : (test : ℕ → Bool) (ms : List Down) (q : List ℕ) → has test q ≡ true → has test (after batches_by ms q) ≡ true
 after_more test [] q e = e
 after_more test (m ∷ ms) q e = after_more test ms (batches_by m q) (taken_more test m q e)
 
@@ -73,11 +73,11 @@ has_one_more test (y ∷ xs) x e = by (test y) (test x) e (has_one_more test xs 
     by false false e later = later e
 
 -- whether a batch is the client's and has the id
-abbrev gives : ℕ → ℕ → Batch → Bool
+abbrev pub gives : ℕ → ℕ → Batch → Bool
 gives c o batch = eqb batch.client c && is_in_batch o batch
 
 -- An id of one of the firsts is of one of the client's batches.
-abbrev Covers : ℕ → ℕ → List ℕ → List Batch → Type 0
+abbrev pub Covers : ℕ → ℕ → List ℕ → List Batch → Type 0
 Covers c o firsts given = has (is_of o) firsts ≡ true → has (gives c o) given ≡ true
 
 -- one more batch, to the client or another
@@ -110,7 +110,7 @@ covers_sent c o (ToServer m ∷ out) firsts given h = covers_sent c o out firsts
 covers_sent c o (ToClient d m ∷ out) firsts given h = covers_sent c o out (given_by c d m firsts) (batch_by d m given) (covers_message c o d m firsts given h)
 
 -- over the server's entries
-covers_all : (c o : ℕ) (es : List Entry) → Covers c o (given_to c es) (batches_given es)
+pub covers_all : (c o : ℕ) (es : List Entry) → Covers c o (given_to c es) (batches_given es)
 covers_all c o [] = λ e. absurd (cc e)
 covers_all c o (e ∷ es) = covers_sent c o e.sent (given_to c es) (batches_given es) (covers_all c o es)
 

@@ -6,4 +6,10 @@ pub mod Tokens
 pub mod Numbered
 pub mod Batches
 pub mod GivenOnce
+pub mod Holds
+pub mod Residency
+pub mod MadeOnce
+pub mod OwnObjects
+pub mod NewsAreNew
+pub mod Sorted
 pub mod examples

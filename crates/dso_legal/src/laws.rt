@@ -4,6 +4,12 @@ ghost use Rattle.dso_legal.specs.Tokens.{LeasesAreTokens, LeasesFit, LeasesAreCo
 ghost use Rattle.dso_legal.specs.Numbered.{RecordsStayInOrder, RecordsFit};
 ghost use Rattle.dso_legal.specs.GivenOnce.{IdsAreGivenOnce, IdsAreOfBatches};
 ghost use Rattle.dso_legal.specs.Batches.{BatchesStayInOrder, BatchesFit};
+ghost use Rattle.dso_legal.specs.Holds.{HoldsAreWithinLeases, LeasesAreKnown, HoldsAreCompatible};
+ghost use Rattle.dso_legal.specs.Residency.{ResidencyAgrees, ObjectsFit, SetsAreResident};
+ghost use Rattle.dso_legal.specs.MadeOnce.{ObjectsAreMadeOnce};
+ghost use Rattle.dso_legal.specs.OwnObjects.{ObjectsInHandAreOwn};
+ghost use Rattle.dso_legal.specs.NewsAreNew.{NewsAreNew};
+ghost use Rattle.dso_legal.specs.Sorted.{RecordsAreSorted};
 
 /// For each client that isn't lost and each lock: each message on the way may come where it stands, and once all are taken
 /// the client and the server say the same of the lock's lease.
@@ -53,4 +59,60 @@ pub fn ids_are_given_once()
 /// For each client that isn't lost: the id that its next new object gets was given to it.
 pub fn ids_are_of_batches()
     ensures { IdsAreOfBatches }
+{}
+
+/// Where a thread holds a lock, its client has a lease of the lock of at least the hold's level, and the lease is entered.
+pub fn holds_are_within_leases()
+    ensures { HoldsAreWithinLeases }
+{}
+
+/// For each client that isn't lost: the leases that it has are those that the server gave it.
+pub fn leases_are_known()
+    ensures { LeasesAreKnown }
+{}
+
+/// No two threads of clients that aren't lost hold a lock in conflict.
+pub fn holds_are_compatible()
+    ensures { HoldsAreCompatible }
+{}
+
+/// For each client that isn't lost and each object: each message on the way may come where it stands, and once all are taken
+/// the client and the server say the same of whether the client has the object. An object of an id of the client's own counts
+/// from the first record on that publishes it.
+pub fn residency_agrees()
+    ensures { ResidencyAgrees }
+{}
+
+/// For each client that isn't lost: a fault that comes is of an object that the client doesn't hold, a flush that comes is of
+/// one that it holds, a record that comes sets objects that it holds, and an object that comes was asked for.
+pub fn objects_fit()
+    ensures { ObjectsFit }
+{}
+
+/// What the open block of a thread sets is resident at its client, at a lost one too.
+pub fn sets_are_resident()
+    ensures { SetsAreResident }
+{}
+
+/// The ids of the objects that a client makes rise, and were given to it, as was its next one; no object is made by two
+/// clients, nor by two threads; and the next id of no client is that of an object made. All this holds of lost clients too.
+pub fn objects_are_made_once()
+    ensures { ObjectsAreMadeOnce }
+{}
+
+/// What a thread has private or has published in its open block, it made; it has it once, no record that was sent
+/// publishes it, and no other thread has it so.
+pub fn objects_in_hand_are_own()
+    ensures { ObjectsInHandAreOwn }
+{}
+
+/// Each object that a record publishes, as it comes, has an id that was given to the record's client, and isn't in the
+/// server's graph.
+pub fn news_are_new()
+    ensures { NewsAreNew }
+{}
+
+/// A record that comes has the objects that it publishes by rising id, and its sets by rising object and field.
+pub fn records_are_sorted()
+    ensures { RecordsAreSorted }
 {}

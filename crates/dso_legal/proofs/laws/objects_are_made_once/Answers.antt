@@ -1,0 +1,5 @@
+use Rattle.dso_legal.proofs.laws.objects_are_made_once.Goals as goal
+use Rattle.dso_legal.proofs.MadeOnce.{objects_are_made_once}
+
+pub returns : goal.returns
+returns c = objects_are_made_once
