@@ -79,7 +79,7 @@ lent_fewer p s r fewer outsiders h = record {
 }
 
 -- an outsider isn't a client
-outsider_other : (p : Settings) (c d : ℕ) → has (eqb d) (clients_of p) ≡ true → has (eqb c) (clients_of p) ≡ false → eqb c d ≡ false
+pub outsider_other : (p : Settings) (c d : ℕ) → has (eqb d) (clients_of p) ≡ true → has (eqb c) (clients_of p) ≡ false → eqb c d ≡ false
 outsider_other p c d is isnt = by (eqb c d) refl
   where
     by : (b : Bool) → eqb c d ≡ b → b ≡ false

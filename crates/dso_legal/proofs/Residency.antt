@@ -221,7 +221,7 @@ module _ (p : Settings) (next : ThreadId → List Event → Option Request) (c o
 above_zero : (o n : ℕ) → 1 + 256 * n ≤ o → eqb o 0 ≡ false
 above_zero o n le = let positive : 1 ≤ o = omega (arith, le) in grind (arith, nat_tests)
 
-given_above : (c o : ℕ) (given : List Batch) → InTurn given → has (gives c o) given ≡ true → eqb o 0 ≡ false
+pub given_above : (c o : ℕ) (given : List Batch) → InTurn given → has (gives c o) given ≡ true → eqb o 0 ≡ false
 given_above c o [] turn e = absurd (cc e)
 given_above c o (b ∷ given) turn e = by (gives c o b) refl e (given_above c o given turn.1)
   where

@@ -98,7 +98,7 @@ becomes new false false true = refl
 becomes new false false false = refl
 
 -- what is resident is published
-resident_stands : (unpublished asked resident : Bool) → IsClear unpublished asked resident → resident ≡ true → stands unpublished asked resident ≡ Resident
+pub resident_stands : (unpublished asked resident : Bool) → IsClear unpublished asked resident → resident ≡ true → stands unpublished asked resident ≡ Resident
 resident_stands true asked resident clear e = no_both resident e (clear.gone refl)
 resident_stands false true resident clear e = absurd (cc (clear.unasked e))
 resident_stands false false true clear e = refl

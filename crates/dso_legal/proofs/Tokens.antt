@@ -33,7 +33,7 @@ use Rattle.dso_legal.proofs.Ways.{told_to}
 use Rattle.dso_legal.proofs.Ways.{if_to}
 
 -- what the server takes, where the client isn't lost
-heard_alive : (c : ℕ) (l : LockName) (input : Input) (s : Standing) → loses c input ≡ false → standing_by c l input s ≡ by_heard (if_to c (standing_up l)) input s
+pub heard_alive : (c : ℕ) (l : LockName) (input : Input) (s : Standing) → loses c input ≡ false → standing_by c l input s ≡ by_heard (if_to c (standing_up l)) input s
 heard_alive c l (TookUp d m) s h = refl
 heard_alive c l (Lose d) s h = unless_true (eqb c d) idle s h
 heard_alive c l input s h = refl

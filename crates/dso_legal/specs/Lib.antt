@@ -12,4 +12,15 @@ pub mod MadeOnce
 pub mod OwnObjects
 pub mod NewsAreNew
 pub mod Sorted
+pub mod Pending
+pub mod Line
+pub mod Program
+pub mod Calm
+pub mod Works
+pub mod Blocks
+pub mod Names
+pub mod Views
+pub mod CopiesStand
+pub mod Central
+pub mod Store
 pub mod examples

@@ -9,3 +9,5 @@ pub mod WaitingStart
 pub mod Waiting
 pub mod Refusals
 pub mod Misfits
+pub mod Courses
+pub mod Premises

@@ -9,6 +9,7 @@ ghost use Rattle.dso_legal.specs.examples.Flush.{FlushJournal};
 ghost use Rattle.dso_legal.specs.examples.Waiting.{WaitingJournal};
 ghost use Rattle.dso_legal.specs.examples.Broken.{BrokenJournal};
 ghost use Rattle.dso_legal.specs.examples.LostClient.{LostClientJournal};
+ghost use Rattle.dso_legal.specs.examples.Premises.{CounterMeets, RecallMeets, FlushMeets};
 
 /// One thread makes a counter, shares it, and adds to it under its monitor.
 pub fn counter()
@@ -54,4 +55,12 @@ pub fn wrong_sendings()
 /// And for each row that says how a message fits, messages that break it.
 pub fn misfits()
     ensures { Misfits }
+{}
+
+/// What the central law asks of a journal is met by the first three journals above, each with a
+/// program that asks what the journal's scripts do, goes by the replies, and is sound.
+pub fn law_applies()
+    ensures counter { CounterMeets }
+    ensures recall { RecallMeets }
+    ensures flush { FlushMeets }
 {}

@@ -10,6 +10,12 @@ ghost use Rattle.dso_legal.specs.MadeOnce.{ObjectsAreMadeOnce};
 ghost use Rattle.dso_legal.specs.OwnObjects.{ObjectsInHandAreOwn};
 ghost use Rattle.dso_legal.specs.NewsAreNew.{NewsAreNew};
 ghost use Rattle.dso_legal.specs.Sorted.{RecordsAreSorted};
+ghost use Rattle.dso_legal.specs.Blocks.{BlocksAreKept, BlocksAreHandedIn, HistoriesHoldBlocks};
+ghost use Rattle.dso_legal.specs.Works.{WorksTell};
+ghost use Rattle.dso_legal.specs.Names.{NamesStayKnown, ObjectsAreMade};
+ghost use Rattle.dso_legal.specs.Views.{ActsArePossible};
+ghost use Rattle.dso_legal.specs.Central.{ClientsStand, CentralLaw};
+ghost use Rattle.dso_legal.specs.Store.{StoreIsHeap};
 
 /// For each client that isn't lost and each lock: each message on the way may come where it stands, and once all are taken
 /// the client and the server say the same of the lock's lease.
@@ -115,4 +121,59 @@ pub fn news_are_new()
 /// A record that comes has the objects that it publishes by rising id, and its sets by rising object and field.
 pub fn records_are_sorted()
     ensures { RecordsAreSorted }
+{}
+
+/// By a client's entries each thread's events are those of its ended blocks and then its open block, its locks and private
+/// objects are those that these make; and the records that the client sent are those of its ended blocks.
+pub fn blocks_are_kept()
+    ensures { BlocksAreKept }
+{}
+
+/// For each client that isn't lost: the records on the way are those that it sent and the server didn't take.
+pub fn blocks_are_handed_in()
+    ensures { BlocksAreHandedIn }
+{}
+
+/// Without waits, the history has of each thread of a client that isn't lost the events of the blocks that the server took.
+pub fn histories_hold_blocks()
+    ensures { HistoriesHoldBlocks }
+{}
+
+/// What a thread has in hand (its private objects; what its block published and set) tells what the block made of the one heap,
+/// wherever it runs from.
+pub fn works_tell()
+    ensures { WorksTell }
+{}
+
+/// After a history in which threads name only what they were told, what a thread can name is its own or shared; and each object
+/// but object 0 was made in the history.
+pub fn names_stay_known()
+    ensures known { NamesStayKnown }
+    ensures made { ObjectsAreMade }
+{}
+
+/// What a client answers a thread, the one heap allows, where the client's readings are true of it. Wait, Notify and NotifyAll
+/// are apart.
+pub fn acts_are_possible()
+    ensures { ActsArePossible }
+{}
+
+/// After a journal without waits and losses, of a sound program: the history runs; of each client the blocks on the way to the
+/// server can run after it, with what they hold and touch within the client's leases there; each thread's open block can run
+/// behind them; and each copy is a past value, not older than what the client's threads have seen, and the heap's once all on the
+/// way is taken, where no change overtakes a lease of the field's guard.
+pub fn clients_stand()
+    ensures { ClientsStand }
+{}
+
+/// After such a journal the server has a body of exactly the shared objects, with the values that they have in the one heap.
+pub fn store_is_heap()
+    ensures { StoreIsHeap }
+{}
+
+/// **The central law.** A lawful journal without waits and losses, of a sound program, commits a legal history, in which each
+/// thread follows the program; the history has of each thread a first part of its events, each once and in order, and all of
+/// them where the journal is finished.
+pub fn central_law()
+    ensures { CentralLaw }
 {}

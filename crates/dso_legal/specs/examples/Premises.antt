@@ -1,0 +1,108 @@
+-- What the central law asks of a journal is met by journals of finished runs, each with a program that asks what the run's
+-- scripts do, goes by the replies, and is sound.
+use Rattle.std.specs.Prelude.{pos, Option, None, List, [], ◌∷◌}
+use Rattle.dso_base.specs.declared.journal.Entry.{Entry}
+use Rattle.dso_base.specs.declared.lock.Level.TheVariants.{Read, Write}
+use Rattle.dso_base.specs.declared.lock.LockName.TheVariants.{Mon, Name}
+use Rattle.dso_base.specs.declared.lock.ThreadId.{ThreadId}
+use Rattle.dso_base.specs.declared.request.Event.{Event}
+use Rattle.dso_base.specs.declared.request.Request.{Request}
+use Rattle.dso_base.specs.declared.request.Request.TheVariants as request
+use Rattle.dso_base.specs.declared.value.ClassId.TheVariants.{Plain}
+use Rattle.dso_base.specs.declared.value.Value.TheVariants as value
+use Rattle.dso_law.specs.Settings.{Settings}
+use Rattle.dso_legal.specs.Calm.{WithoutWaits, WithoutLosses}
+use Rattle.dso_legal.specs.Lawful.{IsLawful}
+use Rattle.dso_legal.specs.Program.{IsSound}
+use Rattle.dso_legal.specs.examples.Courses.{Course, Stops, Makes, Looks, Reads, Does, program_of}
+use Rattle.dso_legal.specs.examples.Words.{thread}
+use Rattle.dso_legal.specs.examples.Counter as counter
+use Rattle.dso_legal.specs.examples.Recall as recall
+use Rattle.dso_legal.specs.examples.Flush as flush
+
+-- all that the central law asks of a cluster's settings, its program and its journal
+pub record MeetsPremises (p : Settings) (next : ThreadId → List Event → Option Request) (es : List Entry) : Type 0 where
+  pub sound : IsSound p.shape next
+  pub lawful : IsLawful p next es
+  pub calm : WithoutWaits es
+  pub whole : WithoutLosses es
+
+-- a thread makes an object, puts it into the root, and adds to its counter under its monitor
+abbrev pub counter_courses : List (ThreadId × Course)
+counter_courses = (
+  thread 1 1,
+  Makes (Plain 0) 1 (λ o.
+      Does (request.Enter (Name 0) Write) (
+      Reads 0 0 (
+      Does (request.Put 0 0 (value.Ref o)) (
+      Does (request.Exit (Name 0)) (
+      Does (request.Enter (Name 0) Read) (
+      Reads 0 0 (
+      Does (request.Exit (Name 0)) (
+      Looks o (
+      Does (request.Enter (Mon o) Write) (
+      Looks o (
+      Reads o 0 (
+      Looks o (
+      Does (request.Put o 0 (value.Long (pos 1))) (
+      Looks o (
+      Reads o 0 (
+      Does (request.Print (value.Long (pos 1))) (
+      Does (request.Exit (Mon o)) (
+      Does (request.End None) Stops)))))))))))))))))),
+) ∷ []
+
+-- two threads make an object each; one puts its own into the root
+abbrev pub recall_courses : List (ThreadId × Course)
+recall_courses = (
+  thread 1 1,
+  Makes (Plain 0) 1 (λ o.
+      Looks o (
+      Does (request.Put o 0 (value.Long (pos 1))) (
+      Does (request.Enter (Name 0) Write) (
+      Reads 0 0 (
+      Does (request.Put 0 0 (value.Ref o)) (
+      Does (request.Exit (Name 0)) (
+      Does (request.End None) Stops))))))),
+) ∷ (
+  thread 2 1,
+  Makes (Plain 0) 1 (λ o.
+      Looks o (
+      Does (request.Put o 0 (value.Long (pos 2))) (
+      Does (request.Enter (Name 0) Write) (
+      Reads 0 0 (
+      Does (request.Exit (Name 0)) (
+      Does (request.End None) Stops)))))),
+) ∷ []
+
+-- a thread makes two objects, puts the second into the first and the first into the root, and reads both again
+abbrev pub flush_courses : List (ThreadId × Course)
+flush_courses = (
+  thread 1 1,
+  Makes (Plain 0) 1 (λ first.
+      Makes (Plain 0) 1 (λ second.
+      Looks first (
+      Does (request.Put first 0 (value.Ref second)) (
+      Does (request.Enter (Name 0) Write) (
+      Reads 0 0 (
+      Does (request.Put 0 0 (value.Ref first)) (
+      Does (request.Exit (Name 0)) (
+      Looks first (
+      Reads first 0 (
+      Looks second (
+      Reads second 0 (
+      Does (request.Print value.Null) (
+      Does (request.End None) Stops))))))))))))),
+) ∷ []
+
+-- the counter's journal meets them
+abbrev pub CounterMeets : Type 0
+CounterMeets = MeetsPremises counter.settings (program_of counter_courses) counter.entries
+
+-- so does that of two clients that pass a lock on
+abbrev pub RecallMeets : Type 0
+RecallMeets = MeetsPremises recall.settings (program_of recall_courses) recall.entries
+
+-- so does that of a client that flushes
+abbrev pub FlushMeets : Type 0
+FlushMeets = MeetsPremises flush.settings (program_of flush_courses) flush.entries
