@@ -130,3 +130,8 @@ pub mod SameProgram
 pub mod CounterMeets
 pub mod RecallMeets
 pub mod FlushMeets
+pub mod Passing
+pub mod Keeping
+pub mod Waiting
+pub mod Choosing
+pub mod Pass

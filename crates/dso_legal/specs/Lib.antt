@@ -23,4 +23,6 @@ pub mod Views
 pub mod CopiesStand
 pub mod Central
 pub mod Store
+pub mod Passing
+pub mod Keeping
 pub mod examples

@@ -1,8 +1,17 @@
 //! Which journals are lawful, and the history that a journal commits.
 //!
 //! The definitions stand in `specs/`; [`examples`] shows them at journals of finished runs, and [`laws`]
-//! has what holds of every lawful journal.
+//! has what holds of every lawful journal. [`committed`] computes the history that a journal commits.
 #![tactic(auto)]
 
+#[cfg(test)]
+mod committed_tests;
+mod committing;
 pub mod examples;
+mod hands;
 pub mod laws;
+mod maps;
+mod resolving;
+mod waiters;
+
+pub use committing::committed;
