@@ -1,6 +1,5 @@
 -- A call of the counter's method, from where the server took the record before it.
 use Rattle.std.proofs.Common.{ℕ, suc, refl, Option, Some, List, [], ◌∷◌, ℤ}
-use Rattle.std.proofs.lemmas.List.{append-nil}
 use Rattle.std.specs.Prelude.{max}
 use Rattle.dso_base.specs.declared.journal.Entry.{Entry}
 use Rattle.dso_base.specs.declared.record.Txn.{Txn}
@@ -9,7 +8,6 @@ use Rattle.dso_base.specs.declared.request.Request.TheVariants.{Look}
 use Rattle.dso_base.specs.declared.value.ClassId.{ClassId}
 use Rattle.dso_base.specs.declared.value.ClassId.TheVariants as class
 use Rattle.dso_law.specs.ClientStep.{may_act}
-use Rattle.dso_legal.specs.Committed.{committed}
 use Rattle.dso_legal.specs.Lawful.{next_after}
 use Rattle.dso_run.specs.declared.form.FirstPath.{FirstPath}
 use Rattle.dso_run.specs.Course.{Course}
@@ -17,10 +15,8 @@ use Rattle.dso_run.specs.Counting.{the_thread, settings, next, fails, if_seen, r
 use Rattle.dso_run.specs.Steps.{own, act, event_with}
 use Rattle.dso_run.proofs.Now.{ThreadStage, RecordStage, WayStage, Now}
 use Rattle.dso_run.proofs.Answering as Answering
-use Rattle.dso_run.proofs.Histories.{Told, told_after}
 use Rattle.dso_run.proofs.Going.{Step, Goes, goes, down_after_act}
 use Rattle.dso_run.proofs.Hearing as Hearing
-use Rattle.dso_run.proofs.Keeping as Keeping
 use Rattle.dso_run.proofs.Keeping.{goes_on, acted}
 use Rattle.dso_run.proofs.Quiet as Quiet
 use Rattle.dso_run.proofs.Quiet.{going}
@@ -28,8 +24,7 @@ use Rattle.dso_run.proofs.Calls.{between, all_taken, acknowledged, called_inside
 use Rattle.dso_run.proofs.Sums.{sum}
 
 module _ {p : FirstPath} (n : ℤ) (rest : Course) (look : Option (ClassId × ℕ)) (v : ℤ) (s : ℕ) (txn : Txn) (k c a : ℕ) {es : List Entry}
-    (now_0 : Now p (between (calls 1 n rest) look) (all_taken v s txn) (acknowledged txn.seq k c a) es)
-    (told_0 : Told p (calls 1 n rest) v s es) where
+    (now_0 : Now p (between (calls 1 n rest) look) (all_taken v s txn) (acknowledged txn.seq k c a) es) where
   abbrev t_0 : ThreadStage
   t_0 = between (calls 1 n rest) look
 
@@ -79,13 +74,7 @@ module _ {p : FirstPath} (n : ℤ) (rest : Course) (look : Option (ClassId × �
   now_2 : Now p t_2 r_2 w_2 es_2
   now_2 = Hearing.still p t_1 r_0 w_1 es_1 now_1 txn [] k [] refl refl
 
-  told_1 : Told p (calls 1 n rest) v s es_1
-  told_1 = told_after p (calls 1 n rest) v s es told_0 _ (append-nil (committed es)) (Keeping.blocks_kept p t_0 r_0 w_0 es now_0 (Look 1) (if_seen fails (runs_method 1 n rest)) (Seen (class.Plain 0) 1) refl refl)
-
-  told_2 : Told p (calls 1 n rest) v s es_2
-  told_2 = told_after p (calls 1 n rest) v s es_1 told_1 _ (append-nil (committed es_1)) refl
-
   -- A call from where the server took the record before it.
   pub called : ((next_txn : Txn) (next_k next_c next_a : ℕ) (later : List Entry)
-      → Now p (between rest (Some (class.Plain 0, 1))) (all_taken (sum v n) (suc s) next_txn) (acknowledged next_txn.seq next_k next_c next_a) later → Told p rest (sum v n) (suc s) later → Goes p later) → Goes p es
-  called on = goes _ step_1 (goes _ step_2 (called_inside n rest v s (suc (max (suc c) k)) a now_2 told_2 on))
+      → Now p (between rest (Some (class.Plain 0, 1))) (all_taken (sum v n) (suc s) next_txn) (acknowledged next_txn.seq next_k next_c next_a) later → Goes p later) → Goes p es
+  called on = goes _ step_1 (goes _ step_2 (called_inside n rest v s (suc (max (suc c) k)) a now_2 on))

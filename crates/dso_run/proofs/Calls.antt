@@ -1,10 +1,6 @@
 -- A call of the counter's method, from where it enters the monitor on.
-use Rattle.std.proofs.Common.{ℕ, suc, ◌≡◌, refl, sym, ap, subst, lit<, false, Option, Some, None, List, [], ◌∷◌, ℤ, ◌++◌}
-use Rattle.std.specs.Prelude.{◌+ℤ◌, max}
-use Rattle.std.proofs.lemmas.List.{append-nil}
-use Rattle.dso_base.specs.declared.request.Event.{Event}
-use Rattle.std.specs.Int.{int_wrap}
-use mir.Syntax.{w64}
+use Rattle.std.proofs.Common.{ℕ, suc, ◌≡◌, refl, sym, ap, subst, lit<, false, Option, Some, None, List, [], ◌∷◌, ℤ}
+use Rattle.std.specs.Prelude.{max}
 use Rattle.dso_base.specs.declared.journal.Entry.{Entry}
 use Rattle.dso_base.specs.declared.journal.Node.TheVariants.{Server}
 use Rattle.dso_base.specs.declared.lock.Level.TheVariants.{Write}
@@ -27,19 +23,15 @@ use Rattle.dso_law.specs.FitsUp.{FitsStored, FitsRecord}
 use Rattle.dso_law.specs.Serving.{leased_to}
 use Rattle.dso_law.specs.Store.{stored}
 use Rattle.dso_legal.specs.Lawful.{next_after}
-use Rattle.dso_legal.specs.Committed.{ended_blocks, committed}
 use Rattle.dso_legal.specs.Slots.{TakesDown, TakesUp}
 use Rattle.dso_run.specs.declared.form.FirstPath.{FirstPath}
 use Rattle.dso_run.specs.Course.{Course, Asks}
-use Rattle.dso_run.specs.Counting.{the_thread, settings, next, fails, leaves, if_done, if_seen, if_value, prints, puts_sum, runs_method, calls}
+use Rattle.dso_run.specs.Counting.{the_thread, settings, next, fails, leaves, if_done, if_seen, if_value, prints, puts_sum, runs_method}
 use Rattle.dso_run.specs.Steps.{own, act, event_with}
 use Rattle.dso_run.proofs.Now.{ThreadStage, RecordStage, WayStage, Now}
 use Rattle.dso_run.proofs.Acting as Acting
 use Rattle.dso_run.proofs.Answering as Answering
-use Rattle.dso_run.proofs.Histories.{Takes, Told, told_after, told_more, taken_block}
-use Rattle.dso_run.proofs.PlainCalls.{call_events, call_runs, call_leaves}
 use Rattle.dso_run.proofs.Going.{Step, Goes, goes, acts_after_act, up_after_act}
-use Rattle.dso_run.proofs.Keeping as Keeping
 use Rattle.dso_run.proofs.Keeping.{goes_on, acted}
 use Rattle.dso_run.proofs.Quiet as Quiet
 use Rattle.dso_run.proofs.Quiet.{going}
@@ -80,8 +72,7 @@ all_heard v s = record { held = v; stored = v; sent = s; taken = s; unacked = []
 abbrev pub all_quiet : ℕ → ℕ → WayStage
 all_quiet c a = record { up = []; down = []; client = c; server = a; last = TakesDown 1 }
 
-module _ {p : FirstPath} (n : ℤ) (rest : Course) (v : ℤ) (s c a : ℕ) {es_2 : List Entry} (now_2 : Now p (entering n rest) (all_heard v s) (all_quiet c a) es_2)
-    (told_2 : Told p (calls 1 n rest) v s es_2) where
+module _ {p : FirstPath} (n : ℤ) (rest : Course) (v : ℤ) (s c a : ℕ) {es_2 : List Entry} (now_2 : Now p (entering n rest) (all_heard v s) (all_quiet c a) es_2) where
   abbrev t_2 : ThreadStage
   t_2 = entering n rest
 
@@ -96,184 +87,160 @@ module _ {p : FirstPath} (n : ℤ) (rest : Course) (v : ℤ) (s c a : ℕ) {es_2
   es_3 = act [] (Some (event_with (Enter (Mon 1) Write) Done)) es_2 ∷ es_2
 
   abbrev t_3 : ThreadStage
-  t_3 = goes_on t_2 (Enter (Mon 1) Write) Done ((if_done fails (Asks (Look 1) (if_seen (leaves 1) (λ class. Asks (Get 1 0) (if_value (leaves 1) (puts_sum 1 n rest)))))) Done)
+  t_3 = goes_on t_2 (Enter (Mon 1) Write) Done ((if_done fails (Asks (Look 1) (if_seen (leaves (Mon 1)) (λ class. Asks (Get 1 0) (if_value (leaves (Mon 1)) (puts_sum 1 n rest)))))) Done)
 
   abbrev w_3 : WayStage
   w_3 = acted w_2
 
   step_3 : Step p es_2 (act [] (Some (event_with (Enter (Mon 1) Write) Done)) es_2)
-  step_3 = Quiet.after_down now_2 (Enter (Mon 1) Write) (if_done fails (Asks (Look 1) (if_seen (leaves 1) (λ class. Asks (Get 1 0) (if_value (leaves 1) (puts_sum 1 n rest)))))) Done refl
+  step_3 = Quiet.after_down now_2 (Enter (Mon 1) Write) (if_done fails (Asks (Look 1) (if_seen (leaves (Mon 1)) (λ class. Asks (Get 1 0) (if_value (leaves (Mon 1)) (puts_sum 1 n rest)))))) Done refl
       (Answering.enter_needs p t_2 r_2 w_2 es_2 now_2 [] [] refl)
       (Answering.enter_replies p t_2 r_2 w_2 es_2 now_2 [] [] refl refl) refl refl refl refl refl refl
 
   now_3 : Now p t_3 r_2 w_3 es_3
-  now_3 = Quiet.still now_2 (Enter (Mon 1) Write) (if_done fails (Asks (Look 1) (if_seen (leaves 1) (λ class. Asks (Get 1 0) (if_value (leaves 1) (puts_sum 1 n rest)))))) Done refl
+  now_3 = Quiet.still now_2 (Enter (Mon 1) Write) (if_done fails (Asks (Look 1) (if_seen (leaves (Mon 1)) (λ class. Asks (Get 1 0) (if_value (leaves (Mon 1)) (puts_sum 1 n rest)))))) Done refl
       (Answering.enter_needs p t_2 r_2 w_2 es_2 now_2 [] [] refl)
       (Answering.enter_replies p t_2 r_2 w_2 es_2 now_2 [] [] refl refl) refl refl refl refl
-
-  told_3 : Told p (calls 1 n rest) v s es_3
-  told_3 = told_after p (calls 1 n rest) v s es_2 told_2 _ (append-nil (committed es_2)) (Keeping.blocks_kept p t_2 r_2 w_2 es_2 now_2 (Enter (Mon 1) Write) (if_done fails (Asks (Look 1) (if_seen (leaves 1) (λ class. Asks (Get 1 0) (if_value (leaves 1) (puts_sum 1 n rest)))))) Done refl refl)
 
   -- the class is looked up
   abbrev es_4 : List Entry
   es_4 = act [] (Some (event_with (Look 1) (Seen (class.Plain 0) 1))) es_3 ∷ es_3
 
   abbrev t_4 : ThreadStage
-  t_4 = goes_on t_3 (Look 1) (Seen (class.Plain 0) 1) ((if_seen (leaves 1) (λ class. Asks (Get 1 0) (if_value (leaves 1) (puts_sum 1 n rest)))) (Seen (class.Plain 0) 1))
+  t_4 = goes_on t_3 (Look 1) (Seen (class.Plain 0) 1) ((if_seen (leaves (Mon 1)) (λ class. Asks (Get 1 0) (if_value (leaves (Mon 1)) (puts_sum 1 n rest)))) (Seen (class.Plain 0) 1))
 
   abbrev w_4 : WayStage
   w_4 = acted w_3
 
   step_4 : Step p es_3 (act [] (Some (event_with (Look 1) (Seen (class.Plain 0) 1))) es_3)
-  step_4 = Quiet.after_act now_3 (Look 1) (if_seen (leaves 1) (λ class. Asks (Get 1 0) (if_value (leaves 1) (puts_sum 1 n rest)))) (Seen (class.Plain 0) 1) refl
+  step_4 = Quiet.after_act now_3 (Look 1) (if_seen (leaves (Mon 1)) (λ class. Asks (Get 1 0) (if_value (leaves (Mon 1)) (puts_sum 1 n rest)))) (Seen (class.Plain 0) 1) refl
       (Answering.look_needs p t_3 r_2 w_3 es_3 now_3 [] [] refl)
       (Answering.look_replies p t_3 r_2 w_3 es_3 now_3 [] [] refl) refl refl refl refl refl refl refl
 
   now_4 : Now p t_4 r_2 w_4 es_4
-  now_4 = Quiet.still now_3 (Look 1) (if_seen (leaves 1) (λ class. Asks (Get 1 0) (if_value (leaves 1) (puts_sum 1 n rest)))) (Seen (class.Plain 0) 1) refl
+  now_4 = Quiet.still now_3 (Look 1) (if_seen (leaves (Mon 1)) (λ class. Asks (Get 1 0) (if_value (leaves (Mon 1)) (puts_sum 1 n rest)))) (Seen (class.Plain 0) 1) refl
       (Answering.look_needs p t_3 r_2 w_3 es_3 now_3 [] [] refl)
       (Answering.look_replies p t_3 r_2 w_3 es_3 now_3 [] [] refl) refl refl refl refl
-
-  told_4 : Told p (calls 1 n rest) v s es_4
-  told_4 = told_after p (calls 1 n rest) v s es_3 told_3 _ (append-nil (committed es_3)) (Keeping.blocks_kept p t_3 r_2 w_3 es_3 now_3 (Look 1) (if_seen (leaves 1) (λ class. Asks (Get 1 0) (if_value (leaves 1) (puts_sum 1 n rest)))) (Seen (class.Plain 0) 1) refl refl)
 
   -- the value is read
   abbrev es_5 : List Entry
   es_5 = act [] (Some (event_with (Get 1 0) (Val (value.Long v)))) es_4 ∷ es_4
 
   abbrev t_5 : ThreadStage
-  t_5 = goes_on t_4 (Get 1 0) (Val (value.Long v)) ((if_value (leaves 1) (puts_sum 1 n rest)) (Val (value.Long v)))
+  t_5 = goes_on t_4 (Get 1 0) (Val (value.Long v)) ((if_value (leaves (Mon 1)) (puts_sum 1 n rest)) (Val (value.Long v)))
 
   abbrev w_5 : WayStage
   w_5 = acted w_4
 
   step_5 : Step p es_4 (act [] (Some (event_with (Get 1 0) (Val (value.Long v)))) es_4)
-  step_5 = Quiet.after_act now_4 (Get 1 0) (if_value (leaves 1) (puts_sum 1 n rest)) (Val (value.Long v)) refl
+  step_5 = Quiet.after_act now_4 (Get 1 0) (if_value (leaves (Mon 1)) (puts_sum 1 n rest)) (Val (value.Long v)) refl
       (Answering.get_needs p t_4 r_2 w_4 es_4 now_4 [] [] refl refl)
       (Answering.get_replies p t_4 r_2 w_4 es_4 now_4 [] [] refl (value.Long v) refl) refl refl refl refl refl refl refl
 
   now_5 : Now p t_5 r_2 w_5 es_5
-  now_5 = Quiet.still now_4 (Get 1 0) (if_value (leaves 1) (puts_sum 1 n rest)) (Val (value.Long v)) refl
+  now_5 = Quiet.still now_4 (Get 1 0) (if_value (leaves (Mon 1)) (puts_sum 1 n rest)) (Val (value.Long v)) refl
       (Answering.get_needs p t_4 r_2 w_4 es_4 now_4 [] [] refl refl)
       (Answering.get_replies p t_4 r_2 w_4 es_4 now_4 [] [] refl (value.Long v) refl) refl refl refl refl
-
-  told_5 : Told p (calls 1 n rest) v s es_5
-  told_5 = told_after p (calls 1 n rest) v s es_4 told_4 _ (append-nil (committed es_4)) (Keeping.blocks_kept p t_4 r_2 w_4 es_4 now_4 (Get 1 0) (if_value (leaves 1) (puts_sum 1 n rest)) (Val (value.Long v)) refl refl)
 
   -- the class is looked up
   abbrev es_6 : List Entry
   es_6 = act [] (Some (event_with (Look 1) (Seen (class.Plain 0) 1))) es_5 ∷ es_5
 
   abbrev t_6 : ThreadStage
-  t_6 = goes_on t_5 (Look 1) (Seen (class.Plain 0) 1) ((if_seen (leaves 1) (λ class. Asks (Put 1 0 (value.Long (sum v n))) (if_done (leaves 1) (prints 1 rest)))) (Seen (class.Plain 0) 1))
+  t_6 = goes_on t_5 (Look 1) (Seen (class.Plain 0) 1) ((if_seen (leaves (Mon 1)) (λ class. Asks (Put 1 0 (value.Long (sum v n))) (if_done (leaves (Mon 1)) (prints 1 rest)))) (Seen (class.Plain 0) 1))
 
   abbrev w_6 : WayStage
   w_6 = acted w_5
 
   step_6 : Step p es_5 (act [] (Some (event_with (Look 1) (Seen (class.Plain 0) 1))) es_5)
-  step_6 = Quiet.after_act now_5 (Look 1) (if_seen (leaves 1) (λ class. Asks (Put 1 0 (value.Long (sum v n))) (if_done (leaves 1) (prints 1 rest)))) (Seen (class.Plain 0) 1) refl
+  step_6 = Quiet.after_act now_5 (Look 1) (if_seen (leaves (Mon 1)) (λ class. Asks (Put 1 0 (value.Long (sum v n))) (if_done (leaves (Mon 1)) (prints 1 rest)))) (Seen (class.Plain 0) 1) refl
       (Answering.look_needs p t_5 r_2 w_5 es_5 now_5 [] [] refl)
       (Answering.look_replies p t_5 r_2 w_5 es_5 now_5 [] [] refl) refl refl refl refl refl refl refl
 
   now_6 : Now p t_6 r_2 w_6 es_6
-  now_6 = Quiet.still now_5 (Look 1) (if_seen (leaves 1) (λ class. Asks (Put 1 0 (value.Long (sum v n))) (if_done (leaves 1) (prints 1 rest)))) (Seen (class.Plain 0) 1) refl
+  now_6 = Quiet.still now_5 (Look 1) (if_seen (leaves (Mon 1)) (λ class. Asks (Put 1 0 (value.Long (sum v n))) (if_done (leaves (Mon 1)) (prints 1 rest)))) (Seen (class.Plain 0) 1) refl
       (Answering.look_needs p t_5 r_2 w_5 es_5 now_5 [] [] refl)
       (Answering.look_replies p t_5 r_2 w_5 es_5 now_5 [] [] refl) refl refl refl refl
-
-  told_6 : Told p (calls 1 n rest) v s es_6
-  told_6 = told_after p (calls 1 n rest) v s es_5 told_5 _ (append-nil (committed es_5)) (Keeping.blocks_kept p t_5 r_2 w_5 es_5 now_5 (Look 1) (if_seen (leaves 1) (λ class. Asks (Put 1 0 (value.Long (sum v n))) (if_done (leaves 1) (prints 1 rest)))) (Seen (class.Plain 0) 1) refl refl)
 
   -- the sum is put
   abbrev es_7 : List Entry
   es_7 = act [] (Some (event_with (Put 1 0 (value.Long (sum v n))) Done)) es_6 ∷ es_6
 
   abbrev t_7 : ThreadStage
-  t_7 = goes_on t_6 (Put 1 0 (value.Long (sum v n))) Done ((if_done (leaves 1) (prints 1 rest)) Done)
+  t_7 = goes_on t_6 (Put 1 0 (value.Long (sum v n))) Done ((if_done (leaves (Mon 1)) (prints 1 rest)) Done)
 
   abbrev w_7 : WayStage
   w_7 = acted w_6
 
   step_7 : Step p es_6 (act [] (Some (event_with (Put 1 0 (value.Long (sum v n))) Done)) es_6)
-  step_7 = Quiet.after_act now_6 (Put 1 0 (value.Long (sum v n))) (if_done (leaves 1) (prints 1 rest)) Done refl
+  step_7 = Quiet.after_act now_6 (Put 1 0 (value.Long (sum v n))) (if_done (leaves (Mon 1)) (prints 1 rest)) Done refl
       (Answering.put_needs p t_6 r_2 w_6 es_6 now_6 [] [] refl refl (value.Long (sum v n)))
       (Answering.put_replies p t_6 r_2 w_6 es_6 now_6 [] [] refl (value.Long (sum v n)) refl) refl refl refl refl refl refl refl
 
   now_7 : Now p t_7 r_2 w_7 es_7
-  now_7 = Quiet.still now_6 (Put 1 0 (value.Long (sum v n))) (if_done (leaves 1) (prints 1 rest)) Done refl
+  now_7 = Quiet.still now_6 (Put 1 0 (value.Long (sum v n))) (if_done (leaves (Mon 1)) (prints 1 rest)) Done refl
       (Answering.put_needs p t_6 r_2 w_6 es_6 now_6 [] [] refl refl (value.Long (sum v n)))
       (Answering.put_replies p t_6 r_2 w_6 es_6 now_6 [] [] refl (value.Long (sum v n)) refl) refl refl refl refl
-
-  told_7 : Told p (calls 1 n rest) v s es_7
-  told_7 = told_after p (calls 1 n rest) v s es_6 told_6 _ (append-nil (committed es_6)) (Keeping.blocks_kept p t_6 r_2 w_6 es_6 now_6 (Put 1 0 (value.Long (sum v n))) (if_done (leaves 1) (prints 1 rest)) Done refl refl)
 
   -- the class is looked up
   abbrev es_8 : List Entry
   es_8 = act [] (Some (event_with (Look 1) (Seen (class.Plain 0) 1))) es_7 ∷ es_7
 
   abbrev t_8 : ThreadStage
-  t_8 = goes_on t_7 (Look 1) (Seen (class.Plain 0) 1) ((if_seen (leaves 1) (λ class. Asks (Get 1 0) (if_value (leaves 1) (λ v. Asks (Print v) (if_done (leaves 1) (Asks (Exit (Mon 1)) (if_done fails rest))))))) (Seen (class.Plain 0) 1))
+  t_8 = goes_on t_7 (Look 1) (Seen (class.Plain 0) 1) ((if_seen (leaves (Mon 1)) (λ class. Asks (Get 1 0) (if_value (leaves (Mon 1)) (λ v. Asks (Print v) (if_done (leaves (Mon 1)) (Asks (Exit (Mon 1)) (if_done fails rest))))))) (Seen (class.Plain 0) 1))
 
   abbrev w_8 : WayStage
   w_8 = acted w_7
 
   step_8 : Step p es_7 (act [] (Some (event_with (Look 1) (Seen (class.Plain 0) 1))) es_7)
-  step_8 = Quiet.after_act now_7 (Look 1) (if_seen (leaves 1) (λ class. Asks (Get 1 0) (if_value (leaves 1) (λ v. Asks (Print v) (if_done (leaves 1) (Asks (Exit (Mon 1)) (if_done fails rest))))))) (Seen (class.Plain 0) 1) refl
+  step_8 = Quiet.after_act now_7 (Look 1) (if_seen (leaves (Mon 1)) (λ class. Asks (Get 1 0) (if_value (leaves (Mon 1)) (λ v. Asks (Print v) (if_done (leaves (Mon 1)) (Asks (Exit (Mon 1)) (if_done fails rest))))))) (Seen (class.Plain 0) 1) refl
       (Answering.look_needs p t_7 r_2 w_7 es_7 now_7 (put_of v n ∷ []) [] refl)
       (Answering.look_replies p t_7 r_2 w_7 es_7 now_7 (put_of v n ∷ []) [] refl) refl refl refl refl refl refl refl
 
   now_8 : Now p t_8 r_2 w_8 es_8
-  now_8 = Quiet.still now_7 (Look 1) (if_seen (leaves 1) (λ class. Asks (Get 1 0) (if_value (leaves 1) (λ v. Asks (Print v) (if_done (leaves 1) (Asks (Exit (Mon 1)) (if_done fails rest))))))) (Seen (class.Plain 0) 1) refl
+  now_8 = Quiet.still now_7 (Look 1) (if_seen (leaves (Mon 1)) (λ class. Asks (Get 1 0) (if_value (leaves (Mon 1)) (λ v. Asks (Print v) (if_done (leaves (Mon 1)) (Asks (Exit (Mon 1)) (if_done fails rest))))))) (Seen (class.Plain 0) 1) refl
       (Answering.look_needs p t_7 r_2 w_7 es_7 now_7 (put_of v n ∷ []) [] refl)
       (Answering.look_replies p t_7 r_2 w_7 es_7 now_7 (put_of v n ∷ []) [] refl) refl refl refl refl
-
-  told_8 : Told p (calls 1 n rest) v s es_8
-  told_8 = told_after p (calls 1 n rest) v s es_7 told_7 _ (append-nil (committed es_7)) (Keeping.blocks_kept p t_7 r_2 w_7 es_7 now_7 (Look 1) (if_seen (leaves 1) (λ class. Asks (Get 1 0) (if_value (leaves 1) (λ v. Asks (Print v) (if_done (leaves 1) (Asks (Exit (Mon 1)) (if_done fails rest))))))) (Seen (class.Plain 0) 1) refl refl)
 
   -- the sum is read
   abbrev es_9 : List Entry
   es_9 = act [] (Some (event_with (Get 1 0) (Val (value.Long (sum v n))))) es_8 ∷ es_8
 
   abbrev t_9 : ThreadStage
-  t_9 = goes_on t_8 (Get 1 0) (Val (value.Long (sum v n))) ((if_value (leaves 1) (λ v. Asks (Print v) (if_done (leaves 1) (Asks (Exit (Mon 1)) (if_done fails rest))))) (Val (value.Long (sum v n))))
+  t_9 = goes_on t_8 (Get 1 0) (Val (value.Long (sum v n))) ((if_value (leaves (Mon 1)) (λ v. Asks (Print v) (if_done (leaves (Mon 1)) (Asks (Exit (Mon 1)) (if_done fails rest))))) (Val (value.Long (sum v n))))
 
   abbrev w_9 : WayStage
   w_9 = acted w_8
 
   step_9 : Step p es_8 (act [] (Some (event_with (Get 1 0) (Val (value.Long (sum v n))))) es_8)
-  step_9 = Quiet.after_act now_8 (Get 1 0) (if_value (leaves 1) (λ v. Asks (Print v) (if_done (leaves 1) (Asks (Exit (Mon 1)) (if_done fails rest))))) (Val (value.Long (sum v n))) refl
+  step_9 = Quiet.after_act now_8 (Get 1 0) (if_value (leaves (Mon 1)) (λ v. Asks (Print v) (if_done (leaves (Mon 1)) (Asks (Exit (Mon 1)) (if_done fails rest))))) (Val (value.Long (sum v n))) refl
       (Answering.get_needs p t_8 r_2 w_8 es_8 now_8 (put_of v n ∷ []) [] refl refl)
       (Answering.get_replies p t_8 r_2 w_8 es_8 now_8 (put_of v n ∷ []) [] refl (value.Long (sum v n)) refl) refl refl refl refl refl refl refl
 
   now_9 : Now p t_9 r_2 w_9 es_9
-  now_9 = Quiet.still now_8 (Get 1 0) (if_value (leaves 1) (λ v. Asks (Print v) (if_done (leaves 1) (Asks (Exit (Mon 1)) (if_done fails rest))))) (Val (value.Long (sum v n))) refl
+  now_9 = Quiet.still now_8 (Get 1 0) (if_value (leaves (Mon 1)) (λ v. Asks (Print v) (if_done (leaves (Mon 1)) (Asks (Exit (Mon 1)) (if_done fails rest))))) (Val (value.Long (sum v n))) refl
       (Answering.get_needs p t_8 r_2 w_8 es_8 now_8 (put_of v n ∷ []) [] refl refl)
       (Answering.get_replies p t_8 r_2 w_8 es_8 now_8 (put_of v n ∷ []) [] refl (value.Long (sum v n)) refl) refl refl refl refl
-
-  told_9 : Told p (calls 1 n rest) v s es_9
-  told_9 = told_after p (calls 1 n rest) v s es_8 told_8 _ (append-nil (committed es_8)) (Keeping.blocks_kept p t_8 r_2 w_8 es_8 now_8 (Get 1 0) (if_value (leaves 1) (λ v. Asks (Print v) (if_done (leaves 1) (Asks (Exit (Mon 1)) (if_done fails rest))))) (Val (value.Long (sum v n))) refl refl)
 
   -- and printed
   abbrev es_10 : List Entry
   es_10 = act [] (Some (event_with (Print (value.Long (sum v n))) Done)) es_9 ∷ es_9
 
   abbrev t_10 : ThreadStage
-  t_10 = goes_on t_9 (Print (value.Long (sum v n))) Done ((if_done (leaves 1) (Asks (Exit (Mon 1)) (if_done fails rest))) Done)
+  t_10 = goes_on t_9 (Print (value.Long (sum v n))) Done ((if_done (leaves (Mon 1)) (Asks (Exit (Mon 1)) (if_done fails rest))) Done)
 
   abbrev w_10 : WayStage
   w_10 = acted w_9
 
   step_10 : Step p es_9 (act [] (Some (event_with (Print (value.Long (sum v n))) Done)) es_9)
-  step_10 = Quiet.after_act now_9 (Print (value.Long (sum v n))) (if_done (leaves 1) (Asks (Exit (Mon 1)) (if_done fails rest))) Done refl
+  step_10 = Quiet.after_act now_9 (Print (value.Long (sum v n))) (if_done (leaves (Mon 1)) (Asks (Exit (Mon 1)) (if_done fails rest))) Done refl
       refl
       refl refl refl refl refl refl refl refl
 
   now_10 : Now p t_10 r_2 w_10 es_10
-  now_10 = Quiet.still now_9 (Print (value.Long (sum v n))) (if_done (leaves 1) (Asks (Exit (Mon 1)) (if_done fails rest))) Done refl
+  now_10 = Quiet.still now_9 (Print (value.Long (sum v n))) (if_done (leaves (Mon 1)) (Asks (Exit (Mon 1)) (if_done fails rest))) Done refl
       refl
       refl refl refl refl refl
-
-  told_10 : Told p (calls 1 n rest) v s es_10
-  told_10 = told_after p (calls 1 n rest) v s es_9 told_9 _ (append-nil (committed es_9)) (Keeping.blocks_kept p t_9 r_2 w_9 es_9 now_9 (Print (value.Long (sum v n))) (if_done (leaves 1) (Asks (Exit (Mon 1)) (if_done fails rest))) Done refl refl)
 
   -- the monitor is left, and the record is on the way
   abbrev record_11 : Txn
@@ -341,23 +308,8 @@ module _ {p : FirstPath} (n : ℤ) (rest : Course) (v : ℤ) (s c a : ℕ) {es_2
   now_12 : Now p (between rest (Some (class.Plain 0, 1))) (all_taken (sum v n) (suc s) record_11) (acknowledged (suc s) (suc (max a (suc w_10.client))) (suc w_10.client) (suc (max a (suc w_10.client)))) (entry_12 ∷ es_11)
   now_12 = Storing.still p t_11 r_11 w_11 es_11 now_11 (put_of v n ∷ []) (value.Long (sum v n) ∷ []) (ending.Exit (Mon 1)) (suc w_10.client) [] (sum v n) refl fits refl
 
-  blocks_11 : ended_blocks (own es_11) ≡ ended_blocks (own es_10) ++ call_events v n ∷ []
-  blocks_11 = Releasing.block_added p t_10 r_2 w_10 es_10 now_10 (Exit (Mon 1)) (if_done fails rest) Done refl (put_of v n ∷ []) (value.Long (sum v n) ∷ []) (ending.Exit (Mon 1)) (sum v n) refl refl refl
-
-  -- the course takes the call
-  takes : Takes (calls 1 n rest) (call_events v n)
-  takes = (refl, refl, tt, (refl, refl, tt, (refl, refl, tt, (refl, refl, tt, (refl, refl, tt, (refl, refl, tt, (refl, refl, tt, (refl, refl, tt, (refl, refl, tt, (refl, refl, tt, tt))))))))))
-
-  commits_12 : committed (entry_12 ∷ es_11) ≡ committed es_11 ++ call_events v n
-  commits_12 = ap (λ (block : List Event). committed es_11 ++ block)
-      (taken_block es_11 record_11 s (ended_blocks (own es_10)) (call_events v n) now_11.server.not_lost refl told_10.many blocks_11 (λ lists. refl))
-
-  told_12 : Told p rest (sum v n) (suc s) (entry_12 ∷ es_11)
-  told_12 = told_more p (calls 1 n rest) v s es_10 told_10 es_11 entry_12 (call_events v n) (sum v n) rest (append-nil (committed es_10)) blocks_11 refl commits_12
-      (λ s. call_runs v n s) (λ s. call_leaves v n s) takes refl
-
   -- The call is made, and from its end on the run goes on.
   pub called_inside : ((next_txn : Txn) (next_k next_c next_a : ℕ) (later : List Entry)
-      → Now p (between rest (Some (class.Plain 0, 1))) (all_taken (sum v n) (suc s) next_txn) (acknowledged next_txn.seq next_k next_c next_a) later → Told p rest (sum v n) (suc s) later → Goes p later) → Goes p es_2
+      → Now p (between rest (Some (class.Plain 0, 1))) (all_taken (sum v n) (suc s) next_txn) (acknowledged next_txn.seq next_k next_c next_a) later → Goes p later) → Goes p es_2
   called_inside on = goes _ step_3 (goes _ step_4 (goes _ step_5 (goes _ step_6 (goes _ step_7 (goes _ step_8 (goes _ step_9 (goes _ step_10 (goes _ step_11 (goes _ step_12
-      (on record_11 (suc (max a (suc w_10.client))) (suc w_10.client) (suc (max a (suc w_10.client))) (entry_12 ∷ es_11) now_12 told_12))))))))))
+      (on record_11 (suc (max a (suc w_10.client))) (suc w_10.client) (suc (max a (suc w_10.client))) (entry_12 ∷ es_11) now_12))))))))))

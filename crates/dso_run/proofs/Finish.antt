@@ -1,8 +1,6 @@
 -- The thread's end, from where the server took the record before it, and all the calls.
-use Rattle.std.proofs.Common.{ℕ, suc, ◌≡◌, refl, sym, ap, true, false, Option, Some, None, List, [], ◌∷◌, ℤ, ◌++◌, ◌∙◌}
+use Rattle.std.proofs.Common.{ℕ, suc, ◌≡◌, refl, sym, ap, true, false, Option, Some, None, List, [], ◌∷◌, ℤ}
 use Rattle.std.specs.Prelude.{max}
-use Rattle.std.proofs.lemmas.List.{append-nil}
-use Rattle.dso_base.specs.declared.request.Event.{Event}
 use Rattle.dso_base.specs.declared.journal.Entry.{Entry}
 use Rattle.dso_base.specs.declared.journal.Node.TheVariants.{Server}
 use Rattle.dso_base.specs.declared.message.Up.TheVariants as up
@@ -16,7 +14,6 @@ use Rattle.dso_base.specs.declared.value.ClassId.TheVariants as class
 use Rattle.dso_law.specs.Entries.{entries_of}
 use Rattle.dso_law.specs.ClientStep.{commits, may_act}
 use Rattle.dso_law.specs.FitsUp.{FitsRecord}
-use Rattle.dso_legal.specs.Committed.{ended_blocks, committed}
 use Rattle.dso_legal.specs.Lawful.{next_after}
 use Rattle.dso_run.specs.declared.form.FirstPath.{FirstPath}
 use Rattle.dso_run.specs.Course.{Over, asked}
@@ -24,8 +21,6 @@ use Rattle.dso_run.specs.Counting.{the_thread, settings, next, ends, calls_all}
 use Rattle.dso_run.specs.Steps.{own, act, event_with, acts, act_on}
 use Rattle.dso_run.proofs.Now.{ThreadStage, RecordStage, WayStage, Now}
 use Rattle.dso_run.proofs.Acting as Acting
-use Rattle.dso_run.proofs.Histories.{Holds, Told, holds_with, taken_block}
-use Rattle.dso_run.proofs.PlainCalls.{may_end}
 use Rattle.dso_run.proofs.Going.{Step, Goes, stops, goes, finished_is, acts_after_up, down_after_act, down_after_up, up_after_down}
 use Rattle.dso_run.proofs.Hearing as Hearing
 use Rattle.dso_run.proofs.Quiet.{going}
@@ -37,8 +32,7 @@ use Rattle.dso_run.proofs.CallAgain.{called}
 use Rattle.dso_run.proofs.Sums.{sum}
 
 module _ {p : FirstPath} (look : Option (ClassId × ℕ)) (v : ℤ) (s : ℕ) (txn : Txn) (k c a : ℕ) {es : List Entry}
-    (now_0 : Now p (between (ends None) look) (all_taken v s txn) (acknowledged txn.seq k c a) es)
-    (told_0 : Told p (ends None) v s es) where
+    (now_0 : Now p (between (ends None) look) (all_taken v s txn) (acknowledged txn.seq k c a) es) where
   abbrev t_0 : ThreadStage
   t_0 = between (ends None) look
 
@@ -159,32 +153,13 @@ module _ {p : FirstPath} (look : Option (ClassId × ℕ)) (v : ℤ) (s : ℕ) (t
   now_4 : Now p t_1 (Hearing.with_ack r_3 []) (Hearing.heard w_3 (suc (max a (suc c))) []) (entry_4 ∷ es_3)
   now_4 = Hearing.still p t_1 r_3 w_3 es_3 now_3 record_1 [] (suc (max a (suc c))) [] refl refl
 
-  -- the last block is the end alone
-  abbrev last_block : List Event
-  last_block = event_with (End None) Done ∷ []
-
-  blocks_1 : ended_blocks (own es_1) ≡ ended_blocks (own es) ++ last_block ∷ []
-  blocks_1 = Releasing.block_added p t_0 r_0 w_0 es now_0 (End None) (λ reply. Over) Done refl [] [] (ending.End None) v refl refl refl
-
-  commits_2 : committed es_2 ≡ committed es
-  commits_2 = append-nil (committed es_1) ∙ append-nil (committed es)
-
-  commits_3 : committed es_3 ≡ committed es_2 ++ last_block
-  commits_3 = ap (λ (block : List Event). committed es_2 ++ block) (taken_block es_2 record_1 s (ended_blocks (own es)) last_block now_2.server.not_lost refl told_0.many blocks_1 (λ lists. refl))
-
-  commits_4 : committed (entry_4 ∷ es_3) ≡ committed es ++ last_block
-  commits_4 = append-nil (committed es_3) ∙ commits_3 ∙ ap (λ (h : List Event). h ++ last_block) commits_2
-
-  holds_4 : Holds p (entry_4 ∷ es_3)
-  holds_4 = holds_with p (ends None) v s es told_0 (entry_4 ∷ es_3) last_block commits_4 (λ s now. (may_end v s now, tt)) (refl, refl, tt, tt)
-
   -- The thread ends, and the run is finished.
   pub ended : Goes p es
-  ended = goes _ step_1 (goes _ step_2 (goes _ step_3 (goes _ step_4 (stops (finished_is p t_1 _ _ (entry_4 ∷ es_3) now_4) holds_4))))
+  ended = goes _ step_1 (goes _ step_2 (goes _ step_3 (goes _ step_4 (stops (finished_is p t_1 _ _ (entry_4 ∷ es_3) now_4)))))
 
 -- All calls are made, and the thread ends.
 pub all_called : {p : FirstPath} (numbers : List ℤ) (look : Option (ClassId × ℕ)) (v : ℤ) (s : ℕ) (txn : Txn) (k c a : ℕ) {es : List Entry}
-    → Now p (between (calls_all 1 numbers) look) (all_taken v s txn) (acknowledged txn.seq k c a) es → Told p (calls_all 1 numbers) v s es → Goes p es
-all_called [] look v s txn k c a now told = ended look v s txn k c a now told
-all_called (n ∷ numbers) look v s txn k c a now told = called n (calls_all 1 numbers) look v s txn k c a now told
-    (λ next_txn next_k next_c next_a later next_now next_told. all_called numbers (Some (class.Plain 0, 1)) (sum v n) (suc s) next_txn next_k next_c next_a next_now next_told)
+    → Now p (between (calls_all 1 numbers) look) (all_taken v s txn) (acknowledged txn.seq k c a) es → Goes p es
+all_called [] look v s txn k c a now = ended look v s txn k c a now
+all_called (n ∷ numbers) look v s txn k c a now = called n (calls_all 1 numbers) look v s txn k c a now
+    (λ next_txn next_k next_c next_a later next_now. all_called numbers (Some (class.Plain 0, 1)) (sum v n) (suc s) next_txn next_k next_c next_a next_now)

@@ -15,8 +15,6 @@ use Rattle.dso_run.specs.declared.form.FirstPath.{FirstPath}
 use Rattle.dso_law.specs.Entries.{entries_of}
 use Rattle.dso_run.specs.Counting.{calls_all}
 use Rattle.dso_run.specs.Steps.{own, event_with}
-use Rattle.dso_run.proofs.Histories.{Told}
-use Rattle.dso_run.proofs.PlainOpening.{opening_runs, opening_leaves}
 use Rattle.dso_run.proofs.Going.{Step, Goes, goes}
 use Rattle.dso_run.proofs.Now.{ThreadNow, ClientNow, SentNow, ServerNow, WayNow, Now}
 use Rattle.dso_run.proofs.Calls.{entering, all_heard, all_quiet, called_inside}
@@ -97,10 +95,7 @@ module _ (p : FirstPath) (n : ℤ) (ns : List ℤ) where
   now_25 : Now it (entering n (calls_all 1 ns)) (all_heard (pos 0) 2) (all_quiet 23 22) so_far_25
   now_25 = record { thread = thread_now; client = client_now; sent = sent_now; server = server_now; ways = ways_now }
 
-  told_25 : Told it (calls_all 1 (n ∷ ns)) (pos 0) 2 so_far_25
-  told_25 = record { many = refl; runs = opening_runs; state = opening_leaves; takes = (refl, refl, tt, (refl, refl, tt, (refl, refl, tt, (refl, refl, tt, (refl, refl, tt, (refl, refl, tt, (refl, refl, tt, (refl, refl, tt, tt)))))))); course_is = refl }
-
   -- With a call the run goes on to its finish.
   pub goes_with_calls : Goes it so_far_20
   goes_with_calls = goes _ (step_21 p n ns) (goes _ (step_22 p n ns) (goes _ (step_23 p n ns) (goes _ (step_24 p n ns) (goes _ (step_25 p n ns)
-      (called_inside n (calls_all 1 ns) (pos 0) 2 23 22 now_25 told_25 (λ txn k c a later now told. all_called ns (Some (class.Plain 0, 1)) (sum (pos 0) n) 3 txn k c a now told))))))
+      (called_inside n (calls_all 1 ns) (pos 0) 2 23 22 now_25 (λ txn k c a later now. all_called ns (Some (class.Plain 0, 1)) (sum (pos 0) n) 3 txn k c a now))))))

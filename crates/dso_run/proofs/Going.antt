@@ -9,13 +9,11 @@ use Rattle.dso_law.specs.Channels.{Letter, way_up, way_down, rejoins}
 use Rattle.dso_law.specs.ClientStep.{is_full, may_act}
 use Rattle.dso_law.specs.Served.{is_lost, loses}
 use Rattle.dso_legal.specs.Lawful.{next_after, MayFollow}
-use Rattle.dso_legal.specs.Committed.{committed_at}
 use Rattle.dso_legal.specs.Slots.{Slot, Acts, TakesDown, TakesUp, is_any, is_due, has_ended, is_finished}
 use Rattle.dso_run.specs.declared.form.FirstPath.{FirstPath}
 use Rattle.dso_run.specs.Counting.{the_thread, settings, next}
 use Rattle.dso_run.specs.Rounds.{slot_at, turn}
 use Rattle.dso_run.specs.Steps.{own, acts, takes_down, taking_down, takes_up, taking_up, first_made, tried, next_entry}
-use Rattle.dso_run.proofs.Histories.{Holds, holds_first}
 use Rattle.dso_run.proofs.Now.{ThreadStage, RecordStage, WayStage, Now}
 use Rattle.dso_run.proofs.Turning.{none_below, first_open, Opens, turn_after_act, turn_after_down, turn_after_up}
 
@@ -31,7 +29,7 @@ pub record Step (p : FirstPath) (es : List Entry) (e : Entry) : Type 0 where
 
 -- the run goes on from these entries to its finish
 pub data Goes (p : FirstPath) : List Entry → Type 0 where
-  stops : {es : List Entry} → is_finished settings es ≡ true → Holds p es → Goes p es
+  stops : {es : List Entry} → is_finished settings es ≡ true → Goes p es
   goes : {es : List Entry} (e : Entry) → Step p es e → Goes p (e ∷ es) → Goes p es
 
 pub finished_if : (lost over ups downs due : Bool) → lost ≡ false → due ≡ false
@@ -42,11 +40,6 @@ finished_if false true true downs false lost none = refl
 finished_if false true false true false lost none = refl
 finished_if false true false false false lost none = refl
 finished_if false false ups downs false lost none = refl
-
--- the history committed so far is a run, and the course takes it
-pub goes_holds : (p : FirstPath) (es : List Entry) → Goes p es → Holds p es
-goes_holds p es (stops finished holds) = holds
-goes_holds p es (goes e step rest) = holds_first p (e ∷ es) es (committed_at e.node e.input es) refl (goes_holds p (e ∷ es) rest)
 
 module _ (p : FirstPath) (t : ThreadStage) (r : RecordStage) (w : WayStage) (es : List Entry) (now : Now p t r w es) where
   room : is_full settings (own es) ≡ false

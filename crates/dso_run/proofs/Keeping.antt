@@ -1,7 +1,6 @@
 -- Where a run stands after an act that ends no block.
 use Rattle.std.proofs.Common.{ℕ, suc, ◌≡◌, refl, ◌∙◌, ap, arith, Bool, true, false, cond, ◌||◌, is_some, Option, Some, None, List, [], ◌∷◌, ◌++◌}
 use Rattle.std.specs.Prelude.{max}
-use Rattle.std.proofs.lemmas.List.{append-nil}
 use Rattle.dso_base.specs.declared.journal.Entry.{Entry}
 use Rattle.dso_base.specs.declared.journal.Node.TheVariants.{Client}
 use Rattle.dso_base.specs.declared.record.Ending.{Ending}
@@ -13,7 +12,6 @@ use Rattle.dso_law.specs.Settings.{has}
 use Rattle.dso_law.specs.Entries.{events_in}
 use Rattle.dso_law.specs.Channels.{last_clock}
 use Rattle.dso_law.specs.Threads.{locks_of, locks_by, ending_of, seen_by, open_block, privates_before}
-use Rattle.dso_legal.specs.Committed.{block_if, ended_blocks}
 use Rattle.dso_legal.specs.Slots.{Acts, is_end, ends}
 use Rattle.dso_run.specs.declared.form.FirstPath.{FirstPath}
 use Rattle.dso_run.specs.Course.{Course, Asks, answered}
@@ -94,8 +92,3 @@ module _ (p : FirstPath) (t : ThreadStage) (r : RecordStage) (w : WayStage) (es 
 
   pub still : Now p (goes_on t request reply (rest reply)) r (acted w) (it ∷ es)
   still = record { thread = thread_now; client = client_now; sent = sent_now; server = now.server; ways = ways_now }
-
-  -- no block is added to those that ended
-  pub blocks_kept : ended_blocks (it ∷ own es) ≡ ended_blocks (own es)
-  blocks_kept = ap (λ (ending : Option Ending). ended_blocks (own es) ++ block_if ending (open_block the_thread (own es) ++ event_with request reply ∷ [])) no_ending
-      ∙ append-nil (ended_blocks (own es))

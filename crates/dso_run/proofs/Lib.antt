@@ -29,7 +29,12 @@ pub mod Room
 pub mod Making
 pub mod Looping
 pub mod Lacking
-pub mod PlainCalls
-pub mod Histories
 pub mod Sums
-pub mod PlainOpening
+pub mod SoundCourses
+pub mod Sound
+pub mod CalmRuns
+pub mod ByLaw
+pub mod Replaying
+pub mod Orders
+pub mod Lines
+pub mod OneReport

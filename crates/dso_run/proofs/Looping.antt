@@ -10,13 +10,14 @@ use Rattle.dso_run.specs.declared.cluster.Outcome.{Outcome}
 use Rattle.dso_run.specs.declared.cluster.Outcome.TheVariants as outcome
 use Rattle.dso_run.specs.declared.cluster.Run.{Run}
 use Rattle.dso_run.specs.declared.form.FirstPath.{FirstPath}
-use Rattle.dso_run.specs.Counting.{settings, next}
+use Rattle.dso_run.specs.Counting.{settings}
 use Rattle.dso_run.specs.Ends.{HasRun, HasEnded}
 use Rattle.dso_run.specs.Room.{HasRoom}
-use Rattle.dso_run.specs.Rounds.{slot_at, last_slot, EndsFinished, EndsOverBudget}
+use Rattle.dso_run.specs.Rounds.{slot_at, last_slot}
 use Rattle.dso_run.specs.Steps.{last_done, tried_after, next_entry}
+use Rattle.dso_run.proofs.ByLaw.{legal_by_law}
 use Rattle.dso_run.proofs.Room.{has_room}
-use Rattle.dso_run.proofs.Running.{RunSoFar, is_run, is_legal, runs_on, never_stuck, begins, long_weighs}
+use Rattle.dso_run.proofs.Running.{RunSoFar, is_run, runs_on, never_stuck, begins, long_weighs}
 
 -- the run so far, what its journal weighs up to the whole budget, and what was done last
 pub record IsAt (p : FirstPath) (steps w : ℕ) (last : Last) (es : List Entry) : Type 0 where
@@ -50,10 +51,10 @@ module _ (p : FirstPath) (steps w : ℕ) (last : Last) (es : List Entry) (at : I
   no_stop unfinished tried = absurd (never_stuck p steps es at.so_far (tried_is None tried) unfinished)
 
   pub ends_finished : is_finished settings es ≡ true → HasRun p steps outcome.Finished es
-  ends_finished finished = record { ended = record { run = is_run p steps es at.so_far; finished = finished }; legal = is_legal p steps es at.so_far }
+  ends_finished finished = record { ended = record { run = is_run p steps es at.so_far; finished = finished }; commits = legal_by_law p es (is_run p steps es at.so_far).lawful }
 
   pub ends_over : steps ≤ w → is_finished settings es ≡ false → HasRun p steps outcome.Budget es
-  ends_over heavy unfinished = record { ended = record { run = is_run p steps es at.so_far; unfinished = unfinished; heavy = (let weighs : w ≡ min (weight es) 1000000 = at.weighs in omega arith) }; legal = is_legal p steps es at.so_far }
+  ends_over heavy unfinished = record { ended = record { run = is_run p steps es at.so_far; unfinished = unfinished; heavy = (let weighs : w ≡ min (weight es) 1000000 = at.weighs in omega arith) }; commits = legal_by_law p es (is_run p steps es at.so_far).lawful }
 
 pub at_same : (p : FirstPath) (steps w w' : ℕ) (last last' : Last) (es es' : List Entry) → w' ≡ w → last' ≡ last → es' ≡ es → IsAt p steps w last es → IsAt p steps w' last' es'
 at_same p steps w w' last last' es es' a b c at =

@@ -1,5 +1,5 @@
 -- The last steps of a run without a call.
-use Rattle.std.proofs.Common.{refl, Some, None, List, [], ◌∷◌, pos}
+use Rattle.std.proofs.Common.{refl, Some, None, List, [], ◌∷◌}
 use Rattle.dso_base.specs.declared.journal.Entry.{Entry}
 use Rattle.dso_base.specs.declared.journal.Input.TheVariants as input
 use Rattle.dso_base.specs.declared.journal.Node.TheVariants.{Server, Client}
@@ -10,11 +10,8 @@ use Rattle.dso_base.specs.declared.record.Ending.TheVariants as ending
 use Rattle.dso_base.specs.declared.request.Reply.TheVariants as reply
 use Rattle.dso_base.specs.declared.request.Request.TheVariants as request
 use Rattle.dso_run.specs.declared.form.FirstPath.{FirstPath}
-use Rattle.dso_run.specs.Counting.{the_thread, ends}
+use Rattle.dso_run.specs.Counting.{the_thread}
 use Rattle.dso_run.specs.Steps.{event_with}
-use Rattle.dso_run.proofs.Histories.{Holds, Told, holds_with}
-use Rattle.dso_run.proofs.PlainCalls.{may_end}
-use Rattle.dso_run.proofs.PlainOpening.{opening_runs, opening_leaves}
 use Rattle.dso_run.proofs.Going.{Step, Goes, stops, goes}
 use Rattle.dso_run.proofs.Opening.{so_far_20}
 
@@ -58,17 +55,6 @@ so_far_24 = entry_24 ∷ so_far_23
 pub step_24 : (p : FirstPath) → Step (record p { calls = [] }) so_far_23 entry_24
 step_24 p = record { unfinished = refl; made = refl; follows = record { channels = refl; clocks = refl; rule = record { its = refl; step = record { fits = refl; event = refl; sends = refl } } }; turn_is = refl; has_slot = refl; no_rejoin = refl; no_loss = refl }
 
--- what the history is then
-module _ (p : FirstPath) where
-  abbrev it : FirstPath
-  it = record p { calls = [] }
-
-  told_20 : Told it (ends None) (pos 0) 2 so_far_20
-  told_20 = record { many = refl; runs = opening_runs; state = opening_leaves; takes = (refl, refl, tt, (refl, refl, tt, (refl, refl, tt, (refl, refl, tt, (refl, refl, tt, (refl, refl, tt, (refl, refl, tt, (refl, refl, tt, tt)))))))); course_is = refl }
-
-  holds_24 : Holds it so_far_24
-  holds_24 = holds_with it (ends None) (pos 0) 2 so_far_20 told_20 so_far_24 (event_with (request.End None) reply.Done ∷ []) refl (λ s now. (may_end (pos 0) s now, tt)) (refl, refl, tt, tt)
-
 -- Without a call the run goes on to its finish.
 pub goes_without_call : (p : FirstPath) → Goes (record p { calls = [] }) so_far_20
-goes_without_call p = goes _ (step_21 p) (goes _ (step_22 p) (goes _ (step_23 p) (goes _ (step_24 p) (stops refl (holds_24 p)))))
+goes_without_call p = goes _ (step_21 p) (goes _ (step_22 p) (goes _ (step_23 p) (goes _ (step_24 p) (stops refl))))

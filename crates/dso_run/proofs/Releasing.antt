@@ -8,7 +8,6 @@ use Rattle.dso_base.specs.declared.message.Up.TheVariants as up
 use Rattle.dso_base.specs.declared.record.Ending.{Ending}
 use Rattle.dso_base.specs.declared.record.Set.{Set}
 use Rattle.dso_base.specs.declared.record.Txn.{Txn}
-use Rattle.dso_base.specs.declared.request.Event.{Event}
 use Rattle.dso_base.specs.declared.request.Reply.{Reply}
 use Rattle.dso_base.specs.declared.request.Request.{Request}
 use Rattle.dso_base.specs.declared.value.Value.{Value}
@@ -20,7 +19,6 @@ use Rattle.dso_law.specs.Copies.{value_by_sets}
 use Rattle.dso_law.specs.Threads.{locks_of, locks_by, ending_of, seen_by, open_block, privates_before}
 use Rattle.dso_law.specs.Records.{records}
 use Rattle.dso_law.specs.ClientStep.{record_of, commits}
-use Rattle.dso_legal.specs.Committed.{block_if, ended_blocks}
 use Rattle.dso_legal.specs.Slots.{Acts, is_end}
 use Rattle.dso_run.specs.declared.form.FirstPath.{FirstPath}
 use Rattle.dso_run.specs.Course.{Course, Asks, answered}
@@ -139,8 +137,3 @@ module _ (p : FirstPath) (t : ThreadStage) (r : RecordStage) (w : WayStage) (es 
 
   pub still : Now p (released t request reply (rest reply)) (with_record r txn held) (sends_record w txn) (it ∷ es)
   still = record { thread = thread_now; client = client_now; sent = sent_now; server = server_now; ways = ways_now }
-
-  -- the block is added to those that ended
-  pub block_added : ended_blocks (it ∷ own es) ≡ ended_blocks (own es) ++ (t.block ++ event_with request reply ∷ []) ∷ []
-  block_added = ap (λ (e : Option Ending). ended_blocks (own es) ++ block_if e (open_block the_thread (own es) ++ event_with request reply ∷ [])) is_ending
-      ∙ ap (λ (block : List Event). ended_blocks (own es) ++ (block ++ event_with request reply ∷ []) ∷ []) now.thread.block

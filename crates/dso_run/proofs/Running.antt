@@ -9,19 +9,15 @@ use Rattle.dso_law.specs.Entries.{is_node, entries_of}
 use Rattle.dso_law.specs.Channels.{way_up, way_down, rejoins, breaks, count_inputs}
 use Rattle.dso_law.specs.Served.{is_lost, loses}
 use Rattle.dso_law.specs.Replies.{first_of_list}
-use Rattle.dso_plain.specs.History.{IsLegal}
-use Rattle.dso_legal.specs.Committed.{committed}
 use Rattle.dso_legal.specs.Lawful.{AllFollow}
 use Rattle.dso_legal.specs.Slots.{Slot, slots, is_any, is_due, has_ended, is_open, open_slots, is_finished, is_stuck, weight}
 use Rattle.dso_run.specs.declared.form.FirstPath.{FirstPath}
 use Rattle.dso_run.specs.Counting.{the_thread, settings, next}
-use Rattle.dso_run.specs.Listed.{Listed}
 use Rattle.dso_run.specs.Rounds.{is_slot, turn, last_slot, behind, up_to, turned, TakesTurns, IsRun}
 use Rattle.dso_run.specs.Room.{AreMade}
 use Rattle.dso_run.specs.Steps.{next_entry}
 use Rattle.dso_run.proofs.Acting.{and_false}
-use Rattle.dso_run.proofs.Going.{Step, Goes, stops, goes, finished_if, goes_holds}
-use Rattle.dso_run.proofs.Histories.{holds_legal}
+use Rattle.dso_run.proofs.Going.{Step, Goes, stops, goes, finished_if}
 use Rattle.dso_run.proofs.Keeping.{or_assoc}
 use Rattle.dso_run.proofs.Turning.{none_below}
 use Rattle.dso_run.proofs.Whole.{goes_whole}
@@ -144,7 +140,7 @@ pub steps : (p : FirstPath) (budget : ℕ) (es : List Entry) (e : Entry) → Run
 steps p budget es e so_far makes unfinished light = from so_far.going
   where
     from : Goes p es → Goes p (e ∷ es) × Step p es e
-    from (stops finished holds) = absurd (cc (finished, unfinished))
+    from (stops finished) = absurd (cc (finished, unfinished))
     from (goes e' step rest) =
         let same : e' ≡ e = cc (step.made, makes) in
         (subst (λ (x : Entry). Goes p (x ∷ es)) same rest, subst (λ (x : Entry). Step p es x) same step)
@@ -168,7 +164,7 @@ pub never_stuck : (p : FirstPath) (budget : ℕ) (es : List Entry) → RunSoFar 
 never_stuck p budget es so_far none unfinished = from so_far.going
   where
     from : Goes p es → ⊥
-    from (stops finished holds) = cc (finished, unfinished)
+    from (stops finished) = cc (finished, unfinished)
     from (goes e step rest) = cc (step.made, none)
 
 -- the empty run
@@ -179,7 +175,3 @@ begins p budget = record { going = goes_whole p; follow = tt; turns = tt; none_r
 pub long_weighs : (es : List Entry) → length es ≤ weight es
 long_weighs [] = omega arith
 long_weighs (e ∷ es) = let before : length es ≤ weight es = long_weighs es in omega arith
-
--- the history committed so far is legal
-pub is_legal : (p : FirstPath) (budget : ℕ) (es : List Entry) → RunSoFar p budget es → IsLegal (next p) (Listed p) settings.shape (committed es)
-is_legal p budget es so_far = holds_legal p es (goes_holds p es so_far.going)

@@ -13,10 +13,27 @@ module _ (content : List ℕ → Told) (words : List (List ℕ)) (reads_rose : T
   pub run_stands : (p : FirstPath) (answer : Status) → IsAccepted content words p → WroteReport p before now sink_rose entries answer
       → Stands content words reads_rose before now sink_rose entries answer
   run_stands p NoMemory accepted wrote = record { untouched = wrote.0; nothing_kept = wrote.1 }
-  run_stands p WriteFault accepted wrote = record { text = wrote.0.0; due = inr (wrote.2.0, record { program = p; accepted = accepted; ran = wrote.2.1 }); part = wrote.0.1; rose = wrote.1 }
-  run_stands p Finished accepted wrote = record { ran = record { program = p; accepted = accepted; ran = wrote.0 }; report = wrote.1.0; took = wrote.1.1 }
-  run_stands p Stuck accepted wrote = record { ran = record { program = p; accepted = accepted; ran = wrote.0 }; report = wrote.1.0; took = wrote.1.1 }
-  run_stands p Budget accepted wrote = record { ran = record { program = p; accepted = accepted; ran = wrote.0 }; report = wrote.1.0; took = wrote.1.1 }
+  run_stands p WriteFault accepted wrote = record {
+    text = wrote.0.0;
+    due = inr (wrote.2.0, record { ran = record { program = p; accepted = accepted; ran = wrote.2.1 }; is_report = wrote.0.1 });
+    part = wrote.0.2;
+    rose = wrote.1;
+  }
+  run_stands p Finished accepted wrote = record {
+    report = wrote.1.0;
+    due = record { ran = record { program = p; accepted = accepted; ran = wrote.0 }; is_report = wrote.1.1 };
+    took = wrote.1.2;
+  }
+  run_stands p Stuck accepted wrote = record {
+    report = wrote.1.0;
+    due = record { ran = record { program = p; accepted = accepted; ran = wrote.0 }; is_report = wrote.1.1 };
+    took = wrote.1.2;
+  }
+  run_stands p Budget accepted wrote = record {
+    report = wrote.1.0;
+    due = record { ran = record { program = p; accepted = accepted; ran = wrote.0 }; is_report = wrote.1.1 };
+    took = wrote.1.2;
+  }
   run_stands p Usage accepted wrote = absurd wrote
   run_stands p ReadFault accepted wrote = absurd wrote
   run_stands p (BadConfig fault) accepted wrote = absurd wrote

@@ -12,6 +12,7 @@ use Rattle.dso_run.specs.declared.status.Refusal.{Refusal}
 use Rattle.dso_run.specs.declared.status.Refusal.TheVariants.{Words, Reading, Config, Program}
 use Rattle.dso_run.specs.declared.status.Status.{Status}
 use Rattle.dso_run.specs.declared.status.Status.TheVariants.{Finished, Usage, BadConfig, BadProgram, ReadFault, WriteFault, Stuck, Budget, NoMemory}
+use Rattle.dso_run.specs.Printed.{IsRunReport}
 use Rattle.dso_run.specs.Ends.{HasRun}
 use Rattle.dso_run.specs.Form.{IsFirstPath}
 use Rattle.dso_run.specs.Outside.{Told, MayGive, taken_after, TookPart}
@@ -87,10 +88,15 @@ pub record IsRan (content : List ℕ → Told) (words : List (List ℕ)) (entrie
   pub accepted : IsAccepted content words program
   pub ran : HasRun program 1000000 outcome (reverse entries)
 
+-- The text is the report of what a run of an accepted program commits.
+pub record IsReportDue (content : List ℕ → Told) (words : List (List ℕ)) (entries : List Entry) (outcome : Outcome) (text : List ℕ) : Type 0 where
+  pub ran : IsRan content words entries outcome
+  pub is_report : IsRunReport ran.program entries text
+
 -- What was to be written: the line of a refusal that has its cause, or the report of a run of an accepted program.
 abbrev pub IsDue : (List ℕ → Told) → List (List ℕ) → Type 0 → List Entry → List ℕ → Type 0
 IsDue content words reads_rose entries text =
-    ((refusal : Refusal) × IsRefused content words reads_rose entries refusal text) ⊎ ((outcome : Outcome) × IsRan content words entries outcome)
+    ((refusal : Refusal) × IsRefused content words reads_rose entries refusal text) ⊎ ((outcome : Outcome) × IsReportDue content words entries outcome text)
 
 -- What is told of the files before the call, the words, that the count of read faults rose; what the sink had taken
 -- before the call, what it has taken now, that its count of faults rose; the entries of the journal.
@@ -100,10 +106,10 @@ module _ (content : List ℕ → Told) (words : List (List ℕ)) (reads_rose : T
     pub refused : IsRefused content words reads_rose entries refusal (line_of refusal)
     pub took : now ≡ taken_after before (line_of refusal)
 
-  -- the program was accepted and run to this outcome, and its report was written whole
+  -- the program was accepted and run to this outcome, and the report of what the run commits was written whole
   pub record IsReported (outcome : Outcome) : Type 0 where
-    pub ran : IsRan content words entries outcome
     pub report : List ℕ
+    pub due : IsReportDue content words entries outcome report
     pub took : now ≡ taken_after before report
 
   -- a sink failed, and took a first part of what was to be written

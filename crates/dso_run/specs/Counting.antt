@@ -3,6 +3,7 @@ use Rattle.std.specs.Prelude.{ℕ, zero, ℤ, ◌+ℤ◌, Option, Some, None, Li
 use Rattle.std.specs.Int.{int_wrap}
 use mir.Syntax.{w64}
 use Rattle.dso_base.specs.declared.lock.Level.TheVariants.{Read, Write}
+use Rattle.dso_base.specs.declared.lock.LockName.{LockName}
 use Rattle.dso_base.specs.declared.lock.LockName.TheVariants.{Mon, Name}
 use Rattle.dso_base.specs.declared.lock.ThreadId.{ThreadId}
 use Rattle.dso_base.specs.declared.request.Event.{Event}
@@ -46,9 +47,9 @@ ends fault = Asks (End fault) (λ reply. Over)
 abbrev pub fails : Fault → Course
 fails fault = ends (Some fault)
 
--- the thread leaves the monitor of the object and ends with this fault
-abbrev pub leaves : ℕ → Fault → Course
-leaves o fault = Asks (Exit (Mon o)) (λ reply. fails fault)
+-- the thread leaves the lock and ends with this fault
+abbrev pub leaves : LockName → Fault → Course
+leaves l fault = Asks (Exit l) (λ reply. fails fault)
 
 -- What a reply makes of the course: it goes on where the reply is of the kind that is wanted, and else stops, by the fault
 -- of a refusal or by BadValue. Here: where the reply is Done,
@@ -77,19 +78,19 @@ if_value stops rest reply = stops BadValue
 
 -- `print(this.F)`, and the end of the method
 abbrev pub prints : ℕ → Course → Course
-prints o rest = Asks (Look o) (if_seen (leaves o) (λ class. Asks (Get o 0) (if_value (leaves o)
-    (λ v. Asks (Print v) (if_done (leaves o) (Asks (Exit (Mon o)) (if_done fails rest)))))))
+prints o rest = Asks (Look o) (if_seen (leaves (Mon o)) (λ class. Asks (Get o 0) (if_value (leaves (Mon o))
+    (λ v. Asks (Print v) (if_done (leaves (Mon o)) (Asks (Exit (Mon o)) (if_done fails rest)))))))
 
 -- `this.F = ` the sum of this value and n, which wraps at 64 bits
 abbrev pub puts_sum : ℕ → ℤ → Course → Value → Course
-puts_sum o n rest (value.Long m) = Asks (Look o) (if_seen (leaves o) (λ class. Asks (Put o 0 (value.Long (int_wrap w64 (m +ℤ n))))
-    (if_done (leaves o) (prints o rest))))
-puts_sum o n rest v = leaves o BadValue
+puts_sum o n rest (value.Long m) = Asks (Look o) (if_seen (leaves (Mon o)) (λ class. Asks (Put o 0 (value.Long (int_wrap w64 (m +ℤ n))))
+    (if_done (leaves (Mon o)) (prints o rest))))
+puts_sum o n rest v = leaves (Mon o) BadValue
 
 -- the method in an object of this class: `synchronized M(K) { this.F = this.F + K; print(this.F); }`
 abbrev pub runs_method : ℕ → ℤ → Course → ClassId → Course
 runs_method o n rest (class.Plain zero) = Asks (Enter (Mon o) Write) (if_done fails
-    (Asks (Look o) (if_seen (leaves o) (λ class. Asks (Get o 0) (if_value (leaves o) (puts_sum o n rest))))))
+    (Asks (Look o) (if_seen (leaves (Mon o)) (λ class. Asks (Get o 0) (if_value (leaves (Mon o)) (puts_sum o n rest))))))
 runs_method o n rest other = fails NoSuchField
 
 -- `V.M(N);` on this object
@@ -110,17 +111,17 @@ calls_on (n ∷ numbers) v = fails BadValue
 
 -- `var V = D.R;`
 abbrev pub reads_root : (Value → Course) → Course
-reads_root rest = Asks (Enter (Name 0) Read) (if_done fails (Asks (Get 0 0) (if_value fails
+reads_root rest = Asks (Enter (Name 0) Read) (if_done fails (Asks (Get 0 0) (if_value (leaves (Name 0))
     (λ v. Asks (Exit (Name 0)) (if_done fails (rest v))))))
 
 -- the root is bound to the object where it is null
 abbrev pub binds_null : ℕ → Course → Value → Course
-binds_null o rest value.Null = Asks (Put 0 0 (value.Ref o)) (if_done fails (Asks (Exit (Name 0)) (if_done fails rest)))
+binds_null o rest value.Null = Asks (Put 0 0 (value.Ref o)) (if_done (leaves (Name 0)) (Asks (Exit (Name 0)) (if_done fails rest)))
 binds_null o rest v = Asks (Exit (Name 0)) (if_done fails rest)
 
 -- `D.R = ..` with this object: the first assignment binds the root
 abbrev pub binds_root : Course → ℕ → Course
-binds_root rest o = Asks (Enter (Name 0) Write) (if_done fails (Asks (Get 0 0) (if_value fails (binds_null o rest))))
+binds_root rest o = Asks (Enter (Name 0) Write) (if_done fails (Asks (Get 0 0) (if_value (leaves (Name 0)) (binds_null o rest))))
 
 -- the thread: `D.R = new C(); var V = D.R;` and the calls
 abbrev pub course : FirstPath → Course

@@ -1,8 +1,7 @@
 -- How a run of the first path ended.
 use Rattle.std.specs.Prelude.{ℕ, List, reverse}
 use Rattle.dso_base.specs.declared.journal.Entry.{Entry}
-use Rattle.dso_plain.specs.History.{IsLegal}
-use Rattle.dso_legal.specs.Committed.{committed}
+use Rattle.dso_legal.specs.Central.{CommitsLegally}
 use Rattle.dso_run.specs.declared.cluster.Outcome.TheVariants.{Finished, Stuck, Budget}
 use Rattle.dso_run.specs.declared.cluster.Outcome.{Outcome}
 use Rattle.dso_run.specs.declared.cluster.Run.{Run}
@@ -10,7 +9,6 @@ use Rattle.dso_run.specs.declared.form.FirstPath.{FirstPath}
 use Rattle.dso_run.specs.declared.status.Status.{Status}
 use Rattle.dso_run.specs.declared.status.Status.TheVariants as status
 use Rattle.dso_run.specs.Counting.{settings, next}
-use Rattle.dso_run.specs.Listed.{Listed}
 use Rattle.dso_run.specs.Rounds.{EndsFinished, EndsStuck, EndsOverBudget}
 
 -- the entries, the newest first, are those of a run of the program that ended so
@@ -19,11 +17,12 @@ EndsAs p budget Finished es = EndsFinished settings (next p) budget es
 EndsAs p budget Stuck es = EndsStuck settings (next p) budget es
 EndsAs p budget Budget es = EndsOverBudget settings (next p) budget es
 
--- A run of the program that ended so: and the history that its journal commits is a legal history of one heap with plain
--- monitors, in which the thread follows the program.
+-- A run of the program that ended so: and its journal commits a legal history of one heap with plain monitors, in which each
+-- thread follows the program. The history has of each thread a first part of its events in the journal, each once and in order,
+-- and all of them where the run is finished.
 pub record HasRun (p : FirstPath) (budget : ℕ) (outcome : Outcome) (es : List Entry) : Type 0 where
   pub ended : EndsAs p budget outcome es
-  pub legal : IsLegal (next p) (Listed p) settings.shape (committed es)
+  pub commits : CommitsLegally settings (next p) es
 
 -- the status of a run that ended so
 abbrev pub status_of_run : Outcome → Status

@@ -17,4 +17,7 @@ pub mod Places
 pub mod Room
 pub mod Turns
 pub mod Ends
-pub mod Listed
+pub mod Printed
+pub mod Texts
+pub mod Numbering
+pub mod Report

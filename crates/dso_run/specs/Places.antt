@@ -29,22 +29,22 @@ rest_from p begun o = calls_all o (drop begun p.calls)
 abbrev pub opening_course : FirstPath → Opening → Course
 opening_course p at.Create = course p
 opening_course p (at.BindEnter o) = binds_root (reads_root (calls_on p.calls)) o
-opening_course p (at.BindGet o) = Asks (Get 0 0) (if_value fails (binds_null o (reads_root (calls_on p.calls))))
+opening_course p (at.BindGet o) = Asks (Get 0 0) (if_value (leaves (Name 0)) (binds_null o (reads_root (calls_on p.calls))))
 opening_course p (at.BindPut o) = binds_null o (reads_root (calls_on p.calls)) value.Null
 opening_course p at.BindExit = Asks (Exit (Name 0)) (if_done fails (reads_root (calls_on p.calls)))
 opening_course p at.ReadEnter = reads_root (calls_on p.calls)
-opening_course p at.ReadGet = Asks (Get 0 0) (if_value fails (λ v. Asks (Exit (Name 0)) (if_done fails (calls_on p.calls v))))
+opening_course p at.ReadGet = Asks (Get 0 0) (if_value (leaves (Name 0)) (λ v. Asks (Exit (Name 0)) (if_done fails (calls_on p.calls v))))
 opening_course p (at.ReadExit v) = Asks (Exit (Name 0)) (if_done fails (calls_on p.calls v))
 
 -- the course from a move inside the method, in the object, with what follows the call
 abbrev pub inside_course : ℕ → Course → Inside → Course
-inside_course o rest (inside.SumLook n) = Asks (Look o) (if_seen (leaves o) (λ class. Asks (Get o 0) (if_value (leaves o) (puts_sum o n rest))))
-inside_course o rest (inside.SumGet n) = Asks (Get o 0) (if_value (leaves o) (puts_sum o n rest))
-inside_course o rest (inside.PutLook m) = Asks (Look o) (if_seen (leaves o) (λ class. Asks (Put o 0 (value.Long m)) (if_done (leaves o) (prints o rest))))
-inside_course o rest (inside.PutSum m) = Asks (Put o 0 (value.Long m)) (if_done (leaves o) (prints o rest))
+inside_course o rest (inside.SumLook n) = Asks (Look o) (if_seen (leaves (Mon o)) (λ class. Asks (Get o 0) (if_value (leaves (Mon o)) (puts_sum o n rest))))
+inside_course o rest (inside.SumGet n) = Asks (Get o 0) (if_value (leaves (Mon o)) (puts_sum o n rest))
+inside_course o rest (inside.PutLook m) = Asks (Look o) (if_seen (leaves (Mon o)) (λ class. Asks (Put o 0 (value.Long m)) (if_done (leaves (Mon o)) (prints o rest))))
+inside_course o rest (inside.PutSum m) = Asks (Put o 0 (value.Long m)) (if_done (leaves (Mon o)) (prints o rest))
 inside_course o rest inside.PrintLook = prints o rest
-inside_course o rest inside.PrintGet = Asks (Get o 0) (if_value (leaves o) (λ v. Asks (Print v) (if_done (leaves o) (Asks (Exit (Mon o)) (if_done fails rest)))))
-inside_course o rest (inside.PrintValue v) = Asks (Print v) (if_done (leaves o) (Asks (Exit (Mon o)) (if_done fails rest)))
+inside_course o rest inside.PrintGet = Asks (Get o 0) (if_value (leaves (Mon o)) (λ v. Asks (Print v) (if_done (leaves (Mon o)) (Asks (Exit (Mon o)) (if_done fails rest)))))
+inside_course o rest (inside.PrintValue v) = Asks (Print v) (if_done (leaves (Mon o)) (Asks (Exit (Mon o)) (if_done fails rest)))
 
 -- the course from a move on, where so many calls were begun
 abbrev pub course_from : FirstPath → Move → ℕ → Course
@@ -53,7 +53,7 @@ course_from p (move.CallLook o n) begun = calls o n (rest_from p begun o)
 course_from p (move.CallEnter o n) begun = runs_method o n (rest_from p begun o) (class.Plain 0)
 course_from p (move.Inside o step) begun = inside_course o (rest_from p begun o) step
 course_from p (move.CallExit o) begun = Asks (Exit (Mon o)) (if_done fails (rest_from p begun o))
-course_from p (move.FaultExit o fault) begun = leaves o fault
+course_from p (move.FaultExit l fault) begun = leaves l fault
 course_from p (move.End fault) begun = ends fault
 course_from p move.Over begun = Over
 

@@ -6,6 +6,7 @@ use Rattle.dso_run.specs.declared.cluster.Outcome.TheVariants as outcome
 use Rattle.dso_run.specs.declared.form.FirstPath.{FirstPath}
 use Rattle.dso_run.specs.declared.status.Status.{Status}
 use Rattle.dso_run.specs.declared.status.Status.TheVariants.{Finished, WriteFault, Stuck, Budget, NoMemory}
+use Rattle.dso_run.specs.Printed.{IsRunReport}
 use Rattle.dso_run.specs.Ends.{HasRun}
 use Rattle.dso_run.specs.Outside.{taken_after, TookPart}
 
@@ -19,11 +20,12 @@ Wrote before now sink_rose text status answer =
 abbrev pub HasEntries : FirstPath → List Entry → Type 0
 HasEntries p entries = (outcome : Outcome) × HasRun p 1000000 outcome (reverse entries)
 
--- A report was written, whole with the run's outcome for an answer, or in part; or memory ran out before.
+-- The report of what the run commits was written, whole with the run's outcome for an answer, or in part; or memory ran out
+-- before.
 abbrev pub WroteReport : FirstPath → Option (List ℕ) → Option (List ℕ) → Type 0 → List Entry → Status → Type 0
 WroteReport p before now sink_rose entries NoMemory = (now ≡ before) × (entries ≡ [])
-WroteReport p before now sink_rose entries WriteFault = ((report : List ℕ) × TookPart before report now) × sink_rose × HasEntries p entries
-WroteReport p before now sink_rose entries Finished = HasRun p 1000000 outcome.Finished (reverse entries) × ((report : List ℕ) × (now ≡ taken_after before report))
-WroteReport p before now sink_rose entries Stuck = HasRun p 1000000 outcome.Stuck (reverse entries) × ((report : List ℕ) × (now ≡ taken_after before report))
-WroteReport p before now sink_rose entries Budget = HasRun p 1000000 outcome.Budget (reverse entries) × ((report : List ℕ) × (now ≡ taken_after before report))
+WroteReport p before now sink_rose entries WriteFault = ((report : List ℕ) × IsRunReport p entries report × TookPart before report now) × sink_rose × HasEntries p entries
+WroteReport p before now sink_rose entries Finished = HasRun p 1000000 outcome.Finished (reverse entries) × ((report : List ℕ) × IsRunReport p entries report × (now ≡ taken_after before report))
+WroteReport p before now sink_rose entries Stuck = HasRun p 1000000 outcome.Stuck (reverse entries) × ((report : List ℕ) × IsRunReport p entries report × (now ≡ taken_after before report))
+WroteReport p before now sink_rose entries Budget = HasRun p 1000000 outcome.Budget (reverse entries) × ((report : List ℕ) × IsRunReport p entries report × (now ≡ taken_after before report))
 WroteReport p before now sink_rose entries answer = ⊥

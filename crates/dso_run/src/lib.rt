@@ -4,14 +4,19 @@
 mod client;
 mod cluster;
 mod form;
-mod history;
+mod graph_lines;
+#[cfg(test)]
+mod graph_tests;
 mod known;
 mod lexer;
 mod main_call;
 mod mem_files;
 mod mem_sink;
+mod numbering;
 mod outside;
 mod pick;
+mod program_names;
+mod replay;
 mod report;
 mod reserved;
 #[cfg(test)]
@@ -19,14 +24,17 @@ mod run_tests;
 mod script;
 mod server;
 mod shape;
+mod state_report;
 mod status;
 mod std_files;
 mod std_sink;
 mod template;
 #[cfg(test)]
 mod tests;
+mod thread_lines;
 mod token;
 mod turn;
+mod value_texts;
 mod weighing;
 mod words;
 mod writing;

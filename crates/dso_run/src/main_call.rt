@@ -87,7 +87,7 @@ fn run_and_report<K: Sink>(alloc: Global, program: &FirstPath, out: &mut K) -> D
     let Ok(run) = run_program(alloc, program, STEPS) else {
         return nothing_ran(alloc, Status::NoMemory);
     };
-    let Ok(text) = report(alloc, program, run.journal.entries.as_slice()) else {
+    let Ok(text) = report(alloc, program, &run.journal) else {
         return nothing_ran(alloc, Status::NoMemory);
     };
     let status = match write_text(out, text.as_slice()) {

@@ -168,7 +168,7 @@ fn budget_ends_a_run_in_mid_block(rt: HostRuntime) -> Result<(), Fail> {
     let run = run_program(alloc, &program, STEPS_TO_THE_SECOND_PRINT)?;
     assert_eq!(rt; run.outcome, Outcome::Budget);
     assert_eq!(rt; Status::Budget.exit_number(), 7);
-    let written = report(alloc, &program, run.journal.entries.as_slice())?;
+    let written = report(alloc, &program, &run.journal)?;
     assert_eq!(rt;
         written.as_slice(),
         REPORT_INSIDE_THE_SECOND_CALL.as_bytes()

@@ -2,6 +2,7 @@
 ghost use Rattle.std.specs.Prelude.{ℕ, ◌≡◌, Some, ◌+ℤ◌, IfSome};
 ghost use Rattle.std.specs.Int.{int_wrap};
 ghost use mir.Syntax.{w64};
+ghost use Rattle.dso_base.specs.declared.lock.LockName.TheVariants as lock;
 ghost use Rattle.dso_base.specs.declared.request.Fault.{Fault};
 ghost use Rattle.dso_base.specs.declared.value.ClassId.{ClassId};
 ghost use Rattle.dso_base.specs.declared.value.Value.{Value};
@@ -72,8 +73,8 @@ pub(crate) enum Move {
     CallEnter(u64, i64),
     Inside(u64, Inside),
     CallExit(u64),
-    /// leaves the monitor with a fault
-    FaultExit(u64, Fault),
+    /// leaves the lock with a fault
+    FaultExit(LockName, Fault),
     End(Option<Fault>),
     Over,
 }
@@ -104,7 +105,7 @@ impl Place {
             Move::CallEnter(object, _) => Some(Request::Enter(LockName::Mon(object), Level::Write)),
             Move::Inside(object, step) => Some(inside_request(object, step)),
             Move::CallExit(object) => Some(Request::Exit(LockName::Mon(object))),
-            Move::FaultExit(object, _) => Some(Request::Exit(LockName::Mon(object))),
+            Move::FaultExit(lock, _) => Some(Request::Exit(lock)),
             Move::End(fault) => Some(Request::End(fault)),
             Move::Over => None,
         }
@@ -188,6 +189,16 @@ fn failed(fault: Fault) -> Place
     }
 }
 
+/// The place where the root's lock is left with a fault.
+fn left(fault: Fault) -> Place
+    ensures { (p : FirstPath) → course_at p result ≡ leaves (lock.Name 0) fault }
+{
+    Place {
+        next: Move::FaultExit(ROOT_LOCK, fault),
+        begun: 0,
+    }
+}
+
 /// The request of a move in front of the calls.
 fn opening_request(step: Opening) -> Request
     ensures is { (p : FirstPath) → Some result ≡ asked (opening_course p step) }
@@ -233,14 +244,17 @@ fn after_opening(program: &FirstPath, step: Opening, reply: Reply) -> Place
         Opening::BindEnter(object) => in_front_if_done(reply, Opening::BindGet(object)),
         Opening::BindGet(object) => match value_of(reply) {
             Ok(value) => bound(object, value),
-            Err(fault) => failed(fault),
+            Err(fault) => left(fault),
         },
-        Opening::BindPut(_) => in_front_if_done(reply, Opening::BindExit),
+        Opening::BindPut(_) => match done_of(reply) {
+            Ok(()) => in_front(Opening::BindExit),
+            Err(fault) => left(fault),
+        },
         Opening::BindExit => in_front_if_done(reply, Opening::ReadEnter),
         Opening::ReadEnter => in_front_if_done(reply, Opening::ReadGet),
         Opening::ReadGet => match value_of(reply) {
             Ok(value) => in_front(Opening::ReadExit(value)),
-            Err(fault) => failed(fault),
+            Err(fault) => left(fault),
         },
         Opening::ReadExit(value) => match done_of(reply) {
             Ok(()) => first_call(program, value),
@@ -308,13 +322,13 @@ fn after_inside(object: u64, step: Inside, reply: Reply) -> Move
 {
     match next_inside(object, step, reply) {
         Ok(next) => next,
-        Err(fault) => Move::FaultExit(object, fault),
+        Err(fault) => Move::FaultExit(LockName::Mon(object), fault),
     }
 }
 
 /// The move after one inside the method, else the fault by which it is left.
 fn next_inside(object: u64, step: Inside, reply: Reply) -> Result<Move, Fault>
-    ensures { (p : FirstPath) (begun : ℕ) → answered (inside_course object (rest_from p begun object) step) reply ≡ by_result (leaves object) (λ next. course_from p next begun) result }
+    ensures { (p : FirstPath) (begun : ℕ) → answered (inside_course object (rest_from p begun object) step) reply ≡ by_result (leaves (lock.Mon object)) (λ next. course_from p next begun) result }
 {
     match step {
         Inside::SumLook(number) => match seen_of(reply) {
