@@ -1,0 +1,12 @@
+use Rattle.std.proofs.Common.{List, map, take, Ok}
+use Rattle.dso_class.specs.Mentions.{Mention, all_of, expression}
+use Rattle.dso_class.specs.Numbers.{MeansExprs}
+use Rattle.dso_class.specs.Program.{Source}
+use Rattle.dso_class.specs.Walk.{HasMet, IsPlace, IsWalked, known_in, met_in, owner_in}
+use Rattle.dso_class.proofs.expression.+expression.Given as goal
+
+-- the expressions so far are walked
+abbrev pub invariant-expressions-loop-tree : goal.invariant-expressions-loop-tree
+invariant-expressions-loop-tree l = (source : Source) (before : List Mention) → IsPlace source l.place → HasMet before (met_in l.initial.texts l.scope)
+    → IsWalked source (owner_in l.place) before (all_of (map (expression (owner_in l.place)) (take l.tree-index l.trees)) (known_in l.scope)) (met_in l.initial.texts l.scope) (met_in l.texts l.scope)
+    (λ n all. MeansExprs n (take l.tree-index l.trees) all) (Ok l.all)

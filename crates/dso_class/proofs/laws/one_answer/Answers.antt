@@ -1,0 +1,8 @@
+use Rattle.dso_class.proofs.OneFault as laws
+use Rattle.dso_class.proofs.laws.one_answer.Goals as goal
+
+pub returns-clause-one_fault : goal.returns-clause-one_fault
+returns-clause-one_fault c = laws.one_fault
+
+pub returns-clause-no_fault : goal.returns-clause-no_fault
+returns-clause-no_fault c = laws.no_fault

@@ -1,0 +1,15 @@
+use Rattle.dso_class.specs.Declarations.{all_methods}
+use Rattle.dso_class.proofs.CleanText.{clean_text}
+use Rattle.dso_class.proofs.Callees.{callees_where, none_where, all_where}
+use Rattle.dso_class.proofs.Distinct.{few_methods, rise}
+use Rattle.dso_class.proofs.tables.callees.Goals as goal
+
+pub returns-clause-there : goal.returns-clause-there
+returns-clause-there c source are =
+    none_where c.taking.result source.ast c.args.name.now c.args.count (callees_where c.taking.result source.ast c.args.name c.args.tables.now c.args.count c.row.result.now are c.row.ensures c.taking.ensures)
+
+pub returns-clause-number : goal.returns-clause-number
+returns-clause-number c source are fine =
+    let clean = clean_text source.config source.ast fine in
+    all_where c.taking.result (all_methods source.ast.items) c.args.name.now c.args.count (few_methods source.config source.ast clean) (rise source.config source.ast clean)
+    (callees_where c.taking.result source.ast c.args.name c.args.tables.now c.args.count c.row.result.now are c.row.ensures c.taking.ensures)

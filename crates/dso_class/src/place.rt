@@ -1,0 +1,15 @@
+//! What the names of statements are resolved by.
+
+use crate::tables::Tables;
+use dso_base::Word;
+use dso_config::Config;
+
+/// The configuration, what the text declares, and whose statements they are.
+#[derive(Clone, Copy)]
+pub(crate) struct Place<'b, 'a> {
+    pub(crate) config: &'b Config,
+    pub(crate) tables: &'b Tables<'a>,
+    pub(crate) class: &'b Word,
+    pub(crate) method: &'b Word,
+    pub(crate) in_thread: bool,
+}

@@ -1,0 +1,24 @@
+use dso_base::{Items, ThreadId, Trigger, Word};
+use dso_config::RootEntry;
+use dso_machine::Code;
+
+/// The words behind a program's numbers: its classes, the fields of each, its roots, its text literals.
+#[derive(Debug, Drop)]
+pub struct Names {
+    pub classes: Items<Word>,
+    pub fields: Items<Items<Word>>,
+    pub roots: Items<RootEntry>,
+    pub texts: Items<Word>,
+}
+
+/// A program that can run: its code, the words behind its numbers, and what the configuration says of the run.
+#[derive(Debug, Drop)]
+pub struct Program {
+    pub code: Code,
+    pub names: Names,
+    pub clients: u8,
+    pub resident: u32,
+    pub threads: Items<ThreadId>,
+    pub losses: Items<Trigger>,
+    pub breaks: Items<Trigger>,
+}

@@ -1,0 +1,312 @@
+//! Statements in numbers.
+
+ghost use Rattle.std.specs.Prelude.{◌≡◌, ℕ, List, map, [], ◌∷◌, ◌++◌, length, take, OnOk, ◌≤◌, Some};
+ghost use Rattle.std.specs.Borrow.{Bor};
+ghost use Rattle.dso_base.specs.declared.lock.Grade.{Grade};
+ghost use Rattle.dso_machine.specs.declared.tree.Expr.{Expr};
+ghost use Rattle.dso_syntax.specs.Grammar as grammar;
+ghost use Rattle.dso_syntax.specs.Program as program;
+ghost use Rattle.dso_syntax.specs.declared.tree.ExprForm.TheVariants as e;
+ghost use Rattle.dso_syntax.specs.declared.tree.StmtForm.TheVariants as s;
+ghost use Rattle.dso_class.specs.declared.place.Place.{Place};
+ghost use Rattle.dso_class.specs.declared.scope.Scope.{Scope};
+ghost use Rattle.dso_class.specs.Assignable.{AreAssignable, IsAssignable, IsTarget};
+ghost use Rattle.dso_class.specs.Mentions as mention;
+ghost use Rattle.dso_class.specs.Numbers.{MeansBlock, MeansExpr, MeansStmt};
+ghost use Rattle.dso_class.specs.Statements.{PutsField, PutsNamed};
+ghost use Rattle.dso_class.specs.Walk.{HeadMeans, Walks, known_in};
+ghost use Rattle.dso_class.specs.Words.{Word};
+
+use crate::declares::{know, synchronized, variable};
+use crate::expression::{bare, expression};
+use crate::fault::NameFault;
+use crate::numbered::Numbered;
+use crate::place::Place;
+use crate::scope::Scope;
+use crate::tables::field_ref;
+use crate::uses::{Head, Role, alone, dotted};
+use dso_base::{Grade, Items, Word};
+use dso_machine::{Expr, Stmt};
+use dso_syntax::{ExprForm, ExprTree, Ident, StmtForm, StmtTree};
+use std::alloc::Global;
+
+/// The expression of a statement in numbers.
+fn value_of<'a>(
+    alloc: Global,
+    place: &Place<'_, 'a>,
+    scope: &Scope<'a>,
+    texts: &mut Numbered<&'a [u8]>,
+    tree: &'a ExprTree,
+) -> Result<Expr, NameFault>
+    ensures { Walks place.now texts.old scope.now texts.new scope.now (λ owner. (mention.expression owner tree.now).mentions) (λ n a. MeansExpr n tree.now a) result }
+{
+    expression(alloc, place, scope, texts, Role::Value, tree)
+}
+
+/// A variable that is declared with its value. It is known from then on.
+fn declared<'a>(
+    alloc: Global,
+    place: &Place<'_, 'a>,
+    scope: &mut Scope<'a>,
+    texts: &mut Numbered<&'a [u8]>,
+    name: &'a Ident,
+    value: &'a ExprTree,
+) -> Result<Stmt, NameFault>
+    ensures walks { Walks place.now texts.old scope.old texts.new scope.new (λ owner known. mention.on name.now.line (mention.variable name.now.name) ∷ (mention.expression owner value.now).mentions known) (λ n a. (line : ℕ) → MeansStmt n (program.statement line (s.Var name.now value.now)) a) result }
+    ensures known { OnOk result (known_in scope.new ≡ name.now.name ∷ known_in scope.old) }
+{
+    let number = variable(place, scope, name)?;
+    let value = value_of(alloc, place, scope, texts, value)?;
+    know(scope, name)?;
+    Ok(Stmt::Assign(number, value))
+}
+
+/// A field of an object that is given a value.
+fn field<'a>(
+    alloc: Global,
+    place: &Place<'_, 'a>,
+    object: Expr,
+    name: &'a Word,
+    value: Expr,
+) -> Result<Stmt, NameFault>
+    ensures { (texts : List (Bor Word)) (scope : Scope) → Walks place.now texts scope texts scope (λ owner known. []) (λ n a. PutsField n object name.now value a) result }
+{
+    let field = field_ref(alloc, place.tables, name.as_slice())?;
+    Ok(Stmt::PutField(object, field, value))
+}
+
+/// What stands behind a bare name and a dot is given a value: a root, or the field of a variable.
+fn named<'a>(
+    alloc: Global,
+    place: &Place<'_, 'a>,
+    head: Head,
+    name: &'a Word,
+    value: Expr,
+) -> Result<Stmt, NameFault>
+    ensures { (texts : List (Bor Word)) (scope : Scope) → Walks place.now texts scope texts scope (λ owner known. []) (λ n a. (owner : Word) → HeadMeans owner name.now n head → PutsNamed n owner name.now value a) result }
+{
+    match head {
+        Head::Root(number) => Ok(Stmt::PutRoot(number, value)),
+        Head::Variable(number) => field(alloc, place, Expr::Var(number), name, value),
+    }
+}
+
+/// An assignment to a variable.
+fn to_variable<'a>(
+    alloc: Global,
+    place: &Place<'_, 'a>,
+    scope: &Scope<'a>,
+    texts: &mut Numbered<&'a [u8]>,
+    line: u32,
+    name: &'a Word,
+    value: &'a ExprTree,
+) -> Result<Stmt, NameFault>
+    ensures { Walks place.now texts.old scope.now texts.new scope.now (λ owner known. mention.on line (mention.alone known name.now) ∷ (mention.expression owner value.now).mentions known)
+        (λ n a. (at : ℕ) → MeansStmt n (program.statement at (s.Assign (grammar.expression line (e.Name name.now)) value.now)) a) result }
+{
+    let number = alone(scope, line, name)?;
+    let value = value_of(alloc, place, scope, texts, value)?;
+    Ok(Stmt::Assign(number, value))
+}
+
+/// An assignment to what stands behind a bare name and a dot.
+fn to_named<'a>(
+    alloc: Global,
+    place: &Place<'_, 'a>,
+    scope: &Scope<'a>,
+    texts: &mut Numbered<&'a [u8]>,
+    line: u32,
+    owner: &'a Word,
+    name: &'a Ident,
+    value: &'a ExprTree,
+) -> Result<Stmt, NameFault>
+    ensures { Walks place.now texts.old scope.now texts.new scope.now (λ own known. mention.on line (mention.dotted known owner.now name.now.name) ∷ (mention.expression own value.now).mentions known)
+        (λ n a. (at from : ℕ) → MeansStmt n (program.statement at (s.Assign (grammar.expression from (e.Field (grammar.expression line (e.Name owner.now)) name.now)) value.now)) a) result }
+{
+    let head = dotted(place, scope, line, owner, &name.name)?;
+    let value = value_of(alloc, place, scope, texts, value)?;
+    named(alloc, place, head, &name.name, value)
+}
+
+/// An assignment to the field of an object.
+fn to_field<'a>(
+    alloc: Global,
+    place: &Place<'_, 'a>,
+    scope: &Scope<'a>,
+    texts: &mut Numbered<&'a [u8]>,
+    object: &'a ExprTree,
+    name: &'a Ident,
+    value: &'a ExprTree,
+) -> Result<Stmt, NameFault>
+    ensures { Walks place.now texts.old scope.now texts.new scope.now (λ owner known. (mention.expression owner object.now).mentions known ++ (mention.expression owner value.now).mentions known)
+        (λ n a. (at from : ℕ) → MeansStmt n (program.statement at (s.Assign (grammar.expression from (e.Field object.now name.now)) value.now)) a) result }
+{
+    let object = value_of(alloc, place, scope, texts, object)?;
+    let value = value_of(alloc, place, scope, texts, value)?;
+    field(alloc, place, object, &name.name, value)
+}
+
+/// An assignment to the element of an array.
+fn to_element<'a>(
+    alloc: Global,
+    place: &Place<'_, 'a>,
+    scope: &Scope<'a>,
+    texts: &mut Numbered<&'a [u8]>,
+    array: &'a ExprTree,
+    index: &'a ExprTree,
+    value: &'a ExprTree,
+) -> Result<Stmt, NameFault>
+    ensures { Walks place.now texts.old scope.now texts.new scope.now (λ owner known. (mention.expression owner array.now).mentions known ++ ((mention.expression owner index.now).mentions known ++ (mention.expression owner value.now).mentions known))
+        (λ n a. (at from : ℕ) → MeansStmt n (program.statement at (s.Assign (grammar.expression from (e.Elem array.now index.now)) value.now)) a) result }
+{
+    let array = value_of(alloc, place, scope, texts, array)?;
+    let index = value_of(alloc, place, scope, texts, index)?;
+    let value = value_of(alloc, place, scope, texts, value)?;
+    Ok(Stmt::PutElem(array, index, value))
+}
+
+/// An assignment, by what it assigns to.
+fn assigned<'a>(
+    alloc: Global,
+    place: &Place<'_, 'a>,
+    scope: &Scope<'a>,
+    texts: &mut Numbered<&'a [u8]>,
+    target: &'a ExprTree,
+    value: &'a ExprTree,
+) -> Result<Stmt, NameFault>
+    requires { IsTarget target.now }
+    ensures { Walks place.now texts.old scope.now texts.new scope.now (λ owner known. (mention.expression owner target.now).mentions known ++ (mention.expression owner value.now).mentions known)
+        (λ n a. (at : ℕ) → MeansStmt n (program.statement at (s.Assign target.now value.now)) a) result }
+{
+    match &target.form {
+        ExprForm::Name(name) => to_variable(alloc, place, scope, texts, target.line, name, value),
+        ExprForm::Field(on, name) => match bare(on.get()) {
+            Some(owner) => to_named(
+                alloc,
+                place,
+                scope,
+                texts,
+                on.get().line,
+                owner,
+                name,
+                value,
+            ),
+            None => to_field(alloc, place, scope, texts, on.get(), name, value),
+        },
+        ExprForm::Elem(on, at) => {
+            to_element(alloc, place, scope, texts, on.get(), at.get(), value)
+        }
+        _ => unreachable!(),
+    }
+}
+
+/// The head of a `synchronized` block: the level at which it locks, and the object.
+fn lock<'a>(
+    alloc: Global,
+    place: &Place<'_, 'a>,
+    scope: &Scope<'a>,
+    texts: &mut Numbered<&'a [u8]>,
+    line: u32,
+    on: &'a ExprTree,
+) -> Result<(Grade, Expr), NameFault>
+    ensures { Walks place.now texts.old scope.now texts.new scope.now (λ owner known. mention.on line (mention.synchronized owner.class owner.method) ∷ (mention.expression owner on.now).mentions known)
+        (λ n pair. (n.grade ≡ Some pair.0) × MeansExpr n on.now pair.1) result }
+{
+    let grade = synchronized(place, line)?;
+    let object = value_of(alloc, place, scope, texts, on)?;
+    Ok((grade, object))
+}
+
+/// A `return` with its value, or without one.
+fn returned<'a>(
+    alloc: Global,
+    place: &Place<'_, 'a>,
+    scope: &Scope<'a>,
+    texts: &mut Numbered<&'a [u8]>,
+    value: &'a Option<ExprTree>,
+) -> Result<Stmt, NameFault>
+    ensures { Walks place.now texts.old scope.now texts.new scope.now (λ owner. mention.answer owner value.now) (λ n a. (line : ℕ) → MeansStmt n (program.statement line (s.Return value.now)) a) result }
+{
+    match value {
+        None => Ok(Stmt::Return(None)),
+        Some(value) => {
+            let value = value_of(alloc, place, scope, texts, value)?;
+            Ok(Stmt::Return(Some(value)))
+        }
+    }
+}
+
+/// Lets only the first names be known that are known, so many of them.
+fn forget(scope: &mut Scope<'_>, height: usize)
+    requires { height ≤ length scope.old.known }
+    ensures known { scope.new.known ≡ take height scope.old.known }
+    ensures variables { scope.new.variables ≡ scope.old.variables }
+{
+    for _ in height..scope.known.len() {
+        scope.known.pop();
+    }
+}
+
+/// A statement in numbers.
+#[cycle(statement)]
+pub(crate) fn statement<'a>(
+    alloc: Global,
+    place: &Place<'_, 'a>,
+    scope: &mut Scope<'a>,
+    texts: &mut Numbered<&'a [u8]>,
+    tree: &'a StmtTree,
+) -> Result<Stmt, NameFault>
+    requires { IsAssignable tree.now }
+    ensures walks { Walks place.now texts.old scope.old texts.new scope.new (λ owner. (mention.statement owner tree.now).mentions) (λ n a. MeansStmt n tree.now a) result }
+    ensures known { (owner : mention.Owner) → OnOk result (known_in scope.new ≡ (mention.statement owner tree.now).names ++ known_in scope.old) }
+{
+    match &tree.form {
+        StmtForm::Var(name, value) => declared(alloc, place, scope, texts, name, value),
+        StmtForm::Assign(target, value) => assigned(alloc, place, scope, texts, target, value),
+        StmtForm::Eval(value) => Ok(Stmt::Eval(value_of(alloc, place, scope, texts, value)?)),
+        StmtForm::If(test, these, those) => {
+            let test = value_of(alloc, place, scope, texts, test)?;
+            let these = block(alloc, place, scope, texts, these.as_slice())?;
+            let those = block(alloc, place, scope, texts, those.as_slice())?;
+            Ok(Stmt::If(test, these, those))
+        }
+        StmtForm::While(test, these) => {
+            let test = value_of(alloc, place, scope, texts, test)?;
+            let these = block(alloc, place, scope, texts, these.as_slice())?;
+            Ok(Stmt::While(test, these))
+        }
+        StmtForm::Sync(on, these) => {
+            let (grade, object) = lock(alloc, place, scope, texts, tree.line, on)?;
+            let these = block(alloc, place, scope, texts, these.as_slice())?;
+            Ok(Stmt::Sync(object, grade, these))
+        }
+        StmtForm::Wait(on) => Ok(Stmt::Wait(value_of(alloc, place, scope, texts, on)?)),
+        StmtForm::Notify(on) => Ok(Stmt::Notify(value_of(alloc, place, scope, texts, on)?)),
+        StmtForm::NotifyAll(on) => Ok(Stmt::NotifyAll(value_of(alloc, place, scope, texts, on)?)),
+        StmtForm::Print(value) => Ok(Stmt::Print(value_of(alloc, place, scope, texts, value)?)),
+        StmtForm::Return(value) => returned(alloc, place, scope, texts, value),
+    }
+}
+
+/// The statements of a block in numbers. What they make known is known up to its end.
+#[cycle(statement)]
+pub(crate) fn block<'a>(
+    alloc: Global,
+    place: &Place<'_, 'a>,
+    scope: &mut Scope<'a>,
+    texts: &mut Numbered<&'a [u8]>,
+    trees: &'a [StmtTree],
+) -> Result<Items<Stmt>, NameFault>
+    requires { AreAssignable trees.now }
+    ensures walks { Walks place.now texts.old scope.old texts.new scope.new (λ owner. mention.block (map (mention.statement owner) trees.now)) (λ n all. MeansBlock n trees.now all) result }
+    ensures known { OnOk result (known_in scope.new ≡ known_in scope.old) }
+{
+    let height = scope.known.len();
+    let mut all = Items::new(alloc);
+    for tree in trees {
+        let one = statement(alloc, place, scope, texts, tree)?;
+        all.push(one)?;
+    }
+    forget(scope, height);
+    Ok(all)
+}

@@ -1,0 +1,11 @@
+//! The configuration of a cluster: how many clients there are, which fields are roots, how methods lock, what guards a
+//! field, and which clients are lost or cut off.
+#![tactic(auto)]
+
+mod config;
+mod pattern;
+#[cfg(test)]
+mod tests;
+
+pub use config::{AutoEntry, Config, GuardEntry, NamedEntry, RootEntry};
+pub use pattern::Pattern;
