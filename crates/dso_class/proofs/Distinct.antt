@@ -120,7 +120,7 @@ methods_few number (class ∷ rest) clean =
     omega (arith, length-append (methods_of number class.name class.members) (methods_from (suc number) rest))
 
 -- the static fields of a class have its name
-class_of_statics : (class : Word) (members : List Member) → All (λ static. static.class ≡ class) (statics_of class members)
+pub class_of_statics : (class : Word) (members : List Member) → All (λ static. static.class ≡ class) (statics_of class members)
 class_of_statics class [] = All-nil (λ static. static.class ≡ class)
 class_of_statics class (member.Field line kind name ∷ rest) = class_of_statics class rest
 class_of_statics class (member.Static line name ∷ rest) =

@@ -69,3 +69,12 @@ pub mod Narrowing
 pub mod Declaring
 pub mod LastOne
 pub mod Bodies
+pub mod OneProgramLists
+pub mod OneProgramForms
+pub mod OneProgramShapes
+pub mod OneProgramTrees
+pub mod OneProgramStatements
+pub mod OneProgramVariables
+pub mod OneProgramBodies
+pub mod OneProgramCode
+pub mod OneProgram

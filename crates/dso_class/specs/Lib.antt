@@ -25,3 +25,4 @@ pub mod Gathered
 pub mod Heads
 pub mod NamesOf
 pub mod Whole
+pub mod OneProgram

@@ -1,4 +1,5 @@
 use Rattle.dso_class.proofs.OneFault as laws
+use Rattle.dso_class.proofs.OneProgram as program
 use Rattle.dso_class.proofs.laws.one_answer.Goals as goal
 
 pub returns-clause-one_fault : goal.returns-clause-one_fault
@@ -6,3 +7,6 @@ returns-clause-one_fault c = laws.one_fault
 
 pub returns-clause-no_fault : goal.returns-clause-no_fault
 returns-clause-no_fault c = laws.no_fault
+
+pub returns-clause-one_program : goal.returns-clause-one_program
+returns-clause-one_program c = program.one_program
