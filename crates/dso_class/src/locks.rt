@@ -57,7 +57,7 @@ fn lock_number<'a>(locks: &Numbered<&'a [u8]>, roots: u32, name: &'a Word) -> u3
 {
     match number_of(locks, name.as_slice()) {
         Some(number) => roots + number as u32,
-        None => roots,
+        None => unreachable!(),
     }
 }
 

@@ -19,7 +19,8 @@ use Rattle.dso_base.specs.declared.request.Reply.TheVariants.{Done}
 use Rattle.dso_base.specs.declared.request.Request.{Request}
 use Rattle.dso_base.specs.declared.request.Request.TheVariants.{Put, Enter}
 use Rattle.dso_base.specs.Block.{txn_of}
-use Rattle.dso_plain.specs.Keys.{is_lock, is_thread}
+use Rattle.dso_base.specs.Program.{is_thread}
+use Rattle.dso_plain.specs.Keys.{is_lock}
 use Rattle.dso_law.specs.Settings.{Settings, has, threads_of}
 use Rattle.dso_law.specs.Entries.{unsent}
 use Rattle.dso_law.specs.Threads.{locks_of, ending_of, open_block, privates_before}

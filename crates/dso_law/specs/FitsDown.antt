@@ -14,7 +14,7 @@ use Rattle.dso_base.specs.declared.value.ClassId.TheVariants as class
 use Rattle.dso_base.specs.declared.value.Value.{Value}
 use Rattle.dso_base.specs.Shape.{kind_of}
 use Rattle.dso_base.specs.Value.{Fits}
-use Rattle.dso_plain.specs.Keys.{is_thread}
+use Rattle.dso_base.specs.Program.{is_thread}
 use Rattle.dso_plain.specs.Possible.{CanBeMade}
 use Rattle.dso_law.specs.Settings.{Settings, Each, has}
 use Rattle.dso_law.specs.Threads.{Waiting, locks_of}

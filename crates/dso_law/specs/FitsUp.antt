@@ -21,7 +21,7 @@ use Rattle.dso_base.specs.declared.value.Value.TheVariants as value
 use Rattle.dso_base.specs.Block.{is_field_before}
 use Rattle.dso_base.specs.Shape.{guard_of, kind_of}
 use Rattle.dso_base.specs.Value.{Fits}
-use Rattle.dso_plain.specs.Keys.{is_thread}
+use Rattle.dso_base.specs.Program.{is_thread}
 use Rattle.dso_law.specs.Settings.{Settings, Each, has, threads_of}
 use Rattle.dso_law.specs.Copies.{is_among}
 use Rattle.dso_law.specs.FitsDown.{FitsShape}

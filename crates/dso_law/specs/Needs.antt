@@ -13,8 +13,8 @@ use Rattle.dso_base.specs.declared.value.ClassId.{ClassId}
 use Rattle.dso_base.specs.declared.value.ClassId.TheVariants as class
 use Rattle.dso_base.specs.declared.value.Kind.{Kind}
 use Rattle.dso_base.specs.declared.value.Kind.TheVariants as kind
+use Rattle.dso_base.specs.Program.{is_thread}
 use Rattle.dso_plain.specs.State.{Hold}
-use Rattle.dso_plain.specs.Keys.{is_thread}
 use Rattle.dso_law.specs.Settings.{Settings, has, threads_of}
 use Rattle.dso_law.specs.Threads.{own, is_local, hold_of, last_seen}
 use Rattle.dso_law.specs.Copies.{is_resident, class_held, is_object_asked}

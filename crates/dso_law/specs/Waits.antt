@@ -13,7 +13,8 @@ use Rattle.dso_base.specs.declared.request.Reply.{Reply}
 use Rattle.dso_base.specs.declared.request.Reply.TheVariants.{Done}
 use Rattle.dso_base.specs.declared.request.Request.{Request}
 use Rattle.dso_base.specs.declared.request.Request.TheVariants.{Wait, Notify, NotifyAll}
-use Rattle.dso_plain.specs.Keys.{is_lock, is_thread}
+use Rattle.dso_base.specs.Program.{is_thread}
+use Rattle.dso_plain.specs.Keys.{is_lock}
 use Rattle.dso_law.specs.Settings.{has}
 use Rattle.dso_law.specs.Entries.{by_taken, by_said, by_event}
 

@@ -1,6 +1,6 @@
 ghost use Rattle.std.specs.Prelude.{◌≡◌, IfOk, OnOk, reverse};
 ghost use Rattle.dso_base.specs.declared.journal.Node.TheVariants.{Client};
-ghost use Rattle.dso_plain.specs.Keys.{is_thread};
+ghost use Rattle.dso_base.specs.Program.{is_thread};
 ghost use Rattle.dso_plain.specs.History.{is_act_of};
 ghost use Rattle.dso_law.specs.Entries.{entries_of, by_event, event_of, events_in};
 ghost use Rattle.dso_law.specs.Threads.{seen_by, seen_after, last_seen, ended_after, has_end_event};

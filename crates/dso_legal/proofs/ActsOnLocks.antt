@@ -10,7 +10,7 @@ use Rattle.dso_base.specs.declared.lock.ThreadId.{ThreadId}
 use Rattle.dso_base.specs.declared.request.Reply.{Reply}
 use Rattle.dso_base.specs.declared.request.Reply.TheVariants.{Done, Local}
 use Rattle.dso_base.specs.declared.request.Request.TheVariants.{Exit, Resume, End}
-use Rattle.dso_plain.specs.Keys.{is_thread}
+use Rattle.dso_base.specs.Program.{is_thread}
 use Rattle.dso_plain.specs.State.{Hold, PlainState, IsPrivate, IsShared, level_of}
 use Rattle.dso_plain.specs.Possible.{IsPrivateMonitor, IsClusterLock, Beside, NoConflict, AnswersEnter, AnswersExit, AnswersResume, AnswersEnd}
 use Rattle.dso_plain.proofs.Keys.{same_number, number_self, same_thread}

@@ -9,8 +9,8 @@ use Rattle.dso_base.specs.declared.message.Up.TheVariants as up
 use Rattle.dso_base.specs.declared.request.Event.{Event}
 use Rattle.dso_base.specs.declared.request.Event.TheVariants.{Act}
 use Rattle.dso_base.specs.declared.request.Request.{Request}
+use Rattle.dso_base.specs.Program.{is_thread}
 use Rattle.dso_plain.specs.History.{Runs, end_of, last_state}
-use Rattle.dso_plain.specs.Keys.{is_thread}
 use Rattle.dso_plain.proofs.Keys.{same_number}
 use Rattle.dso_law.specs.Channels.{way_up, way_down}
 use Rattle.dso_law.specs.Entries.{entries_of, by_event, event_of, events_in}

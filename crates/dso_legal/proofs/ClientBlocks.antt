@@ -11,7 +11,7 @@ use Rattle.dso_base.specs.declared.request.Reply.{Reply}
 use Rattle.dso_base.specs.declared.request.Request.{Request}
 use Rattle.dso_base.specs.declared.shape.Shape.{Shape}
 use Rattle.dso_base.specs.Block.{start, worked}
-use Rattle.dso_plain.specs.Keys.{is_thread}
+use Rattle.dso_base.specs.Program.{is_thread}
 use Rattle.dso_plain.specs.History.{is_act_of, events_of}
 use Rattle.dso_plain.specs.Touches.{AreActsOf}
 use Rattle.dso_plain.proofs.Keys.{same_thread, thread_self}

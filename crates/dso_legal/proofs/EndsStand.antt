@@ -17,9 +17,9 @@ use Rattle.dso_base.specs.declared.request.Reply.{Reply}
 use Rattle.dso_base.specs.declared.request.Request.{Request}
 use Rattle.dso_base.specs.declared.request.Request.TheVariants.{Exit, Wait, End}
 use Rattle.dso_base.specs.declared.shape.Shape.{Shape}
+use Rattle.dso_base.specs.Program.{is_thread}
 use Rattle.dso_plain.specs.History.{Runs, end_of, last_state}
 use Rattle.dso_plain.specs.Kept.{PastIsKept}
-use Rattle.dso_plain.specs.Keys.{is_thread}
 use Rattle.dso_plain.specs.State.{PlainState, IsShared, guard_in}
 use Rattle.dso_plain.specs.Touches.{AreActsOf, TouchesIn}
 use Rattle.dso_plain.proofs.Keys.{same_thread}

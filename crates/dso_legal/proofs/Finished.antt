@@ -14,9 +14,9 @@ use Rattle.dso_base.specs.declared.request.Reply.TheVariants.{Done}
 use Rattle.dso_base.specs.declared.request.Request.{Request}
 use Rattle.dso_base.specs.declared.request.Request.TheVariants.{End}
 use Rattle.dso_base.specs.declared.shape.Shape.{Shape}
-use Rattle.dso_plain.specs.Keys.{is_thread}
+use Rattle.dso_base.specs.Program.{is_thread, FollowsFrom, FollowsProgram, IsListed, Listed}
 use Rattle.dso_plain.specs.State.{opening}
-use Rattle.dso_plain.specs.History.{Runs, is_act_of, events_of, FollowsFrom, FollowsProgram}
+use Rattle.dso_plain.specs.History.{Runs, is_act_of, events_of}
 use Rattle.dso_plain.proofs.Keys.{both, same_number, same_thread}
 use Rattle.dso_law.specs.Settings.{Settings, has, clients_of}
 use Rattle.dso_law.specs.Entries.{entries_of, by_event, event_of, events_in}
@@ -31,14 +31,14 @@ use Rattle.dso_legal.specs.Central.{CommitsLegally}
 use Rattle.dso_legal.specs.Committed.{ended_blocks, committed}
 use Rattle.dso_legal.specs.Lawful.{next_after, ClientFollows, NodeFollows, AllFollow, IsLawful}
 use Rattle.dso_legal.specs.Pending.{joined, taken_in, pending, records_in, handed_in, AreRecordsOf}
-use Rattle.dso_legal.specs.Program.{event_tells, IsListed, Listed, IsSound}
+use Rattle.dso_legal.specs.Program.{event_tells, IsSound}
 use Rattle.dso_legal.specs.Slots.{is_any, is_end, ends, has_ended, is_quiet, is_over, is_due, is_finished}
 use Rattle.dso_legal.proofs.BlockSteps.{none_is_lost}
 use Rattle.dso_legal.proofs.Ends.{client_with}
 use Rattle.dso_legal.proofs.HandedIn.{are_records_split}
 use Rattle.dso_legal.proofs.Histories.{thread_in_parts}
 use Rattle.dso_legal.proofs.LeaseTurns.{no_both}
-use Rattle.dso_legal.proofs.OwnActs.{IsNextAct, next_act, reply_listed, threads_follow, own_acts}
+use Rattle.dso_legal.proofs.OwnActs.{IsNextAct, next_act, reply_listed, threads_follow, threads_wait, own_acts}
 
 -- a first part of what follows the program follows it
 pub first_follows : (next : ThreadId → List Event → Option Request) (t : ThreadId) (before first second : List Event) → FollowsFrom next (Listed next) t before (first ++ second) → FollowsFrom next (Listed next) t before first
@@ -134,7 +134,7 @@ module _ (p : Settings) (next : ThreadId → List Event → Option Request) (sou
         → cond b (block_after (Act it.thread it.request it.reply (woken_by it.request it.reply own)) (locks_of t own) (open_block t own)) (open_block t own) ≡ []
     act_closed it true is ended =
         let asked : next t (events_in t own) ≡ Some it.request = subst (λ u. next_after next es u ≡ Some it.request) (same_thread t it.thread is) it.asked in
-        let goes : has ends (events_in t own) ≡ false = same_ends (events_in t own) ∙ (sound t (events_in t own) it.request (own_acts t own) untold (threads_follow p next t es follow) asked).goes in
+        let goes : has ends (events_in t own) ≡ false = same_ends (events_in t own) ∙ (sound t (events_in t own) it.request (own_acts t own) untold (threads_wait p next t es follow) (threads_follow p next t es follow) asked).goes in
         let act : Event = Act it.thread it.request it.reply (woken_by it.request it.reply own) in
         ap (λ b. cond b [] (open_block t own ++ act ∷ []))
         (end_is_ending it.request it.reply (locks_of t own) (last_found ends (events_in t own) act ended goes) (reply_listed p it.thread own it.request it.reply it.answered))

@@ -11,7 +11,8 @@ use Rattle.dso_base.specs.declared.request.Request.{Request}
 use Rattle.dso_base.specs.declared.request.Request.TheVariants.{New, Get, Put, Enter, Exit, Wait, Resume, Notify, NotifyAll, Print, End}
 use Rattle.dso_base.specs.declared.shape.Shape.{Shape}
 use Rattle.dso_base.specs.declared.value.Value.{Value}
-use Rattle.dso_plain.specs.Keys.{is_thread, or_old}
+use Rattle.dso_base.specs.Program.{is_thread}
+use Rattle.dso_plain.specs.Keys.{or_old}
 use Rattle.dso_plain.specs.State.{Hold, PlainState, opening, is_shared, hold_on_guard}
 use Rattle.dso_plain.specs.After.{apply, after, change_of, read, read_shared, put, notifies}
 use Rattle.dso_plain.specs.History.{Runs, end_of, last_state, events_of, is_act_of}

@@ -13,7 +13,8 @@ use Rattle.dso_base.specs.declared.request.Reply.{Reply}
 use Rattle.dso_base.specs.declared.request.Reply.TheVariants.{Done, Local}
 use Rattle.dso_base.specs.declared.request.Request.{Request}
 use Rattle.dso_base.specs.declared.request.Request.TheVariants.{Enter, Exit, Wait, Resume}
-use Rattle.dso_plain.specs.Keys.{is_lock, is_thread}
+use Rattle.dso_base.specs.Program.{is_thread}
+use Rattle.dso_plain.specs.Keys.{is_lock}
 use Rattle.dso_plain.specs.State.{Hold}
 use Rattle.dso_plain.specs.After.{entered, exited}
 use Rattle.dso_plain.proofs.Keys.{both, same_lock, same_thread, number_self}

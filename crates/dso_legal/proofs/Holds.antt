@@ -10,7 +10,7 @@ use Rattle.dso_base.specs.declared.lock.ThreadId.{ThreadId}
 use Rattle.dso_base.specs.declared.request.Event.{Event}
 use Rattle.dso_base.specs.declared.request.Event.TheVariants.{Act, Lost}
 use Rattle.dso_base.specs.declared.request.Request.{Request}
-use Rattle.dso_plain.specs.Keys.{is_thread}
+use Rattle.dso_base.specs.Program.{is_thread}
 use Rattle.dso_plain.specs.State.{Hold}
 use Rattle.dso_plain.proofs.Keys.{same_number, same_thread, thread_self}
 use Rattle.dso_law.specs.Settings.{Settings, has, threads_of}

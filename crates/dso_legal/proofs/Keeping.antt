@@ -11,8 +11,9 @@ use Rattle.dso_base.specs.declared.request.Event.{Event}
 use Rattle.dso_base.specs.declared.request.Event.TheVariants.{Act}
 use Rattle.dso_base.specs.declared.request.Reply.{Reply}
 use Rattle.dso_base.specs.declared.request.Request.{Request}
+use Rattle.dso_base.specs.Program.{is_thread}
 use Rattle.dso_plain.specs.History.{is_act_of}
-use Rattle.dso_plain.specs.Keys.{is_lock, is_thread, writes, or_old, written}
+use Rattle.dso_plain.specs.Keys.{is_lock, writes, or_old, written}
 use Rattle.dso_plain.specs.Maps.{look}
 use Rattle.dso_plain.specs.Tables.{lock_order, thread_order}
 use Rattle.dso_plain.proofs.Orders.{lock_at, thread_at}

@@ -19,7 +19,8 @@ use Rattle.dso_base.specs.declared.request.Event.{Event}
 use Rattle.dso_base.specs.declared.request.Event.TheVariants.{Act}
 use Rattle.dso_base.specs.declared.request.Request.{Request}
 use Rattle.dso_base.specs.declared.request.Request.TheVariants.{Enter}
-use Rattle.dso_plain.specs.Keys.{is_lock, is_thread}
+use Rattle.dso_base.specs.Program.{is_thread}
+use Rattle.dso_plain.specs.Keys.{is_lock}
 use Rattle.dso_plain.specs.State.{Hold}
 use Rattle.dso_plain.proofs.Keys.{same_lock, same_thread}
 use Rattle.dso_law.specs.declared.readings.Standing.{Standing}

@@ -15,7 +15,8 @@ use Rattle.dso_base.specs.declared.value.Value.{Value}
 use Rattle.dso_base.specs.declared.value.Value.TheVariants as value
 use Rattle.dso_base.specs.Reach.{start, onward, Reached}
 use Rattle.dso_base.specs.Shape.{kind_of}
-use Rattle.dso_plain.specs.Keys.{is_thread, is_field, or_old}
+use Rattle.dso_base.specs.Program.{is_thread}
+use Rattle.dso_plain.specs.Keys.{is_field, or_old}
 use Rattle.dso_plain.specs.State.{Object, Hold, PlainState, IsPrivate, IsShared, is_private_to, is_mine, is_shared, size_of, hold_on_guard}
 use Rattle.dso_plain.specs.Possible.{StandsFrom, Answers, AnswersGet, AnswersPut}
 use Rattle.dso_plain.specs.After.{apply, change_of, made_new, new_object, opening_field, opening_value, read, read_shared, put, published, shared, present, holds_reference, names_below, names, notifies}

@@ -12,7 +12,7 @@ use Rattle.dso_base.specs.declared.request.Reply.TheVariants.{Done, Made, Val}
 use Rattle.dso_base.specs.declared.request.Request.{Request}
 use Rattle.dso_base.specs.declared.request.Request.TheVariants.{New, Get, Put, Enter, Exit, Wait, Resume, Notify, NotifyAll, Print, End}
 use Rattle.dso_base.specs.declared.shape.Shape.{Shape}
-use Rattle.dso_plain.specs.Keys.{is_thread, is_lock, is_place, writes, or_old, written}
+use Rattle.dso_plain.specs.Keys.{is_lock, is_place, writes, or_old, written}
 use Rattle.dso_plain.specs.State.{Hold, PlainState, is_shared, hold_on_guard}
 use Rattle.dso_plain.specs.Possible.{May, IsPossible}
 use Rattle.dso_plain.specs.After as plain
@@ -24,6 +24,7 @@ use Rattle.dso_plain.proofs.Diamond.{quiet_act}
 use Rattle.dso_law.specs.Threads.{Locks, Waiting, hold_in, with_hold, waiting_on, resumed, locks_by, locks_after}
 use Rattle.dso_law.proofs.Steps.{holds_after}
 use Rattle.dso_base.specs.declared.value.Value.{Value}
+use Rattle.dso_base.specs.Program.{is_thread}
 use Rattle.dso_legal.proofs.LeaseTurns.{unless_true, if_true, no_both}
 use Rattle.dso_legal.specs.Pending.{locks_through}
 use Rattle.dso_legal.specs.Works.{wait_count, HaveLocks}

@@ -9,7 +9,7 @@ use Rattle.dso_base.specs.declared.lock.ThreadId.{ThreadId}
 use Rattle.dso_base.specs.declared.message.Down.{Down}
 use Rattle.dso_base.specs.declared.request.Event.{Event}
 use Rattle.dso_base.specs.declared.request.Request.{Request}
-use Rattle.dso_plain.specs.Keys.{is_thread}
+use Rattle.dso_base.specs.Program.{is_thread}
 use Rattle.dso_plain.specs.Touches.{MakesIn, NoCommonId}
 use Rattle.dso_plain.proofs.Keys.{same_number}
 use Rattle.dso_law.specs.Settings.{Settings, Each, has}

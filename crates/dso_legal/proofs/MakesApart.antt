@@ -10,7 +10,7 @@ use Rattle.dso_base.specs.declared.message.Up.{Up}
 use Rattle.dso_base.specs.declared.message.Up.TheVariants as up
 use Rattle.dso_base.specs.declared.request.Event.{Event}
 use Rattle.dso_base.specs.declared.shape.Shape.{Shape}
-use Rattle.dso_plain.specs.Keys.{is_thread}
+use Rattle.dso_base.specs.Program.{is_thread}
 use Rattle.dso_plain.specs.State.{PlainState}
 use Rattle.dso_plain.specs.History.{end_of, is_act_of, events_of, last_state}
 use Rattle.dso_plain.specs.Touches.{MakesIn, NoCommonId}

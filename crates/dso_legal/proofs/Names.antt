@@ -9,7 +9,7 @@ use Rattle.dso_base.specs.declared.request.Reply.{Reply}
 use Rattle.dso_base.specs.declared.request.Request.{Request}
 use Rattle.dso_base.specs.declared.shape.Shape.{Shape}
 use Rattle.dso_base.specs.declared.value.Value.TheVariants as value
-use Rattle.dso_plain.specs.Keys.{is_thread}
+use Rattle.dso_base.specs.Program.{is_thread}
 use Rattle.dso_plain.specs.State.{PlainState, opening, roots_object, is_private_to, is_shared}
 use Rattle.dso_plain.specs.Possible.{May, IsPossible, StandsFrom}
 use Rattle.dso_plain.specs.After.{after}

@@ -16,9 +16,10 @@ use Rattle.dso_base.specs.declared.value.Kind.TheVariants as kind
 use Rattle.dso_base.specs.declared.value.Value.{Value}
 use Rattle.dso_base.specs.declared.value.Value.TheVariants as value
 use Rattle.dso_base.specs.Shape.{kind_of}
+use Rattle.dso_base.specs.Program.{is_thread}
 use Rattle.dso_plain.specs.After.{after, apply, opening_value, opening_field, present, published, put, read, read_shared, notifies}
 use Rattle.dso_plain.specs.History.{end_of, events_of}
-use Rattle.dso_plain.specs.Keys.{is_thread, is_field, or_old}
+use Rattle.dso_plain.specs.Keys.{is_field, or_old}
 use Rattle.dso_plain.specs.Possible.{Answers, StandsFrom}
 use Rattle.dso_plain.specs.State.{PlainState, Hold, is_root, is_shared, hold_on_guard, opening}
 use Rattle.dso_plain.proofs.Keys.{thread_self, same_number}

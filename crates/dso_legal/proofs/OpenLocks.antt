@@ -12,7 +12,8 @@ use Rattle.dso_base.specs.declared.request.Request.{Request}
 use Rattle.dso_base.specs.declared.request.Request.TheVariants.{New, Get, Put, Enter, Exit, Wait, Resume, Notify, NotifyAll, Print, End}
 use Rattle.dso_base.specs.declared.shape.Shape.{Shape}
 use Rattle.dso_base.specs.declared.value.Value.{Value}
-use Rattle.dso_plain.specs.Keys.{is_lock, is_thread, or_old}
+use Rattle.dso_base.specs.Program.{is_thread}
+use Rattle.dso_plain.specs.Keys.{is_lock, or_old}
 use Rattle.dso_plain.specs.State.{Hold, PlainState, level_of, is_shared, hold_on_guard}
 use Rattle.dso_plain.specs.Possible.{Answers, IsUpgrade}
 use Rattle.dso_plain.specs.After as plain

@@ -13,7 +13,7 @@ use Rattle.dso_base.specs.declared.record.Ending.{Ending}
 use Rattle.dso_base.specs.declared.record.Txn.{Txn}
 use Rattle.dso_base.specs.declared.request.Event.{Event}
 use Rattle.dso_base.specs.declared.request.Request.{Request}
-use Rattle.dso_plain.specs.Keys.{is_thread}
+use Rattle.dso_base.specs.Program.{is_thread}
 use Rattle.dso_plain.specs.State.{PlainState}
 use Rattle.dso_plain.specs.History.{Runs, end_of, is_act_of}
 use Rattle.dso_plain.specs.Touches.{MakesIn, IsActOf, AreActsOf, NoCommonId}

@@ -1,4 +1,5 @@
--- Each event at a client is the next act of one of its threads by the program: so its threads follow the program.
+-- Each event at a client is the next act of one of its threads by the program: so its threads follow the program,
+-- and wait only with the lock held.
 use Rattle.std.proofs.Common.{ℕ, ◌≡◌, ◌⊎◌, inl, inr, refl, sym, subst, Bool, true, false, cond, eqb, ltb, Option, Some, None, List, [], ◌∷◌, ◌++◌}
 use Rattle.std.specs.Prelude.{option_map}
 use Rattle.dso_base.specs.declared.journal.Entry.{Entry}
@@ -19,21 +20,22 @@ use Rattle.dso_base.specs.declared.request.Request.TheVariants.{New, Look, Get, 
 use Rattle.dso_base.specs.declared.value.ClassId.{ClassId}
 use Rattle.dso_base.specs.declared.value.Value.{Value}
 use Rattle.dso_base.specs.Shape.{guard_of}
-use Rattle.dso_plain.specs.Keys.{is_thread}
+use Rattle.dso_base.specs.Program.{is_thread, FollowsProgram, IsListed, IsListedFor, Listed}
 use Rattle.dso_plain.specs.Touches.{AreActsOf}
-use Rattle.dso_plain.specs.History.{FollowsProgram}
 use Rattle.dso_plain.proofs.Keys.{same_number, same_thread}
 use Rattle.dso_plain.proofs.Legal.{follows_in_parts}
 use Rattle.dso_law.specs.Settings.{Settings, has}
 use Rattle.dso_law.specs.Entries.{entries_of, by_event, event_of, events_in}
-use Rattle.dso_law.specs.Threads.{Held, own, locks_of, hold_of, is_private, is_local}
+use Rattle.dso_law.specs.Threads.{Held, Locks, own, locks_after, locks_of, hold_of, is_private, is_local}
 use Rattle.dso_law.specs.Records.{next_id}
 use Rattle.dso_law.specs.Needs.{Need, hold_level, unmet}
 use Rattle.dso_law.specs.Replies.{put_reply, enter_reply, monitor_reply, woken_by, class_known, value_seen, value_in, put_answer, answer_put, reply_of}
 use Rattle.dso_law.specs.ClientStep.{DoesOrAsks, ActsOn, ClientStepOn, ClientStep}
 use Rattle.dso_legal.specs.Lawful.{next_after, ClientFollows, NodeFollows, AllFollow}
-use Rattle.dso_legal.specs.Program.{IsListed, IsListedFor, Listed}
+use Rattle.dso_legal.specs.Pending.{no_locks, locks_through}
+use Rattle.dso_legal.specs.Program.{WaitIsHeld, WaitsAreHeld}
 use Rattle.dso_legal.proofs.Ends.{client_with}
+use Rattle.dso_legal.proofs.SameLocks.{same_locks}
 
 -- the entry's event is the next act of a thread of the client: all its needs are met, and it is answered
 pub record IsNextAct (p : Settings) (c : ℕ) (before : ThreadId → Option Request) (e : Entry) (own : List Entry) : Type 0 where
@@ -163,38 +165,82 @@ module _ (p : Settings) (t : ThreadId) (es : List Entry) where
   reply_listed (End fault) reply answered = same_reply (IsListed (End fault)) Done reply answered tt
   reply_listed Pause reply answered = same_reply (IsListed Pause) Done reply answered tt
 
+-- what holds of a thread's events and goes on with each of its acts
+module _ (p : Settings) (next : ThreadId → List Event → Option Request) (t : ThreadId) (Holds : List Event → Type 0)
+    (goes_on : (e : Entry) (es : List Entry) (it : IsNextAct p t.client (next_after next es) e (entries_of (Client t.client) es)) → it.thread ≡ t → Holds (events_in t (entries_of (Client t.client) es))
+    → Holds (events_in t (entries_of (Client t.client) es) ++ Act it.thread it.request it.reply (woken_by it.request it.reply (entries_of (Client t.client) es)) ∷ [])) where
+  module _ (e : Entry) (es : List Entry) (so_far : Holds (events_in t (entries_of (Client t.client) es))) where
+    abbrev own_entries : List Entry
+    own_entries = entries_of (Client t.client) es
+
+    -- goes on with an act at its client,
+    by_act : (it : IsNextAct p t.client (next_after next es) e own_entries) (b : Bool) → is_thread t it.thread ≡ b → Holds (cond b (events_in t own_entries ++ Act it.thread it.request it.reply (woken_by it.request it.reply own_entries) ∷ []) (events_in t own_entries))
+    by_act it true is = goes_on e es it (same_thread t it.thread is) so_far
+    by_act it false is = so_far
+
+    -- with what may be an act,
+    by_next : (e.event ≡ None) ⊎ IsNextAct p t.client (next_after next es) e own_entries → Holds (events_in t (e ∷ own_entries))
+    by_next (inl none) = subst (λ event. Holds (by_event (event_of t) event (events_in t own_entries))) (sym none) so_far
+    by_next (inr it) = subst (λ event. Holds (by_event (event_of t) event (events_in t own_entries))) (sym it.event) (by_act it (is_thread t it.thread) refl)
+
+    -- with any entry that its node's rule allows,
+    by_node : (node : Node) → NodeFollows p next node e es → Holds (events_in t (client_with t.client node e es))
+    by_node Server rule = so_far
+    by_node (Client d) rule = by (eqb t.client d) refl
+      where
+        by : (b : Bool) → eqb t.client d ≡ b → Holds (events_in t (cond b (e ∷ own_entries) own_entries))
+        by true is =
+            let mine : ClientFollows p next t.client e es = subst (λ n. ClientFollows p next n e es) (sym (same_number t.client d is)) rule in
+            by_next (next_act p t.client (next_after next es) (next_after next (e ∷ es)) e own_entries mine.step)
+        by false is = so_far
+
+  -- and so through every lawful journal.
+  pub holds_along : Holds [] → (es : List Entry) → AllFollow p next es → Holds (events_in t (entries_of (Client t.client) es))
+  holds_along first [] follow = first
+  holds_along first (e ∷ es) follow = by_node e es (holds_along first es follow.0) e.node follow.1.rule
+
 module _ (p : Settings) (next : ThreadId → List Event → Option Request) (t : ThreadId) where
-  -- the next act at the thread's client follows the thread's events
-  act_follows : (e : Entry) (es : List Entry) → FollowsProgram next (Listed next) t (events_in t (entries_of (Client t.client) es)) → (it : IsNextAct p t.client (next_after next es) e (entries_of (Client t.client) es)) → (b : Bool)
-      → is_thread t it.thread ≡ b
-      → FollowsProgram next (Listed next) t (cond b (events_in t (entries_of (Client t.client) es) ++ Act it.thread it.request it.reply (woken_by it.request it.reply (entries_of (Client t.client) es)) ∷ []) (events_in t (entries_of (Client t.client) es)))
-  act_follows e es follows it true is =
-      let asked : next t (events_in t (entries_of (Client t.client) es)) ≡ Some it.request = subst (λ u. next_after next es u ≡ Some it.request) (same_thread t it.thread is) it.asked in
+  -- the next act of the thread follows its events
+  act_follows : (e : Entry) (es : List Entry) (it : IsNextAct p t.client (next_after next es) e (entries_of (Client t.client) es)) → it.thread ≡ t → FollowsProgram next (Listed next) t (events_in t (entries_of (Client t.client) es))
+      → FollowsProgram next (Listed next) t (events_in t (entries_of (Client t.client) es) ++ Act it.thread it.request it.reply (woken_by it.request it.reply (entries_of (Client t.client) es)) ∷ [])
+  act_follows e es it is follows =
+      let asked : next t (events_in t (entries_of (Client t.client) es)) ≡ Some it.request = subst (λ u. next_after next es u ≡ Some it.request) is it.asked in
       let listed : Listed next t (events_in t (entries_of (Client t.client) es)) it.reply = subst (λ request. IsListedFor request it.reply) (sym asked) (reply_listed p it.thread (entries_of (Client t.client) es) it.request it.reply it.answered) in
       follows_in_parts next (Listed next) t [] (events_in t (entries_of (Client t.client) es)) (Act it.thread it.request it.reply (woken_by it.request it.reply (entries_of (Client t.client) es)) ∷ []) follows ((asked, listed), tt)
-  act_follows e es follows it false is = follows
-
-  event_follows : (e : Entry) (es : List Entry) → FollowsProgram next (Listed next) t (events_in t (entries_of (Client t.client) es))
-      → (e.event ≡ None) ⊎ IsNextAct p t.client (next_after next es) e (entries_of (Client t.client) es) → FollowsProgram next (Listed next) t (events_in t (e ∷ entries_of (Client t.client) es))
-  event_follows e es follows (inl none) = subst (λ event. FollowsProgram next (Listed next) t (by_event (event_of t) event (events_in t (entries_of (Client t.client) es)))) (sym none) follows
-  event_follows e es follows (inr it) = subst (λ event. FollowsProgram next (Listed next) t (by_event (event_of t) event (events_in t (entries_of (Client t.client) es)))) (sym it.event)
-      (act_follows e es follows it (is_thread t it.thread) refl)
-
-  follows_at : (node : Node) (e : Entry) (es : List Entry) → NodeFollows p next node e es → FollowsProgram next (Listed next) t (events_in t (entries_of (Client t.client) es))
-      → FollowsProgram next (Listed next) t (events_in t (client_with t.client node e es))
-  follows_at Server e es rule follows = follows
-  follows_at (Client d) e es rule follows = by (eqb t.client d) refl
-    where
-      by : (b : Bool) → eqb t.client d ≡ b → FollowsProgram next (Listed next) t (events_in t (cond b (e ∷ entries_of (Client t.client) es) (entries_of (Client t.client) es)))
-      by true is =
-          let mine : ClientFollows p next t.client e es = subst (λ n. ClientFollows p next n e es) (sym (same_number t.client d is)) rule in
-          event_follows e es follows (next_act p t.client (next_after next es) (next_after next (e ∷ es)) e (entries_of (Client t.client) es) mine.step)
-      by false is = follows
 
   -- In every lawful journal each thread's events follow the program.
   pub threads_follow : (es : List Entry) → AllFollow p next es → FollowsProgram next (Listed next) t (events_in t (entries_of (Client t.client) es))
-  threads_follow [] follow = tt
-  threads_follow (e ∷ es) follow = follows_at e.node e es follow.1.rule (threads_follow es follow.0)
+  threads_follow es follow = holds_along p next t (FollowsProgram next (Listed next) t) act_follows tt es follow
+
+-- a wait answered Done has the lock at Write
+held_if_done : (level : Option Level) → Some (monitor_reply level) ≡ Some Done → level ≡ Some Write
+held_if_done (Some Write) answered = refl
+held_if_done (Some Read) answered = absurd (cc answered)
+held_if_done None answered = absurd (cc answered)
+
+-- a client answers a wait with Done only where the thread holds the lock at Write
+wait_held : (p : Settings) (t : ThreadId) (es : List Entry) (request : Request) (reply : Reply) (woken : Option ThreadId) → reply_of p t request es ≡ Some reply → WaitIsHeld (Act t request reply woken) (locks_of t es)
+wait_held p t es (Wait l) Done woken answered = held_if_done (hold_level (hold_of t l es)) answered
+wait_held p t es request reply woken answered = tt
+
+-- one more event
+waits_more : (t : ThreadId) (events : List Event) (e : Event) (locks : Locks) → WaitsAreHeld t events locks → WaitIsHeld e (locks_through t events locks) → WaitsAreHeld t (events ++ e ∷ []) locks
+waits_more t [] e locks held last = (last, tt)
+waits_more t (event ∷ events) e locks held last = (held.0, waits_more t events e (locks_after t event locks) held.1 last)
+
+module _ (p : Settings) (next : ThreadId → List Event → Option Request) (t : ThreadId) where
+  -- the next act of the thread waits only with the lock held
+  act_waits : (e : Entry) (es : List Entry) (it : IsNextAct p t.client (next_after next es) e (entries_of (Client t.client) es)) → it.thread ≡ t → WaitsAreHeld t (events_in t (entries_of (Client t.client) es)) no_locks
+      → WaitsAreHeld t (events_in t (entries_of (Client t.client) es) ++ Act it.thread it.request it.reply (woken_by it.request it.reply (entries_of (Client t.client) es)) ∷ []) no_locks
+  act_waits e es it is held =
+      let own : List Entry = entries_of (Client t.client) es in
+      let act : Event = Act it.thread it.request it.reply (woken_by it.request it.reply own) in
+      let by_entries : WaitIsHeld act (locks_of it.thread own) = wait_held p it.thread own it.request it.reply (woken_by it.request it.reply own) it.answered in
+      waits_more t (events_in t own) act no_locks held (subst (WaitIsHeld act) (same_locks t own) (subst (λ u. WaitIsHeld act (locks_of u own)) is by_entries))
+
+  -- In every lawful journal each thread waits only with the lock held at Write.
+  pub threads_wait : (es : List Entry) → AllFollow p next es → WaitsAreHeld t (events_in t (entries_of (Client t.client) es)) no_locks
+  threads_wait es follow = holds_along p next t (λ events. WaitsAreHeld t events no_locks) act_waits tt es follow
 
 -- one more act of the thread
 acts_more : (t : ThreadId) (events : List Event) (request : Request) (reply : Reply) (woken : Option ThreadId) (u : ThreadId) → u ≡ t → AreActsOf t events → AreActsOf t (events ++ Act u request reply woken ∷ [])

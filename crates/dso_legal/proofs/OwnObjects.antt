@@ -15,7 +15,7 @@ use Rattle.dso_base.specs.declared.request.Reply.TheVariants.{Made}
 use Rattle.dso_base.specs.declared.request.Request.{Request}
 use Rattle.dso_base.specs.declared.shape.Shape.{Shape}
 use Rattle.dso_base.specs.Block.{Work, start, work_after, worked}
-use Rattle.dso_plain.specs.Keys.{is_thread}
+use Rattle.dso_base.specs.Program.{is_thread}
 use Rattle.dso_plain.specs.History.{is_act_of}
 use Rattle.dso_plain.proofs.Keys.{same_number, same_thread, thread_self}
 use Rattle.dso_law.specs.Settings.{Settings}

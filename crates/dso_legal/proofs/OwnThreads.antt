@@ -9,7 +9,7 @@ use Rattle.dso_base.specs.declared.record.Txn.{Txn}
 use Rattle.dso_base.specs.declared.request.Event.{Event}
 use Rattle.dso_base.specs.declared.request.Event.TheVariants.{Act, Lost}
 use Rattle.dso_base.specs.declared.request.Request.{Request}
-use Rattle.dso_plain.specs.Keys.{is_thread}
+use Rattle.dso_base.specs.Program.{is_thread}
 use Rattle.dso_plain.specs.History.{is_act_of}
 use Rattle.dso_plain.proofs.Keys.{same_number, number_self, same_thread}
 use Rattle.dso_law.specs.Settings.{Settings, Each}

@@ -12,7 +12,7 @@ use Rattle.dso_base.specs.declared.request.Request.TheVariants.{New, Put, Print,
 use Rattle.dso_base.specs.declared.shape.Shape.{Shape}
 use Rattle.dso_base.specs.declared.value.Value.{Value}
 use Rattle.dso_base.specs.Block.{Work, body_in, start, with_value, is_published, insert_set, publish, put_shared, put, opening_body, work_by, work_after, worked}
-use Rattle.dso_plain.specs.Keys.{is_thread}
+use Rattle.dso_base.specs.Program.{is_thread}
 use Rattle.dso_plain.specs.State.{PlainState, opening, roots_object, is_private_to, IsPrivate}
 use Rattle.dso_plain.specs.Possible.{IsOf}
 use Rattle.dso_plain.specs.After.{after}

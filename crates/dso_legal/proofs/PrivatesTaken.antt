@@ -10,7 +10,7 @@ use Rattle.dso_base.specs.declared.request.Event.TheVariants.{Act, Lost}
 use Rattle.dso_base.specs.declared.request.Request.{Request}
 use Rattle.dso_base.specs.declared.shape.Shape.{Shape}
 use Rattle.dso_base.specs.Block.{Work, start, worked}
-use Rattle.dso_plain.specs.Keys.{is_thread}
+use Rattle.dso_base.specs.Program.{is_thread}
 use Rattle.dso_plain.specs.State.{PlainState, IsPrivate, roots_object, is_private_to, opening}
 use Rattle.dso_plain.specs.History.{Runs, end_of, last_state, is_act_of}
 use Rattle.dso_plain.specs.Own.{LeavesOwn}

@@ -11,9 +11,10 @@ use Rattle.dso_base.specs.declared.request.Request.{Request}
 use Rattle.dso_base.specs.declared.request.Request.TheVariants.{New, Look, Get, Put, Enter, Exit, Wait, Resume, Notify, NotifyAll, Print, End}
 use Rattle.dso_base.specs.declared.shape.Shape.{Shape}
 use Rattle.dso_base.specs.declared.value.Value.{Value}
+use Rattle.dso_base.specs.Program.{is_thread}
 use Rattle.dso_plain.specs.After.{after, read, read_shared, put}
 use Rattle.dso_plain.specs.History.{Runs, end_of}
-use Rattle.dso_plain.specs.Keys.{is_thread, is_view, or_old, written}
+use Rattle.dso_plain.specs.Keys.{is_view, or_old, written}
 use Rattle.dso_plain.specs.Own.{LeavesField}
 use Rattle.dso_plain.specs.Possible.{Answers, MayPut}
 use Rattle.dso_plain.specs.State.{PlainState, Object, Hold, IsShared, is_shared, is_owner, is_private_to, guard_in, guard_of_object, hold_on_guard, level_of}

@@ -23,7 +23,7 @@ use Rattle.dso_base.specs.declared.request.Request.TheVariants.{New, Put, Print,
 use Rattle.dso_base.specs.declared.shape.Shape.{Shape}
 use Rattle.dso_base.specs.declared.value.Value.{Value}
 use Rattle.dso_base.specs.Block.{Work, body_in, is_same_field, is_field_before, insert_set, put_shared, put, work_by}
-use Rattle.dso_plain.specs.Keys.{is_thread}
+use Rattle.dso_base.specs.Program.{is_thread}
 use Rattle.dso_plain.specs.History.{is_act_of}
 use Rattle.dso_plain.proofs.Keys.{both, number_self, same_number, same_thread, thread_self}
 use Rattle.dso_law.specs.Settings.{Settings, has, threads_of}

@@ -12,10 +12,9 @@ use Rattle.dso_base.specs.declared.request.Request.TheVariants.{New, Look, Get}
 use Rattle.dso_base.specs.declared.shape.Shape.{Shape}
 use Rattle.dso_base.specs.declared.value.ClassId.{ClassId}
 use Rattle.dso_base.specs.declared.value.Value.{Value}
-use Rattle.dso_plain.specs.Keys.{is_thread}
-use Rattle.dso_plain.specs.History.{FollowsFrom}
+use Rattle.dso_base.specs.Program.{is_thread, FollowsFrom, Listed}
 use Rattle.dso_plain.proofs.Keys.{same_thread, thread_self}
-use Rattle.dso_legal.specs.Program.{Listed, KeepsTo, IsSound}
+use Rattle.dso_legal.specs.Program.{KeepsTo, IsSound}
 use Rattle.dso_legal.specs.examples.Courses.{Course, Stops, Makes, Looks, Reads, Does, asked_first, after_reply, asks_after, course_of, program_of}
 
 -- after its stop a thread asks nothing
@@ -106,4 +105,4 @@ module _ (shape : Shape) where
 
   -- The program of the courses is sound.
   pub sound_program : (courses : List (ThreadId × Course)) → AllSound courses → IsSound shape (program_of courses)
-  sound_program courses all t events request acts untold follows asks = sound_from (program_of courses) t (course_of t courses) [] events request (its_course t courses all) (λ more. refl) follows asks
+  sound_program courses all t events request acts untold held follows asks = sound_from (program_of courses) t (course_of t courses) [] events request (its_course t courses all) (λ more. refl) follows asks

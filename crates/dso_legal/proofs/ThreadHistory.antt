@@ -8,8 +8,8 @@ use Rattle.dso_base.specs.declared.lock.ThreadId.{ThreadId}
 use Rattle.dso_base.specs.declared.request.Event.{Event}
 use Rattle.dso_base.specs.declared.request.Event.TheVariants.{Act, Lost}
 use Rattle.dso_base.specs.declared.request.Request.{Request}
+use Rattle.dso_base.specs.Program.{is_thread}
 use Rattle.dso_plain.specs.History.{Runs, end_of, last_state, events_of}
-use Rattle.dso_plain.specs.Keys.{is_thread}
 use Rattle.dso_plain.specs.State.{PlainState, Object, opening}
 use Rattle.dso_plain.specs.Touches.{MakesIn}
 use Rattle.dso_plain.proofs.Diamond.{runs_in_parts, ends_in_parts}
@@ -45,7 +45,7 @@ use Rattle.dso_legal.proofs.Makers.{makes_counts, within, listed_if, at_least, c
 use Rattle.dso_legal.proofs.Names.{names_stay_known}
 use Rattle.dso_legal.proofs.NoRoots.{NoRoots, opening_names_none, puts_none, run_names_none}
 use Rattle.dso_legal.proofs.ObjectsMade.{objects_are_made}
-use Rattle.dso_legal.proofs.OwnActs.{threads_follow, own_acts}
+use Rattle.dso_legal.proofs.OwnActs.{threads_follow, threads_wait, own_acts}
 use Rattle.dso_legal.proofs.OwnThreads.{of_client, no_events_in}
 use Rattle.dso_legal.proofs.SoundNames.{sound_names}
 use Rattle.dso_legal.proofs.SparedHistory.{history_spared, open_spared, ended_blocks_spared}
@@ -187,7 +187,7 @@ module _ (p : Settings) (next : ThreadId → List Event → Option Request) (es 
       -- each thread names only what it was told
       all_told : (u : ThreadId) → NameOnlyTold [] (events_of u thread_history)
       all_told u = first_told [] (events_of u thread_history) (first_part u).rest (subst (NameOnlyTold []) (first_part u).whole
-          (sound_names p.shape next sound u (events_in u (entries_of (Client u.client) es)) (own_acts u (entries_of (Client u.client) es)) (untold u) (threads_follow p next u es follow)))
+          (sound_names p.shape next sound u (events_in u (entries_of (Client u.client) es)) (own_acts u (entries_of (Client u.client) es)) (untold u) (threads_wait p next u es follow) (threads_follow p next u es follow)))
 
       -- What the thread may name is known.
       pub names_known : NamesAreKnown t (events_in t own) acting_state

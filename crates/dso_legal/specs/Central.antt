@@ -5,9 +5,9 @@ use Rattle.dso_base.specs.declared.journal.Node.TheVariants.{Server, Client}
 use Rattle.dso_base.specs.declared.lock.ThreadId.{ThreadId}
 use Rattle.dso_base.specs.declared.request.Event.{Event}
 use Rattle.dso_base.specs.declared.request.Request.{Request}
+use Rattle.dso_base.specs.Program.{is_thread, Listed}
 use Rattle.dso_plain.specs.History.{Runs, end_of, last_state, events_of, IsLegal}
 use Rattle.dso_plain.specs.State.{PlainState, opening}
-use Rattle.dso_plain.specs.Keys.{is_thread}
 use Rattle.dso_law.specs.Settings.{Settings, has}
 use Rattle.dso_law.specs.Entries.{entries_of, events_in}
 use Rattle.dso_law.specs.Channels.{way_up, way_down}
@@ -21,7 +21,7 @@ use Rattle.dso_legal.specs.Lawful.{IsLawful}
 use Rattle.dso_legal.specs.Committed.{committed, resolved}
 use Rattle.dso_legal.specs.Slots.{is_finished}
 use Rattle.dso_legal.specs.Calm.{WithoutWaits, WithoutLosses}
-use Rattle.dso_legal.specs.Program.{Listed, IsSound}
+use Rattle.dso_legal.specs.Program.{IsSound}
 use Rattle.dso_legal.specs.Pending.{Lists, joined, pending, resolved_on, lists_on}
 use Rattle.dso_legal.specs.Line.{Line}
 use Rattle.dso_legal.specs.CopiesStand.{CopiesStand}

@@ -7,7 +7,7 @@ use Rattle.dso_base.specs.declared.lock.LockName.{LockName}
 use Rattle.dso_base.specs.declared.lock.ThreadId.{ThreadId}
 use Rattle.dso_base.specs.declared.request.Event.{Event}
 use Rattle.dso_base.specs.declared.request.Request.{Request}
-use Rattle.dso_plain.specs.Keys.{is_thread}
+use Rattle.dso_base.specs.Program.{is_thread}
 use Rattle.dso_plain.specs.State.{Hold}
 use Rattle.dso_law.specs.Settings.{Settings}
 use Rattle.dso_law.specs.Entries.{entries_of}

@@ -8,7 +8,7 @@ use Rattle.dso_base.specs.declared.request.Event.TheVariants.{Act, Lost}
 use Rattle.dso_base.specs.declared.request.Reply.{Reply}
 use Rattle.dso_base.specs.declared.request.Reply.TheVariants.{Made}
 use Rattle.dso_base.specs.declared.request.Request.{Request}
-use Rattle.dso_plain.specs.Keys.{is_thread}
+use Rattle.dso_base.specs.Program.{is_thread}
 use Rattle.dso_plain.specs.History.{is_act_of}
 use Rattle.dso_plain.specs.Touches.{MakesIn, NoCommonId}
 use Rattle.dso_law.specs.Settings.{Settings, Each, has}

@@ -1,60 +1,26 @@
 -- What the law asks of a program.
-use Rattle.std.specs.Prelude.{ℕ, ◌≡◌, ◌≢◌, Bool, true, false, eqb, ◌||◌, Option, Some, None, List, []}
+use Rattle.std.specs.Prelude.{ℕ, ◌≡◌, ◌≢◌, Bool, true, false, eqb, ◌||◌, Option, Some, None, List, [], ◌∷◌}
+use Rattle.dso_base.specs.declared.lock.Level.TheVariants.{Write}
 use Rattle.dso_base.specs.declared.lock.LockName.{LockName}
 use Rattle.dso_base.specs.declared.lock.LockName.TheVariants.{Mon, Name}
 use Rattle.dso_base.specs.declared.lock.ThreadId.{ThreadId}
 use Rattle.dso_base.specs.declared.request.Event.{Event}
 use Rattle.dso_base.specs.declared.request.Event.TheVariants.{Act, Lost}
-use Rattle.dso_base.specs.declared.request.Fault.TheVariants.{UnlockedSharedObject, WrongLock, ReadOnly, LockUpgrade, IllegalMonitor}
 use Rattle.dso_base.specs.declared.request.Reply.{Reply}
-use Rattle.dso_base.specs.declared.request.Reply.TheVariants.{Done, Made, Seen, Val, Local, Refused}
+use Rattle.dso_base.specs.declared.request.Reply.TheVariants.{Done, Made, Val}
 use Rattle.dso_base.specs.declared.request.Request.{Request}
-use Rattle.dso_base.specs.declared.request.Request.TheVariants.{New, Look, Get, Put, Enter, Exit, Wait, Resume, Notify, NotifyAll, Print, End, Pause}
+use Rattle.dso_base.specs.declared.request.Request.TheVariants.{New, Look, Get, Put, Enter, Exit, Wait, Resume, End}
 use Rattle.dso_base.specs.declared.shape.Shape.{Shape}
 use Rattle.dso_base.specs.declared.value.Value.{Value}
 use Rattle.dso_base.specs.declared.value.Value.TheVariants as value
+use Rattle.dso_base.specs.Program.{Listed, FollowsProgram}
 use Rattle.dso_plain.specs.Possible.{CanBeMade}
-use Rattle.dso_plain.specs.History.{FollowsProgram}
 use Rattle.dso_plain.specs.Touches.{AreActsOf}
 use Rattle.dso_law.specs.Settings.{has}
 use Rattle.dso_law.specs.FitsDown.{WaitsOn}
-use Rattle.dso_law.specs.Threads.{Locks, hold_in, ends_thread}
+use Rattle.dso_law.specs.Needs.{hold_level}
+use Rattle.dso_law.specs.Threads.{Locks, locks_after, hold_in, ends_thread}
 use Rattle.dso_legal.specs.Pending.{no_locks, locks_through}
-
--- The replies that are listed for a request: a new object, its class, a value; of a put, an entry and the monitor requests
--- also the refusals; to all else Done.
-abbrev pub IsListed : Request → Reply → Type 0
-IsListed (New class n) (Made o) = Unit {0}
-IsListed (Look o) (Seen class n) = Unit {0}
-IsListed (Get o f) (Val v) = Unit {0}
-IsListed (Put o f v) Done = Unit {0}
-IsListed (Put o f v) (Refused UnlockedSharedObject) = Unit {0}
-IsListed (Put o f v) (Refused WrongLock) = Unit {0}
-IsListed (Put o f v) (Refused ReadOnly) = Unit {0}
-IsListed (Enter l level) Done = Unit {0}
-IsListed (Enter l level) Local = Unit {0}
-IsListed (Enter l level) (Refused LockUpgrade) = Unit {0}
-IsListed (Exit l) Done = Unit {0}
-IsListed (Wait l) Done = Unit {0}
-IsListed (Wait l) (Refused IllegalMonitor) = Unit {0}
-IsListed (Resume l) Done = Unit {0}
-IsListed (Notify l) Done = Unit {0}
-IsListed (Notify l) (Refused IllegalMonitor) = Unit {0}
-IsListed (NotifyAll l) Done = Unit {0}
-IsListed (NotifyAll l) (Refused IllegalMonitor) = Unit {0}
-IsListed (Print v) Done = Unit {0}
-IsListed (End fault) Done = Unit {0}
-IsListed Pause Done = Unit {0}
-IsListed request reply = ⊥
-
--- so for a next request, if there is one
-abbrev pub IsListedFor : Option Request → Reply → Type 0
-IsListedFor None reply = ⊥
-IsListedFor (Some request) reply = IsListed request reply
-
--- so for what a thread asks next after its events
-abbrev pub Listed : (ThreadId → List Event → Option Request) → ThreadId → List Event → Reply → Type 0
-Listed next t events reply = IsListedFor (next t events) reply
 
 -- the reply tells the thread of the object: it made it, or read a reference to it
 abbrev pub tells : ℕ → Reply → Bool
@@ -114,7 +80,18 @@ pub record KeepsTo (shape : Shape) (t : ThreadId) (events : List Event) (request
   pub makes : MakesOnly shape request
   pub waits : (locks_through t events no_locks).waiting ≢ None → IsResume request
 
--- Sound: wherever events of a thread follow the program, and none told it of object 0, its next request keeps to this.
+-- a thread that waits held the lock at Write: so of an event, by the locks before it
+abbrev pub WaitIsHeld : Event → Locks → Type 0
+WaitIsHeld (Act thread (Wait l) Done woken) locks = hold_level (hold_in l locks.holds) ≡ Some Write
+WaitIsHeld event locks = Unit {0}
+
+-- so of each of the thread's events, by the locks before the first
+abbrev pub WaitsAreHeld : ThreadId → List Event → Locks → Type 0
+WaitsAreHeld t [] locks = Unit {0}
+WaitsAreHeld t (event ∷ events) locks = WaitIsHeld event locks × WaitsAreHeld t events (locks_after t event locks)
+
+-- Sound: wherever events of a thread follow the program, none told it of object 0, and it waited only on locks that it held
+-- at Write, its next request keeps to this.
 abbrev pub IsSound : Shape → (ThreadId → List Event → Option Request) → Type 0
 IsSound shape next = (t : ThreadId) (events : List Event) (request : Request) → AreActsOf t events → has (event_tells 0) events ≡ false
-    → FollowsProgram next (Listed next) t events → next t events ≡ Some request → KeepsTo shape t events request
+    → WaitsAreHeld t events no_locks → FollowsProgram next (Listed next) t events → next t events ≡ Some request → KeepsTo shape t events request

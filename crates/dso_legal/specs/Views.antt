@@ -9,7 +9,7 @@ use Rattle.dso_base.specs.declared.request.Request.{Request}
 use Rattle.dso_base.specs.declared.shape.Shape.{Shape}
 use Rattle.dso_base.specs.declared.value.ClassId.{ClassId}
 use Rattle.dso_base.specs.declared.value.Value.{Value}
-use Rattle.dso_plain.specs.Keys.{is_thread}
+use Rattle.dso_base.specs.Program.{is_thread}
 use Rattle.dso_plain.specs.Past.{KeepsPast}
 use Rattle.dso_plain.specs.Possible.{Beside, StandsFrom, IsOf, IsPossible}
 use Rattle.dso_plain.specs.State.{PlainState, IsShared, HoldsGuard, hold_on_guard, level_of}

@@ -1,13 +1,14 @@
 //! What the entries of the server tell of its clients and its lists of waiters, kept from entry to entry.
 ghost use Rattle.std.specs.Prelude.{◌≡◌, ◌++◌, cond, not, eqb, filter, true, None, OnOk, IfOk};
 ghost use Rattle.std.specs.BTreeMap.{is_at};
-ghost use Rattle.dso_plain.specs.Keys.{is_lock, is_thread, writes, written};
+ghost use Rattle.dso_plain.specs.Keys.{is_lock, writes, written};
 ghost use Rattle.dso_law.specs.Entries.{told, by_told};
 ghost use Rattle.dso_law.specs.Waits.{without};
 ghost use Rattle.dso_plain.specs.Maps.{look};
 ghost use Rattle.dso_plain.specs.Tables.{lock_order};
 ghost use Rattle.dso_base.specs.declared.message.Down.TheVariants.{Wake};
 ghost use Rattle.dso_base.specs.declared.message.Up.TheVariants.{Return};
+ghost use Rattle.dso_base.specs.Program.{is_thread};
 ghost use Rattle.dso_law.specs.Waking.{without_client, waiters_by_message, waiters_by, waiters_told};
 ghost use Rattle.dso_law.specs.Served.{loses};
 ghost use Rattle.dso_legal.specs.Passing.{is_of_lost, lists_after};

@@ -1,2 +1,11 @@
+pub mod Calls
+pub mod Expressions
 pub mod Limits
+pub mod Next
+pub mod Outcome
+pub mod Running
 pub mod Sound
+pub mod Standing
+pub mod Statements
+pub mod Values
+pub mod Weight

@@ -44,3 +44,15 @@ most_vars = 64
 -- the most statements that stand one inside another
 abbrev pub most_nested : ℕ
 most_nested = 64
+
+-- the most elements of an array
+abbrev pub most_elements : ℕ
+most_elements = 256
+
+-- the most frames of a thread, that of its body among them
+abbrev pub most_frames : ℕ
+most_frames = 64
+
+-- the most moves of a thread between two of its requests
+abbrev pub most_moves : ℕ
+most_moves = 1000

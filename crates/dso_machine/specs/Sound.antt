@@ -1,11 +1,10 @@
 -- Which code is sound: every number in it names something that is there, and nothing is more than there may be.
-use Rattle.std.specs.Prelude.{◌≡◌, ◌≢◌, ℕ, suc, ◌<◌, ◌≤◌, Bool, true, false, List, [], ◌∷◌, length, map, All, AllPairs, Contains, slice_get, Option, Some, None, IfSome}
+use Rattle.std.specs.Prelude.{◌≡◌, ◌≢◌, ℕ, suc, ◌<◌, ◌≤◌, Bool, true, false, List, [], ◌∷◌, length, map, All, AllPairs, Contains, slice_get, Some, None, IfSome}
 use Rattle.dso_base.specs.declared.lock.Grade.{Grade}
 use Rattle.dso_base.specs.declared.lock.ThreadId.{ThreadId}
 use Rattle.dso_base.specs.declared.op.Op.{Op}
 use Rattle.dso_base.specs.declared.op.Op.TheVariants as op
 use Rattle.dso_base.specs.declared.shape.ClassShape.{ClassShape}
-use Rattle.dso_base.specs.declared.shape.FieldShape.{FieldShape}
 use Rattle.dso_base.specs.declared.shape.Guard.{Guard}
 use Rattle.dso_base.specs.declared.shape.Guard.TheVariants as guard
 use Rattle.dso_base.specs.declared.shape.Shape.{Shape}

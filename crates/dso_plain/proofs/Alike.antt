@@ -13,7 +13,8 @@ use Rattle.dso_base.specs.declared.shape.Shape.{Shape}
 use Rattle.dso_base.specs.declared.value.Value.{Value}
 use Rattle.dso_base.specs.declared.value.Value.TheVariants as value
 use Rattle.dso_base.specs.Reach.{reach, has_way, names_within}
-use Rattle.dso_plain.specs.Keys.{is_thread, is_lock, is_field, is_place, is_view, writes}
+use Rattle.dso_base.specs.Program.{is_thread}
+use Rattle.dso_plain.specs.Keys.{is_lock, is_field, is_place, is_view, writes}
 use Rattle.dso_plain.specs.State.{Hold, PlainState, is_private_to, is_mine, is_shared, size_of, IsPrivate, IsShared, guard_in, hold_on_guard}
 use Rattle.dso_plain.specs.Possible.{Answers, AnswersGet, AnswersPut}
 use Rattle.dso_plain.specs.After.{nothing, new_object, read, read_shared, put, notifies_all, entered, exited, count_of, resumed, change_of, published, shared, present, opening_field, names, names_below, holds_reference}

@@ -14,7 +14,8 @@ use Rattle.dso_base.specs.declared.value.ClassId.{ClassId}
 use Rattle.dso_base.specs.declared.value.Value.{Value}
 use Rattle.dso_base.specs.declared.value.Value.TheVariants as value
 use Rattle.dso_base.specs.Reach.{reach}
-use Rattle.dso_plain.specs.Keys.{is_thread, is_lock, is_field, is_place, is_view, writes}
+use Rattle.dso_base.specs.Program.{is_thread}
+use Rattle.dso_plain.specs.Keys.{is_lock, is_field, is_place, is_view, writes}
 use Rattle.dso_plain.specs.State.{Object, Hold, PlainState, is_private_to, is_mine, is_shared, is_owner, IsPrivate, IsShared, level_of, guard_in, hold_on_guard}
 use Rattle.dso_plain.specs.Possible.{Answers}
 use Rattle.dso_plain.specs.After.{Change, nothing, made_new, new_object, read, read_shared, put, notifies, notifies_all, entered, exited, count_of, resumed, change_of, published, shared, present, opening_field, names}

@@ -6,8 +6,9 @@ use Rattle.dso_base.specs.declared.request.Event.{Event}
 use Rattle.dso_base.specs.declared.request.Reply.{Reply}
 use Rattle.dso_base.specs.declared.request.Request.{Request}
 use Rattle.dso_base.specs.declared.shape.Shape.{Shape}
+use Rattle.dso_base.specs.Program.{FollowsFrom}
 use Rattle.dso_plain.specs.State.{opening}
-use Rattle.dso_plain.specs.History.{Runs, last_state, events_of, is_act_of, FollowsFrom, IsLegal}
+use Rattle.dso_plain.specs.History.{Runs, last_state, events_of, is_act_of, IsLegal}
 use Rattle.dso_plain.proofs.Diamond.{runs_in_parts}
 
 -- one event and the rest, before more

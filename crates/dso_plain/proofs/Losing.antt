@@ -7,8 +7,9 @@ use Rattle.std.specs.Ordering.{nat_cmp}
 use Rattle.std.specs.BTreeMap.{BTreeMap, is_at}
 use Rattle.dso_base.specs.declared.lock.LockName.{LockName}
 use Rattle.dso_base.specs.declared.lock.ThreadId.{ThreadId}
+use Rattle.dso_base.specs.Program.{is_thread}
 use Rattle.dso_plain.specs.declared.tables.Tables.{Tables}
-use Rattle.dso_plain.specs.Keys.{is_thread, writes, or_old, written}
+use Rattle.dso_plain.specs.Keys.{writes, or_old, written}
 use Rattle.dso_plain.specs.Maps.{look, look_in, in_row}
 use Rattle.dso_plain.specs.State.{Hold, PlainState}
 use Rattle.dso_plain.specs.After.{apply, loses}

@@ -6,8 +6,9 @@ use Rattle.std.specs.Map.{lookup}
 use Rattle.std.specs.BTreeMap.{BTreeMap, is_at}
 use Rattle.dso_base.specs.declared.lock.LockName.{LockName}
 use Rattle.dso_base.specs.declared.lock.ThreadId.{ThreadId}
+use Rattle.dso_base.specs.Program.{is_thread}
 use Rattle.dso_plain.specs.declared.tables.Tables.{Tables}
-use Rattle.dso_plain.specs.Keys.{is_thread, is_lock, is_place, writes, or_old, written}
+use Rattle.dso_plain.specs.Keys.{is_lock, is_place, writes, or_old, written}
 use Rattle.dso_plain.specs.Maps.{look, look_in, in_row, is_at_pair}
 use Rattle.dso_plain.specs.Possible.{IsUnmarkedWaiter}
 use Rattle.dso_plain.specs.State.{PlainState}

@@ -14,7 +14,8 @@ use Rattle.dso_base.specs.declared.request.Request.{Request}
 use Rattle.dso_base.specs.declared.request.Request.TheVariants.{New, Get, Put, Enter, Exit, Wait, Resume, Notify, NotifyAll, Print, End}
 use Rattle.dso_base.specs.declared.shape.Shape.{Shape}
 use Rattle.dso_base.specs.declared.value.Value.{Value}
-use Rattle.dso_plain.specs.Keys.{is_thread, is_lock, is_place, writes, or_old, written}
+use Rattle.dso_base.specs.Program.{is_thread}
+use Rattle.dso_plain.specs.Keys.{is_lock, is_place, writes, or_old, written}
 use Rattle.dso_plain.specs.State.{Hold, PlainState, opening, is_shared, level_of, hold_on_guard}
 use Rattle.dso_plain.specs.Possible.{IsPossible, May, Beside, NoConflict}
 use Rattle.dso_plain.specs.After.{change_of, apply, after, put, read, read_shared, notifies, notifies_all, waits, loses, entered, exited, count_of, resumed}

@@ -10,7 +10,8 @@ use Rattle.std.specs.BTreeMap.{is_at}
 use Rattle.dso_base.specs.declared.lock.LockName.{LockName}
 use Rattle.dso_base.specs.declared.lock.LockName.TheVariants.{Mon, Name}
 use Rattle.dso_base.specs.declared.lock.ThreadId.{ThreadId}
-use Rattle.dso_plain.specs.Keys.{is_thread, is_lock, is_field, is_place, is_view, writes, or_old, written}
+use Rattle.dso_base.specs.Program.{is_thread}
+use Rattle.dso_plain.specs.Keys.{is_lock, is_field, is_place, is_view, writes, or_old, written}
 use Rattle.dso_plain.specs.Maps.{is_at_pair}
 use Rattle.dso_plain.specs.Tables.{lock_order, thread_order, field_order, view_order}
 

@@ -15,7 +15,8 @@ use Rattle.dso_base.specs.declared.value.ClassId.{ClassId}
 use Rattle.dso_base.specs.declared.value.Value.{Value}
 use Rattle.dso_base.specs.declared.value.Value.TheVariants as value
 use Rattle.dso_base.specs.Shape.{kind_of}
-use Rattle.dso_plain.specs.Keys.{is_thread, is_field, is_view, or_old}
+use Rattle.dso_base.specs.Program.{is_thread}
+use Rattle.dso_plain.specs.Keys.{is_field, is_view, or_old}
 use Rattle.dso_plain.specs.State.{Object, Hold, PlainState, opening, roots_object, is_private_to, is_shared, size_of, IsPrivate, IsShared, HasField, hold_on_guard}
 use Rattle.dso_plain.specs.Possible.{May, Answers, AnswersPut}
 use Rattle.dso_plain.specs.After.{change_of, apply, after, read, read_shared, put, published, shared, present, opening_field, opening_value, new_object, made_new, notifies}

@@ -10,9 +10,10 @@ use Rattle.dso_base.specs.declared.shape.Shape.{Shape}
 use Rattle.dso_base.specs.declared.value.ClassId.{ClassId}
 use Rattle.dso_base.specs.declared.value.Value.{Value}
 use Rattle.dso_base.specs.Shape.{kind_of}
+use Rattle.dso_base.specs.Program.{is_thread}
 use Rattle.dso_plain.specs.declared.tables.Object as table
 use Rattle.dso_plain.specs.declared.tables.Tables.{Tables}
-use Rattle.dso_plain.specs.Keys.{is_thread, is_field, is_view, writes, or_old, written}
+use Rattle.dso_plain.specs.Keys.{is_field, is_view, writes, or_old, written}
 use Rattle.dso_plain.specs.Maps.{look}
 use Rattle.dso_plain.specs.State.{Object, PlainState, IsShared, is_shared, size_of, is_private_to}
 use Rattle.dso_plain.specs.After.{apply, made_new, put, published, present, opening_value, opening_field, new_object}

@@ -12,7 +12,7 @@ use Rattle.dso_base.specs.declared.request.Request.{Request}
 use Rattle.dso_base.specs.declared.request.Request.TheVariants.{New, Look, Get, Put, Enter, Exit, Wait, Resume, Notify, NotifyAll, Print, End, Pause}
 use Rattle.dso_base.specs.declared.shape.Shape.{Shape}
 use Rattle.dso_base.specs.declared.value.ClassId.{ClassId}
-use Rattle.dso_plain.specs.Keys.{is_thread}
+use Rattle.dso_base.specs.Program.{is_thread}
 use Rattle.dso_plain.specs.State.{Hold, PlainState, is_shared, size_of, IsPrivate, IsShared, HasField, HoldsNothing, level_of, guard_in, guard_of_object, hold_on_guard}
 use Rattle.dso_plain.specs.Possible.{IsPossible, Answers, AnswersNew, AnswersLook, AnswersGet, AnswersPut, AnswersEnter, AnswersExit, AnswersMonitor, AnswersResume, AnswersEnd, IsOf, StandsFrom, IsPrivateMonitor, IsClusterLock, IsUpgrade, Beside, NoConflict, HoldsWrite, Wakes, IsAwakeFor}
 use Rattle.dso_plain.specs.Touches.{ActTouches, ActMakes, NoClash, NoCommonId}

@@ -1,12 +1,12 @@
 -- Runs of events from a state, and legal histories.
-use Rattle.std.specs.Prelude.{◌≡◌, Bool, false, cond, Option, Some, List, [], ◌∷◌, ◌++◌}
+use Rattle.std.specs.Prelude.{Bool, false, cond, Option, List, [], ◌∷◌}
 use Rattle.dso_base.specs.declared.lock.ThreadId.{ThreadId}
 use Rattle.dso_base.specs.declared.request.Event.{Event}
 use Rattle.dso_base.specs.declared.request.Event.TheVariants.{Act, Lost}
 use Rattle.dso_base.specs.declared.request.Reply.{Reply}
 use Rattle.dso_base.specs.declared.request.Request.{Request}
 use Rattle.dso_base.specs.declared.shape.Shape.{Shape}
-use Rattle.dso_plain.specs.Keys.{is_thread}
+use Rattle.dso_base.specs.Program.{is_thread, FollowsProgram}
 use Rattle.dso_plain.specs.State.{PlainState, opening}
 use Rattle.dso_plain.specs.Possible.{May}
 use Rattle.dso_plain.specs.After.{after}
@@ -38,21 +38,7 @@ events_of t (e ∷ es) = cond (is_act_of t e) (e ∷ events_of t es) (events_of 
 -- A program tells the next request of a thread after its events so far (None after its end), and which replies are
 -- listed for that request.
 module _ (next : ThreadId → List Event → Option Request) (Listed : ThreadId → List Event → Reply → Type 0) where
-  -- the event has the thread's next request after the events before it, and a reply that is listed there
-  abbrev pub IsNext : ThreadId → List Event → Event → Type 0
-  IsNext t before (Act thread request reply woken) = (next t before ≡ Some request) × Listed t before reply
-  IsNext t before (Lost client) = ⊥
-
-  -- each event is the next one after those before it
-  abbrev pub FollowsFrom : ThreadId → List Event → List Event → Type 0
-  FollowsFrom t before [] = Unit {0}
-  FollowsFrom t before (e ∷ es) = IsNext t before e × FollowsFrom t (before ++ e ∷ []) es
-
-  -- the thread's events follow the program from its start
-  abbrev pub FollowsProgram : ThreadId → List Event → Type 0
-  FollowsProgram t es = FollowsFrom t [] es
-
   -- A legal history: a run of plain steps from the opening state, in which each thread follows the program.
   pub record IsLegal (shape : Shape) (h : List Event) : Type 0 where
     pub runs : Runs shape h (opening shape)
-    pub follows : (t : ThreadId) → FollowsProgram t (events_of t h)
+    pub follows : (t : ThreadId) → FollowsProgram next Listed t (events_of t h)

@@ -3,10 +3,7 @@ use Rattle.std.specs.Prelude.{ℕ, Bool, false, cond, eqb, ◌&&◌, Option, Som
 use Rattle.dso_base.specs.declared.lock.LockName.{LockName}
 use Rattle.dso_base.specs.declared.lock.LockName.TheVariants.{Mon, Name}
 use Rattle.dso_base.specs.declared.lock.ThreadId.{ThreadId}
-
--- the key is this thread
-abbrev pub is_thread : ThreadId → ThreadId → Bool
-is_thread t key = eqb key.client t.client && eqb key.index t.index
+use Rattle.dso_base.specs.Program.{is_thread}
 
 -- the key is this lock
 abbrev pub is_lock : LockName → LockName → Bool

@@ -7,8 +7,9 @@ use Rattle.dso_base.specs.declared.request.Event.{Event}
 use Rattle.dso_base.specs.declared.request.Reply.{Reply}
 use Rattle.dso_base.specs.declared.request.Request.{Request}
 use Rattle.dso_base.specs.declared.shape.Shape.{Shape}
+use Rattle.dso_base.specs.Program.{FollowsFrom}
 use Rattle.dso_plain.specs.State.{PlainState, opening}
-use Rattle.dso_plain.specs.History.{Runs, end_of, last_state, events_of, FollowsFrom, IsLegal}
+use Rattle.dso_plain.specs.History.{Runs, end_of, last_state, events_of, IsLegal}
 use Rattle.dso_plain.specs.Monitors.{KeepsMonitors}
 use Rattle.dso_plain.specs.Past.{KeepsPast, PastsGrow}
 use Rattle.dso_plain.specs.Touches.{TouchesIn, MakesIn, AreActsOf, AreActsOfOthers, NoClash, NoCommonId}

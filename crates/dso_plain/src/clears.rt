@@ -1,9 +1,9 @@
 //! The loss of a client in the tables: its threads leave the monitors and the waits.
 ghost use Rattle.std.specs.Prelude.{◌≡◌, ◌&&◌, eqb, OnOk};
+ghost use Rattle.dso_base.specs.Program.{is_thread};
 ghost use Rattle.dso_plain.specs.After as After;
 ghost use Rattle.dso_plain.specs.Keeps.{Agrees};
 ghost use Rattle.dso_plain.specs.Changes.{dropped, without, Mirrors, ClearsRow};
-ghost use Rattle.dso_plain.specs.Keys.{is_thread};
 ghost use Rattle.dso_plain.specs.Maps.{look, look_in};
 ghost use Rattle.dso_plain.specs.Tables.{state_of, lock_order, thread_order};
 

@@ -1,10 +1,11 @@
 //! What a request changes in the tables, of objects, threads and output.
 ghost use Rattle.std.specs.Prelude.{suc, ◌-◌, ◌≡◌, length, ◌∷◌, Some, None, true, false, OnOk};
+ghost use Rattle.dso_base.specs.Program.{is_thread};
 ghost use Rattle.dso_plain.specs.After as After;
 ghost use Rattle.dso_plain.specs.Keeps.{Agrees};
 ghost use Rattle.dso_plain.specs.Kept.{PastIsKept};
 ghost use Rattle.dso_plain.specs.State.{IsShared};
-ghost use Rattle.dso_plain.specs.Keys.{is_thread, is_view, writes, written};
+ghost use Rattle.dso_plain.specs.Keys.{is_view, writes, written};
 ghost use Rattle.dso_plain.specs.Tables.{state_of};
 
 use crate::fields::make_fields;

@@ -1,5 +1,5 @@
 -- The thread acts where all that its request needs is there.
-use Rattle.std.proofs.Common.{◌≡◌, refl, sym, ◌∙◌, ap, subst, Bool, true, false, ◌&&◌, ◌||◌, is_some, Option, Some, None, List, [], ◌∷◌, ◌++◌, map}
+use Rattle.std.proofs.Common.{ℤ, ◌≡◌, refl, sym, ◌∙◌, ap, subst, Bool, true, false, ◌&&◌, ◌||◌, is_some, Option, Some, None, List, [], ◌∷◌, ◌++◌, map}
 use Rattle.std.specs.Prelude.{filter}
 use Rattle.std.proofs.lemmas.List.{append-nil}
 use Rattle.dso_base.specs.declared.journal.Entry.{Entry}
@@ -23,9 +23,9 @@ use Rattle.dso_law.specs.Needs.{unmet}
 use Rattle.dso_law.specs.Replies.{reply_of, woken_by}
 use Rattle.dso_law.specs.ClientStep.{commits, returns, asks_again, may_act, Does}
 use Rattle.dso_legal.specs.Lawful.{next_after, MayFollow}
-use Rattle.dso_run.specs.declared.form.FirstPath.{FirstPath}
-use Rattle.dso_run.specs.Course.{Course, Asks, asked, answered, after}
-use Rattle.dso_run.specs.Counting.{the_thread, settings, next}
+use Rattle.dso_run.proofs.Course.{Course, Asks, asked, answered, after}
+use Rattle.dso_run.specs.Counter.{the_thread, settings}
+use Rattle.dso_run.proofs.Counting.{next}
 use Rattle.dso_run.specs.Steps.{own, act, event_with, can_tell, acts}
 use Rattle.dso_run.proofs.Now.{ThreadStage, RecordStage, WayStage, Now}
 
@@ -72,13 +72,13 @@ pub none_again : (before next : ThreadId → Option Request) (request : Option R
 none_again before next (Some (Enter l Write)) now es none = simp (none, and_false)
 none_again before next request now es none = refl
 
-module _ (p : FirstPath) (t : ThreadStage) (r : RecordStage) (w : WayStage) (es : List Entry) (now : Now p t r w es) where
+module _ (named : Bool) (numbers : List ℤ) (t : ThreadStage) (r : RecordStage) (w : WayStage) (es : List Entry) (now : Now named numbers t r w es) where
   kept : AreKept (own es)
   kept = record { granted = now.client.granted; monitor = now.client.monitor; root = now.client.root; monitor_kept = now.client.monitor_kept; root_kept = now.client.root_kept }
 
   module _ (request : Request) (rest : Reply → Course) (reply : Reply) (ups : List Up)
       (asks : t.course ≡ Asks request rest)
-      (met : unmet settings 1 (next_after (next p) es) the_thread request (own es) ≡ None)
+      (met : unmet settings 1 (next_after (next named numbers) es) the_thread request (own es) ≡ None)
       (replies : reply_of settings the_thread request (own es) ≡ Some reply)
       (wakes : woken_by request reply (own es) ≡ None)
       (sends : commits settings the_thread (event_with request reply) (own es) ≡ ups) where
@@ -89,26 +89,26 @@ module _ (p : FirstPath) (t : ThreadStage) (r : RecordStage) (w : WayStage) (es 
     still_kept = record { granted = kept.granted; monitor = kept.monitor; root = kept.root; monitor_kept = kept.monitor_kept; root_kept = kept.root_kept }
 
     abbrev later : ThreadId → Option Request
-    later = next_after (next p) (it ∷ es)
+    later = next_after (next named numbers) (it ∷ es)
 
     none_returned : returns settings 1 later (unsent it ∷ own es) ≡ []
     none_returned = simp (none_due later (unsent it ∷ own es) still_kept)
 
-    none_asked_again : asks_again settings 1 (next_after (next p) es) later (later the_thread) (unsent it ∷ own es) (own es) ≡ []
-    none_asked_again = none_again (next_after (next p) es) later (later the_thread) (unsent it ∷ own es) (own es) (none_due later (unsent it ∷ own es) still_kept)
+    none_asked_again : asks_again settings 1 (next_after (next named numbers) es) later (later the_thread) (unsent it ∷ own es) (own es) ≡ []
+    none_asked_again = none_again (next_after (next named numbers) es) later (later the_thread) (unsent it ∷ own es) (own es) (none_due later (unsent it ∷ own es) still_kept)
 
     sent_is : it.sent ≡ map ToServer (commits settings the_thread (Act the_thread request reply (woken_by request reply (own es))) (own es)
         ++ returns settings 1 later (unsent it ∷ own es)
-        ++ asks_again settings 1 (next_after (next p) es) later (later the_thread) (unsent it ∷ own es) (own es))
+        ++ asks_again settings 1 (next_after (next named numbers) es) later (later the_thread) (unsent it ∷ own es) (own es))
     sent_is = simp (wakes, sends, none_returned, none_asked_again, append-nil)
 
-    does : Does settings 1 the_thread request (next_after (next p) es) later it (own es)
+    does : Does settings 1 the_thread request (next_after (next named numbers) es) later it (own es)
     does = record { reply = reply; answered = replies; event = ap (λ woken. Some (Act the_thread request reply woken)) (sym wakes); sends = sent_is }
 
-    asks_now : next_after (next p) es the_thread ≡ Some request
+    asks_now : next_after (next named numbers) es the_thread ≡ Some request
     asks_now = ap asked (now.thread.course ∙ asks)
 
-    pub may_follow : MayFollow settings (next p) it es
+    pub may_follow : MayFollow settings (next named numbers) it es
     may_follow = record {
       channels = tt;
       clocks = refl;
@@ -116,9 +116,9 @@ module _ (p : FirstPath) (t : ThreadStage) (r : RecordStage) (w : WayStage) (es 
     }
 
     -- it is the client's next act
-    pub is_next : can_tell reply ≡ true → acts p es ≡ Some it
+    pub is_next : can_tell reply ≡ true → acts (next named numbers) es ≡ Some it
     is_next tells = rw asks_now (rw met (rw replies (rw tells (rw sends refl))))
 
     -- and the thread may act
-    pub is_open : may_act settings 1 (next_after (next p) es) the_thread (own es) ≡ true
+    pub is_open : may_act settings 1 (next_after (next named numbers) es) the_thread (own es) ≡ true
     is_open = rw asks_now (rw met (rw replies refl))

@@ -1,5 +1,5 @@
 -- What the thread's requests need and how they are answered, where the counter is shared and its monitor leased.
-use Rattle.std.proofs.Common.{ℕ, ◌≡◌, refl, ◌∙◌, ap, Bool, true, false, cond, not, ◌&&◌, ◌||◌, is_some, Option, Some, None, List, []}
+use Rattle.std.proofs.Common.{ℤ, ℕ, ◌≡◌, refl, ◌∙◌, ap, Bool, true, false, cond, not, ◌&&◌, ◌||◌, is_some, Option, Some, None, List, []}
 use Rattle.std.specs.Prelude.{option_map}
 use Rattle.dso_base.specs.declared.journal.Entry.{Entry}
 use Rattle.dso_base.specs.declared.lock.Level.{Level}
@@ -22,8 +22,8 @@ use Rattle.dso_law.specs.Closing.{is_read, awaits_write, is_closing, admits}
 use Rattle.dso_law.specs.Needs.{Need, NeedsObject, NeedsClass, NeedsLease, is_enough, unless, first_unmet, entry_need, look_need, access_need, is_seen_class, unmet, hold_level}
 use Rattle.dso_law.specs.Replies.{class_of_body, class_known, value_seen, value_in, put_reply, enter_reply, answer_put, reply_of}
 use Rattle.dso_legal.specs.Lawful.{next_after}
-use Rattle.dso_run.specs.declared.form.FirstPath.{FirstPath}
-use Rattle.dso_run.specs.Counting.{the_thread, settings, next}
+use Rattle.dso_run.specs.Counter.{the_thread, settings}
+use Rattle.dso_run.proofs.Counting.{next}
 use Rattle.dso_run.specs.Steps.{own}
 use Rattle.dso_run.proofs.Now.{ThreadStage, RecordStage, WayStage, Now}
 use Rattle.dso_run.proofs.Releasing.{plain_work}
@@ -32,7 +32,7 @@ cond_none : (b : Bool) → cond {A = Option Need} b None None ≡ None
 cond_none true = refl
 cond_none false = refl
 
-module _ (p : FirstPath) (t : ThreadStage) (r : RecordStage) (w : WayStage) (es : List Entry) (now : Now p t r w es)
+module _ (named : Bool) (numbers : List ℤ) (t : ThreadStage) (r : RecordStage) (w : WayStage) (es : List Entry) (now : Now named numbers t r w es)
     (sets : List Set) (outs : List Value) (works : worked settings.shape t.block (start []) ≡ plain_work sets outs) where
   work_is : work_of settings.shape the_thread (own es) ≡ plain_work sets outs
   work_is = rw now.thread.block (rw now.thread.privates works)
@@ -43,11 +43,11 @@ module _ (p : FirstPath) (t : ThreadStage) (r : RecordStage) (w : WayStage) (es 
   not_private : is_private settings.shape the_thread 1 (own es) ≡ false
   not_private = ap (λ (work : Work). is_some (body_in 1 work.privates)) work_is
 
-  look_met : look_need settings 1 (next_after (next p) es) the_thread 1 (own es) ≡ None
+  look_met : look_need settings 1 (next_after (next named numbers) es) the_thread 1 (own es) ≡ None
   look_met = ap (λ (body : Option Body). unless (is_some body || is_resident 1 (own es)) (NeedsObject 1)) none_own
       ∙ ap (λ (resident : Bool). unless resident (NeedsObject 1)) now.client.resident
 
-  pub look_needs : unmet settings 1 (next_after (next p) es) the_thread (Look 1) (own es) ≡ None
+  pub look_needs : unmet settings 1 (next_after (next named numbers) es) the_thread (Look 1) (own es) ≡ None
   look_needs = look_met
 
   class_is : class_known settings the_thread 1 (own es) ≡ Some (class.Plain 0, 1)
@@ -61,15 +61,15 @@ module _ (p : FirstPath) (t : ThreadStage) (r : RecordStage) (w : WayStage) (es 
     seen_is = ap (λ (class : Option (ClassId × ℕ)). is_seen_class class (last_seen the_thread (own es))) now.client.class
         ∙ ap (λ (look : Option (ClassId × ℕ)). is_seen_class (Some (class.Plain 0, 1)) look) (now.thread.look ∙ looked)
 
-    access_met : access_need settings 1 (next_after (next p) es) the_thread 1 (own es) ≡ None
+    access_met : access_need settings 1 (next_after (next named numbers) es) the_thread 1 (own es) ≡ None
     access_met = ap (λ (need : Option Need). first_unmet need (unless (is_some (own_body settings.shape the_thread 1 (own es)) || is_seen_class (class_held 1 (own es)) (last_seen the_thread (own es))) (NeedsClass 1))) look_met
         ∙ ap (λ (body : Option Body). unless (is_some body || is_seen_class (class_held 1 (own es)) (last_seen the_thread (own es))) (NeedsClass 1)) none_own
         ∙ ap (λ (seen : Bool). unless seen (NeedsClass 1)) seen_is
 
-    pub get_needs : unmet settings 1 (next_after (next p) es) the_thread (Get 1 0) (own es) ≡ None
+    pub get_needs : unmet settings 1 (next_after (next named numbers) es) the_thread (Get 1 0) (own es) ≡ None
     get_needs = access_met
 
-    pub put_needs : (v : Value) → unmet settings 1 (next_after (next p) es) the_thread (Put 1 0 v) (own es) ≡ None
+    pub put_needs : (v : Value) → unmet settings 1 (next_after (next named numbers) es) the_thread (Put 1 0 v) (own es) ≡ None
     put_needs v = access_met
 
   copy_is : copy_of 1 0 (own es) ≡ Some (value.Long r.held)
@@ -93,15 +93,15 @@ module _ (p : FirstPath) (t : ThreadStage) (r : RecordStage) (w : WayStage) (es 
   lease_is : leased (Mon 1) (own es) ≡ Some Write
   lease_is = ap (λ s. s.lease) now.client.monitor
 
-  open_is : is_closing settings 1 (next_after (next p) es) (Mon 1) (own es) ≡ false
-  open_is = ap (λ (recalled : Bool). recalled || (is_read (leased (Mon 1) (own es)) && has (awaits_write settings 1 (next_after (next p) es) (Mon 1) (own es)) (threads_of settings 1))) now.client.monitor_kept
-      ∙ ap (λ (lease : Option Level). is_read lease && has (awaits_write settings 1 (next_after (next p) es) (Mon 1) (own es)) (threads_of settings 1)) lease_is
+  open_is : is_closing settings 1 (next_after (next named numbers) es) (Mon 1) (own es) ≡ false
+  open_is = ap (λ (recalled : Bool). recalled || (is_read (leased (Mon 1) (own es)) && has (awaits_write settings 1 (next_after (next named numbers) es) (Mon 1) (own es)) (threads_of settings 1))) now.client.monitor_kept
+      ∙ ap (λ (lease : Option Level). is_read lease && has (awaits_write settings 1 (next_after (next named numbers) es) (Mon 1) (own es)) (threads_of settings 1)) lease_is
 
-  entry_met : entry_need settings 1 (next_after (next p) es) the_thread (Mon 1) Write (own es) ≡ None
-  entry_met = ap (λ (lease : Option Level). first_unmet (unless (is_enough Write lease && admits settings 1 (next_after (next p) es) (Mon 1) (own es)) (NeedsLease (Mon 1) Write)) None) lease_is
+  entry_met : entry_need settings 1 (next_after (next named numbers) es) the_thread (Mon 1) Write (own es) ≡ None
+  entry_met = ap (λ (lease : Option Level). first_unmet (unless (is_enough Write lease && admits settings 1 (next_after (next named numbers) es) (Mon 1) (own es)) (NeedsLease (Mon 1) Write)) None) lease_is
       ∙ ap (λ (closing : Bool). first_unmet (unless (not closing || not (is_entered (Mon 1) (own es))) (NeedsLease (Mon 1) Write)) None) open_is
 
-  pub enter_needs : unmet settings 1 (next_after (next p) es) the_thread (Enter (Mon 1) Write) (own es) ≡ None
+  pub enter_needs : unmet settings 1 (next_after (next named numbers) es) the_thread (Enter (Mon 1) Write) (own es) ≡ None
   enter_needs = ap (λ (need : Option Need). cond (is_private settings.shape the_thread 1 (own es) || is_some (hold_of the_thread (Mon 1) (own es))) None need) entry_met
       ∙ cond_none (is_private settings.shape the_thread 1 (own es) || is_some (hold_of the_thread (Mon 1) (own es)))
 

@@ -1,14 +1,24 @@
--- By the central law a lawful journal of the first path commits a legal history.
-use Rattle.std.proofs.Common.{List}
+-- By the central law a lawful journal of the counter's code commits a legal history.
+use Rattle.std.proofs.Common.{◌≡◌, ap, subst, List}
 use Rattle.dso_base.specs.declared.journal.Entry.{Entry}
+use Rattle.dso_base.specs.declared.shape.Shape.{Shape}
 use Rattle.dso_legal.specs.Central.{CommitsLegally}
 use Rattle.dso_legal.specs.Lawful.{IsLawful}
+use Rattle.dso_legal.specs.Program as law
 use Rattle.dso_legal.proofs.CentralLaw.{central_law}
-use Rattle.dso_run.specs.declared.form.FirstPath.{FirstPath}
-use Rattle.dso_run.specs.Counting.{settings, next}
+use Rattle.dso_machine.specs.declared.code.Code.{Code}
+use Rattle.dso_machine.specs.Next.{next_request}
+use Rattle.dso_machine.specs.Sound as machine
+use Rattle.dso_run.specs.Counter.{IsCounter, settings}
 use Rattle.dso_run.proofs.CalmRuns.{runs_without_waits, runs_without_losses}
-use Rattle.dso_run.proofs.Sound.{first_path_sound}
+use Rattle.dso_run.proofs.SoundCode.{sound_program}
 
--- A lawful journal of the first path commits a legal history, with a first part of each thread's events; all where it is finished.
-pub legal_by_law : (p : FirstPath) (es : List Entry) → IsLawful settings (next p) es → CommitsLegally settings (next p) es
-legal_by_law p es lawful = central_law settings (next p) (first_path_sound p) es lawful (runs_without_waits p es lawful.follow) (runs_without_losses p es lawful.follow)
+-- The counter's code, where it is sound, is a sound program of the settings' classes.
+counter_sound : (code : Code) → IsCounter code → machine.IsSound code → law.IsSound settings.shape (next_request code)
+counter_sound code counter sound =
+    let shape : code.shape ≡ settings.shape = ap (λ (c : Code). c.shape) counter.is in
+    subst (λ (shape : Shape). law.IsSound shape (next_request code)) shape (sound_program code sound)
+
+-- A lawful journal of the counter's code commits a legal history, with a first part of each thread's events; all where it is finished.
+pub legal_by_law : (code : Code) → IsCounter code → machine.IsSound code → (es : List Entry) → IsLawful settings (next_request code) es → CommitsLegally settings (next_request code) es
+legal_by_law code counter sound es lawful = central_law settings (next_request code) (counter_sound code counter sound) es lawful (runs_without_waits code counter es lawful.follow) (runs_without_losses code es lawful.follow)

@@ -1,5 +1,5 @@
 -- A call of the counter's method, from where the server took the record before it.
-use Rattle.std.proofs.Common.{ℕ, suc, refl, Option, Some, List, [], ◌∷◌, ℤ}
+use Rattle.std.proofs.Common.{ℕ, suc, refl, Option, Some, List, [], ◌∷◌, ℤ, Bool}
 use Rattle.std.specs.Prelude.{max}
 use Rattle.dso_base.specs.declared.journal.Entry.{Entry}
 use Rattle.dso_base.specs.declared.record.Txn.{Txn}
@@ -9,9 +9,9 @@ use Rattle.dso_base.specs.declared.value.ClassId.{ClassId}
 use Rattle.dso_base.specs.declared.value.ClassId.TheVariants as class
 use Rattle.dso_law.specs.ClientStep.{may_act}
 use Rattle.dso_legal.specs.Lawful.{next_after}
-use Rattle.dso_run.specs.declared.form.FirstPath.{FirstPath}
-use Rattle.dso_run.specs.Course.{Course}
-use Rattle.dso_run.specs.Counting.{the_thread, settings, next, fails, if_seen, runs_method, calls}
+use Rattle.dso_run.proofs.Course.{Course}
+use Rattle.dso_run.specs.Counter.{the_thread, settings}
+use Rattle.dso_run.proofs.Counting.{next, fails, if_counter, runs_method, calls}
 use Rattle.dso_run.specs.Steps.{own, act, event_with}
 use Rattle.dso_run.proofs.Now.{ThreadStage, RecordStage, WayStage, Now}
 use Rattle.dso_run.proofs.Answering as Answering
@@ -23,10 +23,10 @@ use Rattle.dso_run.proofs.Quiet.{going}
 use Rattle.dso_run.proofs.Calls.{between, all_taken, acknowledged, called_inside}
 use Rattle.dso_run.proofs.Sums.{sum}
 
-module _ {p : FirstPath} (n : ℤ) (rest : Course) (look : Option (ClassId × ℕ)) (v : ℤ) (s : ℕ) (txn : Txn) (k c a : ℕ) {es : List Entry}
-    (now_0 : Now p (between (calls 1 n rest) look) (all_taken v s txn) (acknowledged txn.seq k c a) es) where
+module _ {named : Bool} {numbers : List ℤ} (n : ℤ) (rest : Course) (look : Option (ClassId × ℕ)) (v : ℤ) (s : ℕ) (txn : Txn) (k c a : ℕ) {es : List Entry}
+    (now_0 : Now named numbers (between (calls named 1 n rest) look) (all_taken v s txn) (acknowledged txn.seq k c a) es) where
   abbrev t_0 : ThreadStage
-  t_0 = between (calls 1 n rest) look
+  t_0 = between (calls named 1 n rest) look
 
   abbrev r_0 : RecordStage
   r_0 = all_taken v s txn
@@ -39,24 +39,24 @@ module _ {p : FirstPath} (n : ℤ) (rest : Course) (look : Option (ClassId × �
   es_1 = act [] (Some (event_with (Look 1) (Seen (class.Plain 0) 1))) es ∷ es
 
   abbrev t_1 : ThreadStage
-  t_1 = goes_on t_0 (Look 1) (Seen (class.Plain 0) 1) ((if_seen fails (runs_method 1 n rest)) (Seen (class.Plain 0) 1))
+  t_1 = goes_on t_0 (Look 1) (Seen (class.Plain 0) 1) ((if_counter fails (runs_method named 1 n rest)) (Seen (class.Plain 0) 1))
 
   abbrev w_1 : WayStage
   w_1 = acted w_0
 
-  step_1 : Step p es (act [] (Some (event_with (Look 1) (Seen (class.Plain 0) 1))) es)
-  step_1 = Quiet.after_up now_0 (Look 1) (if_seen fails (runs_method 1 n rest)) (Seen (class.Plain 0) 1) refl
-      (Answering.look_needs p t_0 r_0 w_0 es now_0 [] [] refl)
-      (Answering.look_replies p t_0 r_0 w_0 es now_0 [] [] refl) refl refl refl refl refl
+  step_1 : Step named numbers es (act [] (Some (event_with (Look 1) (Seen (class.Plain 0) 1))) es)
+  step_1 = Quiet.after_up now_0 (Look 1) (if_counter fails (runs_method named 1 n rest)) (Seen (class.Plain 0) 1) refl
+      (Answering.look_needs named numbers t_0 r_0 w_0 es now_0 [] [] refl)
+      (Answering.look_replies named numbers t_0 r_0 w_0 es now_0 [] [] refl) refl refl refl refl refl
 
-  now_1 : Now p t_1 r_0 w_1 es_1
-  now_1 = Quiet.still now_0 (Look 1) (if_seen fails (runs_method 1 n rest)) (Seen (class.Plain 0) 1) refl
-      (Answering.look_needs p t_0 r_0 w_0 es now_0 [] [] refl)
-      (Answering.look_replies p t_0 r_0 w_0 es now_0 [] [] refl) refl refl refl refl
+  now_1 : Now named numbers t_1 r_0 w_1 es_1
+  now_1 = Quiet.still now_0 (Look 1) (if_counter fails (runs_method named 1 n rest)) (Seen (class.Plain 0) 1) refl
+      (Answering.look_needs named numbers t_0 r_0 w_0 es now_0 [] [] refl)
+      (Answering.look_replies named numbers t_0 r_0 w_0 es now_0 [] [] refl) refl refl refl refl
 
   -- the acknowledgement of the record before is taken
   abbrev es_2 : List Entry
-  es_2 = Hearing.it p t_1 r_0 w_1 es_1 now_1 txn [] k [] refl refl ∷ es_1
+  es_2 = Hearing.it named numbers t_1 r_0 w_1 es_1 now_1 txn [] k [] refl refl ∷ es_1
 
   abbrev t_2 : ThreadStage
   t_2 = t_1
@@ -67,14 +67,14 @@ module _ {p : FirstPath} (n : ℤ) (rest : Course) (look : Option (ClassId × �
   abbrev w_2 : WayStage
   w_2 = Hearing.heard w_1 k []
 
-  step_2 : Step p es_1 (Hearing.it p t_1 r_0 w_1 es_1 now_1 txn [] k [] refl refl)
-  step_2 = down_after_act p t_1 r_0 w_1 es_1 now_1 (Hearing.it p t_1 r_0 w_1 es_1 now_1 txn [] k [] refl refl) (may_act settings 1 (next_after (next p) es_1) the_thread (own es_1)) _ _ refl refl
-      (Hearing.is_next p t_1 r_0 w_1 es_1 now_1 txn [] k [] refl refl) refl (Hearing.may_follow p t_1 r_0 w_1 es_1 now_1 txn [] k [] refl refl) (going now_1 refl) refl refl refl
+  step_2 : Step named numbers es_1 (Hearing.it named numbers t_1 r_0 w_1 es_1 now_1 txn [] k [] refl refl)
+  step_2 = down_after_act named numbers t_1 r_0 w_1 es_1 now_1 (Hearing.it named numbers t_1 r_0 w_1 es_1 now_1 txn [] k [] refl refl) (may_act settings 1 (next_after (next named numbers) es_1) the_thread (own es_1)) _ _ refl refl
+      (Hearing.is_next named numbers t_1 r_0 w_1 es_1 now_1 txn [] k [] refl refl) refl (Hearing.may_follow named numbers t_1 r_0 w_1 es_1 now_1 txn [] k [] refl refl) (going now_1 refl) refl refl refl
 
-  now_2 : Now p t_2 r_2 w_2 es_2
-  now_2 = Hearing.still p t_1 r_0 w_1 es_1 now_1 txn [] k [] refl refl
+  now_2 : Now named numbers t_2 r_2 w_2 es_2
+  now_2 = Hearing.still named numbers t_1 r_0 w_1 es_1 now_1 txn [] k [] refl refl
 
   -- A call from where the server took the record before it.
   pub called : ((next_txn : Txn) (next_k next_c next_a : ℕ) (later : List Entry)
-      → Now p (between rest (Some (class.Plain 0, 1))) (all_taken (sum v n) (suc s) next_txn) (acknowledged next_txn.seq next_k next_c next_a) later → Goes p later) → Goes p es
+      → Now named numbers (between rest (Some (class.Plain 0, 1))) (all_taken (sum v n) (suc s) next_txn) (acknowledged next_txn.seq next_k next_c next_a) later → Goes named numbers later) → Goes named numbers es
   called on = goes _ step_1 (goes _ step_2 (called_inside n rest v s (suc (max (suc c) k)) a now_2 on))

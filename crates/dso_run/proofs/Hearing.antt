@@ -1,5 +1,5 @@
 -- The client takes an acknowledgement.
-use Rattle.std.proofs.Common.{ℕ, suc, ◌≡◌, refl, sym, ◌∙◌, ap, subst, Option, Some, None, List, [], ◌∷◌, map, drop}
+use Rattle.std.proofs.Common.{ℤ, ℕ, suc, ◌≡◌, refl, sym, ◌∙◌, ap, subst, Option, Some, None, List, [], ◌∷◌, map, drop, Bool}
 use Rattle.std.specs.Prelude.{max}
 use Rattle.dso_base.specs.declared.journal.Entry.{Entry}
 use Rattle.dso_base.specs.declared.journal.Input.TheVariants as input
@@ -16,8 +16,8 @@ use Rattle.dso_law.specs.FitsDown.{FitsAck}
 use Rattle.dso_law.specs.ClientStep.{returns}
 use Rattle.dso_legal.specs.Lawful.{next_after, MayFollow}
 use Rattle.dso_legal.specs.Slots.{TakesDown}
-use Rattle.dso_run.specs.declared.form.FirstPath.{FirstPath}
-use Rattle.dso_run.specs.Counting.{settings, next}
+use Rattle.dso_run.specs.Counter.{settings}
+use Rattle.dso_run.proofs.Counting.{next}
 use Rattle.dso_run.specs.Steps.{own, made, taking_down, takes_down}
 use Rattle.dso_run.proofs.Now.{ThreadStage, RecordStage, WayStage, ThreadNow, ClientNow, SentNow, ServerNow, WayNow, Now}
 use Rattle.dso_run.proofs.Acting.{AreKept, none_due}
@@ -30,7 +30,7 @@ with_ack r txns = record { held = r.held; stored = r.stored; sent = r.sent; take
 abbrev pub heard : WayStage → ℕ → List (Letter Down) → WayStage
 heard w clock downs = record { up = w.up; down = downs; client = suc (max w.client clock); server = w.server; last = TakesDown 1 }
 
-module _ (p : FirstPath) (t : ThreadStage) (r : RecordStage) (w : WayStage) (es : List Entry) (now : Now p t r w es) (txn : Txn) (txns : List Txn) (clock : ℕ) (downs : List (Letter Down))
+module _ (named : Bool) (numbers : List ℤ) (t : ThreadStage) (r : RecordStage) (w : WayStage) (es : List Entry) (now : Now named numbers t r w es) (txn : Txn) (txns : List Txn) (clock : ℕ) (downs : List (Letter Down))
     (waits : r.unacked ≡ txn ∷ txns) (comes : w.down ≡ record { message = down.Ack txn.seq; clock = clock } ∷ downs) where
   abbrev pub it : Entry
   it = made (Client 1) clock (input.TookDown (down.Ack txn.seq)) [] None es
@@ -39,7 +39,7 @@ module _ (p : FirstPath) (t : ThreadStage) (r : RecordStage) (w : WayStage) (es 
   still_kept = record { granted = now.client.granted; monitor = now.client.monitor; root = now.client.root; monitor_kept = now.client.monitor_kept; root_kept = now.client.root_kept }
 
   abbrev later : ThreadId → Option Request
-  later = next_after (next p) (it ∷ es)
+  later = next_after (next named numbers) (it ∷ es)
 
   sends : it.sent ≡ map ToServer (returns settings 1 later (unsent it ∷ own es))
   sends = simp (none_due later (unsent it ∷ own es) still_kept)
@@ -50,7 +50,7 @@ module _ (p : FirstPath) (t : ThreadStage) (r : RecordStage) (w : WayStage) (es 
   first : IsFirst (down.Ack txn.seq) (way_down 1 es)
   first = subst (λ (letters : List (Letter Down)). IsFirst (down.Ack txn.seq) letters) (sym way_is) refl
 
-  pub may_follow : MayFollow settings (next p) it es
+  pub may_follow : MayFollow settings (next named numbers) it es
   may_follow = record {
     channels = first;
     clocks = ap (λ (heard_clock : ℕ). suc (max (last_clock (Client 1) es) heard_clock)) (sym (ap first_clock way_is));
@@ -60,7 +60,7 @@ module _ (p : FirstPath) (t : ThreadStage) (r : RecordStage) (w : WayStage) (es 
   pub is_next : takes_down es ≡ Some it
   is_next = ap (λ (letters : List (Letter Down)). taking_down letters es) way_is
 
-  thread_now : ThreadNow p t (it ∷ own es)
+  thread_now : ThreadNow named numbers t (it ∷ own es)
   thread_now = record { course = now.thread.course; locks = now.thread.locks; block = now.thread.block; privates = now.thread.privates; look = now.thread.look; over = now.thread.over }
 
   client_now : ClientNow (it ∷ own es)
@@ -102,5 +102,5 @@ module _ (p : FirstPath) (t : ThreadStage) (r : RecordStage) (w : WayStage) (es 
     last = refl;
   }
 
-  pub still : Now p t (with_ack r txns) (heard w clock downs) (it ∷ es)
+  pub still : Now named numbers t (with_ack r txns) (heard w clock downs) (it ∷ es)
   still = record { thread = thread_now; client = client_now; sent = sent_now; server = server_now; ways = ways_now }

@@ -1,13 +1,13 @@
 -- What was read of the two files, one after the other, and what it comes to.
 use Rattle.std.proofs.Common.{◌≡◌, ℕ, List, [], subst, Result, Ok, Err, IfOk}
 use Rattle.dso_base.specs.declared.no_memory.NoMemory.{NoMemory}
-use Rattle.dso_run.specs.declared.main_call.Judged.{Judged}
-use Rattle.dso_run.specs.declared.main_call.Judged.TheVariants.{Refused, Accepted}
+use Rattle.dso_run.specs.declared.verdict.Judged.{Judged}
+use Rattle.dso_run.specs.declared.verdict.Judged.TheVariants.{Refused, Accepted}
 use Rattle.dso_run.specs.declared.status.ConfigFault.TheVariants as config
-use Rattle.dso_run.specs.declared.status.ProgramFault.TheVariants as program
 use Rattle.dso_run.specs.declared.status.Refusal.TheVariants.{Words, Reading, Config, Program}
-use Rattle.dso_run.specs.Answer.{WereRead, IsVerdict, IsVerdictOfTexts}
+use Rattle.dso_run.specs.Answer.{WereRead, IsVerdict}
 use Rattle.dso_run.specs.Outside.{Told, MayGive}
+use Rattle.dso_run.specs.Verdict.{IsVerdictOfTexts}
 use Rattle.dso_run.specs.Words.{AreSim}
 
 -- the first read changed no file, so the second gave what the program's file had before it
@@ -38,15 +38,15 @@ verdict content words rose config_bytes program_bytes read (Refused (Config conf
   read = read;
   given = given;
 }
-verdict content words rose config_bytes program_bytes read (Refused (Program program.NotBuilt)) is = record {
+verdict content words rose config_bytes program_bytes read (Refused (Program fault)) is = record {
   program_bytes = program_bytes;
   read = emptied content words config_bytes program_bytes read is.0;
-  unformed = is.1;
+  refused = is.1;
 }
 verdict content words rose config_bytes program_bytes read (Accepted p) is = record {
   program_bytes = program_bytes;
   read = emptied content words config_bytes program_bytes read is.0;
-  formed = is.1;
+  taken = is.1;
 }
 
 -- the same of a result, where memory may have run out

@@ -1,5 +1,5 @@
 -- Where a run stands after an act that ends no block.
-use Rattle.std.proofs.Common.{ℕ, suc, ◌≡◌, refl, ◌∙◌, ap, arith, Bool, true, false, cond, ◌||◌, is_some, Option, Some, None, List, [], ◌∷◌, ◌++◌}
+use Rattle.std.proofs.Common.{ℤ, ℕ, suc, ◌≡◌, refl, ◌∙◌, ap, arith, Bool, true, false, cond, ◌||◌, is_some, Option, Some, None, List, [], ◌∷◌, ◌++◌}
 use Rattle.std.specs.Prelude.{max}
 use Rattle.dso_base.specs.declared.journal.Entry.{Entry}
 use Rattle.dso_base.specs.declared.journal.Node.TheVariants.{Client}
@@ -13,9 +13,9 @@ use Rattle.dso_law.specs.Entries.{events_in}
 use Rattle.dso_law.specs.Channels.{last_clock}
 use Rattle.dso_law.specs.Threads.{locks_of, locks_by, ending_of, seen_by, open_block, privates_before}
 use Rattle.dso_legal.specs.Slots.{Acts, is_end, ends}
-use Rattle.dso_run.specs.declared.form.FirstPath.{FirstPath}
-use Rattle.dso_run.specs.Course.{Course, Asks, answered}
-use Rattle.dso_run.specs.Counting.{the_thread, settings, course}
+use Rattle.dso_run.proofs.Course.{Course, Asks, answered}
+use Rattle.dso_run.specs.Counter.{the_thread, settings}
+use Rattle.dso_run.proofs.Counting.{course}
 use Rattle.dso_run.specs.Steps.{own, act, event_with}
 use Rattle.dso_run.proofs.Now.{ThreadStage, RecordStage, WayStage, ThreadNow, ClientNow, SentNow, WayNow, Now}
 use Rattle.dso_run.proofs.Acting.{after_one}
@@ -43,7 +43,7 @@ has_one_more (first ∷ rest) event = ap (λ (b : Bool). ends first || b) (has_o
 pub max_zero : (n : ℕ) → max n 0 ≡ n
 max_zero n = omega arith
 
-module _ (p : FirstPath) (t : ThreadStage) (r : RecordStage) (w : WayStage) (es : List Entry) (now : Now p t r w es) (request : Request) (rest : Reply → Course) (reply : Reply)
+module _ (named : Bool) (numbers : List ℤ) (t : ThreadStage) (r : RecordStage) (w : WayStage) (es : List Entry) (now : Now named numbers t r w es) (request : Request) (rest : Reply → Course) (reply : Reply)
     (asks : t.course ≡ Asks request rest) (stays : ending_of (event_with request reply) t.locks ≡ None) where
   abbrev pub it : Entry
   it = act [] (Some (event_with request reply)) es
@@ -60,9 +60,9 @@ module _ (p : FirstPath) (t : ThreadStage) (r : RecordStage) (w : WayStage) (es 
       (worked settings.shape (open_block the_thread (own es) ++ event_with request reply ∷ []) (start (privates_before settings.shape the_thread (own es)))).privates
       (privates_before settings.shape the_thread (own es))) no_ending ∙ now.thread.privates
 
-  thread_now : ThreadNow p (goes_on t request reply (rest reply)) (it ∷ own es)
+  thread_now : ThreadNow named numbers (goes_on t request reply (rest reply)) (it ∷ own es)
   thread_now = record {
-    course = after_one (course p) (events_in the_thread (own es)) request reply ∙ ap (λ c. answered c reply) (now.thread.course ∙ asks);
+    course = after_one (course named numbers) (events_in the_thread (own es)) request reply ∙ ap (λ c. answered c reply) (now.thread.course ∙ asks);
     locks = ap (locks_by request reply) now.thread.locks;
     block = block_is;
     privates = privates_are;
@@ -90,5 +90,5 @@ module _ (p : FirstPath) (t : ThreadStage) (r : RecordStage) (w : WayStage) (es 
   ways_now : WayNow (acted w) (it ∷ es)
   ways_now = record { up = now.ways.up; down = now.ways.down; client = ap suc (max_zero (last_clock (Client 1) es) ∙ now.ways.client); server = now.ways.server; last = refl }
 
-  pub still : Now p (goes_on t request reply (rest reply)) r (acted w) (it ∷ es)
+  pub still : Now named numbers (goes_on t request reply (rest reply)) r (acted w) (it ∷ es)
   still = record { thread = thread_now; client = client_now; sent = sent_now; server = now.server; ways = ways_now }

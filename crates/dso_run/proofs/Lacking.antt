@@ -13,7 +13,7 @@ use Rattle.dso_law.specs.Threads.{Held, is_private, hold_of, locks_of}
 use Rattle.dso_law.specs.Needs.{Need, first_unmet, hold_level}
 use Rattle.dso_law.specs.Replies.{put_reply, answer_put, reply_of}
 use Rattle.dso_run.specs.declared.turn.Turn.{Turn}
-use Rattle.dso_run.specs.Counting.{the_thread, settings}
+use Rattle.dso_run.specs.Counter.{the_thread, settings}
 use Rattle.dso_run.specs.Steps.{can_tell, tellable}
 use Rattle.dso_run.specs.Turns.{answering, lacking, turn_by}
 

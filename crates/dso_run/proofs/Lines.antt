@@ -6,8 +6,8 @@ use Rattle.std.proofs.lemmas.List.{flat_map_more, map-append}
 use Rattle.std.proofs.lemmas.Option.{get_or_from_slice_get, slice_get_within}
 use Rattle.std.proofs.lemmas.List.Elements.{All-append}
 use Rattle.dso_base.specs.declared.lock.ThreadId.{ThreadId}
+use Rattle.dso_class.specs.declared.program.Names.{Names}
 use Rattle.dso_plain.specs.State.{PlainState}
-use Rattle.dso_run.specs.declared.program_names.Names.{Names}
 use Rattle.dso_run.specs.declared.thread_lines.Standing.{Standing}
 use Rattle.dso_run.specs.Report.{HasStanding, IsThreadsText, thread_text}
 

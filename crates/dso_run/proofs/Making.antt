@@ -4,8 +4,10 @@ use Rattle.dso_base.specs.declared.journal.Entry.{Entry}
 use Rattle.dso_base.specs.declared.journal.Input.TheVariants as input
 use Rattle.dso_base.specs.declared.journal.Node.TheVariants.{Server, Client}
 use Rattle.dso_base.specs.declared.journal.Sent.TheVariants.{ToClient}
+use Rattle.dso_base.specs.declared.lock.ThreadId.{ThreadId}
 use Rattle.dso_base.specs.declared.message.Down.{Down}
 use Rattle.dso_base.specs.declared.message.Up.{Up}
+use Rattle.dso_base.specs.declared.request.Event.{Event}
 use Rattle.dso_base.specs.declared.request.Reply.{Reply}
 use Rattle.dso_base.specs.declared.request.Request.{Request}
 use Rattle.dso_law.specs.Settings.{Each}
@@ -15,11 +17,11 @@ use Rattle.dso_law.specs.Needs.{Need, unmet, ask_for}
 use Rattle.dso_law.specs.Replies.{reply_of}
 use Rattle.dso_legal.specs.Lawful.{next_after}
 use Rattle.dso_legal.specs.Slots.{is_any}
-use Rattle.dso_run.specs.declared.form.FirstPath.{FirstPath}
-use Rattle.dso_run.specs.Counting.{the_thread, settings, next}
+use Rattle.dso_run.specs.Counter.{the_thread, settings}
 use Rattle.dso_run.specs.Steps.{own, made, tellable, act_with, act_asking, act_by, act_on, acts, taking_down, takes_down, answer_to, taking_up, takes_up}
 use Rattle.dso_run.specs.Turns.{asking, answering, asks, turn_by, turn_of, entry_by}
 
+-- a reply, a message or neither makes the turn's entry
 with_turn : (request : Request) (reply : Option Reply) (es : List Entry) → act_with request reply es ≡ entry_by request (answering reply) es
 with_turn request None es = refl
 with_turn request (Some reply) es = refl
@@ -32,14 +34,16 @@ by_turn : (request : Request) (need : Option Need) (es : List Entry) → act_by 
 by_turn request None es = with_turn request (tellable (reply_of settings the_thread request (own es))) es
 by_turn request (Some need) es = asking_turn request (ask_for need (own es)) es
 
--- the act is that of the turn of the thread's next request
-pub acts_by_turn : (p : FirstPath) (request : Request) (es : List Entry) → next_after (next p) es the_thread ≡ Some request → acts p es ≡ entry_by request (turn_of request (own es)) es
-acts_by_turn p request es asked = ap (λ (r : Option Request). act_on p r es) asked
-    ∙ ap (λ (r : Option Request). act_by request (unmet settings 1 (λ t. r) the_thread request (own es)) es) asked
-    ∙ by_turn request (unmet settings 1 (asking request) the_thread request (own es)) es
+module _ (next : ThreadId → List Event → Option Request) where
+  -- the act is that of the turn of the thread's next request
+  pub acts_by_turn : (request : Request) (es : List Entry) → next_after next es the_thread ≡ Some request → acts next es ≡ entry_by request (turn_of request (own es)) es
+  acts_by_turn request es asked = ap (λ (r : Option Request). act_on next r es) asked
+      ∙ ap (λ (r : Option Request). act_by request (unmet settings 1 (λ t. r) the_thread request (own es)) es) asked
+      ∙ by_turn request (unmet settings 1 (asking request) the_thread request (own es)) es
 
-pub no_act : (p : FirstPath) (es : List Entry) → next_after (next p) es the_thread ≡ None → acts p es ≡ None
-no_act p es none = ap (λ (r : Option Request). act_on p r es) none
+  -- a thread that asks nothing has no act
+  pub no_act : (es : List Entry) → next_after next es the_thread ≡ None → acts next es ≡ None
+  no_act es none = ap (λ (r : Option Request). act_on next r es) none
 
 down_none : (letters : List (Letter Down)) (es : List Entry) → first_letter letters ≡ None → taking_down letters es ≡ None
 down_none [] es h = refl

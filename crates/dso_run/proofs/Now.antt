@@ -24,9 +24,9 @@ use Rattle.dso_law.specs.Served.{counted, is_lost, last_number, is_ended}
 use Rattle.dso_law.specs.Store.{stored, holds_object}
 use Rattle.dso_law.specs.Serving.{standing_with}
 use Rattle.dso_legal.specs.Slots.{Slot, ends}
-use Rattle.dso_run.specs.declared.form.FirstPath.{FirstPath}
-use Rattle.dso_run.specs.Course.{Course, after}
-use Rattle.dso_run.specs.Counting.{the_thread, settings, course}
+use Rattle.dso_run.proofs.Course.{Course, after}
+use Rattle.dso_run.specs.Counter.{the_thread, settings}
+use Rattle.dso_run.proofs.Counting.{course}
 use Rattle.dso_run.specs.Rounds.{last_slot}
 
 -- how the thread stands: its course, its locks, its open block, its latest Look, whether it has ended
@@ -60,8 +60,8 @@ abbrev pub counter : ℤ → Body
 counter v = record { object = 1; class = class.Plain 0; values = value.Long v ∷ [] }
 
 -- the thread's readings, over the client's entries
-pub record ThreadNow (p : FirstPath) (k : ThreadStage) (es : List Entry) : Type 0 where
-  pub course : after (course p) (events_in the_thread es) ≡ k.course
+pub record ThreadNow (named : Bool) (numbers : List ℤ) (k : ThreadStage) (es : List Entry) : Type 0 where
+  pub course : after (course named numbers) (events_in the_thread es) ≡ k.course
   pub locks : locks_of the_thread es ≡ k.locks
   pub block : open_block the_thread es ≡ k.block
   pub privates : privates_before settings.shape the_thread es ≡ []
@@ -108,8 +108,8 @@ pub record WayNow (k : WayStage) (es : List Entry) : Type 0 where
   pub last : last_slot es ≡ Some k.last
 
 -- all of them
-pub record Now (p : FirstPath) (t : ThreadStage) (r : RecordStage) (w : WayStage) (es : List Entry) : Type 0 where
-  pub thread : ThreadNow p t (entries_of (Client 1) es)
+pub record Now (named : Bool) (numbers : List ℤ) (t : ThreadStage) (r : RecordStage) (w : WayStage) (es : List Entry) : Type 0 where
+  pub thread : ThreadNow named numbers t (entries_of (Client 1) es)
   pub client : ClientNow (entries_of (Client 1) es)
   pub sent : SentNow r (entries_of (Client 1) es)
   pub server : ServerNow r (entries_of Server es)

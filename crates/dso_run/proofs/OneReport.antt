@@ -5,9 +5,9 @@ use Rattle.std.proofs.lemmas.Bool.{cases_lt}
 use Rattle.std.proofs.lemmas.Option.{slice_get_past}
 use Rattle.dso_base.specs.declared.lock.ThreadId.{ThreadId}
 use Rattle.dso_base.specs.declared.request.Fault.{Fault}
+use Rattle.dso_class.specs.declared.program.Names.{Names}
 use Rattle.dso_plain.specs.State.{PlainState}
 use Rattle.dso_run.specs.Numbering.{IsOrder, visit, visited}
-use Rattle.dso_run.specs.declared.program_names.Names.{Names}
 use Rattle.dso_run.specs.declared.thread_lines.Standing.{Standing}
 use Rattle.dso_run.specs.declared.thread_lines.Standing.TheVariants.{Ended, Faulted, Lost, Waiting, Open}
 use Rattle.dso_run.specs.Report.{HasStanding, IsThreadsText, IsReport, thread_text, unguarded_line, graph_text}

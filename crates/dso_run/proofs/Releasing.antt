@@ -20,9 +20,9 @@ use Rattle.dso_law.specs.Threads.{locks_of, locks_by, ending_of, seen_by, open_b
 use Rattle.dso_law.specs.Records.{records}
 use Rattle.dso_law.specs.ClientStep.{record_of, commits}
 use Rattle.dso_legal.specs.Slots.{Acts, is_end}
-use Rattle.dso_run.specs.declared.form.FirstPath.{FirstPath}
-use Rattle.dso_run.specs.Course.{Course, Asks, answered}
-use Rattle.dso_run.specs.Counting.{the_thread, settings, course}
+use Rattle.dso_run.proofs.Course.{Course, Asks, answered}
+use Rattle.dso_run.specs.Counter.{the_thread, settings}
+use Rattle.dso_run.proofs.Counting.{course}
 use Rattle.dso_run.specs.Steps.{own, act, event_with}
 use Rattle.dso_run.proofs.Now.{ThreadStage, RecordStage, WayStage, ThreadNow, ClientNow, SentNow, ServerNow, WayNow, Now}
 use Rattle.dso_run.proofs.Acting.{after_one}
@@ -48,7 +48,7 @@ with_record r txn held = record { held = held; stored = r.stored; sent = suc r.s
 abbrev pub sends_record : WayStage → Txn → WayStage
 sends_record w txn = record { up = w.up ++ record { message = up.Commit txn; clock = suc w.client } ∷ []; down = w.down; client = suc w.client; server = w.server; last = Acts the_thread }
 
-module _ (p : FirstPath) (t : ThreadStage) (r : RecordStage) (w : WayStage) (es : List Entry) (now : Now p t r w es) (request : Request) (rest : Reply → Course) (reply : Reply)
+module _ (named : Bool) (numbers : List ℤ) (t : ThreadStage) (r : RecordStage) (w : WayStage) (es : List Entry) (now : Now named numbers t r w es) (request : Request) (rest : Reply → Course) (reply : Reply)
     (asks : t.course ≡ Asks request rest) (sets : List Set) (outs : List Value) (ending : Ending) (held : ℤ)
     (ends : ending_of (event_with request reply) t.locks ≡ Some ending)
     (works : worked settings.shape (t.block ++ event_with request reply ∷ []) (start []) ≡ plain_work sets outs)
@@ -78,9 +78,9 @@ module _ (p : FirstPath) (t : ThreadStage) (r : RecordStage) (w : WayStage) (es 
       (worked settings.shape (open_block the_thread (own es) ++ event_with request reply ∷ []) (start (privates_before settings.shape the_thread (own es)))).privates
       (privates_before settings.shape the_thread (own es))) is_ending ∙ ap (λ (work : Work). work.privates) work_is
 
-  thread_now : ThreadNow p (released t request reply (rest reply)) (it ∷ own es)
+  thread_now : ThreadNow named numbers (released t request reply (rest reply)) (it ∷ own es)
   thread_now = record {
-    course = after_one (course p) (events_in the_thread (own es)) request reply ∙ ap (λ c. answered c reply) (now.thread.course ∙ asks);
+    course = after_one (course named numbers) (events_in the_thread (own es)) request reply ∙ ap (λ c. answered c reply) (now.thread.course ∙ asks);
     locks = ap (locks_by request reply) now.thread.locks;
     block = block_is;
     privates = privates_are;
@@ -135,5 +135,5 @@ module _ (p : FirstPath) (t : ThreadStage) (r : RecordStage) (w : WayStage) (es 
     rejoins = now.server.rejoins;
   }
 
-  pub still : Now p (released t request reply (rest reply)) (with_record r txn held) (sends_record w txn) (it ∷ es)
+  pub still : Now named numbers (released t request reply (rest reply)) (with_record r txn held) (sends_record w txn) (it ∷ es)
   still = record { thread = thread_now; client = client_now; sent = sent_now; server = server_now; ways = ways_now }

@@ -1,5 +1,5 @@
 -- The client and the server of the first path have room for a million entries. Entries stand with the newest first.
-use Rattle.std.proofs.Common.{ℕ, suc, ◌≡◌, ◌+◌, ◌*◌, ◌≤◌, ◌<◌, ◌^◌, subst, arith, Option, Some, None, List, [], ◌∷◌, ◌++◌, length, map, drop}
+use Rattle.std.proofs.Common.{ℤ, ℕ, suc, ◌≡◌, ◌+◌, ◌*◌, ◌≤◌, ◌<◌, ◌^◌, subst, arith, Option, Some, None, List, [], ◌∷◌, ◌++◌, length, map, drop, Bool}
 use Rattle.dso_base.specs.declared.journal.Entry.{Entry}
 use Rattle.dso_base.specs.declared.journal.Input.TheVariants as input
 use Rattle.dso_base.specs.declared.journal.Node.TheVariants.{Server, Client}
@@ -25,8 +25,8 @@ use Rattle.dso_law.specs.Threads.{ending_of, locks_of}
 use Rattle.dso_law.specs.ClientStep.{record_of}
 use Rattle.dso_legal.specs.Lawful.{next_after}
 use Rattle.dso_legal.specs.Slots.{Slot, Acts, TakesDown, Flushes, TakesUp, Loses, Breaks}
-use Rattle.dso_run.specs.declared.form.FirstPath.{FirstPath}
-use Rattle.dso_run.specs.Counting.{the_thread, settings, next}
+use Rattle.dso_run.specs.Counter.{the_thread, settings}
+use Rattle.dso_run.proofs.Counting.{next}
 use Rattle.dso_run.specs.Rounds.{last_slot}
 use Rattle.dso_run.specs.Room.{HasRoom, AreMade}
 use Rattle.dso_run.specs.Steps.{own, made, act, event_with, act_with, act_asking, act_by, act_on, acts, taking_down, takes_down, tellable, object_of, answer_to, taking_up, takes_up, first_made, tried, next_entry}
@@ -185,13 +185,13 @@ module _ (n : ℕ) (es : List Entry) (small : Small n es) where
   by_need request (Some need) = asking (ask_for need (own es))
 
   -- an act on the next request
-  on_request : (p : FirstPath) (request : Option Request) → IfMade StaysSmall (act_on p request es)
-  on_request p None = tt
-  on_request p (Some request) = by_need request (unmet settings 1 (next_after (next p) es) the_thread request (own es))
+  on_request : (named : Bool) (numbers : List ℤ) (request : Option Request) → IfMade StaysSmall (act_on (next named numbers) request es)
+  on_request named numbers None = tt
+  on_request named numbers (Some request) = by_need request (unmet settings 1 (next_after (next named numbers) es) the_thread request (own es))
 
   -- the act of the thread
-  by_act : (p : FirstPath) → IfMade StaysSmall (acts p es)
-  by_act p = on_request p (next_after (next p) es the_thread)
+  by_act : (named : Bool) (numbers : List ℤ) → IfMade StaysSmall (acts (next named numbers) es)
+  by_act named numbers = on_request named numbers (next_after (next named numbers) es the_thread)
 
   -- a message that the client takes
   one_down : (letter : Letter Down) → IsSmallLetter n letter → StaysSmall (made (Client 1) letter.clock (input.TookDown letter.message) [] None es)
@@ -266,27 +266,27 @@ module _ (n : ℕ) (es : List Entry) (small : Small n es) where
   by_up = first_up (way_up 1 es) small.ups
 
   -- the thread acts, if it can, before a message is taken
-  acts_first : (p : FirstPath) → IfMade StaysSmall (first_made (acts p es) (first_made (takes_down es) (takes_up es)))
-  acts_first p = first_of_two StaysSmall (acts p es) (first_made (takes_down es) (takes_up es)) (by_act p) (first_of_two StaysSmall (takes_down es) (takes_up es) by_down by_up)
+  acts_first : (named : Bool) (numbers : List ℤ) → IfMade StaysSmall (first_made (acts (next named numbers) es) (first_made (takes_down es) (takes_up es)))
+  acts_first named numbers = first_of_two StaysSmall (acts (next named numbers) es) (first_made (takes_down es) (takes_up es)) (by_act named numbers) (first_of_two StaysSmall (takes_down es) (takes_up es) by_down by_up)
 
   -- in each order in which the three are tried
-  by_slot : (p : FirstPath) (last : Option Slot) → IfMade StaysSmall (tried p last es)
-  by_slot p None = acts_first p
-  by_slot p (Some (Acts t)) = first_of_two StaysSmall (takes_down es) (first_made (takes_up es) (acts p es)) by_down (first_of_two StaysSmall (takes_up es) (acts p es) by_up (by_act p))
-  by_slot p (Some (TakesDown c)) = first_of_two StaysSmall (takes_up es) (first_made (acts p es) (takes_down es)) by_up (first_of_two StaysSmall (acts p es) (takes_down es) (by_act p) by_down)
-  by_slot p (Some (Flushes c)) = acts_first p
-  by_slot p (Some (TakesUp c)) = acts_first p
-  by_slot p (Some (Loses c)) = acts_first p
-  by_slot p (Some (Breaks c)) = acts_first p
+  by_slot : (named : Bool) (numbers : List ℤ) (last : Option Slot) → IfMade StaysSmall (tried (next named numbers) last es)
+  by_slot named numbers None = acts_first named numbers
+  by_slot named numbers (Some (Acts t)) = first_of_two StaysSmall (takes_down es) (first_made (takes_up es) (acts (next named numbers) es)) by_down (first_of_two StaysSmall (takes_up es) (acts (next named numbers) es) by_up (by_act named numbers))
+  by_slot named numbers (Some (TakesDown c)) = first_of_two StaysSmall (takes_up es) (first_made (acts (next named numbers) es) (takes_down es)) by_up (first_of_two StaysSmall (acts (next named numbers) es) (takes_down es) (by_act named numbers) by_down)
+  by_slot named numbers (Some (Flushes c)) = acts_first named numbers
+  by_slot named numbers (Some (TakesUp c)) = acts_first named numbers
+  by_slot named numbers (Some (Loses c)) = acts_first named numbers
+  by_slot named numbers (Some (Breaks c)) = acts_first named numbers
 
   -- the next entry
-  stays_small : (p : FirstPath) (e : Entry) → next_entry p es ≡ Some e → Small (suc n) (e ∷ es)
-  stays_small p e is = subst (IfMade StaysSmall) is (by_slot p (last_slot es))
+  stays_small : (named : Bool) (numbers : List ℤ) (e : Entry) → next_entry (next named numbers) es ≡ Some e → Small (suc n) (e ∷ es)
+  stays_small named numbers e is = subst (IfMade StaysSmall) is (by_slot named numbers (last_slot es))
 
 -- what is counted is at most the number of entries
-all_small : (p : FirstPath) (es : List Entry) → AreMade p es → Small (length es) es
-all_small p [] are = record { client = omega arith; server = omega arith; ups = tt; downs = tt; sent = omega arith; taken = tt; given = omega arith }
-all_small p (e ∷ es) are = stays_small (length es) es (all_small p es are.0) p e are.1
+all_small : (named : Bool) (numbers : List ℤ) (es : List Entry) → AreMade (next named numbers) es → Small (length es) es
+all_small named numbers [] are = record { client = omega arith; server = omega arith; ups = tt; downs = tt; sent = omega arith; taken = tt; given = omega arith }
+all_small named numbers (e ∷ es) are = stays_small (length es) es (all_small named numbers es are.0) named numbers e are.1
 
 -- counts of at most a million have room
 room_of_small : (n : ℕ) (es : List Entry) → Small n es → n ≤ 1000000 → HasRoom es
@@ -301,5 +301,5 @@ room_of_small n es small few = record {
 }
 
 -- A million entries of the first path have room.
-pub has_room : (p : FirstPath) (es : List Entry) → AreMade p es → length es ≤ 1000000 → HasRoom es
-has_room p es are few = room_of_small (length es) es (all_small p es are) few
+pub has_room : (named : Bool) (numbers : List ℤ) (es : List Entry) → AreMade (next named numbers) es → length es ≤ 1000000 → HasRoom es
+has_room named numbers es are few = room_of_small (length es) es (all_small named numbers es are) few

@@ -1,5 +1,5 @@
 -- What a run of the first path is so far, entry by entry.
-use Rattle.std.proofs.Common.{ℕ, suc, ◌≡◌, ◌≤◌, ◌<◌, refl, sym, ◌∙◌, ap, subst, arith, Bool, true, false, cond, not, ◌&&◌, ◌||◌, is_some, ◌⊎◌, inl, inr, ◌++◌, Option, Some, None, List, [], ◌∷◌}
+use Rattle.std.proofs.Common.{ℤ, ℕ, suc, ◌≡◌, ◌≤◌, ◌<◌, refl, sym, ◌∙◌, ap, subst, arith, Bool, true, false, cond, not, ◌&&◌, ◌||◌, is_some, ◌⊎◌, inl, inr, ◌++◌, Option, Some, None, List, [], ◌∷◌}
 use Rattle.std.specs.Prelude.{length, filter}
 use Rattle.dso_base.specs.declared.journal.Entry.{Entry}
 use Rattle.dso_base.specs.declared.journal.Node.{Node}
@@ -11,8 +11,8 @@ use Rattle.dso_law.specs.Served.{is_lost, loses}
 use Rattle.dso_law.specs.Replies.{first_of_list}
 use Rattle.dso_legal.specs.Lawful.{AllFollow}
 use Rattle.dso_legal.specs.Slots.{Slot, slots, is_any, is_due, has_ended, is_open, open_slots, is_finished, is_stuck, weight}
-use Rattle.dso_run.specs.declared.form.FirstPath.{FirstPath}
-use Rattle.dso_run.specs.Counting.{the_thread, settings, next}
+use Rattle.dso_run.specs.Counter.{the_thread, settings}
+use Rattle.dso_run.proofs.Counting.{next}
 use Rattle.dso_run.specs.Rounds.{is_slot, turn, last_slot, behind, up_to, turned, TakesTurns, IsRun}
 use Rattle.dso_run.specs.Room.{AreMade}
 use Rattle.dso_run.specs.Steps.{next_entry}
@@ -85,12 +85,12 @@ has_turned test (Some slot) xs h = by_either (has_behind test slot xs) (has_up_t
     (or_either (has test (behind slot xs)) (has test (up_to slot xs)) (sym (has_both test (behind slot xs) (up_to slot xs)) ∙ h))
 
 -- where round robin takes a slot, the run isn't stuck
-not_stuck : (p : FirstPath) (es : List Entry) → is_some (turn settings (next p) es) ≡ true → is_stuck settings (next p) es ≡ false
-not_stuck p es takes =
-    let some_turned : is_any (filter (is_open settings (next p) es) (turned (last_slot es) (slots settings))) ≡ true = first_is_any _ takes in
-    let has_open : has (is_open settings (next p) es) (slots settings) ≡ true
-    = has_turned (is_open settings (next p) es) (last_slot es) (slots settings) (sym (any_has (is_open settings (next p) es) (turned (last_slot es) (slots settings))) ∙ some_turned) in
-    let any_open : is_any (open_slots settings (next p) es) ≡ true = any_has (is_open settings (next p) es) (slots settings) ∙ has_open in
+not_stuck : (named : Bool) (numbers : List ℤ) (es : List Entry) → is_some (turn settings (next named numbers) es) ≡ true → is_stuck settings (next named numbers) es ≡ false
+not_stuck named numbers es takes =
+    let some_turned : is_any (filter (is_open settings (next named numbers) es) (turned (last_slot es) (slots settings))) ≡ true = first_is_any _ takes in
+    let has_open : has (is_open settings (next named numbers) es) (slots settings) ≡ true
+    = has_turned (is_open settings (next named numbers) es) (last_slot es) (slots settings) (sym (any_has (is_open settings (next named numbers) es) (turned (last_slot es) (slots settings))) ∙ some_turned) in
+    let any_open : is_any (open_slots settings (next named numbers) es) ≡ true = any_has (is_open settings (next named numbers) es) (slots settings) ∙ has_open in
     ap (λ (some : Bool). not (is_finished settings es) && not some) any_open ∙ and_false (not (is_finished settings es))
 
 lost_if : (test : Bool) (e : Entry) (es : List Entry) → loses 1 e.input ≡ false → is_lost 1 es ≡ false → is_lost 1 (cond test (e ∷ es) es) ≡ false
@@ -111,16 +111,16 @@ pub finished_told : (es : List Entry) → is_lost 1 (entries_of Server es) ≡ f
 finished_told es kept = finished_if (is_lost 1 (entries_of Server es)) (has_ended the_thread es) (is_any (way_up 1 es)) (is_any (way_down 1 es)) (is_due settings 1 es) kept (no_trigger es)
 
 -- A run of the first path so far.
-pub record RunSoFar (p : FirstPath) (budget : ℕ) (es : List Entry) : Type 0 where
-  pub going : Goes p es
-  pub follow : AllFollow settings (next p) es
-  pub turns : TakesTurns settings (next p) budget es
+pub record RunSoFar (named : Bool) (numbers : List ℤ) (budget : ℕ) (es : List Entry) : Type 0 where
+  pub going : Goes named numbers es
+  pub follow : AllFollow settings (next named numbers) es
+  pub turns : TakesTurns settings (next named numbers) budget es
   pub none_rejoin : NoneRejoins es
   pub none_lost : is_lost 1 (entries_of Server es) ≡ false
-  pub made : AreMade p es
+  pub made : AreMade (next named numbers) es
 
-pub is_run : (p : FirstPath) (budget : ℕ) (es : List Entry) → RunSoFar p budget es → IsRun settings (next p) budget es
-is_run p budget es so_far = record {
+pub is_run : (named : Bool) (numbers : List ℤ) (budget : ℕ) (es : List Entry) → RunSoFar named numbers budget es → IsRun settings (next named numbers) budget es
+is_run named numbers budget es so_far = record {
   lawful = record {
     follow = so_far.follow;
     connections = (
@@ -135,41 +135,41 @@ is_run p budget es so_far = record {
 }
 
 -- one more entry that the client or the server makes is a step of the run
-pub steps : (p : FirstPath) (budget : ℕ) (es : List Entry) (e : Entry) → RunSoFar p budget es → next_entry p es ≡ Some e → is_finished settings es ≡ false → weight es < budget
-    → Goes p (e ∷ es) × Step p es e
-steps p budget es e so_far makes unfinished light = from so_far.going
+pub steps : (named : Bool) (numbers : List ℤ) (budget : ℕ) (es : List Entry) (e : Entry) → RunSoFar named numbers budget es → next_entry (next named numbers) es ≡ Some e → is_finished settings es ≡ false → weight es < budget
+    → Goes named numbers (e ∷ es) × Step named numbers es e
+steps named numbers budget es e so_far makes unfinished light = from so_far.going
   where
-    from : Goes p es → Goes p (e ∷ es) × Step p es e
+    from : Goes named numbers es → Goes named numbers (e ∷ es) × Step named numbers es e
     from (stops finished) = absurd (cc (finished, unfinished))
     from (goes e' step rest) =
         let same : e' ≡ e = cc (step.made, makes) in
-        (subst (λ (x : Entry). Goes p (x ∷ es)) same rest, subst (λ (x : Entry). Step p es x) same step)
+        (subst (λ (x : Entry). Goes named numbers (x ∷ es)) same rest, subst (λ (x : Entry). Step named numbers es x) same step)
 
-pub runs_on : (p : FirstPath) (budget : ℕ) (es : List Entry) (e : Entry) → RunSoFar p budget es → next_entry p es ≡ Some e → is_finished settings es ≡ false → weight es < budget
-    → RunSoFar p budget (e ∷ es)
-runs_on p budget es e so_far makes unfinished light =
-    let it = steps p budget es e so_far makes unfinished light in
-    let taken : is_some (turn settings (next p) es) ≡ true = ap is_some it.1.turn_is ∙ it.1.has_slot in
+pub runs_on : (named : Bool) (numbers : List ℤ) (budget : ℕ) (es : List Entry) (e : Entry) → RunSoFar named numbers budget es → next_entry (next named numbers) es ≡ Some e → is_finished settings es ≡ false → weight es < budget
+    → RunSoFar named numbers budget (e ∷ es)
+runs_on named numbers budget es e so_far makes unfinished light =
+    let it = steps named numbers budget es e so_far makes unfinished light in
+    let taken : is_some (turn settings (next named numbers) es) ≡ true = ap is_some it.1.turn_is ∙ it.1.has_slot in
     record {
       going = it.0;
       follow = (so_far.follow, it.1.follows);
-      turns = (so_far.turns, record { unfinished = unfinished; light = light; unstuck = not_stuck p es taken }, sym it.1.turn_is);
+      turns = (so_far.turns, record { unfinished = unfinished; light = light; unstuck = not_stuck named numbers es taken }, sym it.1.turn_is);
       none_rejoin = (so_far.none_rejoin, it.1.no_rejoin);
       none_lost = lost_if (is_node Server e.node) e (entries_of Server es) it.1.no_loss so_far.none_lost;
       made = (so_far.made, makes);
     }
 
 -- a run that isn't finished has a next entry
-pub never_stuck : (p : FirstPath) (budget : ℕ) (es : List Entry) → RunSoFar p budget es → next_entry p es ≡ None → is_finished settings es ≡ false → ⊥
-never_stuck p budget es so_far none unfinished = from so_far.going
+pub never_stuck : (named : Bool) (numbers : List ℤ) (budget : ℕ) (es : List Entry) → RunSoFar named numbers budget es → next_entry (next named numbers) es ≡ None → is_finished settings es ≡ false → ⊥
+never_stuck named numbers budget es so_far none unfinished = from so_far.going
   where
-    from : Goes p es → ⊥
+    from : Goes named numbers es → ⊥
     from (stops finished) = cc (finished, unfinished)
     from (goes e step rest) = cc (step.made, none)
 
 -- the empty run
-pub begins : (p : FirstPath) (budget : ℕ) → RunSoFar p budget []
-begins p budget = record { going = goes_whole p; follow = tt; turns = tt; none_rejoin = tt; none_lost = refl; made = tt }
+pub begins : (named : Bool) (numbers : List ℤ) (budget : ℕ) → RunSoFar named numbers budget []
+begins named numbers budget = record { going = goes_whole named numbers; follow = tt; turns = tt; none_rejoin = tt; none_lost = refl; made = tt }
 
 -- an entry weighs at least 1
 pub long_weighs : (es : List Entry) → length es ≤ weight es

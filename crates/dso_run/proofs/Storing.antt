@@ -21,8 +21,8 @@ use Rattle.dso_law.specs.Store.{body_by_sets}
 use Rattle.dso_law.specs.ServerStep.{HeardStep, HeardOrLost}
 use Rattle.dso_legal.specs.Lawful.{MayFollow}
 use Rattle.dso_legal.specs.Slots.{TakesUp}
-use Rattle.dso_run.specs.declared.form.FirstPath.{FirstPath}
-use Rattle.dso_run.specs.Counting.{settings, next}
+use Rattle.dso_run.specs.Counter.{settings}
+use Rattle.dso_run.proofs.Counting.{next}
 use Rattle.dso_run.specs.Steps.{made, taking_up, takes_up}
 use Rattle.dso_run.proofs.Now.{ThreadStage, RecordStage, WayStage, counter, ThreadNow, SentNow, ServerNow, WayNow, Now}
 use Rattle.dso_run.proofs.Turning.{none_below}
@@ -42,7 +42,7 @@ answered w seq clock ups = record {
   last = TakesUp 1;
 }
 
-module _ (p : FirstPath) (t : ThreadStage) (r : RecordStage) (w : WayStage) (es : List Entry) (now : Now p t r w es)
+module _ (named : Bool) (numbers : List ℤ) (t : ThreadStage) (r : RecordStage) (w : WayStage) (es : List Entry) (now : Now named numbers t r w es)
     (sets : List Set) (outs : List Value) (ending : Ending) (clock : ℕ) (ups : List (Letter Up)) (stored : ℤ)
     (comes : w.up ≡ record { message = up.Commit (plain_txn (suc r.taken) sets outs ending); clock = clock } ∷ ups)
     (fits : FitsRecord settings 1 (plain_txn (suc r.taken) sets outs ending) (entries_of Server es))
@@ -62,7 +62,7 @@ module _ (p : FirstPath) (t : ThreadStage) (r : RecordStage) (w : WayStage) (es 
   heard : HeardStep settings 1 (up.Commit txn) it (counted (entries_of Server es))
   heard = record { fits = subst (λ (entries : List Entry). FitsRecord settings 1 txn entries) (sym now.server.all_count) fits; sends = refl }
 
-  pub may_follow : MayFollow settings (next p) it es
+  pub may_follow : MayFollow settings (next named numbers) it es
   may_follow = record {
     channels = first;
     clocks = ap (λ (heard_clock : ℕ). suc (max (last_clock Server es) heard_clock)) (sym (ap first_clock way_is));
@@ -94,7 +94,7 @@ module _ (p : FirstPath) (t : ThreadStage) (r : RecordStage) (w : WayStage) (es 
     rejoins = now.server.rejoins;
   }
 
-  thread_now : ThreadNow p t (entries_of (Client 1) es)
+  thread_now : ThreadNow named numbers t (entries_of (Client 1) es)
   thread_now = now.thread
 
   sent_now : SentNow (with_taken r stored (is_end ending)) (entries_of (Client 1) es)
@@ -113,5 +113,5 @@ module _ (p : FirstPath) (t : ThreadStage) (r : RecordStage) (w : WayStage) (es 
     last = refl;
   }
 
-  pub still : Now p t (with_taken r stored (is_end ending)) (answered w txn.seq clock ups) (it ∷ es)
+  pub still : Now named numbers t (with_taken r stored (is_end ending)) (answered w txn.seq clock ups) (it ∷ es)
   still = record { thread = thread_now; client = now.client; sent = sent_now; server = server_now; ways = ways_now }

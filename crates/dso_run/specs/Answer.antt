@@ -1,20 +1,22 @@
 -- What a call of the program answers, and why.
 use Rattle.std.specs.Prelude.{◌≡◌, ◌≢◌, ℕ, ◌⊎◌, List, [], Option, reverse}
 use Rattle.dso_base.specs.declared.journal.Entry.{Entry}
+use Rattle.dso_class.specs.declared.program.Program.{Program}
+use Rattle.dso_machine.specs.Next.{next_request}
 use Rattle.dso_run.specs.declared.cluster.Outcome.{Outcome}
 use Rattle.dso_run.specs.declared.cluster.Outcome.TheVariants as outcome
-use Rattle.dso_run.specs.declared.form.FirstPath.{FirstPath}
-use Rattle.dso_run.specs.declared.main_call.Judged.{Judged}
-use Rattle.dso_run.specs.declared.main_call.Judged.TheVariants.{Refused, Accepted}
+use Rattle.dso_run.specs.declared.verdict.Judged.{Judged}
+use Rattle.dso_run.specs.declared.verdict.Judged.TheVariants.{Refused, Accepted}
 use Rattle.dso_run.specs.declared.status.ConfigFault.TheVariants as config
-use Rattle.dso_run.specs.declared.status.ProgramFault.TheVariants as program
+use Rattle.dso_run.specs.declared.status.ProgramFault.{ProgramFault}
 use Rattle.dso_run.specs.declared.status.Refusal.{Refusal}
-use Rattle.dso_run.specs.declared.status.Refusal.TheVariants.{Words, Reading, Config, Program}
+use Rattle.dso_run.specs.declared.status.Refusal.TheVariants.{Words, Reading, Config}
+use Rattle.dso_run.specs.declared.status.Refusal.TheVariants as refusal
 use Rattle.dso_run.specs.declared.status.Status.{Status}
 use Rattle.dso_run.specs.declared.status.Status.TheVariants.{Finished, Usage, BadConfig, BadProgram, ReadFault, WriteFault, Stuck, Budget, NoMemory}
+use Rattle.dso_run.specs.Accepted.{settings_of, IsTextFault, IsTakenText}
 use Rattle.dso_run.specs.Printed.{IsRunReport}
 use Rattle.dso_run.specs.Ends.{HasRun}
-use Rattle.dso_run.specs.Form.{IsFirstPath}
 use Rattle.dso_run.specs.Outside.{Told, MayGive, taken_after, TookPart}
 use Rattle.dso_run.specs.Status.{line_of}
 use Rattle.dso_run.specs.Words.{AreSim, AreUnlawful}
@@ -42,37 +44,29 @@ pub record IsConfigRefused (content : List ℕ → Told) (words : List (List ℕ
   pub read : WereRead content words config_bytes program_bytes
   pub given : config_bytes ≢ []
 
--- Both files were read, the configuration is empty, and the program isn't of the first path's form.
-pub record IsProgramRefused (content : List ℕ → Told) (words : List (List ℕ)) : Type 0 where
+-- Both files were read, the configuration is empty, and this is the fault of the program's text.
+pub record IsProgramRefused (content : List ℕ → Told) (words : List (List ℕ)) (fault : ProgramFault) : Type 0 where
   pub program_bytes : List ℕ
   pub read : WereRead content words [] program_bytes
-  pub unformed : (p : FirstPath) → IsFirstPath program_bytes p → ⊥
+  pub refused : IsTextFault program_bytes fault
 
--- Both files were read, the configuration is empty, and the program is this one of the first path's form.
-pub record IsAccepted (content : List ℕ → Told) (words : List (List ℕ)) (p : FirstPath) : Type 0 where
+-- Both files were read, the configuration is empty, and the program's text is taken as this program.
+pub record IsAccepted (content : List ℕ → Told) (words : List (List ℕ)) (p : Program) : Type 0 where
   pub program_bytes : List ℕ
   pub read : WereRead content words [] program_bytes
-  pub formed : IsFirstPath program_bytes p
+  pub taken : IsTakenText program_bytes p
 
 -- why nothing is run
 abbrev pub HasCause : (List ℕ → Told) → List (List ℕ) → Type 0 → Refusal → Type 0
 HasCause content words reads_rose Words = AreUnlawful words
 HasCause content words reads_rose Reading = IsUnread words reads_rose
 HasCause content words reads_rose (Config config.NotBuilt) = IsConfigRefused content words
-HasCause content words reads_rose (Program program.NotBuilt) = IsProgramRefused content words
+HasCause content words reads_rose (refusal.Program fault) = IsProgramRefused content words fault
 
 -- the words and the files are refused for a cause, or accepted with their program
 abbrev pub IsVerdict : (List ℕ → Told) → List (List ℕ) → Type 0 → Judged → Type 0
 IsVerdict content words reads_rose (Refused refusal) = HasCause content words reads_rose refusal
 IsVerdict content words reads_rose (Accepted p) = IsAccepted content words p
-
--- what the bytes of the two files come to: a configuration with a byte is refused, then a program that isn't of the form
-abbrev pub IsVerdictOfTexts : List ℕ → List ℕ → Judged → Type 0
-IsVerdictOfTexts config_bytes program_bytes (Refused (Config config.NotBuilt)) = config_bytes ≢ []
-IsVerdictOfTexts config_bytes program_bytes (Refused (Program program.NotBuilt)) =
-    (config_bytes ≡ []) × ((p : FirstPath) → IsFirstPath program_bytes p → ⊥)
-IsVerdictOfTexts config_bytes program_bytes (Accepted p) = (config_bytes ≡ []) × IsFirstPath program_bytes p
-IsVerdictOfTexts config_bytes program_bytes judged = ⊥
 
 -- A refusal has a cause, writes this line, and leaves no journal.
 pub record IsRefused (content : List ℕ → Told) (words : List (List ℕ)) (reads_rose : Type 0) (entries : List Entry) (refusal : Refusal) (line : List ℕ) : Type 0 where
@@ -84,9 +78,9 @@ pub record IsRefused (content : List ℕ → Told) (words : List (List ℕ)) (re
 -- made where the run went on and at the slot that round robin takes, within a budget of 1000000; and the committed history
 -- is legal.
 pub record IsRan (content : List ℕ → Told) (words : List (List ℕ)) (entries : List Entry) (outcome : Outcome) : Type 0 where
-  pub program : FirstPath
+  pub program : Program
   pub accepted : IsAccepted content words program
-  pub ran : HasRun program 1000000 outcome (reverse entries)
+  pub ran : HasRun (settings_of program) (next_request program.code) 1000000 outcome (reverse entries)
 
 -- The text is the report of what a run of an accepted program commits.
 pub record IsReportDue (content : List ℕ → Told) (words : List (List ℕ)) (entries : List Entry) (outcome : Outcome) (text : List ℕ) : Type 0 where
@@ -129,7 +123,7 @@ module _ (content : List ℕ → Told) (words : List (List ℕ)) (reads_rose : T
   Stands Usage = IsSaid Words
   Stands ReadFault = IsSaid Reading
   Stands (BadConfig fault) = IsSaid (Config fault)
-  Stands (BadProgram fault) = IsSaid (Program fault)
+  Stands (BadProgram fault) = IsSaid (refusal.Program fault)
   Stands WriteFault = IsCutOff
   Stands Finished = IsReported outcome.Finished
   Stands Stuck = IsReported outcome.Stuck

@@ -9,10 +9,9 @@ use Rattle.dso_base.specs.declared.request.Fault.TheVariants as fault
 use Rattle.dso_base.specs.declared.value.ClassId.{ClassId}
 use Rattle.dso_base.specs.declared.value.ClassId.TheVariants as class
 use Rattle.dso_base.specs.declared.value.Value.{Value}
+use Rattle.dso_class.specs.declared.program.Names.{Names}
+use Rattle.dso_config.specs.declared.config.RootEntry.{RootEntry}
 use Rattle.dso_plain.specs.State.{PlainState, Object}
-use Rattle.dso_run.specs.declared.program_names.ClassNames.{ClassNames}
-use Rattle.dso_run.specs.declared.program_names.Names.{Names}
-use Rattle.dso_run.specs.declared.program_names.RootName.{RootName}
 use Rattle.dso_run.specs.declared.thread_lines.Standing.{Standing}
 use Rattle.dso_run.specs.declared.thread_lines.Standing.TheVariants.{Ended, Faulted, Lost, Waiting, Open}
 use Rattle.dso_run.specs.Numbering.{IsOrder, fields_of, value_at}
@@ -77,7 +76,7 @@ abbrev pub unguarded_line : PlainState → List ℕ
 unguarded_line s = codes "unguarded " ++ (decimal s.unguarded ++ codes "\n")
 
 -- the name of a root, if it has one
-abbrev pub root_name : Option RootName → List ℕ
+abbrev pub root_name : Option RootEntry → List ℕ
 root_name None = []
 root_name (Some root) = root.class ++ (codes "." ++ root.field)
 
@@ -93,14 +92,14 @@ field_text names order s o fields f = codes " " ++ (text_at fields f ++ (codes "
 abbrev pub element_text : Names → List ℕ → PlainState → ℕ → ℕ → List ℕ
 element_text names order s o f = codes " " ++ shown names.texts order (value_at s o f)
 
--- an object of a class of the program: the class and the fields, if the class has a name
-abbrev pub plain_text : Names → List ℕ → PlainState → ℕ → ℕ → Option ClassNames → List ℕ
-plain_text names order s o size None = []
-plain_text names order s o size (Some class) = class.name ++ each_below (field_text names order s o class.fields) size
+-- an object of a class of the program: the class and the fields, if the class and its fields have names
+abbrev pub plain_text : Names → List ℕ → PlainState → ℕ → ℕ → Option (List ℕ) → Option (List (List ℕ)) → List ℕ
+plain_text names order s o size (Some class) (Some fields) = class ++ each_below (field_text names order s o fields) size
+plain_text names order s o size class fields = []
 
 -- an object by its class; the roots' object is none of the graph
 abbrev pub body_text : Names → List ℕ → PlainState → ℕ → ℕ → ClassId → List ℕ
-body_text names order s o size (class.Plain c) = plain_text names order s o size (slice_get names.classes c)
+body_text names order s o size (class.Plain c) = plain_text names order s o size (slice_get names.classes c) (slice_get names.fields c)
 body_text names order s o size (class.Array kind) = kind_text kind ++ (codes "[" ++ (decimal size ++ (codes "]" ++ each_below (element_text names order s o) size)))
 body_text names order s o size class.Roots = []
 

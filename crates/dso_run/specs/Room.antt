@@ -1,13 +1,15 @@
 -- That what the client and the server count has room for one more entry. Entries stand with the newest first.
-use Rattle.std.specs.Prelude.{◌≡◌, ◌+◌, ◌<◌, ◌^◌, Some, List, [], ◌∷◌}
+use Rattle.std.specs.Prelude.{◌≡◌, ◌+◌, ◌<◌, ◌^◌, Option, Some, List, [], ◌∷◌}
 use Rattle.dso_base.specs.declared.journal.Entry.{Entry}
 use Rattle.dso_base.specs.declared.journal.Node.TheVariants.{Server, Client}
+use Rattle.dso_base.specs.declared.lock.ThreadId.{ThreadId}
+use Rattle.dso_base.specs.declared.request.Event.{Event}
+use Rattle.dso_base.specs.declared.request.Request.{Request}
 use Rattle.dso_law.specs.Settings.{Each}
 use Rattle.dso_law.specs.Entries.{entries_of}
 use Rattle.dso_law.specs.Channels.{way_up, way_down, last_clock}
 use Rattle.dso_law.specs.Records.{batches, records}
 use Rattle.dso_law.specs.Served.{next_batch}
-use Rattle.dso_run.specs.declared.form.FirstPath.{FirstPath}
 use Rattle.dso_run.specs.Steps.{own, next_entry}
 
 -- The last clocks, the clocks on the way, the number of records and the first ids of batches have room within 64 bits.
@@ -21,6 +23,6 @@ pub record HasRoom (es : List Entry) : Type 0 where
   pub next_batch : next_batch (entries_of Server es) < 2 ^ 64
 
 -- each entry is the one that the client or the server of the first path makes next
-abbrev pub AreMade : FirstPath → List Entry → Type 0
-AreMade p [] = Unit {0}
-AreMade p (e ∷ es) = AreMade p es × (next_entry p es ≡ Some e)
+abbrev pub AreMade : (ThreadId → List Event → Option Request) → List Entry → Type 0
+AreMade next [] = Unit {0}
+AreMade next (e ∷ es) = AreMade next es × (next_entry next es ≡ Some e)

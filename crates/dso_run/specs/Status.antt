@@ -1,5 +1,13 @@
 -- The numbers of the statuses, and the lines of the refusals.
-use Rattle.std.specs.Prelude.{ℕ, List, [], ◌∷◌, ◌++◌, codes}
+use Rattle.std.specs.Prelude.{◌≢◌, ℕ, List, [], ◌∷◌, ◌++◌, codes}
+use Rattle.std.specs.Fmt.{decimal}
+use Rattle.dso_class.specs.declared.fault.NameFault.{NameFault}
+use Rattle.dso_class.specs.declared.fault.NameFault.TheVariants as name
+use Rattle.dso_class.specs.declared.fault.NameKind.{NameKind}
+use Rattle.dso_class.specs.declared.fault.NameKind.TheVariants as kind
+use Rattle.dso_syntax.specs.declared.fault.SyntaxFault.{SyntaxFault}
+use Rattle.dso_syntax.specs.declared.fault.SyntaxFault.TheVariants as syntax
+use Rattle.dso_run.specs.declared.status.ProgramFault.{ProgramFault}
 use Rattle.dso_run.specs.declared.status.ConfigFault.TheVariants as config
 use Rattle.dso_run.specs.declared.status.ProgramFault.TheVariants as program
 use Rattle.dso_run.specs.declared.status.Refusal.{Refusal}
@@ -30,9 +38,56 @@ status_of (Program fault) = BadProgram fault
 abbrev pub ended : List ℕ → List ℕ
 ended text = text ++ 10 ∷ []
 
+-- a fault with its place, counted in bytes from 0
+abbrev pub at_place : List ℕ → ℕ → List ℕ
+at_place kind place = kind ++ (codes " at " ++ decimal place)
+
+-- a fault with its line, counted from 1
+abbrev pub on_line : List ℕ → ℕ → List ℕ
+on_line kind line = kind ++ (codes " line " ++ decimal line)
+
+-- what is said of a fault of the grammar; a want of memory is no fault of a program, and has no line
+abbrev pub syntax_text : SyntaxFault → List ℕ
+syntax_text (syntax.BadByte place) = at_place (codes "BadByte") place
+syntax_text (syntax.BadToken place) = at_place (codes "BadToken") place
+syntax_text (syntax.Unexpected place) = at_place (codes "Unexpected") place
+syntax_text (syntax.NumberTooWide place) = at_place (codes "NumberTooWide") place
+syntax_text (syntax.NestTooDeep place) = at_place (codes "NestTooDeep") place
+syntax_text syntax.TooLong = codes "TooLong"
+syntax_text syntax.NoMemory = []
+
+-- the name of a fault of a name
+abbrev pub kind_text : NameKind → List ℕ
+kind_text kind.UnknownClass = codes "UnknownClass"
+kind_text kind.UnknownMethod = codes "UnknownMethod"
+kind_text kind.Twice = codes "Twice"
+kind_text kind.WrongArguments = codes "WrongArguments"
+kind_text kind.UnknownRoot = codes "UnknownRoot"
+kind_text kind.NoAutolock = codes "NoAutolock"
+kind_text (kind.TooMany what) = codes "TooMany"
+kind_text kind.NoSuchClient = codes "NoSuchClient"
+kind_text kind.UnknownVariable = codes "UnknownVariable"
+
+-- what is said of a fault of a name
+abbrev pub name_text : NameFault → List ℕ
+name_text (name.At kind line) = on_line (kind_text kind) line
+name_text name.NoMemory = []
+
+-- what is said of a fault of the program
+abbrev pub fault_text : ProgramFault → List ℕ
+fault_text program.NotBuilt = codes "NotBuilt"
+fault_text (program.Syntax fault) = syntax_text fault
+fault_text (program.Name fault) = name_text fault
+
 -- the one line that a refusal writes
 abbrev pub line_of : Refusal → List ℕ
 line_of Words = ended (codes "dsorun: Usage")
 line_of Reading = ended (codes "dsorun: ReadFault")
 line_of (Config config.NotBuilt) = ended (codes "dsorun: BadConfig NotBuilt")
-line_of (Program program.NotBuilt) = ended (codes "dsorun: BadProgram NotBuilt")
+line_of (Program fault) = ended (codes "dsorun: BadProgram " ++ fault_text fault)
+
+-- The refusal has a line: its fault is no want of memory.
+abbrev pub HasLine : Refusal → Type 0
+HasLine (Program (program.Syntax fault)) = fault ≢ syntax.NoMemory
+HasLine (Program (program.Name fault)) = fault ≢ name.NoMemory
+HasLine refusal = Unit {0}

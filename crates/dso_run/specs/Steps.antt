@@ -8,6 +8,7 @@ use Rattle.dso_base.specs.declared.journal.Node.{Node}
 use Rattle.dso_base.specs.declared.journal.Node.TheVariants.{Server, Client}
 use Rattle.dso_base.specs.declared.journal.Sent.{Sent}
 use Rattle.dso_base.specs.declared.journal.Sent.TheVariants.{ToServer, ToClient}
+use Rattle.dso_base.specs.declared.lock.ThreadId.{ThreadId}
 use Rattle.dso_base.specs.declared.message.Down.{Down}
 use Rattle.dso_base.specs.declared.message.Down.TheVariants as down
 use Rattle.dso_base.specs.declared.message.Up.{Up}
@@ -28,9 +29,8 @@ use Rattle.dso_law.specs.Store.{stored}
 use Rattle.dso_legal.specs.Lawful.{next_after}
 use Rattle.dso_run.specs.declared.cluster.Last.{Last}
 use Rattle.dso_run.specs.declared.cluster.Last.TheVariants as last
-use Rattle.dso_run.specs.declared.form.FirstPath.{FirstPath}
 use Rattle.dso_legal.specs.Slots.{Slot, Acts, TakesDown}
-use Rattle.dso_run.specs.Counting.{the_thread, settings, next}
+use Rattle.dso_run.specs.Counter.{the_thread, settings}
 use Rattle.dso_run.specs.Rounds.{last_slot}
 
 -- the client's entries
@@ -74,15 +74,16 @@ abbrev pub act_by : Request → Option Need → List Entry → Option Entry
 act_by request None es = act_with request (tellable (reply_of settings the_thread request (own es))) es
 act_by request (Some need) es = act_asking (ask_for need (own es)) es
 
-module _ (p : FirstPath) where
+-- What a thread asks next, after its events.
+module _ (next : ThreadId → List Event → Option Request) where
   -- by the thread's next request
   abbrev pub act_on : Option Request → List Entry → Option Entry
   act_on None es = None
-  act_on (Some request) es = act_by request (unmet settings 1 (next_after (next p) es) the_thread request (own es)) es
+  act_on (Some request) es = act_by request (unmet settings 1 (next_after next es) the_thread request (own es)) es
 
   -- The next act of the thread, None where it has none.
   abbrev pub acts : List Entry → Option Entry
-  acts es = act_on (next_after (next p) es the_thread) es
+  acts es = act_on (next_after next es the_thread) es
 
 -- the message on its way that comes first is taken, and nothing is sent
 abbrev pub taking_down : List (Letter Down) → List Entry → Option Entry
@@ -128,15 +129,15 @@ last_done slot = last.Other
 
 -- The three places where a step can be made, in the order in which they are tried: the place behind that of the last entry
 -- comes first. The thread acts, the client takes a message, the server takes one.
-abbrev pub tried_after : FirstPath → Last → List Entry → Option Entry
-tried_after p last.Acted es = first_made (takes_down es) (first_made (takes_up es) (acts p es))
-tried_after p last.TookDown es = first_made (takes_up es) (first_made (acts p es) (takes_down es))
-tried_after p last.Other es = first_made (acts p es) (first_made (takes_down es) (takes_up es))
+abbrev pub tried_after : (ThreadId → List Event → Option Request) → Last → List Entry → Option Entry
+tried_after next last.Acted es = first_made (takes_down es) (first_made (takes_up es) (acts next es))
+tried_after next last.TookDown es = first_made (takes_up es) (first_made (acts next es) (takes_down es))
+tried_after next last.Other es = first_made (acts next es) (first_made (takes_down es) (takes_up es))
 
 -- so after the last entry
-abbrev pub tried : FirstPath → Option Slot → List Entry → Option Entry
-tried p slot es = tried_after p (last_done slot) es
+abbrev pub tried : (ThreadId → List Event → Option Request) → Option Slot → List Entry → Option Entry
+tried next slot es = tried_after next (last_done slot) es
 
 -- The next entry, None where no step can be made.
-abbrev pub next_entry : FirstPath → List Entry → Option Entry
-next_entry p es = tried p (last_slot es) es
+abbrev pub next_entry : (ThreadId → List Event → Option Request) → List Entry → Option Entry
+next_entry next es = tried next (last_slot es) es

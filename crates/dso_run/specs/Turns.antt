@@ -1,17 +1,19 @@
 -- What a thread's turn comes to. Entries are the client's.
-use Rattle.std.specs.Prelude.{Option, Some, None, List, [], ◌∷◌}
+use Rattle.std.specs.Prelude.{Option, Some, None, List, [], ◌∷◌, ◌++◌}
 use Rattle.dso_base.specs.declared.journal.Entry.{Entry}
 use Rattle.dso_base.specs.declared.lock.ThreadId.{ThreadId}
 use Rattle.dso_base.specs.declared.message.Up.{Up}
+use Rattle.dso_base.specs.declared.request.Event.{Event}
 use Rattle.dso_base.specs.declared.request.Reply.{Reply}
 use Rattle.dso_base.specs.declared.request.Request.{Request}
 use Rattle.dso_base.specs.declared.request.Request.TheVariants.{New, Look, Get, Put, Enter, Exit, Print, End}
+use Rattle.dso_base.specs.Program.{IsListedFor}
 use Rattle.dso_law.specs.Needs.{Need, unmet, ask_for}
 use Rattle.dso_law.specs.Replies.{reply_of}
 use Rattle.dso_law.specs.ClientStep.{commits}
 use Rattle.dso_run.specs.declared.turn.Turn.{Turn}
 use Rattle.dso_run.specs.declared.turn.Turn.TheVariants as turn
-use Rattle.dso_run.specs.Counting.{the_thread, settings}
+use Rattle.dso_run.specs.Counter.{the_thread, settings}
 use Rattle.dso_run.specs.Steps.{own, act, event_with, tellable}
 
 -- the thread asks this next
@@ -59,3 +61,15 @@ abbrev pub entry_by : Request → Turn → List Entry → Option Entry
 entry_by request (turn.Answers reply) es = Some (act (commits settings the_thread (event_with request reply) (own es)) (Some (event_with request reply)) es)
 entry_by request (turn.Asks m) es = Some (act (m ∷ []) None es)
 entry_by request turn.Waits es = None
+
+-- the turn's reply, where it has one, is listed for the request that is out
+abbrev pub IsListedTurn : Option Request → Turn → Type 0
+IsListedTurn request (turn.Answers reply) = IsListedFor request reply
+IsListedTurn request (turn.Asks m) = Unit {0}
+IsListedTurn request turn.Waits = Unit {0}
+
+-- the thread's events after the turn
+abbrev pub events_after : Request → Turn → List Event → List Event
+events_after request (turn.Answers reply) events = events ++ event_with request reply ∷ []
+events_after request (turn.Asks m) events = events
+events_after request turn.Waits events = events

@@ -1,74 +1,82 @@
 //! The client's steps: its thread acts, or it takes a message.
-ghost use Rattle.std.specs.Prelude.{◌≡◌, ◌+◌, ◌<◌, ◌^◌, reverse, map, IfOk, IfSome, List, [], ◌∷◌, None, Some};
+ghost use Rattle.std.specs.Prelude.{◌≡◌, ◌+◌, ◌<◌, ◌^◌, reverse, map, IfOk, List, [], ◌∷◌, None, Some};
 ghost use Rattle.dso_base.specs.declared.journal.Node.TheVariants as node;
 ghost use Rattle.dso_base.specs.declared.journal.Sent.TheVariants as to;
 ghost use Rattle.dso_base.specs.declared.message.Up.{Up};
+ghost use Rattle.dso_base.specs.declared.request.Event.{Event};
+ghost use Rattle.dso_base.specs.declared.request.Request.{Request};
 ghost use Rattle.dso_law.specs.Channels.{last_clock};
 ghost use Rattle.dso_law.specs.ClientStep.{commits};
 ghost use Rattle.dso_law.specs.Records.{records};
 ghost use Rattle.dso_law.specs.Threads.{locks_of};
-ghost use Rattle.dso_legal.specs.Lawful.{next_after};
-ghost use Rattle.dso_run.specs.Counting.{the_thread, settings, next};
+ghost use Rattle.dso_machine.specs.declared.code.Code.{Code};
+ghost use Rattle.dso_machine.specs.Next.{next_request};
+ghost use Rattle.dso_machine.specs.Sound.{IsSound};
+ghost use Rattle.dso_machine.specs.Standing.{Stands, asked};
+ghost use Rattle.dso_run.specs.Counter.{the_thread, IsCounter, settings};
+ghost use Rattle.dso_run.specs.Follows.{Follows, with_made};
 ghost use Rattle.dso_run.specs.Room.{HasRoom};
 ghost use Rattle.dso_run.specs.Steps.{own, act, event_with, acts, takes_down};
-ghost use Rattle.dso_run.specs.Turns.{turn_of, entry_by, IsAsked};
+ghost use Rattle.dso_run.specs.Turns.{turn_of, entry_by, events_after, IsAsked, IsListedTurn};
 
-use crate::form::FirstPath;
 use crate::known::{CLIENT, THREAD};
-use crate::script::place_after;
 use crate::turn::{Turn, take_turn};
 use dso_base::{Entry, Event, Input, Items, NoMemory, Node, Reply, Request, Sent, Shape, Up};
-use dso_law::{
-    Locks, ending_of, events_in, first_down, last_clock, locks_of, record_of, records, work_of,
-};
+use dso_law::{Locks, ending_of, first_down, last_clock, locks_of, record_of, records, work_of};
+use dso_machine::{Code, Thread};
 use std::alloc::Global;
 
-/// The entry of the thread's act, None where it has none to make now.
+/// The entry of the thread's act, None where it has none to make now. The thread follows the journal with that entry.
 pub(crate) fn act(
     alloc: Global,
-    program: &FirstPath,
-    shape: &Shape,
+    code: &Code,
+    thread: &mut Thread,
     entries: &[Entry],
 ) -> Result<Option<Entry>, NoMemory>
-    requires shape { shape.now ≡ settings.shape }
+    requires counter { IsCounter code.now }
+    requires sound { IsSound code.now }
     requires room { HasRoom (reverse entries.now) }
-    ensures { IfOk result (λ made. made ≡ acts program.now (reverse entries.now)) }
+    requires follows { Follows code.now thread.old (reverse entries.now) }
+    ensures made { IfOk result (λ made. made ≡ acts (next_request code.now) (reverse entries.now)) }
+    ensures follows { IfOk result (λ made. Follows code.now thread.new (with_made made (reverse entries.now))) }
 {
-    match next_request(alloc, program, entries)? {
-        Some(request) => act_with(alloc, shape, entries, request),
-        None => Ok(None),
+    if thread.over() {
+        return Ok(None);
     }
+    let request = thread.next(alloc, code)?;
+    act_with(alloc, &code.shape, thread, entries, request)
 }
 
-/// What the thread asks next, None after its end.
-fn next_request(
-    alloc: Global,
-    program: &FirstPath,
-    entries: &[Entry],
-) -> Result<Option<Request>, NoMemory>
-    ensures is { IfOk result (λ request. request ≡ next_after (next program.now) (reverse entries.now) the_thread) }
-    ensures asked { IfOk result (λ request. IfSome request IsAsked) }
-{
-    let events = events_in(alloc, entries, THREAD)?;
-    Ok(place_after(program, events.as_slice()).request())
-}
-
-/// The entry of the thread's act with this request, None where it has none to make now.
+/// The entry of the thread's act with the request that is out, None where it has none to make now.
 fn act_with(
     alloc: Global,
     shape: &Shape,
+    thread: &mut Thread,
     entries: &[Entry],
     request: Request,
 ) -> Result<Option<Entry>, NoMemory>
-    requires asked { IsAsked request }
+    requires is_asked { IsAsked request }
+    requires out { asked thread.old ≡ Some request }
     requires shape { shape.now ≡ settings.shape }
     requires room { HasRoom (reverse entries.now) }
-    ensures { IfOk result (λ made. made ≡ entry_by request (turn_of request (own (reverse entries.now))) (reverse entries.now)) }
+    ensures made { IfOk result (λ made. made ≡ entry_by request (turn_of request (own (reverse entries.now))) (reverse entries.now)) }
+    ensures follows { (code : Code) → Follows code thread.old (reverse entries.now) → IfOk result (λ made. Follows code thread.new (with_made made (reverse entries.now))) }
 {
     let locks = locks_of(alloc, entries, THREAD)?;
     let work = work_of(alloc, shape, entries, THREAD)?;
     let turn = take_turn(entries, &locks, &work, request);
+    hear(thread, &turn);
     entry_of(alloc, shape, entries, &locks, request, turn)
+}
+
+/// The thread hears the reply, where its request is answered.
+fn hear(thread: &mut Thread, turn: &Turn)
+    requires { IsListedTurn (asked thread.old) turn.now }
+    ensures { (code : Code) (events : List Event) (request : Request) → Stands code the_thread thread.old events → Stands code the_thread thread.new (events_after request turn.now events) }
+{
+    if let Turn::Answers(reply) = turn {
+        thread.answer(*reply);
+    }
 }
 
 /// The entry that the thread's turn comes to.

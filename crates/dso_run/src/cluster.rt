@@ -1,23 +1,25 @@
 //! The run of the first path: one client, one thread and the server, step by step.
-ghost use Rattle.std.specs.Prelude.{◌≡◌, ◌≤◌, false, min, reverse, IfOk};
+ghost use Rattle.std.specs.Prelude.{◌≡◌, ◌≤◌, false, min, reverse, IfOk, []};
 ghost use Rattle.dso_base.specs.Weight.{entry_weight_of};
 ghost use Rattle.dso_base.specs.declared.journal.Node.TheVariants as node;
 ghost use Rattle.dso_law.specs.Entries.{entries_of};
 ghost use Rattle.dso_law.specs.Served.{is_lost};
 ghost use Rattle.dso_legal.specs.Slots.{is_finished};
-ghost use Rattle.dso_run.specs.Counting.{settings};
+ghost use Rattle.dso_machine.specs.Next.{next_request};
+ghost use Rattle.dso_machine.specs.Sound.{IsSound};
+ghost use Rattle.dso_run.specs.Counter.{IsCounter, settings};
 ghost use Rattle.dso_run.specs.Ends.{HasEnded};
+ghost use Rattle.dso_run.specs.Follows.{Follows, with_made};
 ghost use Rattle.dso_run.specs.Room.{HasRoom};
 ghost use Rattle.dso_run.specs.Rounds.{slot_at};
 ghost use Rattle.dso_run.specs.Steps.{last_done, tried_after};
 
-use crate::form::FirstPath;
 use crate::known::{CLIENT, THREAD};
-use crate::shape::shape;
 use crate::weighing::weight_of;
 use crate::{client, server};
-use dso_base::{Entry, Input, Items, Journal, NoMemory, Node, Shape};
+use dso_base::{Entry, Input, Items, Journal, NoMemory, Node};
 use dso_law::{first_down, first_up, has_ended};
+use dso_machine::{Code, Thread};
 use std::alloc::Global;
 
 /// How much a journal may weigh.
@@ -46,18 +48,34 @@ pub(crate) enum Last {
     Other,
 }
 
-/// Runs the program by round robin until it is finished, is stuck, or has used up its budget of so many steps. Each
-/// step makes one entry, and finds what it has to know in the entries before it.
-pub(crate) fn run_program(alloc: Global, program: &FirstPath, steps: u64) -> Result<Run, NoMemory>
-    requires { steps ≤ STEPS }
-    ensures { IfOk result (λ run. HasEnded program.now steps run) }
+/// Runs the program by round robin until it is finished, is stuck, or has used up its budget of so many steps.
+pub(crate) fn run_program(alloc: Global, code: &Code, steps: u64) -> Result<Run, NoMemory>
+    requires counter { IsCounter code.now }
+    requires sound { IsSound code.now }
+    requires steps { steps ≤ STEPS }
+    ensures { IfOk result (λ run. HasEnded code.now steps run) }
 {
-    let shape = shape(alloc)?;
+    let mut thread = Thread::new(alloc, code, THREAD)?;
+    let run = run_thread(alloc, code, &mut thread, steps);
+    // A call, so that the proof of this function doesn't go into the thread's parts.
+    drop(thread);
+    run
+}
+
+/// The run of the thread from its start. Each step makes one entry, and finds what else it has to know in the entries
+/// before it.
+fn run_thread(alloc: Global, code: &Code, thread: &mut Thread, steps: u64) -> Result<Run, NoMemory>
+    requires counter { IsCounter code.now }
+    requires sound { IsSound code.now }
+    requires steps { steps ≤ STEPS }
+    requires follows { Follows code.now thread.old [] }
+    ensures { IfOk result (λ run. HasEnded code.now steps run) }
+{
     let mut entries = Vec::new(alloc);
     let mut weight = 0;
     let mut last = Last::Other;
     while weight < steps && !is_finished(entries.as_slice()) {
-        let made = next_entry(alloc, program, &shape, entries.as_slice(), last)?;
+        let made = next_entry(alloc, code, thread, entries.as_slice(), last)?;
         let Some(entry) = made else {
             return Ok(ended(Outcome::Stuck, entries));
         };
@@ -108,38 +126,41 @@ fn done_by(entry: &Entry) -> Last
 }
 
 /// The next entry, at the first place where a step can be made, going round from the one behind the last; None where
-/// none can be made.
+/// none can be made. The thread follows the journal with that entry.
 fn next_entry(
     alloc: Global,
-    program: &FirstPath,
-    shape: &Shape,
+    code: &Code,
+    thread: &mut Thread,
     entries: &[Entry],
     last: Last,
 ) -> Result<Option<Entry>, NoMemory>
-    requires shape { shape.now ≡ settings.shape }
+    requires counter { IsCounter code.now }
+    requires sound { IsSound code.now }
     requires room { HasRoom (reverse entries.now) }
-    ensures { IfOk result (λ made. made ≡ tried_after program.now last (reverse entries.now)) }
+    requires follows { Follows code.now thread.old (reverse entries.now) }
+    ensures made { IfOk result (λ made. made ≡ tried_after (next_request code.now) last (reverse entries.now)) }
+    ensures follows { IfOk result (λ made. Follows code.now thread.new (with_made made (reverse entries.now))) }
 {
     match last {
         Last::Acted => match client::take(alloc, entries)? {
             Some(entry) => Ok(Some(entry)),
-            None => match server::take(alloc, shape, entries)? {
+            None => match server::take(alloc, &code.shape, entries)? {
                 Some(entry) => Ok(Some(entry)),
-                None => client::act(alloc, program, shape, entries),
+                None => client::act(alloc, code, thread, entries),
             },
         },
-        Last::TookDown => match server::take(alloc, shape, entries)? {
+        Last::TookDown => match server::take(alloc, &code.shape, entries)? {
             Some(entry) => Ok(Some(entry)),
-            None => match client::act(alloc, program, shape, entries)? {
+            None => match client::act(alloc, code, thread, entries)? {
                 Some(entry) => Ok(Some(entry)),
                 None => client::take(alloc, entries),
             },
         },
-        Last::Other => match client::act(alloc, program, shape, entries)? {
+        Last::Other => match client::act(alloc, code, thread, entries)? {
             Some(entry) => Ok(Some(entry)),
             None => match client::take(alloc, entries)? {
                 Some(entry) => Ok(Some(entry)),
-                None => server::take(alloc, shape, entries),
+                None => server::take(alloc, &code.shape, entries),
             },
         },
     }

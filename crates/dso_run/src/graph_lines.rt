@@ -5,9 +5,9 @@ ghost use Rattle.dso_run.specs.Report.{graph_text, root_line, root_name, object_
 ghost use Rattle.dso_run.specs.Texts.{each_below};
 
 use crate::numbering::{fields_of, value_at};
-use crate::program_names::{ClassNames, Names};
 use crate::value_texts::{push_kind, push_number, push_numbered, push_shown, text_at};
-use dso_base::{ClassId, Kind};
+use dso_base::{ClassId, Kind, Word};
+use dso_class::Names;
 use dso_plain::{Object, Plain};
 use indexmap::IndexSet;
 use std::alloc::AllocError;
@@ -43,7 +43,12 @@ fn push_root(
     text.extend_from_slice(b"root ")?;
     push_root_name(text, names, root as usize)?;
     text.extend_from_slice(b" ")?;
-    push_shown(text, &names.texts, order, value_at(plain, 0, root))?;
+    push_shown(
+        text,
+        names.texts.as_slice(),
+        order,
+        value_at(plain, 0, root),
+    )?;
     text.extend_from_slice(b"\n")
 }
 
@@ -105,16 +110,37 @@ fn push_body(
     ensures { OnOk result (text.new.items ≡ text.old.items ++ body_text names.now order.now.keys (state_of plain.now) object body.size body.class) }
 {
     match body.class {
-        ClassId::Plain(class) => match names.classes.get(class as usize) {
-            Some(class) => push_fields(text, names, plain, order, object, body.size, class),
-            None => Ok(()),
-        },
+        ClassId::Plain(class) => push_plain(text, names, plain, order, object, body.size, class),
         ClassId::Array(kind) => push_array(text, names, plain, order, object, body.size, kind),
         ClassId::Roots => Ok(()),
     }
 }
 
-/// Puts the class and the fields of an object at the end.
+/// Puts the class and the fields of an object of a class of the program at the end, if they have names.
+fn push_plain(
+    text: &mut Vec<u8>,
+    names: &Names,
+    plain: &Plain,
+    order: &IndexSet<u64>,
+    object: u64,
+    size: u32,
+    class: u32,
+) -> Result<(), AllocError>
+    ensures { OnOk result (text.new.items ≡ text.old.items ++ plain_text names.now order.now.keys (state_of plain.now) object size (slice_get names.now.classes class) (slice_get names.now.fields class)) }
+{
+    match (
+        names.classes.get(class as usize),
+        names.fields.get(class as usize),
+    ) {
+        (Some(class), Some(fields)) => {
+            text.extend_from_slice(class.as_slice())?;
+            push_fields(text, names, plain, order, object, size, fields.as_slice())
+        }
+        _ => Ok(()),
+    }
+}
+
+/// Puts the fields of an object at the end.
 fn push_fields(
     text: &mut Vec<u8>,
     names: &Names,
@@ -122,16 +148,20 @@ fn push_fields(
     order: &IndexSet<u64>,
     object: u64,
     size: u32,
-    class: &ClassNames,
+    fields: &[Word],
 ) -> Result<(), AllocError>
-    ensures { OnOk result (text.new.items ≡ text.old.items ++ (class.now.name ++ each_below (field_text names.now order.now.keys (state_of plain.now) object class.now.fields) size)) }
+    ensures { OnOk result (text.new.items ≡ text.old.items ++ each_below (field_text names.now order.now.keys (state_of plain.now) object fields.now) size) }
 {
-    text.extend_from_slice(class.name.as_slice())?;
     for field in 0..size {
         text.extend_from_slice(b" ")?;
-        text.extend_from_slice(text_at(&class.fields, field as usize))?;
+        text.extend_from_slice(text_at(fields, field as usize))?;
         text.extend_from_slice(b"=")?;
-        push_shown(text, &names.texts, order, value_at(plain, object, field))?;
+        push_shown(
+            text,
+            names.texts.as_slice(),
+            order,
+            value_at(plain, object, field),
+        )?;
     }
     Ok(())
 }
@@ -154,7 +184,12 @@ fn push_array(
     text.extend_from_slice(b"]")?;
     for field in 0..size {
         text.extend_from_slice(b" ")?;
-        push_shown(text, &names.texts, order, value_at(plain, object, field))?;
+        push_shown(
+            text,
+            names.texts.as_slice(),
+            order,
+            value_at(plain, object, field),
+        )?;
     }
     Ok(())
 }

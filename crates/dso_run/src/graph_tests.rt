@@ -1,10 +1,11 @@
 //! Reports of small states. What they are to be is written by hand from the rules.
-use crate::program_names::{ClassNames, Names, RootName};
 use crate::state_report::report;
 use dso_base::{
     ClassId, ClassShape, Event, Fault, FieldShape, Guard, Items, Kind, Level, LockName, Reply,
     Request, Shape, ThreadId, Value,
 };
+use dso_class::Names;
+use dso_config::RootEntry;
 use dso_plain::Plain;
 use std::alloc::{AllocError, Global};
 use std::test::Fail;
@@ -88,24 +89,19 @@ fn all_bytes(alloc: Global, texts: &[&str]) -> Result<Items<Items<u8>>, AllocErr
 
 /// The names of two classes, three roots and three texts.
 fn names(alloc: Global) -> Result<Names, AllocError> {
-    let mut classes = Items::new(alloc);
-    classes.push(ClassNames {
-        name: bytes(alloc, "Node")?,
-        fields: all_bytes(alloc, &["next", "label", "count", "flag"])?,
-    })?;
-    classes.push(ClassNames {
-        name: bytes(alloc, "Empty")?,
-        fields: Items::new(alloc),
-    })?;
+    let mut fields = Items::new(alloc);
+    fields.push(all_bytes(alloc, &["next", "label", "count", "flag"])?)?;
+    fields.push(Items::new(alloc))?;
     let mut roots = Items::new(alloc);
     for (class, field) in [("Main", "first"), ("Main", "second"), ("Other", "third")] {
-        roots.push(RootName {
+        roots.push(RootEntry {
             class: bytes(alloc, class)?,
             field: bytes(alloc, field)?,
         })?;
     }
     Ok(Names {
-        classes,
+        classes: all_bytes(alloc, &["Node", "Empty"])?,
+        fields,
         roots,
         texts: all_bytes(alloc, &["say \"hi\"", "a\\b", ""])?,
     })

@@ -12,7 +12,7 @@ ghost use Rattle.dso_law.specs.Closing.{is_closing, admits};
 ghost use Rattle.dso_law.specs.Needs.{is_kind, is_class, is_seen_class};
 ghost use Rattle.dso_law.specs.Replies.{class_known, value_in, value_seen, put_answer, answer_put};
 ghost use Rattle.dso_law.specs.InHand.{in_hand};
-ghost use Rattle.dso_run.specs.Counting.{the_thread, settings};
+ghost use Rattle.dso_run.specs.Counter.{the_thread, settings};
 ghost use Rattle.dso_run.specs.Steps.{own, tellable};
 ghost use Rattle.dso_run.specs.Turns.{asking};
 

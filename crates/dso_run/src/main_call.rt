@@ -1,31 +1,29 @@
-ghost use Rattle.std.specs.Prelude.{◌≡◌, ◌⊎◌, ℕ, ◌≤◌, List, [], Ok, map, IfOk};
+ghost use Rattle.std.specs.Prelude.{◌≡◌, ◌⊎◌, ℕ, ◌≤◌, List, [], Ok, map, reverse, IfOk};
 ghost use Rattle.std.specs.String.{string_bytes};
-ghost use Rattle.dso_run.specs.Answer.{IsVerdict, IsVerdictOfTexts, Stands, IsUsage};
-ghost use Rattle.dso_run.specs.Ends.{status_of_run};
+ghost use Rattle.dso_machine.specs.Next.{next_request};
+ghost use Rattle.dso_syntax.specs.declared.tree.Ast.{Ast};
+ghost use Rattle.dso_run.specs.Accepted.{IsTaken, settings_of};
+ghost use Rattle.dso_run.specs.Answer.{IsVerdict, Stands, IsUsage};
+ghost use Rattle.dso_run.specs.Ends.{HasRun, status_of_run};
 ghost use Rattle.dso_run.specs.Writing.{Wrote, WroteReport};
 ghost use Rattle.dso_run.specs.Outside.{Rose};
-ghost use Rattle.dso_run.specs.Status.{line_of, status_of};
+ghost use Rattle.dso_run.specs.Status.{HasLine, line_of, status_of};
 ghost use Rattle.dso_run.specs.Words.{AreUnlawful};
 
-use crate::cluster::{Outcome, STEPS, run_program};
-use crate::form::{FirstPath, first_path};
+use crate::cluster::{Outcome, Run, STEPS, run_program};
+use crate::refusal_lines::line_of;
 use crate::report::report;
 use crate::status::Refusal;
+use crate::verdict::{Judged, judge_texts};
 use crate::words::names_of;
 use crate::writing::write_text;
-use crate::{ConfigFault, Done, FileFault, Files, ProgramFault, Sink, Status};
+use crate::{Done, FileFault, Files, Sink, Status};
 use dso_base::{Items, Journal, NoMemory};
+use dso_class::Program;
 use std::alloc::Global;
 
 /// The most bytes that are read of a file: one more than a text may have.
 const MOST_READ: u64 = 1_048_577;
-
-/// What the words and the files come to.
-#[derive(Drop)]
-pub(crate) enum Judged {
-    Refused(Refusal),
-    Accepted(FirstPath),
-}
 
 /// Reads the words, then both files, and judges the configuration and then the program.
 fn judge<F: Files>(alloc: Global, words: &[String], files: &mut F) -> Result<Judged, NoMemory>
@@ -47,19 +45,6 @@ fn judge<F: Files>(alloc: Global, words: &[String], files: &mut F) -> Result<Jud
     judge_texts(alloc, config.as_slice(), program.as_slice())
 }
 
-/// Judges the bytes of a configuration, and then those of a program.
-fn judge_texts(alloc: Global, config: &[u8], program: &[u8]) -> Result<Judged, NoMemory>
-    ensures { IfOk result (IsVerdictOfTexts config.now program.now) }
-{
-    if !config.is_empty() {
-        return Ok(Judged::Refused(Refusal::Config(ConfigFault::NotBuilt)));
-    }
-    match first_path(alloc, program)? {
-        Some(path) => Ok(Judged::Accepted(path)),
-        None => Ok(Judged::Refused(Refusal::Program(ProgramFault::NotBuilt))),
-    }
-}
-
 /// What a file that was not read comes to.
 fn unread(fault: FileFault) -> Result<Judged, NoMemory>
     ensures { IfOk result (λ judged. (judged ≡ Judged.Refused Refusal.Reading) × (fault ≡ FileFault.Failed)) }
@@ -72,19 +57,31 @@ fn unread(fault: FileFault) -> Result<Judged, NoMemory>
 
 /// Writes the line of a refusal. It takes no memory.
 fn refuse<K: Sink>(refusal: Refusal, out: &mut K) -> Status
+    requires { HasLine refusal }
     ensures { Wrote (K.taken out.old) (K.taken out.new) (Rose (K.faults out.old) (K.faults out.new)) (line_of refusal) (status_of refusal) result }
 {
-    match write_text(out, refusal.line().as_bytes()) {
+    let line = line_of(refusal);
+    match write_text(out, line.as_str().as_bytes()) {
         Ok(()) => refusal.status(),
         Err(_) => Status::WriteFault,
     }
 }
 
-/// Runs an accepted program and writes the report of what was committed.
-fn run_and_report<K: Sink>(alloc: Global, program: &FirstPath, out: &mut K) -> Done
+/// Runs a program that is taken, for so many steps at most.
+pub(crate) fn run(alloc: Global, program: &Program, steps: u64) -> Result<Run, NoMemory>
+    requires taken { (tree : Ast) × IsTaken tree program.now }
+    requires steps { steps ≤ STEPS }
+    ensures { IfOk result (λ run. HasRun (settings_of program.now) (next_request program.now.code) steps run.outcome (reverse run.journal.entries)) }
+{
+    run_program(alloc, &program.code, steps)
+}
+
+/// Runs a program that is taken and writes the report of what was committed.
+fn run_and_report<K: Sink>(alloc: Global, program: &Program, out: &mut K) -> Done
+    requires { (tree : Ast) × IsTaken tree program.now }
     ensures { WroteReport program.now (K.taken out.old) (K.taken out.new) (Rose (K.faults out.old) (K.faults out.new)) result.journal.entries result.status }
 {
-    let Ok(run) = run_program(alloc, program, STEPS) else {
+    let Ok(run) = run(alloc, program, STEPS) else {
         return nothing_ran(alloc, Status::NoMemory);
     };
     let Ok(text) = report(alloc, program, &run.journal) else {

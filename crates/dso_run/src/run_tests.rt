@@ -1,12 +1,17 @@
 //! Whole runs of the counter program. What they are to write is what another implementation of the same rules wrote.
-ghost use Rattle.std.specs.Prelude.{◌≡◌, min, sum_by};
+ghost use Rattle.std.specs.Prelude.{◌≡◌, min, sum_by, IfOk};
 ghost use Rattle.dso_base.specs.Weight.{entry_weight_of};
+ghost use Rattle.dso_syntax.specs.declared.tree.Ast.{Ast};
+ghost use Rattle.dso_run.specs.Accepted.{IsTaken};
 
-use crate::cluster::{Outcome, STEPS, run_program};
+use crate::cluster::{Outcome, STEPS};
+use crate::main_call::run;
 use crate::report::report;
+use crate::verdict::{Judged, judge_texts};
 use crate::weighing::weight_of;
-use crate::{Done, MemFiles, MemSink, Status, dso_main, first_path};
+use crate::{Done, MemFiles, MemSink, Status, dso_main};
 use dso_base::{Entry, Items, Journal};
+use dso_class::Program;
 use std::alloc::{AllocError, Global};
 use std::test::Fail;
 
@@ -95,6 +100,16 @@ fn simulated(alloc: Global, program: &str) -> Result<(Done, Vec<u8>), Fail> {
     Ok((done, Vec::from_slice(alloc, out.taken())?))
 }
 
+/// The program of a text that is taken.
+fn taken(alloc: Global, text: &str) -> Result<Program, Fail>
+    ensures { IfOk result (λ program. (tree : Ast) × IsTaken tree program) }
+{
+    match judge_texts(alloc, &[], text.as_bytes())? {
+        Judged::Accepted(program) => Ok(program),
+        Judged::Refused(_) => Err("refused".into()),
+    }
+}
+
 /// The entries, each on a line.
 fn lines_of(alloc: Global, entries: &[Entry]) -> Result<String, AllocError> {
     let mut text = String::new(alloc);
@@ -160,22 +175,47 @@ fn two_hundred_calls_count_to_two_hundred(rt: HostRuntime) -> Result<(), Fail> {
     Ok(())
 }
 
+/// A run that its budget cut off: how it ended, its report, what its journal weighs, and what it weighed without its
+/// last entry.
+#[derive(Drop)]
+struct CutOff {
+    outcome: Outcome,
+    written: Vec<u8>,
+    weight: u64,
+    before: u64,
+}
+
+/// The run of the program of two calls that has the steps up to the second print.
+fn cut_off(alloc: Global, program: &Program) -> Result<CutOff, Fail>
+    requires { (tree : Ast) × IsTaken tree program.now }
+{
+    let run = run(alloc, program, STEPS_TO_THE_SECOND_PRINT)?;
+    let written = report(alloc, program, &run.journal)?;
+    let weight = light_weight(&run.journal).ok_or("heavy")?;
+    let before = light_weight(&without_last(run.journal)).ok_or("heavy")?;
+    Ok(CutOff {
+        outcome: run.outcome,
+        written,
+        weight,
+        before,
+    })
+}
+
 #[test]
 fn budget_ends_a_run_in_mid_block(rt: HostRuntime) -> Result<(), Fail> {
     let alloc = rt.alloc();
     let text = counting(alloc, 2)?;
-    let program = first_path(alloc, text.as_bytes())?.ok_or("refused")?;
-    let run = run_program(alloc, &program, STEPS_TO_THE_SECOND_PRINT)?;
-    assert_eq!(rt; run.outcome, Outcome::Budget);
+    let program = taken(alloc, text.as_str())?;
+    let cut = cut_off(alloc, &program);
+    drop(program);
+    let cut = cut?;
+    assert_eq!(rt; cut.outcome, Outcome::Budget);
     assert_eq!(rt; Status::Budget.exit_number(), 7);
-    let written = report(alloc, &program, &run.journal)?;
     assert_eq!(rt;
-        written.as_slice(),
+        cut.written.as_slice(),
         REPORT_INSIDE_THE_SECOND_CALL.as_bytes()
     );
-    let weight = light_weight(&run.journal).ok_or("heavy")?;
-    assert!(rt; weight >= STEPS_TO_THE_SECOND_PRINT);
-    let before = light_weight(&without_last(run.journal)).ok_or("heavy")?;
-    assert!(rt; before < STEPS_TO_THE_SECOND_PRINT);
+    assert!(rt; cut.weight >= STEPS_TO_THE_SECOND_PRINT);
+    assert!(rt; cut.before < STEPS_TO_THE_SECOND_PRINT);
     Ok(())
 }

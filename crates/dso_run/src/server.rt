@@ -4,7 +4,7 @@ ghost use Rattle.dso_base.specs.declared.journal.Node.TheVariants as node;
 ghost use Rattle.dso_base.specs.declared.journal.Sent.TheVariants as to;
 ghost use Rattle.dso_law.specs.Entries.{entries_of};
 ghost use Rattle.dso_law.specs.Served.{next_batch};
-ghost use Rattle.dso_run.specs.Counting.{settings};
+ghost use Rattle.dso_run.specs.Counter.{settings};
 ghost use Rattle.dso_run.specs.Room.{HasRoom};
 ghost use Rattle.dso_run.specs.Steps.{object_of, answer_to, takes_up};
 

@@ -1,17 +1,17 @@
 //! The report of a history, from the plain state that it leads to.
 ghost use Rattle.std.specs.Prelude.{◌≡◌, ◌++◌, ℕ, List, IfOk, OnOk};
 ghost use Rattle.dso_base.specs.declared.lock.ThreadId.{ThreadId};
+ghost use Rattle.dso_class.specs.declared.program.Names.{Names};
 ghost use Rattle.dso_plain.specs.State.{PlainState};
 ghost use Rattle.dso_plain.specs.Tables.{state_of};
-ghost use Rattle.dso_run.specs.declared.program_names.Names.{Names};
 ghost use Rattle.dso_run.specs.Report.{IsReport, unguarded_line};
 
 use crate::graph_lines::push_graph;
 use crate::numbering::order_of;
-use crate::program_names::Names;
 use crate::thread_lines::threads_text;
 use crate::value_texts::push_number;
 use dso_base::{NoMemory, ThreadId};
+use dso_class::Names;
 use dso_plain::Plain;
 use std::alloc::{AllocError, Global};
 

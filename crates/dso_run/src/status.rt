@@ -1,7 +1,9 @@
 ghost use Rattle.std.specs.Prelude.{◌≡◌};
-ghost use Rattle.dso_run.specs.Status.{exit_number_of, status_of, line_of};
+ghost use Rattle.dso_run.specs.Status.{exit_number_of, status_of};
 
 use dso_base::Journal;
+use dso_class::NameFault;
+use dso_syntax::SyntaxFault;
 
 /// Why a configuration is refused.
 #[derive(Clone, Copy, Debug, PartialEq, Eq)]
@@ -13,6 +15,10 @@ pub enum ConfigFault {
 /// Why a program is refused.
 #[derive(Clone, Copy, Debug, PartialEq, Eq)]
 pub enum ProgramFault {
+    /// It isn't of the grammar.
+    Syntax(SyntaxFault),
+    /// Its names break a rule.
+    Name(NameFault),
     /// It asks for what isn't built yet.
     NotBuilt,
 }
@@ -85,18 +91,6 @@ impl Refusal {
             Refusal::Reading => Status::ReadFault,
             Refusal::Config(fault) => Status::BadConfig(fault),
             Refusal::Program(fault) => Status::BadProgram(fault),
-        }
-    }
-
-    /// The one line that is written.
-    pub(crate) fn line(self) -> &'static str
-        ensures { result.now ≡ line_of self }
-    {
-        match self {
-            Refusal::Words => "dsorun: Usage\n",
-            Refusal::Reading => "dsorun: ReadFault\n",
-            Refusal::Config(ConfigFault::NotBuilt) => "dsorun: BadConfig NotBuilt\n",
-            Refusal::Program(ProgramFault::NotBuilt) => "dsorun: BadProgram NotBuilt\n",
         }
     }
 }

@@ -1,4 +1,5 @@
-use crate::{ConfigFault, MemFiles, MemSink, ProgramFault, Status, dso_main};
+//! Calls of the program over files in memory. What they are to write is what the rules say.
+use crate::{ConfigFault, MemFiles, MemSink, Status, dso_main};
 use std::alloc::Global;
 use std::test::Fail;
 
@@ -19,12 +20,26 @@ const COUNT_TWICE: &str =
 class Main { static ref counter; }
 thread 1 { Main.counter = new Counter(); var c = Main.counter; c.add(1); c.add(1); }";
 
+/// The counter whose field is called as the size of an array.
+const COUNT_LENGTH: &str = "class Counter {
+  long length;
+  synchronized add(k) { this.length = this.length + k; print(this.length); }
+}
+class Main { static ref counter; }
+thread 1 { Main.counter = new Counter(); var c = Main.counter; c.add(1); }";
+
+/// The counter with comments, and with parentheses that change nothing.
+const COUNT_RESPELLED: &str = "// counts
+class Counter{long n;synchronized add(k){this.n=((this).n+(k));print((this.n));}}
+class Main{static ref counter;} // holds it
+thread 01{Main.counter=(new Counter());var c=(Main.counter);(c).add((001));}";
+
 const COUNT_REPORT: &str =
     "thread 1.1 ended\n| 1\nunguarded 0\nroot Main.counter #1\n#1 Counter n=1\n";
 
 /// What a call of the program is tried on.
 #[derive(Clone, Copy)]
-struct Trial<'a> {
+pub(crate) struct Trial<'a> {
     words: &'a [&'a str],
     config: &'a str,
     program: &'a str,
@@ -34,7 +49,7 @@ struct Trial<'a> {
 }
 
 /// `sim` over an empty configuration `c` and this program `p`, with nothing that fails.
-fn plain_trial(program: &str) -> Trial<'_> {
+pub(crate) fn plain_trial(program: &str) -> Trial<'_> {
     Trial {
         words: &["sim", "c", "p"],
         config: "",
@@ -46,7 +61,7 @@ fn plain_trial(program: &str) -> Trial<'_> {
 }
 
 /// The status of the call, and what was written.
-fn tried(alloc: Global, trial: &Trial<'_>) -> Result<(Status, Vec<u8>), Fail> {
+pub(crate) fn tried(alloc: Global, trial: &Trial<'_>) -> Result<(Status, Vec<u8>), Fail> {
     let mut words = Vec::new(alloc);
     for word in trial.words {
         words.push(String::from_str(alloc, word)?)?;
@@ -75,6 +90,23 @@ fn two_calls_print_one_and_two(rt: HostRuntime) -> Result<(), Fail> {
     assert_eq!(rt; status, Status::Finished);
     let report = "thread 1.1 ended\n| 1\n| 2\nunguarded 0\nroot Main.counter #1\n#1 Counter n=2\n";
     assert_eq!(rt; written.as_slice(), report.as_bytes());
+    Ok(())
+}
+
+#[test]
+fn a_field_called_length_counts(rt: HostRuntime) -> Result<(), Fail> {
+    let (status, written) = tried(rt.alloc(), &plain_trial(COUNT_LENGTH))?;
+    assert_eq!(rt; status, Status::Finished);
+    let report = "thread 1.1 ended\n| 1\nunguarded 0\nroot Main.counter #1\n#1 Counter length=1\n";
+    assert_eq!(rt; written.as_slice(), report.as_bytes());
+    Ok(())
+}
+
+#[test]
+fn another_spelling_is_the_same_program(rt: HostRuntime) -> Result<(), Fail> {
+    let (status, written) = tried(rt.alloc(), &plain_trial(COUNT_RESPELLED))?;
+    assert_eq!(rt; status, Status::Finished);
+    assert_eq!(rt; written.as_slice(), COUNT_REPORT.as_bytes());
     Ok(())
 }
 
@@ -147,20 +179,6 @@ fn a_configuration_with_a_byte_is_not_built(rt: HostRuntime) -> Result<(), Fail>
         written.as_slice(),
         "dsorun: BadConfig NotBuilt\n".as_bytes()
     );
-    Ok(())
-}
-
-#[test]
-fn a_program_of_another_form_is_not_built(rt: HostRuntime) -> Result<(), Fail> {
-    for program in ["", "thread 1 { }", "class A { long n; } // a comment"] {
-        let (status, written) = tried(rt.alloc(), &plain_trial(program))?;
-        assert_eq!(rt; status, Status::BadProgram(ProgramFault::NotBuilt));
-        assert_eq!(rt; status.exit_number(), 3);
-        assert_eq!(rt;
-            written.as_slice(),
-            "dsorun: BadProgram NotBuilt\n".as_bytes()
-        );
-    }
     Ok(())
 }
 

@@ -3,9 +3,9 @@ ghost use Rattle.std.specs.Prelude.{◌≡◌, ◌++◌, flat_map, reverse, IfOk
 ghost use Rattle.dso_plain.specs.Tables.{state_of};
 ghost use Rattle.dso_run.specs.Report.{HasStanding, IsThreadsText, fault_text, standing_text, thread_line, output_line, thread_text};
 
-use crate::program_names::Names;
 use crate::value_texts::{push_number, push_printed};
-use dso_base::{Fault, Items, ThreadId, Value};
+use dso_base::{Fault, ThreadId, Value, Word};
+use dso_class::Names;
 use dso_plain::Plain;
 use std::alloc::{AllocError, Global};
 
@@ -67,7 +67,7 @@ fn push_thread(
     ensures { OnOk result (text.new.items ≡ text.old.items ++ thread_text names.now (state_of plain.now) thread standing) }
 {
     push_thread_line(text, thread, standing)?;
-    push_output(text, &names.texts, plain, thread)
+    push_output(text, names.texts.as_slice(), plain, thread)
 }
 
 /// Puts the line of a thread at the end.
@@ -126,7 +126,7 @@ fn name_of(fault: Fault) -> &'static [u8]
 /// Puts a line for each value that a thread printed at the end, the oldest first.
 fn push_output(
     text: &mut Vec<u8>,
-    texts: &Items<Items<u8>>,
+    texts: &[Word],
     plain: &Plain,
     thread: ThreadId,
 ) -> Result<(), AllocError>
@@ -141,11 +141,7 @@ fn push_output(
 }
 
 /// Puts the line of a value that a thread printed at the end.
-fn push_output_line(
-    text: &mut Vec<u8>,
-    texts: &Items<Items<u8>>,
-    value: Value,
-) -> Result<(), AllocError>
+fn push_output_line(text: &mut Vec<u8>, texts: &[Word], value: Value) -> Result<(), AllocError>
     ensures { OnOk result (text.new.items ≡ text.old.items ++ output_line texts.now value) }
 {
     text.extend_from_slice(b"| ")?;

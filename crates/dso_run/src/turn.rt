@@ -11,7 +11,7 @@ ghost use Rattle.dso_law.specs.Records.{batches};
 ghost use Rattle.dso_law.specs.Needs.{is_enough, is_seen_class, unless, NeedsObject, NeedsClass, look_need, access_need, entry_need, ask_for};
 ghost use Rattle.dso_law.specs.Replies.{enter_reply};
 ghost use Rattle.dso_law.specs.InHand.{in_hand};
-ghost use Rattle.dso_run.specs.Counting.{the_thread, settings};
+ghost use Rattle.dso_run.specs.Counter.{the_thread, settings};
 ghost use Rattle.dso_run.specs.Steps.{own};
 ghost use Rattle.dso_run.specs.Turns.{asking, answering, asks, lacking, turn_of, IsAsked};
 

@@ -3,13 +3,13 @@ ghost use Rattle.std.specs.Prelude.{◌≡◌, ◌++◌, OnOk};
 ghost use Rattle.std.specs.Fmt.{decimal, signed_decimal};
 ghost use Rattle.dso_run.specs.Texts.{text_at, escaped, quoted, printed, shown, numbered, number_of, kind_text};
 
-use dso_base::{Items, Kind, Value};
+use dso_base::{Kind, Value, Word};
 use indexmap::IndexSet;
 use itoa::Buffer;
 use std::alloc::AllocError;
 
 /// The text at a place, an empty one past the end.
-pub(crate) fn text_at(texts: &Items<Items<u8>>, at: usize) -> &[u8]
+pub(crate) fn text_at(texts: &[Word], at: usize) -> &[u8]
     ensures { result.now ≡ text_at texts.now at }
 {
     match texts.get(at) {
@@ -59,7 +59,7 @@ fn push_escaped(text: &mut Vec<u8>, byte: u8) -> Result<(), AllocError>
 /// Puts a value at the end, as a thread prints it.
 pub(crate) fn push_printed(
     text: &mut Vec<u8>,
-    texts: &Items<Items<u8>>,
+    texts: &[Word],
     value: Value,
 ) -> Result<(), AllocError>
     ensures { OnOk result (text.new.items ≡ text.old.items ++ printed texts.now value) }
@@ -100,7 +100,7 @@ fn number_of(order: &IndexSet<u64>, object: u64) -> u64
 /// Puts a value at the end, as the graph shows it.
 pub(crate) fn push_shown(
     text: &mut Vec<u8>,
-    texts: &Items<Items<u8>>,
+    texts: &[Word],
     order: &IndexSet<u64>,
     value: Value,
 ) -> Result<(), AllocError>

@@ -1,6 +1,6 @@
 use Rattle.std.proofs.Common.{◌∷◌}
 use Rattle.std.specs.BTreeMap.{is_at}
-use Rattle.dso_plain.specs.Keys.{is_thread}
+use Rattle.dso_base.specs.Program.{is_thread}
 use Rattle.dso_plain.specs.Tables.{state_of, lists_of, thread_order}
 use Rattle.dso_plain.proofs.Orders.{thread_at}
 use Rattle.dso_plain.proofs.Writing.{renamed}

@@ -1,11 +1,29 @@
-use Rattle.std.proofs.Common.{◌≡◌, reverse, sym, ◌∙◌, subst, Option, Result, IfOk}
-use Rattle.dso_base.specs.declared.journal.Entry.{Entry}
-use Rattle.dso_base.specs.declared.no_memory.NoMemory.{NoMemory}
+use Rattle.std.proofs.Common.{reverse}
+use Rattle.dso_law.specs.Entries.{events_in}
+use Rattle.dso_machine.specs.Next.{next_request}
+use Rattle.dso_machine.proofs.Ended.{over_asks}
+use Rattle.dso_run.specs.Counter.{the_thread}
+use Rattle.dso_run.specs.Steps.{own}
+use Rattle.dso_run.proofs.CounterAsks.{asks_plainly}
+use Rattle.dso_run.proofs.Following.{made_as}
 use Rattle.dso_run.proofs.Making.{acts_by_turn}
 use Rattle.dso_run.proofs.client.act.Goals as goal
 
-made_as : (result : Result (Option Entry) NoMemory) (a b : Option Entry) → b ≡ a → IfOk result (λ made. made ≡ a) → IfOk result (λ made. made ≡ b)
-made_as result a b same h = subst (λ (x : Option Entry). IfOk result (λ made. made ≡ x)) (sym same) h
+pub next-requires-clause-goes : goal.next-requires-clause-goes
+next-requires-clause-goes c = λ over.
+    let code = c.args.code.now in
+    let events = events_in the_thread (own (reverse c.args.entries.now)) in
+    let stands = c.requires.follows.stands in
+    let ended = (c.over.ensures code the_thread events stands).1 (over_asks code the_thread c.args.thread.now events stands over) in
+    cc (ended, c.if-over.false)
 
-pub returns-in-Some : goal.returns-in-Some
-returns-in-Some c = made_as c.act_with.result _ _ (acts_by_turn c.args.program.now c.in-Some.request (reverse c.args.entries.now) (sym c.in_ok-request.ensures.is ∙ c.in-Some.is)) c.act_with.ensures
+pub act_with-requires-clause-is_asked : goal.act_with-requires-clause-is_asked
+act_with-requires-clause-is_asked c =
+    let events = events_in the_thread (own (reverse c.args.entries.now)) in
+    asks_plainly c.args.code.now c.requires.counter the_thread events c.in_ok-request.request (c.in_ok-request.ensures.asks the_thread events c.requires.follows.stands)
+
+pub returns-clause-made : goal.returns-clause-made
+returns-clause-made c =
+    let es = reverse c.args.entries.now in
+    made_as c.act_with.result _ _
+    (acts_by_turn (next_request c.args.code.now) c.in_ok-request.request es (c.in_ok-request.ensures.asks the_thread (events_in the_thread (own es)) c.requires.follows.stands)) c.act_with.ensures.made

@@ -5,4 +5,4 @@ use Rattle.dso_run.specs.Texts.{each_below}
 use Rattle.dso_run.proofs.graph_lines.push_fields.Given as goal
 
 abbrev pub invariant-loop-field : goal.invariant-loop-field
-invariant-loop-field l = l.text.items ≡ (l.fn.text.items ++ l.class.name) ++ each_below (field_text l.names l.order.keys (state_of l.plain) l.object l.class.fields) l.field
+invariant-loop-field l = l.text.items ≡ l.fn.text.items ++ each_below (field_text l.names l.order.keys (state_of l.plain) l.object l.fields) l.field

@@ -3,7 +3,7 @@ use Rattle.std.specs.Option.{option_map}
 use Rattle.dso_base.specs.declared.request.Reply.TheVariants as reply
 use Rattle.dso_base.specs.declared.request.Request.TheVariants.{Look, Get}
 use Rattle.dso_law.specs.Needs.{access_need}
-use Rattle.dso_run.specs.Counting.{the_thread, settings}
+use Rattle.dso_run.specs.Counter.{the_thread, settings}
 use Rattle.dso_run.specs.Steps.{own, tellable}
 use Rattle.dso_run.specs.Turns.{asking}
 use Rattle.dso_run.proofs.Lacking.{by_lack, by_reply}

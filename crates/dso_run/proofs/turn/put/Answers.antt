@@ -2,7 +2,7 @@ use Rattle.std.proofs.Common.{reverse, sym, ◌∙◌}
 use Rattle.dso_base.specs.declared.request.Request.TheVariants.{Look, Put}
 use Rattle.dso_law.specs.Needs.{access_need}
 use Rattle.dso_law.specs.Replies.{class_known}
-use Rattle.dso_run.specs.Counting.{the_thread, settings}
+use Rattle.dso_run.specs.Counter.{the_thread, settings}
 use Rattle.dso_run.specs.Steps.{own}
 use Rattle.dso_run.specs.Turns.{asking}
 use Rattle.dso_run.proofs.Lacking.{by_lack, by_reply, put_is_told}

@@ -1,0 +1,172 @@
+-- What a part of a program means: from where a thread stands to what comes of it.
+--
+-- A part asks its requests of a list of replies. Where the list is at its end, what the part comes to is the request itself.
+use Rattle.std.specs.Prelude.{ℕ, ◌+◌, Bool, true, false, nat_lt, List, [], ◌∷◌, Result, Ok, Err}
+use Rattle.dso_base.specs.declared.lock.Grade.{Grade}
+use Rattle.dso_base.specs.declared.lock.Grade.TheVariants as grade
+use Rattle.dso_base.specs.declared.lock.Level.{Level}
+use Rattle.dso_base.specs.declared.lock.Level.TheVariants.{Read, Write}
+use Rattle.dso_base.specs.declared.lock.LockName.{LockName}
+use Rattle.dso_base.specs.declared.request.Fault.{Fault}
+use Rattle.dso_base.specs.declared.request.Fault.TheVariants.{NullPointer, BadValue}
+use Rattle.dso_base.specs.declared.request.Reply.{Reply}
+use Rattle.dso_base.specs.declared.request.Reply.TheVariants.{Done, Made, Seen, Val, Local, Refused}
+use Rattle.dso_base.specs.declared.request.Request.{Request}
+use Rattle.dso_base.specs.declared.request.Request.TheVariants as request
+use Rattle.dso_base.specs.declared.value.ClassId.{ClassId}
+use Rattle.dso_base.specs.declared.value.Value.{Value}
+use Rattle.dso_base.specs.declared.value.Value.TheVariants as value
+use Rattle.dso_machine.specs.Limits.{most_moves}
+
+-- a frame: the object that its method is called on, its variables, and how many more frames may stand on it
+pub record Frame : Type 0 where
+  pub this : Value
+  pub vars : List Value
+  pub room : ℕ
+
+-- where a thread stands: its frame, its moves since the last request, and the replies that are left
+pub record State : Type 0 where
+  pub frame : Frame
+  pub moves : ℕ
+  pub replies : List Reply
+
+-- What a part comes to: it wants a reply, gives a value, leaves its frame with one, or fails. Between a request and what is
+-- made of its reply, it hears the reply. The thread is over, or was stopped since it made more moves than were counted.
+pub data Outcome : Type 0 where
+  Wants : Request → Outcome
+  Gives : Value → State → Outcome
+  Leaves : Value → State → Outcome
+  Fails : Fault → State → Outcome
+  Hears : Reply → State → Outcome
+  Over : Outcome
+  Stopped : Outcome
+
+-- what a part means
+abbrev pub Meaning : Type 0
+Meaning = State → Outcome
+
+-- one or the other
+abbrev pub choose : Bool → Meaning → Meaning → Meaning
+choose true a b at = a at
+choose false a b at = b at
+
+-- goes on from a value
+abbrev pub on_value : (Value → Meaning) → Outcome → Outcome
+on_value f (Gives v at) = f v at
+on_value f o = o
+
+-- goes on from a reply
+abbrev pub on_reply : (Reply → Meaning) → Outcome → Outcome
+on_reply f (Hears r at) = f r at
+on_reply f o = o
+
+-- goes on from a value to the part beside it, and then from both values
+abbrev pub on_next : (Value → Value → Meaning) → Meaning → Value → Meaning
+on_next f m x at = on_value (f x) (m at)
+
+-- a value, or the fault in its place
+abbrev pub result_of : Result Value Fault → Meaning
+result_of (Ok v) at = Gives v at
+result_of (Err fault) at = Fails fault at
+
+-- ---- requests
+
+-- a request with the replies that are left
+abbrev pub asked : Request → State → List Reply → Outcome
+asked q at [] = Wants q
+asked q at (r ∷ rs) = Hears r (record at { moves = 0; replies = rs })
+
+-- a request
+abbrev pub ask : Request → Meaning
+ask q at = asked q at at.replies
+
+-- What a reply comes to where another one is wanted: a refusal is its fault, all else is no value that is wanted.
+abbrev pub unwanted : Reply → Meaning
+unwanted (Refused fault) at = Fails fault at
+unwanted r at = Fails BadValue at
+
+-- the reply Done
+abbrev pub done : Reply → Meaning
+done Done at = Gives value.Null at
+done r at = unwanted r at
+
+-- the object that was made
+abbrev pub made : Reply → Meaning
+made (Made object) at = Gives (value.Ref object) at
+made r at = unwanted r at
+
+-- the value that was read
+abbrev pub got : Reply → Meaning
+got (Val v) at = Gives v at
+got r at = unwanted r at
+
+-- the class and the size that were seen
+abbrev pub seen : (ClassId → ℕ → Meaning) → Reply → Meaning
+seen f (Seen class size) at = f class size at
+seen f r at = unwanted r at
+
+-- a request that is answered Done
+abbrev pub tell : Request → Meaning
+tell q at = on_reply done (ask q at)
+
+-- a field or an element is read
+abbrev pub get : ℕ → ℕ → Meaning
+get object place at = on_reply got (ask (request.Get object place) at)
+
+-- a field or an element is written
+abbrev pub put : ℕ → ℕ → Value → Meaning
+put object place v = tell (request.Put object place v)
+
+-- an object is looked at
+abbrev pub look : (ClassId → ℕ → Meaning) → ℕ → Meaning
+look f object at = on_reply (seen f) (ask (request.Look object) at)
+
+-- the value is to be an object
+abbrev pub on_object : (ℕ → Meaning) → Value → Meaning
+on_object f value.Null at = Fails NullPointer at
+on_object f (value.Ref object) at = f object at
+on_object f v at = Fails BadValue at
+
+-- ---- moves
+
+-- a move is made
+abbrev pub moved : Meaning → Meaning
+moved m at = m (record at { moves = at.moves + 1 })
+
+-- a move, after a pause where one is due
+abbrev pub paced : Bool → Meaning → Meaning
+paced true m at = moved m at
+paced false m at = on_value (λ v. moved m) (tell request.Pause at)
+
+-- a move, before which the thread pauses where it made the most moves since its last request
+abbrev pub moving : Meaning → Meaning
+moving m at = paced (nat_lt at.moves most_moves) m at
+
+-- ---- locks
+
+-- at which level a lock is entered
+abbrev pub level_of : Grade → Level
+level_of grade.Read = Read
+level_of grade.Write = Write
+level_of grade.Synchronous = Write
+
+-- the lock is left, and then it is as before
+abbrev pub leaving : LockName → Meaning → Meaning
+leaving l m at = on_value (λ v. m) (tell (request.Exit l) at)
+
+-- the lock is left at the end of a part, whichever end that is
+abbrev pub leave : LockName → Outcome → Outcome
+leave l (Gives v at) = leaving l (Gives v) at
+leave l (Leaves v at) = leaving l (Leaves v) at
+leave l (Fails fault at) = leaving l (Fails fault) at
+leave l o = o
+
+-- a part under a lock that was asked for: one that is Local is not left
+abbrev pub entered : LockName → Meaning → Reply → Meaning
+entered l m Done at = leave l (m at)
+entered l m Local at = m at
+entered l m r at = unwanted r at
+
+-- a part under a lock
+abbrev pub under : LockName → Level → Meaning → Meaning
+under l level m at = on_reply (entered l m) (ask (request.Enter l level) at)

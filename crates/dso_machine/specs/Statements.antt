@@ -1,0 +1,152 @@
+-- What a statement means, and what a thread's code comes to.
+use Rattle.std.specs.Prelude.{ℕ, zero, suc, true, false, ℤ, List, [], ◌∷◌, map, slice_get, slice_set, Option, None, Some}
+use Rattle.dso_base.specs.declared.lock.Grade.{Grade}
+use Rattle.dso_base.specs.declared.lock.Level.TheVariants.{Write}
+use Rattle.dso_base.specs.declared.lock.LockName.{LockName}
+use Rattle.dso_base.specs.declared.lock.LockName.TheVariants.{Mon, Name}
+use Rattle.dso_base.specs.declared.request.Fault.TheVariants.{NoSuchField, BadValue, BadIndex}
+use Rattle.dso_base.specs.declared.request.Request.TheVariants as request
+use Rattle.dso_base.specs.declared.shape.Shape.{Shape}
+use Rattle.dso_base.specs.declared.value.ClassId.{ClassId}
+use Rattle.dso_base.specs.declared.value.ClassId.TheVariants.{Plain, Array}
+use Rattle.dso_base.specs.declared.value.Kind.{Kind}
+use Rattle.dso_base.specs.declared.value.Kind.TheVariants as kind
+use Rattle.dso_base.specs.declared.value.Value.{Value}
+use Rattle.dso_base.specs.declared.value.Value.TheVariants as value
+use Rattle.dso_base.specs.Shape.{kind_of}
+use Rattle.dso_machine.specs.declared.code.Code.{Code}
+use Rattle.dso_machine.specs.declared.code.Method.{Method}
+use Rattle.dso_machine.specs.declared.tree.FieldRef.{FieldRef}
+use Rattle.dso_machine.specs.declared.tree.Expr.{Expr}
+use Rattle.dso_machine.specs.declared.tree.Stmt.{Stmt, Stmt-F, fold-Stmt}
+use Rattle.dso_machine.specs.declared.tree.Stmt.TheOpen as s
+use Rattle.dso_machine.specs.Calls.{Ways, beside}
+use Rattle.dso_machine.specs.Expressions.{within, expr}
+use Rattle.dso_machine.specs.Outcome.{Gives, Leaves, Fails, Stopped, Meaning, choose, on_value, on_next, tell, get, put, look, on_object, moving, level_of, under}
+use Rattle.dso_machine.specs.Values.{takes}
+
+-- ---- what is written
+
+-- a variable is given a value
+abbrev pub assign : ℕ → Value → Meaning
+assign i v at = Gives value.Null (record at { frame = record at.frame { vars = slice_set at.frame.vars i v } })
+
+-- a field or an element of this kind is given a value
+abbrev pub put_fitting : Kind → ℕ → ℕ → Value → Meaning
+put_fitting kind object place v at = choose (takes kind v) (put object place v) (Fails BadValue) at
+
+-- the field that was found, in an object of this class
+abbrev pub put_field_at : Shape → ℕ → ℕ → Value → Option ℕ → Meaning
+put_field_at shape class object v None at = Fails NoSuchField at
+put_field_at shape class object v (Some place) at = put_fitting (kind_of shape (Plain class) place) object place v at
+
+-- a field of an object of this class: an array has none
+abbrev pub put_field_in : Shape → FieldRef → Value → ℕ → ClassId → ℕ → Meaning
+put_field_in shape f v object (Plain class) size at = put_field_at shape class object v (beside f.places class) at
+put_field_in shape f v object class size at = Fails NoSuchField at
+
+-- a field of a value
+abbrev pub put_field : Shape → FieldRef → Value → Value → Meaning
+put_field shape f x v = on_object (λ object. look (put_field_in shape f v object) object) x
+
+-- the element that was found
+abbrev pub put_element_at : Kind → ℕ → Value → Option ℕ → Meaning
+put_element_at kind object v None at = Fails BadIndex at
+put_element_at kind object v (Some place) at = put_fitting kind object place v at
+
+-- an element of an object of this class, which is to be an array
+abbrev pub put_element_in : ℤ → Value → ℕ → ClassId → ℕ → Meaning
+put_element_in i v object (Array kind) size at = put_element_at kind object v (within i size) at
+put_element_in i v object class size at = Fails BadValue at
+
+-- an element of a value, at an index that is to be a long
+abbrev pub put_element : Value → Value → Value → Meaning
+put_element x (value.Long i) v = on_object (λ object. look (put_element_in i v object) object) x
+put_element x i v = on_object (λ object. Fails BadValue) x
+
+-- the first assignment binds a root: one that is bound stays
+abbrev pub bind_null : ℕ → Value → Value → Meaning
+bind_null r v value.Null at = put 0 r v at
+bind_null r v bound at = Gives value.Null at
+
+-- a root is bound, under its lock
+abbrev pub bind : ℕ → Value → Meaning
+bind r v = under (Name r) Write (λ at. on_value (bind_null r v) (get 0 r at))
+
+-- a root is given a value
+abbrev pub put_root : ℕ → Value → Meaning
+put_root r v at = choose (takes kind.Ref v) (bind r v) (Fails BadValue) at
+
+-- ---- monitors
+
+-- statements under the monitor of a value
+abbrev pub sync : Grade → Meaning → Value → Meaning
+sync grade m = on_object (λ object. under (Mon object) (level_of grade) m)
+
+-- a thread waits, and then has the lock again
+abbrev pub wait : LockName → Meaning
+wait l at = on_value (λ v. tell (request.Resume l)) (tell (request.Wait l) at)
+
+-- ---- what is run
+
+-- one after the other
+abbrev pub seq : List Meaning → Meaning
+seq [] at = Gives value.Null at
+seq (m ∷ ms) at = on_value (λ v. seq ms) (m at)
+
+-- one way or the other, by a value that is to be a boolean
+abbrev pub branch : Meaning → Meaning → Value → Meaning
+branch a b (value.Bool true) at = a at
+branch a b (value.Bool false) at = b at
+branch a b v at = Fails BadValue at
+
+-- a loop after its condition: the body and the loop again, or its end
+abbrev pub turn : Meaning → Meaning → Value → Meaning
+turn again body = branch (λ at. on_value (λ v. again) (body at)) (Gives value.Null)
+
+-- the evaluation of a loop's condition, which a move has started, and what follows, for at most so many moves
+abbrev pub spun : Meaning → Meaning → ℕ → Meaning
+spun test body zero at = Stopped
+spun test body (suc k) at = on_value (turn (moving (spun test body k)) body) (test at)
+
+-- ---- all forms
+
+-- a frame is left with a value, or with null
+abbrev pub returned : Code → Ways → Option Expr → Meaning
+returned code ways None at = Leaves value.Null at
+returned code ways (Some a) at = on_value Leaves (expr code ways a at)
+
+-- What a statement means, by what the statements in it mean, for at most n moves. Nobody looks at the value that it gives.
+abbrev pub stmt_step : Code → Ways → ℕ → Stmt-F Meaning → Meaning
+stmt_step code ways n (s.Assign i a) at = on_value (assign i) (expr code ways a at)
+stmt_step code ways n (s.PutField a f b) at = on_value (on_next (put_field code.shape f) (expr code ways b)) (expr code ways a at)
+stmt_step code ways n (s.PutElem a b c) at =
+    on_value (on_next (λ x. on_next (put_element x) (expr code ways c)) (expr code ways b)) (expr code ways a at)
+stmt_step code ways n (s.PutRoot r a) at = on_value (put_root r) (expr code ways a at)
+stmt_step code ways n (s.Eval a) at = expr code ways a at
+stmt_step code ways n (s.If a yes_block no_block) at = on_value (branch (seq yes_block) (seq no_block)) (expr code ways a at)
+stmt_step code ways n (s.While a body) at = moving (spun (expr code ways a) (seq body) n) at
+stmt_step code ways n (s.Sync a grade body) at = on_value (sync grade (seq body)) (expr code ways a at)
+stmt_step code ways n (s.Wait a) at = on_value (on_object (λ object. wait (Mon object))) (expr code ways a at)
+stmt_step code ways n (s.Notify a) at = on_value (on_object (λ object. tell (request.Notify (Mon object)))) (expr code ways a at)
+stmt_step code ways n (s.NotifyAll a) at = on_value (on_object (λ object. tell (request.NotifyAll (Mon object)))) (expr code ways a at)
+stmt_step code ways n (s.Print a) at = on_value (λ v. tell (request.Print v)) (expr code ways a at)
+stmt_step code ways n (s.Return a) at = returned code ways a at
+
+-- what a statement means
+abbrev pub stmt : Code → Ways → ℕ → Stmt → Meaning
+stmt code ways n = fold-Stmt Meaning (stmt_step code ways n)
+
+-- what statements mean, one after the other
+abbrev pub block : Code → Ways → ℕ → List Stmt → Meaning
+block code ways n ss = seq (map (stmt code ways n) ss)
+
+-- the statements of a method
+abbrev pub statements_of : Option Method → List Stmt
+statements_of None = []
+statements_of (Some method) = method.body
+
+-- what the methods mean, for at most n moves one inside another
+abbrev pub methods : Code → ℕ → Ways
+methods code zero = λ m at. Stopped
+methods code (suc n) = λ m at. block code (methods code n) n (statements_of (slice_get code.methods m)) at

@@ -1,0 +1,89 @@
+//! How a method is called.
+ghost use Rattle.std.specs.Prelude.{◌≡◌, ℕ, IfOk, List, Some};
+ghost use Rattle.dso_base.specs.declared.request.Reply.{Reply};
+ghost use Rattle.dso_machine.specs.declared.code.Code.{Code};
+ghost use Rattle.dso_machine.specs.declared.task.OnReply.{OnReply};
+ghost use Rattle.dso_machine.specs.Calls as calls;
+ghost use Rattle.dso_machine.specs.Outcome.{State};
+ghost use Rattle.dso_machine.specs.Running.{Takes, body_at, in_frame, meant, stepped};
+ghost use Rattle.dso_machine.specs.Statements.{methods};
+
+use crate::Code;
+use crate::heard::{enter_monitor, unwanted};
+use crate::operators::{beside, level_of};
+use crate::task::{Call, Frame, Locked, Now, OnReply, Step};
+use dso_base::{ClassId, Fault, Grade, Items, LockName, NoMemory, Reply, Request, Value};
+
+/// So many variables: these values, and then nulls.
+pub(crate) fn variables(count: u32, values: Items<Value>) -> Result<Items<Value>, NoMemory>
+    ensures { IfOk result (λ vars. vars ≡ calls.variables count values) }
+{
+    let mut vars = values.into_vec();
+    let count = count as usize;
+    if vars.len() < count {
+        vars.resize(count, Value::Null)?;
+    }
+    Ok(Items::from_vec(vars))
+}
+
+/// A call of a method: its locks, the named one first, and then its body.
+fn enter_named(named: Option<(u32, Grade)>, call: Call) -> Now
+    ensures is { (code : Code) (n k : ℕ) (at : State) → meant code n k result at
+        ≡ calls.under_name named (calls.under_monitor call.synced call.object (body_at code n k call)) at }
+{
+    match named {
+        Some((lock, grade)) => {
+            let lock = LockName::Name(lock);
+            let request = Request::Enter(lock, level_of(grade));
+            Now::Ask(request, OnReply::Entered(lock, Locked::Monitor(call)))
+        }
+        None => enter_monitor(call),
+    }
+}
+
+/// A method of this number is called.
+fn call_method(
+    code: &Code,
+    frame: &Frame,
+    object: u64,
+    number: u32,
+    args: Items<Value>,
+) -> Result<Step, NoMemory>
+    ensures is { IfOk result (λ step. (n k moves : ℕ) (rs : List Reply) → stepped code.now n k step (in_frame frame.now moves rs)
+        ≡ calls.call_number code.now (methods code.now n) object args (Some number) (in_frame frame.now moves rs)) }
+{
+    let Some(method) = code.methods.get(number as usize) else {
+        return Ok(Step::fail(Fault::NoSuchField));
+    };
+    if frame.room == 0 {
+        return Ok(Step::fail(Fault::StackOverflow));
+    }
+    let call = Call {
+        method: number,
+        object,
+        vars: variables(method.vars, args)?,
+        synced: method.synced,
+    };
+    Ok(Step::alone(enter_named(method.named, call)))
+}
+
+/// An object was seen of which a method is called.
+pub(crate) fn call_seen(
+    code: &Code,
+    frame: &Frame,
+    reply: Reply,
+    object: u64,
+    callees: Items<(u32, u32)>,
+    args: Items<Value>,
+) -> Result<Step, NoMemory>
+    ensures takes { IfOk result (λ step. Takes code.now (OnReply.Call object callees args) reply frame.now step) }
+{
+    match reply {
+        Reply::Seen(ClassId::Plain(class), _) => match beside(callees.as_slice(), class) {
+            Some(number) => call_method(code, frame, object, number, args),
+            None => Ok(Step::fail(Fault::NoSuchField)),
+        },
+        Reply::Seen(_, _) => Ok(Step::fail(Fault::NoSuchField)),
+        _ => Ok(unwanted(reply)),
+    }
+}

@@ -1,0 +1,298 @@
+//! The machine of a thread: its frame, what it is about to do, and what it has still to do.
+ghost use Rattle.std.specs.Prelude.{◌≡◌, ◌+◌, ◌++◌, ◌<◌, ◌↔◌, IfOk, IsTrue, Some, slice_get};
+ghost use Rattle.std.specs.Option.{option_to_list};
+ghost use Rattle.dso_machine.specs.declared.task.End.{End};
+ghost use Rattle.dso_machine.specs.declared.task.Move.{Move};
+ghost use Rattle.dso_machine.specs.declared.task.Now.{Now};
+ghost use Rattle.dso_machine.specs.declared.task.Task.{Task};
+ghost use Rattle.dso_machine.specs.declared.code.Code.{Code};
+ghost use Rattle.dso_machine.specs.Running.{IsAsk, IsRest, Keeps, Leads, MakesMove, with_then};
+ghost use Rattle.dso_machine.specs.Sound.{IsSound};
+ghost use Rattle.dso_machine.specs.Statements.{statements_of};
+ghost use Rattle.dso_machine.specs.Weight.{use_weight, weigh};
+
+use crate::copies::{copy_block, copy_expr};
+use crate::evaluate::evaluate;
+use crate::execute::execute;
+use crate::given::give;
+use crate::next_part::{next_argument, next_statement};
+use crate::stack::Stack;
+use crate::task::{Call, End, Frame, Move, Now, OnReply, OnValue, Step, Task};
+use crate::{Code, Expr, Stmt};
+use dso_base::{Items, NoMemory, Request, Value};
+use std::alloc::Global;
+use std::mem;
+
+/// The most moves of a thread between two of its requests.
+const MOST_MOVES: u32 = 1000;
+
+/// A thread's frame, its moves since the last request, what it is about to do, and what it has still to do, the next
+/// task first.
+#[derive(Debug, Drop)]
+pub(crate) struct Core {
+    pub(crate) frame: Frame,
+    pub(crate) moves: u32,
+    pub(crate) tasks: Stack<Task>,
+}
+
+impl Core {
+    /// What comes of a step: its task, if there is one, is put on top of the others.
+    pub(crate) fn follow(&mut self, step: Step) -> Result<Now, NoMemory>
+        ensures now { IfOk result (λ now. now ≡ step.now) }
+        ensures tasks { IfOk result (λ now. self.new ≡ with_then step.then self.old) }
+    {
+        let Step { now, then } = step;
+        put_before(&mut self.tasks, then, now)
+    }
+
+    /// A frame ends: the one below is the thread's again. A body that did not return gives null.
+    #[tactic(auto, using(crate::proofs::Steps::steps))]
+    fn back(&mut self, frame: Frame, end: End) -> Now
+        ensures keeps { (code : Code) → Keeps code (Now.Have end) (with_then (Some (Task.Back frame)) self.old) result self.new }
+        ensures lighter { weigh result self.new < weigh (Now.Have end) self.old + 1 }
+        ensures calm { self.new.moves ≡ self.old.moves }
+    {
+        match end {
+            End::Gives(_) => {
+                self.frame = frame;
+                Now::Have(End::Gives(Value::Null))
+            }
+            End::Leaves(value) => {
+                self.frame = frame;
+                Now::Have(End::Gives(value))
+            }
+            End::Fails(fault) => Now::Have(End::Fails(fault)),
+        }
+    }
+
+    /// A value is used.
+    #[tactic(auto, using(crate::proofs::Steps::steps))]
+    fn use_value(&mut self, alloc: Global, value: Value, then: OnValue) -> Result<Now, NoMemory>
+        ensures keeps { IfOk result (λ now. (code : Code) → Keeps code (Now.Have (End.Gives value)) (with_then (Some (Task.Then then)) self.old) now self.new) }
+        ensures lighter { IfOk result (λ now. weigh now self.new < weigh (Now.Have (End.Gives value)) self.old + use_weight then) }
+        ensures calm { IfOk result (λ now. self.new.moves ≡ self.old.moves) }
+    {
+        let step = give(alloc, &mut self.frame, value, then)?;
+        self.follow(step)
+    }
+
+    /// A part ends whose value is used: a return and a fault pass by.
+    #[tactic(auto, using(crate::proofs::Steps::steps))]
+    fn hand_on(&mut self, alloc: Global, then: OnValue, end: End) -> Result<Now, NoMemory>
+        ensures keeps { IfOk result (λ now. (code : Code) → Keeps code (Now.Have end) (with_then (Some (Task.Then then)) self.old) now self.new) }
+        ensures lighter { IfOk result (λ now. weigh now self.new < weigh (Now.Have end) self.old + use_weight then) }
+        ensures calm { IfOk result (λ now. self.new.moves ≡ self.old.moves) }
+    {
+        match end {
+            End::Gives(value) => self.use_value(alloc, value, then),
+            End::Leaves(value) => {
+                discard(then);
+                Ok(Now::Have(End::Leaves(value)))
+            }
+            End::Fails(fault) => {
+                discard(then);
+                Ok(Now::Have(End::Fails(fault)))
+            }
+        }
+    }
+
+    /// Goes on from the end of a part.
+    #[tactic(auto, using(crate::proofs::Steps::steps))]
+    fn close(&mut self, alloc: Global, end: End) -> Result<Now, NoMemory>
+        ensures keeps { IfOk result (λ then. (code : Code) → Keeps code (Now.Have end) self.old then self.new) }
+        ensures lighter { IfOk result (λ then. weigh then self.new < weigh (Now.Have end) self.old) }
+        ensures calm { IfOk result (λ then. self.new.moves ≡ self.old.moves) }
+    {
+        match self.tasks.pop() {
+            None => match end {
+                End::Gives(_) | End::Leaves(_) => Ok(Now::End(None)),
+                End::Fails(fault) => Ok(Now::End(Some(fault))),
+            },
+            Some(Task::Then(then)) => self.hand_on(alloc, then, end),
+            Some(Task::Back(frame)) => Ok(self.back(frame, end)),
+            Some(Task::Leave(lock)) => Ok(Now::Ask(Request::Exit(lock), OnReply::Left(end))),
+        }
+    }
+
+    /// The evaluation of an expression begins.
+    #[tactic(auto, using(crate::proofs::Steps::steps))]
+    fn begin_expr(&mut self, code: &Code, expr: Expr) -> Result<Now, NoMemory>
+        requires sound { IsSound code.now }
+        ensures keeps { IfOk result (λ then. Keeps code.now (Now.Evaluate expr) self.old then self.new) }
+        ensures lighter { IfOk result (λ then. weigh then self.new < weigh (Now.Evaluate expr) self.old) }
+        ensures calm { IfOk result (λ then. self.new.moves ≡ self.old.moves) }
+    {
+        let step = evaluate(code, &self.frame, expr);
+        self.follow(step)
+    }
+
+    /// The next argument's evaluation begins, or the call where none is left.
+    #[tactic(auto, using(crate::proofs::Steps::steps))]
+    fn begin_argument(
+        &mut self,
+        callees: Items<(u32, u32)>,
+        object: Value,
+        before: Items<Value>,
+        rest: Stack<Expr>,
+    ) -> Result<Now, NoMemory>
+        ensures keeps { IfOk result (λ then. (code : Code) → Keeps code (Now.Arguments callees object before rest) self.old then self.new) }
+        ensures lighter { IfOk result (λ then. weigh then self.new < weigh (Now.Arguments callees object before rest) self.old) }
+        ensures calm { IfOk result (λ then. self.new.moves ≡ self.old.moves) }
+    {
+        self.follow(next_argument(callees, object, before, rest))
+    }
+
+    /// The execution of a statement begins.
+    #[tactic(auto, using(crate::proofs::Steps::steps))]
+    fn begin_statement(&mut self, statement: Stmt) -> Result<Now, NoMemory>
+        ensures keeps { IfOk result (λ then. (code : Code) → Keeps code (Now.Execute statement) self.old then self.new) }
+        ensures lighter { IfOk result (λ then. weigh then self.new < weigh (Now.Execute statement) self.old) }
+        ensures calm { IfOk result (λ then. self.new.moves ≡ self.old.moves) }
+    {
+        self.follow(execute(statement))
+    }
+
+    /// The next statement comes, or the end where none is left.
+    #[tactic(auto, using(crate::proofs::Steps::steps))]
+    fn begin_next(&mut self, rest: Stack<Stmt>) -> Result<Now, NoMemory>
+        ensures keeps { IfOk result (λ then. (code : Code) → Keeps code (Now.Run rest) self.old then self.new) }
+        ensures lighter { IfOk result (λ then. weigh then self.new < weigh (Now.Run rest) self.old) }
+        ensures calm { IfOk result (λ then. self.new.moves ≡ self.old.moves) }
+    {
+        self.follow(next_statement(rest))
+    }
+
+    /// One step, which makes no move.
+    fn step(&mut self, alloc: Global, code: &Code, now: Now) -> Result<Now, NoMemory>
+        requires sound { IsSound code.now }
+        requires local { ¬ IsRest now }
+        ensures keeps { IfOk result (λ then. Keeps code.now now self.old then self.new) }
+        ensures lighter { IfOk result (λ then. weigh then self.new < weigh now self.old) }
+        ensures calm { IfOk result (λ then. self.new.moves ≡ self.old.moves) }
+    {
+        match now {
+            Now::Evaluate(expr) => self.begin_expr(code, expr),
+            Now::Arguments(callees, object, before, rest) => {
+                self.begin_argument(callees, object, before, rest)
+            }
+            Now::Execute(statement) => self.begin_statement(statement),
+            Now::Run(rest) => self.begin_next(rest),
+            Now::Have(end) => self.close(alloc, end),
+            Now::Pace(_) | Now::Ask(_, _) | Now::End(_) => unreachable!(),
+        }
+    }
+
+    /// Makes steps up to a request, a move or the end.
+    fn settle(&mut self, alloc: Global, code: &Code, begun: Now) -> Result<Now, NoMemory>
+        requires sound { IsSound code.now }
+        ensures keeps { IfOk result (λ then. Keeps code.now begun self.old then self.new) }
+        ensures rests { IfOk result (λ then. IsRest then) }
+        ensures calm { IfOk result (λ then. self.new.moves ≡ self.old.moves) }
+    {
+        let mut now = begun;
+        'going: while !is_rest(&now) {
+            now = self.step(alloc, code, now)?;
+        }
+        Ok(now)
+    }
+
+    /// A turn of a loop is made: its condition is evaluated.
+    #[tactic(auto, using(crate::proofs::Standing::turned))]
+    fn make_turn(&mut self, alloc: Global, test: Expr, body: Items<Stmt>) -> Result<Now, NoMemory>
+        requires { self.old.moves < 1000 }
+        ensures makes { IfOk result (λ then. (code : Code) → MakesMove code (Now.Pace (Move.Turn test body)) self.old then self.new) }
+        ensures moved { IfOk result (λ then. self.new.moves ≡ self.old.moves + 1) }
+    {
+        let once = copy_expr(alloc, &test)?;
+        self.moves += 1;
+        self.follow(Step::evaluate(once, OnValue::While(test, body)))
+    }
+
+    /// A method's body is begun, in a frame of its own.
+    #[tactic(auto, using(crate::proofs::Standing::begun))]
+    fn make_body(&mut self, alloc: Global, code: &Code, call: Call) -> Result<Now, NoMemory>
+        requires { self.old.moves < 1000 }
+        ensures makes { IfOk result (λ then. MakesMove code.now (Now.Pace (Move.Body call)) self.old then self.new) }
+        ensures moved { IfOk result (λ then. self.new.moves ≡ self.old.moves + 1) }
+    {
+        let body = body_of(alloc, code, call.method)?;
+        let frame = Frame {
+            this: Value::Ref(call.object),
+            vars: call.vars,
+            room: self.frame.room.saturating_sub(1),
+        };
+        let below = mem::replace(&mut self.frame, frame);
+        self.moves += 1;
+        self.follow(Step::above(body, below))
+    }
+
+    /// A move is made.
+    fn make(&mut self, alloc: Global, code: &Code, then: Move) -> Result<Now, NoMemory>
+        requires { self.old.moves < 1000 }
+        ensures makes { IfOk result (λ now. MakesMove code.now (Now.Pace then) self.old now self.new) }
+        ensures moved { IfOk result (λ now. self.new.moves ≡ self.old.moves + 1) }
+    {
+        match then {
+            Move::Turn(test, body) => self.make_turn(alloc, test, body),
+            Move::Body(call) => self.make_body(alloc, code, call),
+        }
+    }
+
+    /// Goes on up to a request or the end.
+    pub(crate) fn go(&mut self, alloc: Global, code: &Code, begun: Now) -> Result<Now, NoMemory>
+        requires sound { IsSound code.now }
+        ensures leads { IfOk result (λ then. Leads code.now begun self.old then self.new) }
+        ensures asks { IfOk result (λ then. IsAsk then) }
+    {
+        let mut now = begun;
+        'going: loop {
+            now = self.settle(alloc, code, now)?;
+            match now {
+                Now::Pace(then) => {
+                    if MOST_MOVES <= self.moves {
+                        return Ok(Now::Ask(Request::Pause, OnReply::Paused(then)));
+                    }
+                    now = self.make(alloc, code, then)?;
+                }
+                Now::Ask(request, on) => return Ok(Now::Ask(request, on)),
+                Now::End(fault) => return Ok(Now::End(fault)),
+                _ => unreachable!(),
+            }
+        }
+    }
+}
+
+/// The task, if there is one, is put on top of the others; and then the rest is there.
+fn put_before<N: Drop, T: Drop>(
+    tasks: &mut Stack<T>,
+    then: Option<T>,
+    now: N,
+) -> Result<N, NoMemory>
+    ensures now { IfOk result (λ rest. rest ≡ now) }
+    ensures tasks { IfOk result (λ rest. tasks.new ≡ option_to_list then ++ tasks.old) }
+{
+    if let Some(task) = then {
+        tasks.push(task)?;
+    }
+    Ok(now)
+}
+
+/// What is no longer needed.
+fn discard<T: Drop>(_unneeded: T) {}
+
+/// Whether the thread is at a request, a move or its end.
+fn is_rest(now: &Now) -> bool
+    ensures { IsTrue result ↔ IsRest now.now }
+{
+    matches!(now, Now::Pace(_) | Now::Ask(_, _) | Now::End(_))
+}
+
+/// The statements of a method, once more.
+fn body_of(alloc: Global, code: &Code, method: u32) -> Result<Items<Stmt>, NoMemory>
+    ensures { IfOk result (λ body. body ≡ statements_of (slice_get code.now.methods method)) }
+{
+    match code.methods.get(method as usize) {
+        Some(method) => copy_block(alloc, method.body.as_slice()),
+        None => Ok(Items::new(alloc)),
+    }
+}

@@ -1,9 +1,0 @@
-use Rattle.std.proofs.Common.{arith, sym, ◌∙◌}
-use Rattle.dso_run.proofs.Runs.{each_grows}
-use Rattle.dso_run.proofs.lexer.word_length.Goals as goal
-
-pub loop-front-preserved : goal.loop-front-preserved
-loop-front-preserved c = record {
-  within = omega arith;
-  each = each_grows _ _ _ c.loop-front-test.true c.loop-front.invariant.each (sym c.is_word.ensures ∙ c.if-is_word.true);
-}

@@ -1,0 +1,113 @@
+//! The lines that refusals write.
+ghost use Rattle.std.specs.Prelude.{◌≡◌, ◌≢◌, ◌≤◌, ◌++◌, length, codes};
+ghost use Rattle.std.specs.Fmt.{decimal};
+ghost use Rattle.dso_class.specs.declared.fault.NameFault.TheVariants as name;
+ghost use Rattle.dso_run.specs.declared.status.Refusal.TheVariants as refusal;
+ghost use Rattle.dso_run.specs.Status.{HasLine, ended, fault_text, kind_text, line_of, name_text, syntax_text};
+ghost use Rattle.dso_syntax.specs.declared.fault.SyntaxFault.TheVariants as syntax;
+
+use crate::status::Refusal;
+use crate::{ConfigFault, ProgramFault};
+use arrayvec::ArrayString;
+use dso_class::{NameFault, NameKind};
+use dso_syntax::SyntaxFault;
+use itoa::Buffer;
+
+/// A line, in a room that each of them fits.
+pub(crate) type Line = ArrayString<64>;
+
+/// The one line that a refusal writes. It takes no memory.
+pub(crate) fn line_of(refusal: Refusal) -> Line
+    requires { HasLine refusal }
+    ensures { result.bytes ≡ line_of refusal }
+{
+    match refusal {
+        Refusal::Words => line("dsorun: Usage\n"),
+        Refusal::Reading => line("dsorun: ReadFault\n"),
+        Refusal::Config(ConfigFault::NotBuilt) => line("dsorun: BadConfig NotBuilt\n"),
+        Refusal::Program(fault) => program_line(fault),
+    }
+}
+
+/// A line of these bytes.
+fn line(text: &str) -> Line
+    requires { length text.now ≤ 64 }
+    ensures { result.bytes ≡ text.now }
+{
+    let mut line = Line::new();
+    line.push_str(text);
+    line
+}
+
+/// The line of a fault of the program.
+fn program_line(fault: ProgramFault) -> Line
+    requires { HasLine (refusal.Program fault) }
+    ensures { result.bytes ≡ ended (codes "dsorun: BadProgram " ++ fault_text fault) }
+{
+    match fault {
+        ProgramFault::Syntax(fault) => syntax_line(fault),
+        ProgramFault::Name(fault) => name_line(fault),
+        ProgramFault::NotBuilt => line("dsorun: BadProgram NotBuilt\n"),
+    }
+}
+
+/// The line of a fault of the grammar.
+fn syntax_line(fault: SyntaxFault) -> Line
+    requires { fault ≢ syntax.NoMemory }
+    ensures { result.bytes ≡ ended (codes "dsorun: BadProgram " ++ syntax_text fault) }
+{
+    match fault {
+        SyntaxFault::BadByte(place) => numbered_line("BadByte", " at ", place),
+        SyntaxFault::BadToken(place) => numbered_line("BadToken", " at ", place),
+        SyntaxFault::Unexpected(place) => numbered_line("Unexpected", " at ", place),
+        SyntaxFault::NumberTooWide(place) => numbered_line("NumberTooWide", " at ", place),
+        SyntaxFault::NestTooDeep(place) => numbered_line("NestTooDeep", " at ", place),
+        SyntaxFault::TooLong => line("dsorun: BadProgram TooLong\n"),
+        SyntaxFault::NoMemory => unreachable!(),
+    }
+}
+
+/// The line of a fault of a name.
+fn name_line(fault: NameFault) -> Line
+    requires { fault ≢ name.NoMemory }
+    ensures { result.bytes ≡ ended (codes "dsorun: BadProgram " ++ name_text fault) }
+{
+    match fault {
+        NameFault::At { kind, line } => numbered_line(name_of(kind), " line ", line as u64),
+        NameFault::NoMemory => unreachable!(),
+    }
+}
+
+/// The name of a fault of a name.
+fn name_of(kind: NameKind) -> &'static str
+    ensures name { result.now ≡ kind_text kind }
+    ensures short { length result.now ≤ 15 }
+{
+    match kind {
+        NameKind::UnknownClass => "UnknownClass",
+        NameKind::UnknownMethod => "UnknownMethod",
+        NameKind::Twice => "Twice",
+        NameKind::WrongArguments => "WrongArguments",
+        NameKind::UnknownRoot => "UnknownRoot",
+        NameKind::NoAutolock => "NoAutolock",
+        NameKind::TooMany(_) => "TooMany",
+        NameKind::NoSuchClient => "NoSuchClient",
+        NameKind::UnknownVariable => "UnknownVariable",
+    }
+}
+
+/// The line of a fault with the number of its byte or line.
+fn numbered_line(name: &str, between: &str, number: u64) -> Line
+    requires name { length name.now ≤ 15 }
+    requires between { length between.now ≤ 6 }
+    ensures { result.bytes ≡ ended (codes "dsorun: BadProgram " ++ (name.now ++ (between.now ++ decimal number))) }
+{
+    let mut digits = Buffer::new();
+    let mut line = Line::new();
+    line.push_str("dsorun: BadProgram ");
+    line.push_str(name);
+    line.push_str(between);
+    line.push_str(digits.format(number));
+    line.push_str("\n");
+    line
+}
