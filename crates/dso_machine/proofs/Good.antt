@@ -18,7 +18,7 @@ use Rattle.dso_machine.specs.declared.code.Code.{Code}
 use Rattle.dso_machine.specs.declared.code.Method.{Method}
 use Rattle.dso_machine.specs.Calls.{Ways, beside_class, back_in, begin, invoke, under_name, under_monitor, run_method, call_method, call_number, call_in, call_on, variables}
 use Rattle.dso_machine.specs.Limits.{most_moves}
-use Rattle.dso_machine.specs.Outcome.{Frame, State, Outcome, Wants, Gives, Leaves, Fails, Hears, Over, Stopped, Meaning, choose, on_value, on_reply, result_of, asked, ask, unwanted, done, made, got, seen, tell, get, look, on_object, moved, paced, moving, level_of, leaving, leave, entered, under}
+use Rattle.dso_machine.specs.Outcome.{Environment, State, Outcome, Wants, Gives, Leaves, Fails, Hears, Over, Stopped, Meaning, choose, on_value, on_reply, result_of, asked, ask, unwanted, done, made, got, seen, tell, get, look, on_object, moved, paced, moving, level_of, leaving, leave, entered, under}
 
 -- how many moves there may be before the replies are used up
 abbrev pub budget : State → ℕ
@@ -122,7 +122,7 @@ good_object f v at g = omega arith
 pub good_paused : (N : ℕ) (m : Meaning) → ((u : State) → budget u + 1 < N → Good (budget u) (m u)) → (r : Reply) (at u : State)
     → budget u < N → 0 < most_moves - u.moves → Good (budget u) (on_value (λ v. moved m) (done r u))
 good_paused N m fine Done at u h less =
-    let w : State = record { frame = u.frame; moves = u.moves + 1; replies = u.replies } in good_more (budget w) (budget u) (m w) (omega arith) (fine w (omega arith))
+    let w : State = record { environment = u.environment; moves = u.moves + 1; replies = u.replies } in good_more (budget w) (budget u) (m w) (omega arith) (fine w (omega arith))
 good_paused N m fine (Refused f) at u h less = omega arith
 good_paused N m fine r at u h less = omega arith
 
@@ -131,14 +131,14 @@ pub good_pause : (N : ℕ) (m : Meaning) → ((u : State) → budget u + 1 < N �
     → Good (most_moves * length rs + (most_moves - at.moves)) (on_value (λ v. moved m) (on_reply done (asked request.Pause at rs)))
 good_pause N m fine at [] h = tt
 good_pause N m fine at (r ∷ rs) h =
-    let u : State = record { frame = at.frame; moves = 0; replies = rs } in
+    let u : State = record { environment = at.environment; moves = 0; replies = rs } in
     good_more (budget u) (most_moves * length (r ∷ rs) + (most_moves - at.moves)) (on_value (λ v. moved m) (done r u)) (omega arith)
     (good_paused N m fine r at u (omega arith) (omega arith))
 
 pub good_paced : (N : ℕ) (m : Meaning) → ((u : State) → budget u + 1 < N → Good (budget u) (m u)) → (few : Bool) (at : State)
     → nat_lt at.moves most_moves ≡ few → budget at < N → Good (budget at) (paced few m at)
 good_paced N m fine true at few h =
-    let u : State = record { frame = at.frame; moves = at.moves + 1; replies = at.replies } in
+    let u : State = record { environment = at.environment; moves = at.moves + 1; replies = at.replies } in
     let less : at.moves < most_moves = ltb-true at.moves most_moves few in
     good_more (budget u) (budget at) (m u) (omega arith) (fine u (omega arith))
 good_paced N m fine false at few h = good_pause N m fine at at.replies h
@@ -175,18 +175,18 @@ good_under N l level m fine at h = good_reply (budget at) (entered l m) (ask (re
 abbrev pub FineWays : ℕ → Ways → Type 0
 FineWays N w = (m : ℕ) (u : State) → budget u + 1 < N → Good (budget u) (w m u)
 
-pub good_back : (b : ℕ) (below : Frame) (o : Outcome) → Good b o → Good b (back_in below o)
-good_back b below (Wants q) g = tt
-good_back b below (Gives v u) g = g
-good_back b below (Leaves v u) g = g
-good_back b below (Fails f u) g = g
-good_back b below (Hears r u) g = g
-good_back b below Over g = tt
-good_back b below Stopped g = absurd g
+pub good_back : (b : ℕ) (caller : Environment) (o : Outcome) → Good b o → Good b (back_in caller o)
+good_back b caller (Wants q) g = tt
+good_back b caller (Gives v u) g = g
+good_back b caller (Leaves v u) g = g
+good_back b caller (Fails f u) g = g
+good_back b caller (Hears r u) g = g
+good_back b caller Over g = tt
+good_back b caller Stopped g = absurd g
 
 pub good_invoke : (N : ℕ) (w : Ways) → FineWays N w → (m : ℕ) (this : Value) (vars : List Value) → GoodAt N (invoke w m this vars)
-good_invoke N w fw m this vars = good_moving N (begin w m this vars) (λ u le. good_back (budget u) u.frame _
-    (fw m (record { frame = record { this = this; vars = vars; room = u.frame.room - 1 }; moves = u.moves; replies = u.replies }) le))
+good_invoke N w fw m this vars = good_moving N (begin w m this vars) (λ u le. good_back (budget u) u.environment _
+    (fw m (record { environment = record { this = this; vars = vars; depth_left = u.environment.depth_left - 1 }; moves = u.moves; replies = u.replies }) le))
 
 pub good_under_name : (N : ℕ) (named : Option (ℕ × Grade)) (m : Meaning) → GoodAt N m → GoodAt N (under_name named m)
 good_under_name N None m fine = fine
@@ -201,7 +201,7 @@ good_run N w fw m method o args = good_under_name N method.named _ (good_under_m
 
 pub good_method : (N : ℕ) (w : Ways) → FineWays N w → (m o : ℕ) (args : List Value) (method : Option Method) → GoodAt N (call_method w m o args method)
 good_method N w fw m o args None at h = omega arith
-good_method N w fw m o args (Some method) at h = good_choose (budget at) (nat_lt 0 at.frame.room) _ _ at (good_run N w fw m method o args at h) (omega arith)
+good_method N w fw m o args (Some method) at h = good_choose (budget at) (nat_lt 0 at.environment.depth_left) _ _ at (good_run N w fw m method o args at h) (omega arith)
 
 pub good_number : (c : Code) (N : ℕ) (w : Ways) → FineWays N w → (o : ℕ) (args : List Value) (number : Option ℕ) → GoodAt N (call_number c w o args number)
 good_number c N w fw o args None at h = omega arith

@@ -1,4 +1,5 @@
--- What may be asked of a program, in abstract form: points of a thread's run, what may be asked there, what is known there.
+-- What may be asked of a program, in abstract form: points of a thread's run, what may be asked there, what is known there;
+-- and which texts may be named.
 use Rattle.std.proofs.Common.{◌≡◌, ℕ, ◌<◌, ◌≤◌, Bool, true, false, List, [], ◌∷◌, ◌++◌, length, Option, Some}
 use Rattle.dso_base.specs.declared.lock.Level.{Level}
 use Rattle.dso_base.specs.declared.lock.LockName.{LockName}
@@ -22,10 +23,11 @@ use Rattle.dso_machine.specs.declared.code.Code.{Code}
 use Rattle.dso_machine.specs.Limits.{most_elements}
 use Rattle.dso_machine.specs.Next.{next_request}
 
--- the object that the value names, if it names one, is known
-abbrev pub KnowsValue : (ℕ → Type 0) → Value → Type 0
-KnowsValue knows (value.Ref object) = knows object
-KnowsValue knows v = Unit {0}
+-- the object or the text that the value names, if it names one, is known
+abbrev pub KnowsValue : (ℕ → Type 0) → (ℕ → Type 0) → Value → Type 0
+KnowsValue has_text knows (value.Ref object) = knows object
+KnowsValue has_text knows (value.Text t) = has_text t
+KnowsValue has_text knows v = Unit {0}
 
 -- the object whose monitor it is, if it is a monitor, is known
 abbrev pub KnowsLock : (ℕ → Type 0) → LockName → Type 0
@@ -42,7 +44,7 @@ is_plain (End fault) = false
 is_plain request = true
 
 -- Points of a thread's run: which replies may come there, what the thread may ask there, which objects it knows there, and
--- what a request with its reply makes of a point.
+-- what a request with its reply makes of a point; and, the same at all points, which texts may be named.
 pub record Keeper (shape : Shape) : Type 1 where
   pub Point : Type 0
   pub start : Point
@@ -50,6 +52,7 @@ pub record Keeper (shape : Shape) : Type 1 where
   pub Asks : Point → Request → Type 0
   pub IsReply : Point → Request → Reply → Type 0
   pub Knows : Point → ℕ → Type 0
+  pub HasText : ℕ → Type 0  -- the text of this number is one that may be named
   pub Awake : Point → Type 0  -- it neither waits nor has ended (with all else that is always so where a thread goes on)
   pub Same : Point → Point → Type 0  -- at the second one it holds the same locks as at the first, is as awake, and knows no less
   -- replies are listed ones
@@ -59,6 +62,9 @@ pub record Keeper (shape : Shape) : Type 1 where
   pub still_known : (g : Point) (q : Request) (r : Reply) (object : ℕ) → Knows g object → Knows (after q r g) object
   pub made_known : (g : Point) (q : Request) (object : ℕ) → IsReply g q (Made object) → Knows (after q (Made object) g) object
   pub read_known : (g : Point) (q : Request) (object : ℕ) → IsReply g q (Val (value.Ref object)) → Knows (after q (Val (value.Ref object)) g) object
+  -- a text of the program's own may be named, and so a text that is read
+  pub literal_text : (t : ℕ) → t < shape.texts → HasText t
+  pub read_text : (g : Point) (q : Request) (t : ℕ) → IsReply g q (Val (value.Text t)) → HasText t
   -- the same locks
   pub same_itself : (g : Point) → Same g g
   pub same_then : (g h i : Point) → Same g h → Same h i → Same g i
@@ -77,19 +83,19 @@ pub record Keeper (shape : Shape) : Type 1 where
   pub resume_same : (g : Point) (l : LockName) → Awake g → IsReply g (Wait l) Done → Same g (after (Resume l) Done (after (Wait l) Done g))
   -- the end, where the thread holds what it held at its start
   pub end_asked : (g : Point) (fault : Option Fault) → Same start g → Asks g (End fault)
-  -- all else that may be asked of objects that are known, and of object 0
+  -- all else that may be asked of values that are known, and of object 0
   pub class_asked : (g : Point) (class : ℕ) → Awake g → class < length shape.classes → Asks g (New (Plain class) (length (fields_at shape class)))
   pub array_asked : (g : Point) (kind : Kind) (size : ℕ) → Awake g → size ≤ most_elements → Asks g (New (Array kind) size)
   pub look_asked : (g : Point) (object : ℕ) → Awake g → Knows g object → Asks g (Look object)
   pub get_asked : (g : Point) (object place : ℕ) → Awake g → Knows g object → Asks g (Get object place)
-  pub put_asked : (g : Point) (object place : ℕ) (v : Value) → Awake g → Knows g object → KnowsValue (Knows g) v → Asks g (Put object place v)
+  pub put_asked : (g : Point) (object place : ℕ) (v : Value) → Awake g → Knows g object → KnowsValue HasText (Knows g) v → Asks g (Put object place v)
   pub get_root_asked : (g : Point) (r : ℕ) → Awake g → Asks g (Get 0 r)
-  pub put_root_asked : (g : Point) (r : ℕ) (v : Value) → Awake g → KnowsValue (Knows g) v → Asks g (Put 0 r v)
+  pub put_root_asked : (g : Point) (r : ℕ) (v : Value) → Awake g → KnowsValue HasText (Knows g) v → Asks g (Put 0 r v)
   pub enter_asked : (g : Point) (l : LockName) (level : Level) → Awake g → KnowsLock (Knows g) l → Asks g (Enter l level)
   pub wait_asked : (g : Point) (object : ℕ) → Awake g → Knows g object → Asks g (Wait (Mon object))
   pub notify_asked : (g : Point) (object : ℕ) → Awake g → Knows g object → Asks g (Notify (Mon object))
   pub notify_all_asked : (g : Point) (object : ℕ) → Awake g → Knows g object → Asks g (NotifyAll (Mon object))
-  pub print_asked : (g : Point) (v : Value) → Awake g → KnowsValue (Knows g) v → Asks g (Print v)
+  pub print_asked : (g : Point) (v : Value) → Awake g → KnowsValue HasText (Knows g) v → Asks g (Print v)
   pub pause_asked : (g : Point) → Awake g → Asks g Pause
 
 module _ {shape : Shape} (k : Keeper shape) where

@@ -8,14 +8,14 @@ use Rattle.dso_base.specs.declared.request.Request.{Request}
 use Rattle.dso_base.specs.declared.shape.Shape.{Shape}
 use Rattle.dso_base.specs.declared.value.Value.{Value}
 use Rattle.dso_base.specs.declared.value.Value.TheVariants as value
-use Rattle.dso_machine.specs.Outcome.{Frame, State, Outcome, Wants, Gives, Leaves, Fails, Hears, Over, Stopped, Meaning, choose, on_value}
+use Rattle.dso_machine.specs.Outcome.{Environment, State, Outcome, Wants, Gives, Leaves, Fails, Hears, Over, Stopped, Meaning, choose, on_value}
 use Rattle.dso_machine.proofs.Keeper.{KnowsValue, KnowsLock, Keeper}
 
 -- ---- outcomes by the replies that are left
 
 -- the state with these replies left
 abbrev pub refill : List Reply → State → State
-refill rs u = record { frame = u.frame; moves = u.moves; replies = rs }
+refill rs u = record { environment = u.environment; moves = u.moves; replies = rs }
 
 -- so of an outcome
 abbrev pub refilled : List Reply → Outcome → Outcome
@@ -53,9 +53,9 @@ module _ {shape : Shape} (k : Keeper shape) where
 -- ---- what is known
 
 -- every value of the list is known
-abbrev pub KnowsAll : (ℕ → Type 0) → List Value → Type 0
-KnowsAll knows [] = Unit {0}
-KnowsAll knows (v ∷ vs) = KnowsValue knows v × KnowsAll knows vs
+abbrev pub KnowsAll : (ℕ → Type 0) → (ℕ → Type 0) → List Value → Type 0
+KnowsAll has_text knows [] = Unit {0}
+KnowsAll has_text knows (v ∷ vs) = KnowsValue has_text knows v × KnowsAll has_text knows vs
 
 module _ {shape : Shape} (k : Keeper shape) where
   -- at the second point the thread is awake, and knows no less than at the first
@@ -63,40 +63,40 @@ module _ {shape : Shape} (k : Keeper shape) where
     pub awake : k.Awake h
     pub knows : (object : ℕ) → k.Knows g object → k.Knows h object
 
-  -- the thread knows all that the frame holds
-  pub record KnowsFrame (g : k.Point) (frame : Frame) : Type 0 where
-    pub this : KnowsValue (k.Knows g) frame.this
-    pub vars : KnowsAll (k.Knows g) frame.vars
+  -- the thread knows all that the environment holds
+  pub record KnowsEnvironment (g : k.Point) (environment : Environment) : Type 0 where
+    pub this : KnowsValue k.HasText (k.Knows g) environment.this
+    pub vars : KnowsAll k.HasText (k.Knows g) environment.vars
 
-  -- from the first point to the second: the same locks, a value and a frame that are known
-  pub record Kept (g h : k.Point) (v : Value) (held : Frame) : Type 0 where
+  -- from the first point to the second: the same locks, a value and an environment that are known
+  pub record Kept (g h : k.Point) (v : Value) (held : Environment) : Type 0 where
     pub same : k.Same g h
-    pub value : KnowsValue (k.Knows h) v
-    pub frame : KnowsFrame h held
+    pub value : KnowsValue k.HasText (k.Knows h) v
+    pub environment : KnowsEnvironment h held
 
   -- so of the end of a part that began at the first point
   abbrev pub Fine : k.Point → Outcome → k.Point → Type 0
-  Fine g (Gives v u) h = Kept g h v u.frame
-  Fine g (Leaves v u) h = Kept g h v u.frame
+  Fine g (Gives v u) h = Kept g h v u.environment
+  Fine g (Leaves v u) h = Kept g h v u.environment
   Fine g (Fails fault u) h = k.Same g h
   Fine g Stopped h = Unit {0}
   Fine g o h = ⊥
 
   -- A part that keeps to what may be asked, from each point that knows no less than this one.
   pub record Part (g : k.Point) (m : Meaning) : Type 0 where
-    pub from : (h : k.Point) (u : State) → More g h → KnowsFrame h u.frame → Keeps k (Fine h) h (λ rs. m (refill rs u))
+    pub from : (h : k.Point) (u : State) → More g h → KnowsEnvironment h u.environment → Keeps k (Fine h) h (λ rs. m (refill rs u))
 
 module _ {shape : Shape} (k : Keeper shape) where
   -- a value that is known stays known,
-  pub value_later : (g h : k.Point) → ((object : ℕ) → k.Knows g object → k.Knows h object) → (v : Value) → KnowsValue (k.Knows g) v → KnowsValue (k.Knows h) v
+  pub value_later : (g h : k.Point) → ((object : ℕ) → k.Knows g object → k.Knows h object) → (v : Value) → KnowsValue k.HasText (k.Knows g) v → KnowsValue k.HasText (k.Knows h) v
   value_later g h knows (value.Ref object) known = knows object known
   value_later g h knows value.Null known = tt
   value_later g h knows (value.Long n) known = tt
   value_later g h knows (value.Bool b) known = tt
-  value_later g h knows (value.Text t) known = tt
+  value_later g h knows (value.Text t) known = known
 
   -- and so all of a list,
-  pub all_later : (g h : k.Point) → ((object : ℕ) → k.Knows g object → k.Knows h object) → (vs : List Value) → KnowsAll (k.Knows g) vs → KnowsAll (k.Knows h) vs
+  pub all_later : (g h : k.Point) → ((object : ℕ) → k.Knows g object → k.Knows h object) → (vs : List Value) → KnowsAll k.HasText (k.Knows g) vs → KnowsAll k.HasText (k.Knows h) vs
   all_later g h knows [] known = tt
   all_later g h knows (v ∷ vs) known = (value_later g h knows v known.0, all_later g h knows vs known.1)
 
@@ -105,9 +105,9 @@ module _ {shape : Shape} (k : Keeper shape) where
   lock_later g h knows (Mon object) known = knows object known
   lock_later g h knows (Name name) known = tt
 
-  -- and a frame.
-  pub frame_later : (g h : k.Point) → ((object : ℕ) → k.Knows g object → k.Knows h object) → (frame : Frame) → KnowsFrame k g frame → KnowsFrame k h frame
-  frame_later g h knows frame known = record { this = value_later g h knows frame.this known.this; vars = all_later g h knows frame.vars known.vars }
+  -- and an environment.
+  pub environment_later : (g h : k.Point) → ((object : ℕ) → k.Knows g object → k.Knows h object) → (environment : Environment) → KnowsEnvironment k g environment → KnowsEnvironment k h environment
+  environment_later g h knows environment known = record { this = value_later g h knows environment.this known.this; vars = all_later g h knows environment.vars known.vars }
 
   -- a point after another, and a third one after it
   pub more_then : (g h i : k.Point) → More k g h → More k h i → More k g i
@@ -123,8 +123,8 @@ module _ {shape : Shape} (k : Keeper shape) where
 
   -- an end that is fine from a point is so from an earlier one with the same locks
   pub fine_from : (g h : k.Point) → k.Same g h → (e : Outcome) (i : k.Point) → Fine k h e i → Fine k g e i
-  fine_from g h same (Gives v u) i fine = record { same = k.same_then g h i same fine.same; value = fine.value; frame = fine.frame }
-  fine_from g h same (Leaves v u) i fine = record { same = k.same_then g h i same fine.same; value = fine.value; frame = fine.frame }
+  fine_from g h same (Gives v u) i fine = record { same = k.same_then g h i same fine.same; value = fine.value; environment = fine.environment }
+  fine_from g h same (Leaves v u) i fine = record { same = k.same_then g h i same fine.same; value = fine.value; environment = fine.environment }
   fine_from g h same (Fails fault u) i fine = k.same_then g h i same fine
   fine_from g h same Stopped i fine = tt
   fine_from g h same (Wants q) i fine = absurd fine
@@ -137,36 +137,36 @@ module _ {shape : Shape} (k : Keeper shape) where
 
   -- a part from a later point
   pub part_later : (g h : k.Point) (m : Meaning) → More k g h → Part k g m → Part k h m
-  part_later g h m more part = record { from = λ i u further frame. part.from i u (more_then g h i more further) frame }
+  part_later g h m more part = record { from = λ i u further environment. part.from i u (more_then g h i more further) environment }
 
   -- a part at a point with the same locks, in a part that began before
-  pub part_at : (g h : k.Point) (m : Meaning) (u : State) → k.Awake h → k.Same g h → Part k h m → KnowsFrame k h u.frame → Keeps k (Fine k g) h (λ rs. m (refill rs u))
-  part_at g h m u awake same part frame = keeps_from g h h same _ (part.from h u (more_itself h awake) frame)
+  pub part_at : (g h : k.Point) (m : Meaning) (u : State) → k.Awake h → k.Same g h → Part k h m → KnowsEnvironment k h u.environment → Keeps k (Fine k g) h (λ rs. m (refill rs u))
+  part_at g h m u awake same part environment = keeps_from g h h same _ (part.from h u (more_itself h awake) environment)
 
   -- ---- ends and what follows
 
   -- a value that is known,
-  pub part_gives : (g : k.Point) (v : Value) → KnowsValue (k.Knows g) v → Part k g (Gives v)
-  part_gives g v known = record { from = λ h u more frame. Keeps.ends (Gives v u) (λ rs. refl) (record { same = k.same_itself h; value = value_later g h more.knows v known; frame = frame }) }
+  pub part_gives : (g : k.Point) (v : Value) → KnowsValue k.HasText (k.Knows g) v → Part k g (Gives v)
+  part_gives g v known = record { from = λ h u more environment. Keeps.ends (Gives v u) (λ rs. refl) (record { same = k.same_itself h; value = value_later g h more.knows v known; environment = environment }) }
 
-  -- one that the frame is left with,
-  pub part_leaves : (g : k.Point) (v : Value) → KnowsValue (k.Knows g) v → Part k g (Leaves v)
-  part_leaves g v known = record { from = λ h u more frame. Keeps.ends (Leaves v u) (λ rs. refl) (record { same = k.same_itself h; value = value_later g h more.knows v known; frame = frame }) }
+  -- one that the body is left with,
+  pub part_leaves : (g : k.Point) (v : Value) → KnowsValue k.HasText (k.Knows g) v → Part k g (Leaves v)
+  part_leaves g v known = record { from = λ h u more environment. Keeps.ends (Leaves v u) (λ rs. refl) (record { same = k.same_itself h; value = value_later g h more.knows v known; environment = environment }) }
 
   -- a fault,
   pub part_fails : (g : k.Point) (fault : Fault) → Part k g (Fails fault)
-  part_fails g fault = record { from = λ h u more frame. Keeps.ends (Fails fault u) (λ rs. refl) (k.same_itself h) }
+  part_fails g fault = record { from = λ h u more environment. Keeps.ends (Fails fault u) (λ rs. refl) (k.same_itself h) }
 
   -- and where no more moves are counted.
   pub part_stopped : (g : k.Point) → Part k g (λ at. Stopped)
-  part_stopped g = record { from = λ h u more frame. Keeps.ends Stopped (λ rs. refl) tt }
+  part_stopped g = record { from = λ h u more environment. Keeps.ends Stopped (λ rs. refl) tt }
 
   -- what goes on from a value goes on from an end
-  on_end : (g h : k.Point) (f : Value → Meaning) → More k g h → ((v : Value) (i : k.Point) → More k g i → KnowsValue (k.Knows i) v → Part k i (f v))
+  on_end : (g h : k.Point) (f : Value → Meaning) → More k g h → ((v : Value) (i : k.Point) → More k g i → KnowsValue k.HasText (k.Knows i) v → Part k i (f v))
       → (e : Outcome) (i : k.Point) → Fine k h e i → Keeps k (Fine k h) i (λ rs. on_value f (refilled rs e))
   on_end g h f more then (Gives v u) i fine =
       let further : More k h i = more_same h i more.awake fine.same in
-      part_at h i (f v) u further.awake fine.same (then v i (more_then g h i more further) fine.value) fine.frame
+      part_at h i (f v) u further.awake fine.same (then v i (more_then g h i more further) fine.value) fine.environment
   on_end g h f more then (Leaves v u) i fine = Keeps.ends (Leaves v u) (λ rs. refl) fine
   on_end g h f more then (Fails fault u) i fine = Keeps.ends (Fails fault u) (λ rs. refl) fine
   on_end g h f more then Stopped i fine = Keeps.ends Stopped (λ rs. refl) tt
@@ -175,11 +175,11 @@ module _ {shape : Shape} (k : Keeper shape) where
   on_end g h f more then Over i fine = absurd fine
 
   -- a part, and then what is made of its value
-  pub part_value : (g : k.Point) (f : Value → Meaning) (m : Meaning) → Part k g m → ((v : Value) (h : k.Point) → More k g h → KnowsValue (k.Knows h) v → Part k h (f v))
+  pub part_value : (g : k.Point) (f : Value → Meaning) (m : Meaning) → Part k g m → ((v : Value) (h : k.Point) → More k g h → KnowsValue k.HasText (k.Knows h) v → Part k h (f v))
       → Part k g (λ at. on_value f (m at))
-  part_value g f m part then = record { from = λ h u more frame. keeps_on k (Fine k h) (Fine k h) (on_value f) (λ q. refl) (part.from h u more frame) (on_end g h f more then) }
+  part_value g f m part then = record { from = λ h u more environment. keeps_on k (Fine k h) (Fine k h) (on_value f) (λ q. refl) (part.from h u more environment) (on_end g h f more then) }
 
   -- one or the other
   pub part_choose : (g : k.Point) (b : Bool) (m other : Meaning) → (b ≡ true → Part k g m) → Part k g other → Part k g (choose b m other)
-  part_choose g true m other part rest = record { from = λ h u more frame. (part refl).from h u more frame }
-  part_choose g false m other part rest = record { from = λ h u more frame. rest.from h u more frame }
+  part_choose g true m other part rest = record { from = λ h u more environment. (part refl).from h u more environment }
+  part_choose g false m other part rest = record { from = λ h u more environment. rest.from h u more environment }

@@ -1,5 +1,5 @@
 -- Sound expressions keep to what may be asked.
-use Rattle.std.proofs.Common.{◌≡◌, refl, ℕ, zero, suc, Bool, true, false, List, [], ◌∷◌, length, map, Option, None, Some, subst, sym}
+use Rattle.std.proofs.Common.{◌≡◌, refl, ℕ, zero, suc, ◌<◌, Bool, true, false, List, [], ◌∷◌, length, map, Option, None, Some, subst, sym}
 use Rattle.std.specs.Prelude.{ℤ, pos, negsuc, nat_le, cond, slice_index_or, slice_set, Ok, Err}
 use Rattle.std.specs.Ordering.{int_eq}
 use Rattle.std.proofs.lemmas.Bool.{leb-true}
@@ -33,49 +33,49 @@ use Rattle.dso_machine.proofs.KeepingCalls.{Bodies, Parts, part_call, part_argum
 
 -- ---- values
 
--- a literal is known: it is no object
-known_literal : (shape : Shape) (knows : ℕ → Type 0) (v : Value) → IsLiteral shape v → KnowsValue knows v
-known_literal shape knows (value.Ref object) literal = absurd literal
-known_literal shape knows value.Null literal = tt
-known_literal shape knows (value.Long n) literal = tt
-known_literal shape knows (value.Bool b) literal = tt
-known_literal shape knows (value.Text t) literal = tt
+-- a literal is known, where the texts of the shape may be named: it is no object
+known_literal : (shape : Shape) (has_text knows : ℕ → Type 0) → ((t : ℕ) → t < shape.texts → has_text t) → (v : Value) → IsLiteral shape v → KnowsValue has_text knows v
+known_literal shape has_text knows own (value.Ref object) literal = absurd literal
+known_literal shape has_text knows own value.Null literal = tt
+known_literal shape has_text knows own (value.Long n) literal = tt
+known_literal shape has_text knows own (value.Bool b) literal = tt
+known_literal shape has_text knows own (value.Text t) literal = own t literal
 
--- a division gives no object
-known_unless : (knows : ℕ → Type 0) (b : Bool) (v : Value) → KnowsValue knows v → KnowsResult knows (cond b (Err ZeroDivide) (Ok v))
-known_unless knows true v known = tt
-known_unless knows false v known = known
+-- a division gives neither an object nor a text
+known_unless : (has_text knows : ℕ → Type 0) (b : Bool) (v : Value) → KnowsValue has_text knows v → KnowsResult has_text knows (cond b (Err ZeroDivide) (Ok v))
+known_unless has_text knows true v known = tt
+known_unless has_text knows false v known = known
 
 -- nor do the other operators between longs,
-known_longs : (knows : ℕ → Type 0) (o : Op) (m n : ℤ) → KnowsResult knows (between_longs o m n)
-known_longs knows op.Div m n = known_unless knows (int_eq n (pos 0)) _ tt
-known_longs knows op.Rem m n = known_unless knows (int_eq n (pos 0)) _ tt
-known_longs knows o m n = tt
+known_longs : (has_text knows : ℕ → Type 0) (o : Op) (m n : ℤ) → KnowsResult has_text knows (between_longs o m n)
+known_longs has_text knows op.Div m n = known_unless has_text knows (int_eq n (pos 0)) _ tt
+known_longs has_text knows op.Rem m n = known_unless has_text knows (int_eq n (pos 0)) _ tt
+known_longs has_text knows o m n = tt
 
 -- between any two values,
-known_between : (knows : ℕ → Type 0) (o : Op) (a b : Value) → KnowsResult knows (between o a b)
-known_between knows op.Eq a b = tt
-known_between knows op.Ne a b = tt
-known_between knows o (value.Long m) (value.Long n) = known_longs knows o m n
-known_between knows o a b = tt
+known_between : (has_text knows : ℕ → Type 0) (o : Op) (a b : Value) → KnowsResult has_text knows (between o a b)
+known_between has_text knows op.Eq a b = tt
+known_between has_text knows op.Ne a b = tt
+known_between has_text knows o (value.Long m) (value.Long n) = known_longs has_text knows o m n
+known_between has_text knows o a b = tt
 
 -- or before one
-known_before : (knows : ℕ → Type 0) (o : Op) (v : Value) → KnowsResult knows (before o v)
-known_before knows op.Not (value.Bool b) = tt
-known_before knows op.Neg (value.Long n) = tt
-known_before knows o v = tt
+known_before : (has_text knows : ℕ → Type 0) (o : Op) (v : Value) → KnowsResult has_text knows (before o v)
+known_before has_text knows op.Not (value.Bool b) = tt
+known_before has_text knows op.Neg (value.Long n) = tt
+known_before has_text knows o v = tt
 
 -- each of the values is known
-pub known_at : (knows : ℕ → Type 0) (vs : List Value) (i : ℕ) → KnowsAll knows vs → KnowsValue knows (slice_index_or vs i value.Null)
-known_at knows [] i known = tt
-known_at knows (v ∷ vs) zero known = known.0
-known_at knows (v ∷ vs) (suc i) known = known_at knows vs i known.1
+pub known_at : (has_text knows : ℕ → Type 0) (vs : List Value) (i : ℕ) → KnowsAll has_text knows vs → KnowsValue has_text knows (slice_index_or vs i value.Null)
+known_at has_text knows [] i known = tt
+known_at has_text knows (v ∷ vs) zero known = known.0
+known_at has_text knows (v ∷ vs) (suc i) known = known_at has_text knows vs i known.1
 
 -- so with another one set
-pub known_set : (knows : ℕ → Type 0) (vs : List Value) (i : ℕ) (v : Value) → KnowsAll knows vs → KnowsValue knows v → KnowsAll knows (slice_set vs i v)
-known_set knows [] i v known here = tt
-known_set knows (x ∷ vs) zero v known here = (here, known.1)
-known_set knows (x ∷ vs) (suc i) v known here = (known.0, known_set knows vs i v known.1 here)
+pub known_set : (has_text knows : ℕ → Type 0) (vs : List Value) (i : ℕ) (v : Value) → KnowsAll has_text knows vs → KnowsValue has_text knows v → KnowsAll has_text knows (slice_set vs i v)
+known_set has_text knows [] i v known here = tt
+known_set has_text knows (x ∷ vs) zero v known here = (here, known.1)
+known_set has_text knows (x ∷ vs) (suc i) v known here = (known.0, known_set has_text knows vs i v known.1 here)
 
 module _ {shape : Shape} (k : Keeper shape) where
   -- ---- fields and elements
@@ -92,7 +92,7 @@ module _ {shape : Shape} (k : Keeper shape) where
   part_field_in g f object Roots size known = part_fails k g NoSuchField
 
   -- or of a value
-  part_field : (g : k.Point) (f : FieldRef) (x : Value) → KnowsValue (k.Knows g) x → Part k g (field_of f x)
+  part_field : (g : k.Point) (f : FieldRef) (x : Value) → KnowsValue k.HasText (k.Knows g) x → Part k g (field_of f x)
   part_field g f x known = part_object k g (λ object. look (field_in f object) object) x known
       (λ object object_known. part_look k g (field_in f object) object object_known (λ class size. part_field_in g f object class size object_known))
 
@@ -107,7 +107,7 @@ module _ {shape : Shape} (k : Keeper shape) where
   part_element_in g i object class size known = part_fails k g BadValue
 
   -- or of a value
-  part_element : (g : k.Point) (x i : Value) → KnowsValue (k.Knows g) x → Part k g (element_of x i)
+  part_element : (g : k.Point) (x i : Value) → KnowsValue k.HasText (k.Knows g) x → Part k g (element_of x i)
   part_element g x (value.Long i) known = part_object k g (λ object. look (element_in i object) object) x known
       (λ object object_known. part_look k g (element_in i object) object object_known (λ class size. part_element_in g i object class size object_known))
   part_element g x i known = part_object k g (λ object. Fails BadValue) x known (λ object object_known. part_fails k g BadValue)
@@ -140,7 +140,7 @@ module _ {shape : Shape} (k : Keeper shape) where
   part_second g op.Or m (value.Bool true) part = part_gives k g (value.Bool true) tt
   part_second g op.Or m (value.Bool false) part = part_value k g a_boolean m part (λ v h more known. part_boolean h v)
   part_second g op.Or m v part = part_fails k g BadValue
-  part_second g o m x part = part_value k g (λ y. result_of (between o x y)) m part (λ y h more known. part_result k h (between o x y) (known_between (k.Knows h) o x y))
+  part_second g o m x part = part_value k g (λ y. result_of (between o x y)) m part (λ y h more known. part_result k h (between o x y) (known_between k.HasText (k.Knows h) o x y))
 
 -- a part that is another one
 pub part_as : {shape : Shape} (k : Keeper shape) (g : k.Point) (m n : Meaning) → m ≡ n → Part k g n → Part k g m
@@ -154,20 +154,20 @@ module _ (c : Code) (k : Keeper c.shape) (ways : Ways) (bodies : Bodies k ways) 
   scope = record { code = c; vars = count; in_method = in_method }
 
   -- the value of a variable
-  part_variable : (g : k.Point) (i : ℕ) → Part k g (λ at. Gives (slice_index_or at.frame.vars i value.Null) at)
+  part_variable : (g : k.Point) (i : ℕ) → Part k g (λ at. Gives (slice_index_or at.environment.vars i value.Null) at)
   part_variable g i = record {
-    from = λ h u more frame. Keeps.ends (Gives (slice_index_or u.frame.vars i value.Null) u) (λ rs. refl)
-        (record { same = k.same_itself h; value = known_at (k.Knows h) u.frame.vars i frame.vars; frame = frame });
+    from = λ h u more environment. Keeps.ends (Gives (slice_index_or u.environment.vars i value.Null) u) (λ rs. refl)
+        (record { same = k.same_itself h; value = known_at k.HasText (k.Knows h) u.environment.vars i environment.vars; environment = environment });
   }
 
   -- the object that a method is called on
-  part_this : (g : k.Point) → Part k g (λ at. Gives at.frame.this at)
-  part_this g = record { from = λ h u more frame. Keeps.ends (Gives u.frame.this u) (λ rs. refl) (record { same = k.same_itself h; value = frame.this; frame = frame }) }
+  part_this : (g : k.Point) → Part k g (λ at. Gives at.environment.this at)
+  part_this g = record { from = λ h u more environment. Keeps.ends (Gives u.environment.this u) (λ rs. refl) (record { same = k.same_itself h; value = environment.this; environment = environment }) }
 
   mutual
     -- a sound expression
     pub part_expr : {a : Expr} → SoundExpr scope a → (g : k.Point) → Part k g (expr c ways a)
-    part_expr (SoundExpr.constant {v = v} literal) g = part_as k g _ _ (expr_Const c ways v) (part_gives k g v (known_literal c.shape (k.Knows g) v literal))
+    part_expr (SoundExpr.constant {v = v} literal) g = part_as k g _ _ (expr_Const c ways v) (part_gives k g v (known_literal c.shape k.HasText (k.Knows g) k.literal_text v literal))
     part_expr (SoundExpr.variable {i = i} there) g = part_as k g _ _ (expr_Var c ways i) (part_variable g i)
     part_expr (SoundExpr.this there) g = part_as k g _ _ (expr_This c ways) (part_this g)
     part_expr (SoundExpr.root {r = r} there) g = part_as k g _ _ (expr_Root c ways r) (part_root k g r)
@@ -185,7 +185,7 @@ module _ (c : Code) (k : Keeper c.shape) (ways : Ways) (bodies : Bodies k ways) 
     part_expr (SoundExpr.array {k = kind} {a = a} inner) g = part_as k g _ _ (expr_NewArray c ways kind a)
         (part_value k g (new_array kind) (expr c ways a) (part_expr inner g) (λ v h more known. part_array k h kind v))
     part_expr (SoundExpr.unary {o = o} {a = a} is inner) g = part_as k g _ _ (expr_Unary c ways o a)
-        (part_value k g (λ v. result_of (before o v)) (expr c ways a) (part_expr inner g) (λ v h more known. part_result k h (before o v) (known_before (k.Knows h) o v)))
+        (part_value k g (λ v. result_of (before o v)) (expr c ways a) (part_expr inner g) (λ v h more known. part_result k h (before o v) (known_before k.HasText (k.Knows h) o v)))
     part_expr (SoundExpr.binary {o = o} {a = a} {b = b} is inner other) g = part_as k g _ _ (expr_Binary c ways o a b)
         (part_value k g (second o (expr c ways b)) (expr c ways a) (part_expr inner g) (λ v h more known. part_second k h o (expr c ways b) v (part_expr other h)))
 

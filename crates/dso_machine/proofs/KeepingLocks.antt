@@ -12,12 +12,12 @@ use Rattle.dso_base.specs.declared.value.Value.TheVariants as value
 use Rattle.dso_machine.specs.Outcome.{State, Outcome, Wants, Gives, Leaves, Fails, Hears, Over, Stopped, Meaning, on_value, unwanted, done, tell, leaving, leave, entered, under}
 use Rattle.dso_machine.specs.Statements.{wait}
 use Rattle.dso_machine.proofs.Keeper.{KnowsLock, Keeper}
-use Rattle.dso_machine.proofs.Keeping.{refill, refilled, Keeps, keeps_on, KnowsFrame, Kept, Fine, More, Part, value_later, lock_later, frame_later, part_later, part_at}
+use Rattle.dso_machine.proofs.Keeping.{refill, refilled, Keeps, keeps_on, KnowsEnvironment, Kept, Fine, More, Part, value_later, lock_later, environment_later, part_later, part_at}
 use Rattle.dso_machine.proofs.KeepingRequests.{part_unwanted}
 
 -- the state after a request
 abbrev pub asked_at : State → State
-asked_at u = record { frame = u.frame; moves = 0; replies = [] }
+asked_at u = record { environment = u.environment; moves = 0; replies = [] }
 
 module _ {shape : Shape} (k : Keeper shape) where
   -- what follows an exit: it is answered Done
@@ -40,11 +40,11 @@ module _ {shape : Shape} (k : Keeper shape) where
     leaves_lock P m h u same then = Keeps.asks (request.Exit l) refl (k.exit_asked g h l level awake enters same) (after_exit P h l m u then)
 
     -- what is held and known after that
-    kept_outside : (h : k.Point) (v : Value) (u : State) → Kept k inside h v u.frame → Kept k g (k.after (request.Exit l) Done h) v u.frame
+    kept_outside : (h : k.Point) (v : Value) (u : State) → Kept k inside h v u.environment → Kept k g (k.after (request.Exit l) Done h) v u.environment
     kept_outside h v u kept = record {
       same = k.exit_same g h l level awake enters kept.same;
       value = value_later k h (k.after (request.Exit l) Done h) (k.still_known h (request.Exit l) Done) v kept.value;
-      frame = frame_later k h (k.after (request.Exit l) Done h) (k.still_known h (request.Exit l) Done) u.frame kept.frame;
+      environment = environment_later k h (k.after (request.Exit l) Done h) (k.still_known h (request.Exit l) Done) u.environment kept.environment;
     }
 
     -- so at each end of the part
@@ -58,64 +58,64 @@ module _ {shape : Shape} (k : Keeper shape) where
     leaves_at_end Over h fine = absurd fine
 
     -- the part, and its exit
-    keeps_inside : (m : Meaning) (u : State) → Part k g m → KnowsFrame k g u.frame → Keeps k (Fine k g) inside (λ rs. leave l (m (refill rs (asked_at u))))
-    keeps_inside m u part frame =
+    keeps_inside : (m : Meaning) (u : State) → Part k g m → KnowsEnvironment k g u.environment → Keeps k (Fine k g) inside (λ rs. leave l (m (refill rs (asked_at u))))
+    keeps_inside m u part environment =
         let within : k.Awake inside = k.enter_awake g l level awake enters in
         keeps_on k (Fine k inside) (Fine k g) (leave l) (λ q. refl)
         (part.from inside (asked_at u) (record { awake = within; knows = k.still_known g (request.Enter l level) Done })
-        (frame_later k g inside (k.still_known g (request.Enter l level) Done) u.frame frame)) leaves_at_end
+        (environment_later k g inside (k.still_known g (request.Enter l level) Done) u.environment environment)) leaves_at_end
 
   -- a part where the lock is not entered
   keeps_outside : (g : k.Point) (l : LockName) (level : Level) (r : Reply) (m : Meaning) (u : State) → k.Awake g → k.IsReply g (request.Enter l level) r → (r ≡ Done → ⊥)
-      → ((h : k.Point) → More k g h → Part k h m) → KnowsFrame k g u.frame → Keeps k (Fine k g) (k.after (request.Enter l level) r g) (λ rs. m (refill rs (asked_at u)))
-  keeps_outside g l level r m u awake comes other part frame =
+      → ((h : k.Point) → More k g h → Part k h m) → KnowsEnvironment k g u.environment → Keeps k (Fine k g) (k.after (request.Enter l level) r g) (λ rs. m (refill rs (asked_at u)))
+  keeps_outside g l level r m u awake comes other part environment =
       let h : k.Point = k.after (request.Enter l level) r g in
       let same : k.Same g h = k.enter_same g l level r awake comes other in
       let still : k.Awake h = k.same_awake g h same awake in
       part_at k g h m (asked_at u) still same (part h (record { awake = still; knows = k.still_known g (request.Enter l level) r }))
-      (frame_later k g h (k.still_known g (request.Enter l level) r) u.frame frame)
+      (environment_later k g h (k.still_known g (request.Enter l level) r) u.environment environment)
 
   -- the part after each reply to the entry
-  keeps_entered : (g : k.Point) (l : LockName) (level : Level) (m : Meaning) (u : State) → k.Awake g → Part k g m → KnowsFrame k g u.frame
+  keeps_entered : (g : k.Point) (l : LockName) (level : Level) (m : Meaning) (u : State) → k.Awake g → Part k g m → KnowsEnvironment k g u.environment
       → (r : Reply) → k.IsReply g (request.Enter l level) r → Keeps k (Fine k g) (k.after (request.Enter l level) r g) (λ rs. entered l m r (refill rs (asked_at u)))
-  keeps_entered g l level m u awake part frame Done comes = keeps_inside g l level awake comes m u part frame
-  keeps_entered g l level m u awake part frame Local comes = keeps_outside g l level Local m u awake comes (λ e. cc e) (λ h more. part_later k g h m more part) frame
-  keeps_entered g l level m u awake part frame (Refused fault) comes =
-      keeps_outside g l level (Refused fault) (unwanted (Refused fault)) u awake comes (λ e. cc e) (λ h more. part_unwanted k h (Refused fault)) frame
-  keeps_entered g l level m u awake part frame r comes = absurd (k.listed g (request.Enter l level) r comes)
+  keeps_entered g l level m u awake part environment Done comes = keeps_inside g l level awake comes m u part environment
+  keeps_entered g l level m u awake part environment Local comes = keeps_outside g l level Local m u awake comes (λ e. cc e) (λ h more. part_later k g h m more part) environment
+  keeps_entered g l level m u awake part environment (Refused fault) comes =
+      keeps_outside g l level (Refused fault) (unwanted (Refused fault)) u awake comes (λ e. cc e) (λ h more. part_unwanted k h (Refused fault)) environment
+  keeps_entered g l level m u awake part environment r comes = absurd (k.listed g (request.Enter l level) r comes)
 
   -- a part under a lock that is known
   pub part_under : (g : k.Point) (l : LockName) (level : Level) (m : Meaning) → KnowsLock (k.Knows g) l → Part k g m → Part k g (under l level m)
   part_under g l level m known part = record {
-    from = λ h u more frame. Keeps.asks (request.Enter l level) refl (k.enter_asked h l level more.awake (lock_later k g h more.knows l known))
-        (keeps_entered h l level m u more.awake (part_later k g h m more part) frame);
+    from = λ h u more environment. Keeps.asks (request.Enter l level) refl (k.enter_asked h l level more.awake (lock_later k g h more.knows l known))
+        (keeps_entered h l level m u more.awake (part_later k g h m more part) environment);
   }
 
   -- ---- waits
 
   -- the end of a wait after the thread was told to go on
-  keeps_resumed : (g : k.Point) (l : LockName) (u : State) → k.Awake g → k.IsReply g (request.Wait l) Done → KnowsFrame k g u.frame → (r : Reply) → k.IsReply (k.after (request.Wait l) Done g) (request.Resume l) r
+  keeps_resumed : (g : k.Point) (l : LockName) (u : State) → k.Awake g → k.IsReply g (request.Wait l) Done → KnowsEnvironment k g u.environment → (r : Reply) → k.IsReply (k.after (request.Wait l) Done g) (request.Resume l) r
       → Keeps k (Fine k g) (k.after (request.Resume l) r (k.after (request.Wait l) Done g)) (λ rs. done r (refill rs (asked_at u)))
-  keeps_resumed g l u awake waits frame Done comes =
+  keeps_resumed g l u awake waits environment Done comes =
       let asleep : k.Point = k.after (request.Wait l) Done g in
       let h : k.Point = k.after (request.Resume l) Done asleep in
       Keeps.ends (Gives value.Null (asked_at u)) (λ rs. refl) (record {
         same = k.resume_same g l awake waits;
         value = tt;
-        frame = frame_later k g h (λ object known. k.still_known asleep (request.Resume l) Done object (k.still_known g (request.Wait l) Done object known)) u.frame frame;
+        environment = environment_later k g h (λ object known. k.still_known asleep (request.Resume l) Done object (k.still_known g (request.Wait l) Done object known)) u.environment environment;
       })
-  keeps_resumed g l u awake waits frame r comes = absurd (k.listed (k.after (request.Wait l) Done g) (request.Resume l) r comes)
+  keeps_resumed g l u awake waits environment r comes = absurd (k.listed (k.after (request.Wait l) Done g) (request.Resume l) r comes)
 
   -- what follows each reply to a wait
-  keeps_waited : (g : k.Point) (l : LockName) (u : State) → k.Awake g → KnowsFrame k g u.frame → (r : Reply) → k.IsReply g (request.Wait l) r
+  keeps_waited : (g : k.Point) (l : LockName) (u : State) → k.Awake g → KnowsEnvironment k g u.environment → (r : Reply) → k.IsReply g (request.Wait l) r
       → Keeps k (Fine k g) (k.after (request.Wait l) r g) (λ rs. on_value (λ v. tell (request.Resume l)) (done r (refill rs (asked_at u))))
-  keeps_waited g l u awake frame Done comes = Keeps.asks (request.Resume l) refl (k.resume_asked g l awake comes) (keeps_resumed g l (asked_at u) awake comes frame)
-  keeps_waited g l u awake frame (Refused fault) comes = Keeps.ends (Fails fault (asked_at u)) (λ rs. refl) (k.wait_same g l (Refused fault) awake comes (λ e. cc e))
-  keeps_waited g l u awake frame r comes = absurd (k.listed g (request.Wait l) r comes)
+  keeps_waited g l u awake environment Done comes = Keeps.asks (request.Resume l) refl (k.resume_asked g l awake comes) (keeps_resumed g l (asked_at u) awake comes environment)
+  keeps_waited g l u awake environment (Refused fault) comes = Keeps.ends (Fails fault (asked_at u)) (λ rs. refl) (k.wait_same g l (Refused fault) awake comes (λ e. cc e))
+  keeps_waited g l u awake environment r comes = absurd (k.listed g (request.Wait l) r comes)
 
   -- a thread waits on the monitor of an object that it knows, and then has it again
   pub part_wait : (g : k.Point) (object : ℕ) → k.Knows g object → Part k g (wait (Mon object))
   part_wait g object known = record {
-    from = λ h u more frame. Keeps.asks (request.Wait (Mon object)) refl (k.wait_asked h object more.awake (more.knows object known))
-        (keeps_waited h (Mon object) u more.awake frame);
+    from = λ h u more environment. Keeps.asks (request.Wait (Mon object)) refl (k.wait_asked h object more.awake (more.knows object known))
+        (keeps_waited h (Mon object) u more.awake environment);
   }

@@ -36,80 +36,80 @@ module _ {shape : Shape} (k : Keeper shape) where
   -- ---- what is written
 
   -- a variable is given a value that is known
-  part_assign : (g : k.Point) (i : ℕ) (v : Value) → KnowsValue (k.Knows g) v → Part k g (assign i v)
+  part_assign : (g : k.Point) (i : ℕ) (v : Value) → KnowsValue k.HasText (k.Knows g) v → Part k g (assign i v)
   part_assign g i v known = record {
-    from = λ h u more frame. Keeps.ends (assign i v u) (λ rs. refl) (record {
+    from = λ h u more environment. Keeps.ends (assign i v u) (λ rs. refl) (record {
       same = k.same_itself h;
       value = tt;
-      frame = record { this = frame.this; vars = known_set (k.Knows h) u.frame.vars i v frame.vars (value_later k g h more.knows v known) };
+      environment = record { this = environment.this; vars = known_set k.HasText (k.Knows h) u.environment.vars i v environment.vars (value_later k g h more.knows v known) };
     });
   }
 
   -- a field or an element is,
-  part_put : (g : k.Point) (object place : ℕ) (v : Value) → k.Knows g object → KnowsValue (k.Knows g) v → Part k g (put object place v)
+  part_put : (g : k.Point) (object place : ℕ) (v : Value) → k.Knows g object → KnowsValue k.HasText (k.Knows g) v → Part k g (put object place v)
   part_put g object place v known v_known = part_tell k g (request.Put object place v) refl (λ h more. k.put_asked h object place v more.awake (more.knows object known) (value_later k g h more.knows v v_known))
 
   -- if it takes the value
-  part_put_fitting : (g : k.Point) (kind : Kind) (object place : ℕ) (v : Value) → k.Knows g object → KnowsValue (k.Knows g) v → Part k g (put_fitting kind object place v)
+  part_put_fitting : (g : k.Point) (kind : Kind) (object place : ℕ) (v : Value) → k.Knows g object → KnowsValue k.HasText (k.Knows g) v → Part k g (put_fitting kind object place v)
   part_put_fitting g kind object place v known v_known = part_choose k g (takes kind v) (put object place v) (Fails BadValue) (λ takes_it. part_put g object place v known v_known) (part_fails k g BadValue)
 
   -- a field that was found is given a value,
-  part_put_field_at : (g : k.Point) (class object : ℕ) (v : Value) (place : Option ℕ) → k.Knows g object → KnowsValue (k.Knows g) v → Part k g (put_field_at shape class object v place)
+  part_put_field_at : (g : k.Point) (class object : ℕ) (v : Value) (place : Option ℕ) → k.Knows g object → KnowsValue k.HasText (k.Knows g) v → Part k g (put_field_at shape class object v place)
   part_put_field_at g class object v None known v_known = part_fails k g NoSuchField
   part_put_field_at g class object v (Some place) known v_known = part_put_fitting g (kind_of shape (Plain class) place) object place v known v_known
 
   -- in an object of this class,
-  part_put_field_in : (g : k.Point) (f : FieldRef) (v : Value) (object : ℕ) (class : ClassId) (size : ℕ) → k.Knows g object → KnowsValue (k.Knows g) v → Part k g (put_field_in shape f v object class size)
+  part_put_field_in : (g : k.Point) (f : FieldRef) (v : Value) (object : ℕ) (class : ClassId) (size : ℕ) → k.Knows g object → KnowsValue k.HasText (k.Knows g) v → Part k g (put_field_in shape f v object class size)
   part_put_field_in g f v object (Plain class) size known v_known = part_put_field_at g class object v (beside f.places class) known v_known
   part_put_field_in g f v object class size known v_known = part_fails k g NoSuchField
 
   -- or of a value
-  part_put_field : (g : k.Point) (f : FieldRef) (x v : Value) → KnowsValue (k.Knows g) x → KnowsValue (k.Knows g) v → Part k g (put_field shape f x v)
+  part_put_field : (g : k.Point) (f : FieldRef) (x v : Value) → KnowsValue k.HasText (k.Knows g) x → KnowsValue k.HasText (k.Knows g) v → Part k g (put_field shape f x v)
   part_put_field g f x v known v_known = part_object k g (λ object. look (put_field_in shape f v object) object) x known
       (λ object object_known. part_look k g (put_field_in shape f v object) object object_known (λ class size. part_put_field_in g f v object class size object_known v_known))
 
   -- an element that was found is given a value,
-  part_put_element_at : (g : k.Point) (kind : Kind) (object : ℕ) (v : Value) (place : Option ℕ) → k.Knows g object → KnowsValue (k.Knows g) v → Part k g (put_element_at kind object v place)
+  part_put_element_at : (g : k.Point) (kind : Kind) (object : ℕ) (v : Value) (place : Option ℕ) → k.Knows g object → KnowsValue k.HasText (k.Knows g) v → Part k g (put_element_at kind object v place)
   part_put_element_at g kind object v None known v_known = part_fails k g BadIndex
   part_put_element_at g kind object v (Some place) known v_known = part_put_fitting g kind object place v known v_known
 
   -- in an object of this class,
-  part_put_element_in : (g : k.Point) (i : ℤ) (v : Value) (object : ℕ) (class : ClassId) (size : ℕ) → k.Knows g object → KnowsValue (k.Knows g) v → Part k g (put_element_in i v object class size)
+  part_put_element_in : (g : k.Point) (i : ℤ) (v : Value) (object : ℕ) (class : ClassId) (size : ℕ) → k.Knows g object → KnowsValue k.HasText (k.Knows g) v → Part k g (put_element_in i v object class size)
   part_put_element_in g i v object (Array kind) size known v_known = part_put_element_at g kind object v (within i size) known v_known
   part_put_element_in g i v object class size known v_known = part_fails k g BadValue
 
   -- or of a value
-  part_put_element : (g : k.Point) (x i v : Value) → KnowsValue (k.Knows g) x → KnowsValue (k.Knows g) v → Part k g (put_element x i v)
+  part_put_element : (g : k.Point) (x i v : Value) → KnowsValue k.HasText (k.Knows g) x → KnowsValue k.HasText (k.Knows g) v → Part k g (put_element x i v)
   part_put_element g x (value.Long i) v known v_known = part_object k g (λ object. look (put_element_in i v object) object) x known
       (λ object object_known. part_look k g (put_element_in i v object) object object_known (λ class size. part_put_element_in g i v object class size object_known v_known))
   part_put_element g x i v known v_known = part_object k g (λ object. Fails BadValue) x known (λ object object_known. part_fails k g BadValue)
 
   -- a root that isn't bound is given a value,
-  part_bind_null : (g : k.Point) (r : ℕ) (v bound : Value) → KnowsValue (k.Knows g) v → Part k g (bind_null r v bound)
+  part_bind_null : (g : k.Point) (r : ℕ) (v bound : Value) → KnowsValue k.HasText (k.Knows g) v → Part k g (bind_null r v bound)
   part_bind_null g r v value.Null known = part_tell k g (request.Put 0 r v) refl (λ h more. k.put_root_asked h r v more.awake (value_later k g h more.knows v known))
   part_bind_null g r v bound known = part_gives k g value.Null tt
 
   -- under its lock,
-  part_bind : (g : k.Point) (r : ℕ) (v : Value) → KnowsValue (k.Knows g) v → Part k g (bind r v)
+  part_bind : (g : k.Point) (r : ℕ) (v : Value) → KnowsValue k.HasText (k.Knows g) v → Part k g (bind r v)
   part_bind g r v known = part_under k g (Name r) Write (λ at. on_value (bind_null r v) (get 0 r at)) tt
       (part_value k g (bind_null r v) (get 0 r) (part_get k g 0 r (λ h more. k.get_root_asked h r more.awake)) (λ bound h more bound_known. part_bind_null h r v bound (value_later k g h more.knows v known)))
 
   -- if it takes the value
-  part_put_root : (g : k.Point) (r : ℕ) (v : Value) → KnowsValue (k.Knows g) v → Part k g (put_root r v)
+  part_put_root : (g : k.Point) (r : ℕ) (v : Value) → KnowsValue k.HasText (k.Knows g) v → Part k g (put_root r v)
   part_put_root g r v known = part_choose k g (takes kind.Ref v) (bind r v) (Fails BadValue) (λ takes_it. part_bind g r v known) (part_fails k g BadValue)
 
   -- ---- monitors
 
   -- a part under the monitor of a value
-  part_sync : (g : k.Point) (grade : Grade) (m : Meaning) (x : Value) → KnowsValue (k.Knows g) x → Part k g m → Part k g (sync grade m x)
+  part_sync : (g : k.Point) (grade : Grade) (m : Meaning) (x : Value) → KnowsValue k.HasText (k.Knows g) x → Part k g m → Part k g (sync grade m x)
   part_sync g grade m x known part = part_object k g (λ object. under (Mon object) (level_of grade) m) x known (λ object object_known. part_under k g (Mon object) (level_of grade) m object_known part)
 
   -- ---- what is run
 
   -- one way or the other
   part_branch : (g : k.Point) (a b : Meaning) (v : Value) → Part k g a → Part k g b → Part k g (branch a b v)
-  part_branch g a b (value.Bool true) part rest = record { from = λ h u more frame. part.from h u more frame }
-  part_branch g a b (value.Bool false) part rest = record { from = λ h u more frame. rest.from h u more frame }
+  part_branch g a b (value.Bool true) part rest = record { from = λ h u more environment. part.from h u more environment }
+  part_branch g a b (value.Bool false) part rest = record { from = λ h u more environment. rest.from h u more environment }
   part_branch g a b v part rest = part_fails k g BadValue
 
   -- a loop after its condition
@@ -131,7 +131,7 @@ module _ (c : Code) (k : Keeper c.shape) (ways : Ways) (methods : Bodies k ways)
   scope = record { code = c; vars = count; in_method = in_method }
 
   -- a sound expression, and then what is made of its value
-  part_of : {a : Expr} → SoundExpr scope a → (f : Value → Meaning) (g : k.Point) → ((v : Value) (h : k.Point) → More k g h → KnowsValue (k.Knows h) v → Part k h (f v)) → Part k g (λ at. on_value f (expr c ways a at))
+  part_of : {a : Expr} → SoundExpr scope a → (f : Value → Meaning) (g : k.Point) → ((v : Value) (h : k.Point) → More k g h → KnowsValue k.HasText (k.Knows h) v → Part k h (f v)) → Part k g (λ at. on_value f (expr c ways a at))
   part_of {a} sound f g then = part_value k g f (expr c ways a) (part_expr c k ways methods count in_method sound g) then
 
   -- so with a request on the monitor of an object

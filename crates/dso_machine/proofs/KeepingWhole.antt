@@ -78,7 +78,7 @@ module _ (c : Code) (k : Keeper c.shape) (sound : IsSound c) where
   keeps_whole : (body : ThreadBody) → IsSoundBody c body → (n : ℕ) → Keeps k Ended k.start (λ rs. whole c body n rs)
   keeps_whole body fine n = keeps_on k (Fine k k.start) Ended finish (λ q. refl)
       ((part_block c k (methods c n) (part_methods n) n body.vars false fine.statements k.start).from k.start (opening body.vars [])
-      (record { awake = k.start_awake; knows = λ object known. known }) (record { this = tt; vars = known_variables (k.Knows k.start) body.vars [] tt })) ends_thread
+      (record { awake = k.start_awake; knows = λ object known. known }) (record { this = tt; vars = known_variables k.HasText (k.Knows k.start) body.vars [] tt })) ends_thread
 
   -- ---- events
 

@@ -20,11 +20,11 @@ use Rattle.dso_machine.specs.declared.tree.Expr.{Expr}
 use Rattle.dso_machine.specs.Calls.{Ways, beside_class, back_in, begin, under_name, under_monitor, run_method, call_method, call_number, call_on, arguments, variables}
 use Rattle.dso_machine.specs.Expressions.{make, expr}
 use Rattle.dso_machine.specs.Limits.{most_moves}
-use Rattle.dso_machine.specs.Outcome.{Frame, State, Outcome, Wants, Gives, Leaves, Fails, Hears, Over, Stopped, Meaning, choose, on_value, on_reply, result_of, asked, ask, unwanted, done, made, got, seen, tell, get, look, on_object, moved, paced, moving, level_of, leaving, leave, entered, under}
+use Rattle.dso_machine.specs.Outcome.{Environment, State, Outcome, Wants, Gives, Leaves, Fails, Hears, Over, Stopped, Meaning, choose, on_value, on_reply, result_of, asked, ask, unwanted, done, made, got, seen, tell, get, look, on_object, moved, paced, moving, level_of, leaving, leave, entered, under}
 
 -- the same with more replies behind those that are left
 abbrev pub later : List Reply → State → State
-later more at = record { frame = at.frame; moves = at.moves; replies = at.replies ++ more }
+later more at = record { environment = at.environment; moves = at.moves; replies = at.replies ++ more }
 
 -- The second outcome is the first one with more replies left. Where a reply was wanted, that is said only if there are no more,
 -- and where moves were wanted, nothing is.
@@ -121,7 +121,7 @@ steady_after f g m k s t more at = ext_value more f g (m at) (k (later more at))
 -- ---- moves
 
 steady_moved : (m k : Meaning) → Steady m k → Steady (moved m) (moved k)
-steady_moved m k s more at = s more (record { frame = at.frame; moves = at.moves + 1; replies = at.replies })
+steady_moved m k s more at = s more (record { environment = at.environment; moves = at.moves + 1; replies = at.replies })
 
 steady_paced : (few : Bool) (m k : Meaning) → Steady m k → Steady (paced few m) (paced few k)
 steady_paced true m k s more at = steady_moved m k s more at
@@ -158,18 +158,18 @@ steady_under l level m k s more at = ext_reply more (entered l m) (entered l k) 
 abbrev pub SteadyWays : Ways → Ways → Type 0
 SteadyWays w x = (m : ℕ) → Steady (w m) (x m)
 
-ext_back : (more : List Reply) (below : Frame) (o n : Outcome) → Extends more o n → Extends more (back_in below o) (back_in below n)
-ext_back more below (Wants q) n e = λ none. ap (back_in below) (e none)
-ext_back more below (Gives v u) n e = ap (back_in below) e
-ext_back more below (Leaves v u) n e = ap (back_in below) e
-ext_back more below (Fails f u) n e = ap (back_in below) e
-ext_back more below (Hears r u) n e = ap (back_in below) e
-ext_back more below Over n e = ap (back_in below) e
-ext_back more below Stopped n e = tt
+ext_back : (more : List Reply) (caller : Environment) (o n : Outcome) → Extends more o n → Extends more (back_in caller o) (back_in caller n)
+ext_back more caller (Wants q) n e = λ none. ap (back_in caller) (e none)
+ext_back more caller (Gives v u) n e = ap (back_in caller) e
+ext_back more caller (Leaves v u) n e = ap (back_in caller) e
+ext_back more caller (Fails f u) n e = ap (back_in caller) e
+ext_back more caller (Hears r u) n e = ap (back_in caller) e
+ext_back more caller Over n e = ap (back_in caller) e
+ext_back more caller Stopped n e = tt
 
 steady_begin : (w x : Ways) → SteadyWays w x → (m : ℕ) (this : Value) (vars : List Value) → Steady (begin w m this vars) (begin x m this vars)
-steady_begin w x s m this vars more at = ext_back more at.frame _ _
-    (s m more (record { frame = record { this = this; vars = vars; room = at.frame.room - 1 }; moves = at.moves; replies = at.replies }))
+steady_begin w x s m this vars more at = ext_back more at.environment _ _
+    (s m more (record { environment = record { this = this; vars = vars; depth_left = at.environment.depth_left - 1 }; moves = at.moves; replies = at.replies }))
 
 steady_name : (named : Option (ℕ × Grade)) (m k : Meaning) → Steady m k → Steady (under_name named m) (under_name named k)
 steady_name None m k s = s
@@ -186,7 +186,7 @@ module _ (c : Code) (w x : Ways) (s : SteadyWays w x) where
 
   steady_method : (m o : ℕ) (args : List Value) (method : Option Method) → Steady (call_method w m o args method) (call_method x m o args method)
   steady_method m o args None more at = refl
-  steady_method m o args (Some method) more at = ext_choose more (nat_lt 0 at.frame.room) _ (Fails StackOverflow) _ (Fails StackOverflow) at (steady_run m method o args more at) refl
+  steady_method m o args (Some method) more at = ext_choose more (nat_lt 0 at.environment.depth_left) _ (Fails StackOverflow) _ (Fails StackOverflow) at (steady_run m method o args more at) refl
 
   steady_number : (o : ℕ) (args : List Value) (number : Option ℕ) → Steady (call_number c w o args number) (call_number c x o args number)
   steady_number o args None more at = refl

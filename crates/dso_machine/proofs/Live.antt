@@ -28,7 +28,7 @@ use Rattle.dso_machine.specs.declared.tree.FieldRef.{FieldRef}
 use Rattle.dso_machine.specs.Calls.{Ways, beside, beside_class, back_in, begin, invoke, under_name, under_monitor, run_method, call_method, call_number, call_in, call_on, variables}
 use Rattle.dso_machine.specs.Expressions.{field_at, field_in, field_of, within, element_at, element_in, element_of, root, make, new_array, a_boolean, second}
 use Rattle.dso_machine.specs.Limits.{most_elements, most_moves}
-use Rattle.dso_machine.specs.Outcome.{Frame, State, Outcome, Wants, Gives, Leaves, Fails, Hears, Over, Stopped, Meaning, choose, on_value, on_reply, result_of, asked, ask, unwanted, done, made, got, seen, tell, get, put, look, on_object, moved, paced, moving, level_of, leaving, leave, entered, under}
+use Rattle.dso_machine.specs.Outcome.{Environment, State, Outcome, Wants, Gives, Leaves, Fails, Hears, Over, Stopped, Meaning, choose, on_value, on_reply, result_of, asked, ask, unwanted, done, made, got, seen, tell, get, put, look, on_object, moved, paced, moving, level_of, leaving, leave, entered, under}
 use Rattle.dso_machine.specs.Statements.{assign, put_fitting, put_field_at, put_field_in, put_field, put_element_at, put_element_in, put_element, bind_null, bind, put_root, sync, wait, branch, turn, spun}
 use Rattle.dso_machine.specs.Values.{between, takes}
 
@@ -70,7 +70,7 @@ live_reply f Stopped h = tt
 pub live_gives : (v : Value) → LiveAt (Gives v)
 live_gives v = record { from = λ at none. none }
 
--- a frame is left
+-- a body is left
 pub live_leaves : (v : Value) → LiveAt (Leaves v)
 live_leaves v = record { from = λ at none. none }
 
@@ -158,7 +158,7 @@ live_object f g v = live_fails BadValue
 
 -- a move is made
 pub live_moved : (m : Meaning) → LiveAt m → LiveAt (moved m)
-live_moved m s = record { from = λ at none. s.from (record { frame = at.frame; moves = at.moves + 1; replies = at.replies }) none }
+live_moved m s = record { from = λ at none. s.from (record { environment = at.environment; moves = at.moves + 1; replies = at.replies }) none }
 
 -- a move, after a pause where one is due
 live_paced : (few : Bool) (m : Meaning) → LiveAt m → LiveAt (paced few m)
@@ -201,21 +201,21 @@ live_under l level m = live_request (entered l m) (request.Enter l level)
 abbrev pub LiveWays : Ways → Type 0
 LiveWays w = (m : ℕ) → LiveAt (w m)
 
--- the frame below is the thread's again
-pub live_back : (below : Frame) (o : Outcome) → Live o → Live (back_in below o)
-live_back below (Wants q) h = tt
-live_back below (Gives v u) h = h
-live_back below (Leaves v u) h = h
-live_back below (Fails f u) h = h
-live_back below (Hears r u) h = absurd h
-live_back below Over h = absurd h
-live_back below Stopped h = tt
+-- the environment of the caller is the thread's again
+pub live_back : (caller : Environment) (o : Outcome) → Live o → Live (back_in caller o)
+live_back caller (Wants q) h = tt
+live_back caller (Gives v u) h = h
+live_back caller (Leaves v u) h = h
+live_back caller (Fails f u) h = h
+live_back caller (Hears r u) h = absurd h
+live_back caller Over h = absurd h
+live_back caller Stopped h = tt
 
--- a method's body in a frame of its own
+-- a method's body in an environment of its own
 pub live_begin : (w : Ways) → LiveWays w → (m : ℕ) (this : Value) (vars : List Value) → LiveAt (begin w m this vars)
 live_begin w s m this vars = record {
-  from = λ at none. live_back at.frame _
-      ((s m).from (record { frame = record { this = this; vars = vars; room = at.frame.room - 1 }; moves = at.moves; replies = at.replies }) none);
+  from = λ at none. live_back at.environment _
+      ((s m).from (record { environment = record { this = this; vars = vars; depth_left = at.environment.depth_left - 1 }; moves = at.moves; replies = at.replies }) none);
 }
 
 -- so, as a move
@@ -240,7 +240,7 @@ module _ (c : Code) (w : Ways) (s : LiveWays w) where
   -- a method that was found
   live_method : (m o : ℕ) (args : List Value) (method : Option Method) → LiveAt (call_method w m o args method)
   live_method m o args None = live_fails NoSuchField
-  live_method m o args (Some method) = live_choose (λ at. nat_lt 0 at.frame.room) (run_method w m method o args) (Fails StackOverflow) (live_run m method o args) (live_fails StackOverflow)
+  live_method m o args (Some method) = live_choose (λ at. nat_lt 0 at.environment.depth_left) (run_method w m method o args) (Fails StackOverflow) (live_run m method o args) (live_fails StackOverflow)
 
   -- the method of the object's class
   live_number : (o : ℕ) (args : List Value) (number : Option ℕ) → LiveAt (call_number c w o args number)

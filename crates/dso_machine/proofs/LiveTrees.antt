@@ -37,7 +37,7 @@ use Rattle.dso_machine.specs.Calls.{Ways, call_on, call_in, arguments}
 use Rattle.dso_machine.specs.Expressions.{field_of, field_in, element_of, element_in, new_array, second, expr, expr_step}
 use Rattle.dso_machine.specs.Next.{finish}
 use Rattle.dso_machine.specs.Outcome.{State, Outcome, Wants, Gives, Leaves, Fails, Hears, Over, Stopped, Meaning, on_value, on_reply, on_next, on_object, result_of, asked, done, got, tell, get, moved}
-use Rattle.dso_machine.specs.Running.{Rest, standing, ended, block_at, loop_at, move_at, body_at, locked_at, arguments_at, written, used_monitor, given, heard, after_part, meant, frame_of}
+use Rattle.dso_machine.specs.Running.{Rest, standing, ended, block_at, loop_at, move_at, body_at, locked_at, arguments_at, written, used_monitor, given, heard, after_part, meant, environment_of}
 use Rattle.dso_machine.specs.Statements.{assign, put_field, put_field_in, put_element, put_element_in, bind_null, put_root, sync, wait, branch, spun, seq, returned, stmt, stmt_step, block, methods, statements_of}
 use Rattle.dso_machine.specs.Values.{between, before}
 use Rattle.dso_machine.proofs.Live.{Live, LiveAt, LiveWays, live_value, live_gives, live_leaves, live_fails, live_after, live_result, live_request, live_done, live_made, live_got, live_seen, live_tell, live_get, live_make, live_object, live_moved, live_moving, live_leave, live_entered, live_back, live_begin, live_invoke, live_monitor, live_call, live_call_in, live_field_in, live_field, live_element_in, live_element, live_root, live_array, live_boolean, live_second, live_assign, live_put_field_in, live_put_field, live_put_element_in, live_put_element, live_bind_null, live_put_root, live_sync, live_wait, live_branch, live_turn, live_spun}
@@ -225,7 +225,7 @@ module _ (code : Code) (n k : ℕ) where
   -- what is done after a part
   live_part : (t : Task) (p : Outcome) → Live p → Live (after_part code n k t p)
   live_part (task.Then t) p live = live_value (given code n k t) p live (live_given t)
-  live_part (task.Back frame) p live = live_back (frame_of frame) p live
+  live_part (task.Back frame) p live = live_back (environment_of frame) p live
   live_part (task.Leave l) p live = live_leave l p live
 
 -- the end of a thread's code wants its reply where none is left

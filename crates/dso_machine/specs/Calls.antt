@@ -1,4 +1,4 @@
--- What a call means: the object and the arguments, the method, its locks, its frame.
+-- What a call means: the object and the arguments, the method, its locks, the environment of its body.
 use Rattle.std.specs.Prelude.{ℕ, ◌-◌, cond, eqb, nat_lt, List, [], ◌∷◌, ◌++◌, length, replicate, slice_get, Option, None, Some}
 use Rattle.dso_base.specs.declared.lock.Grade.{Grade}
 use Rattle.dso_base.specs.declared.lock.LockName.TheVariants.{Mon, Name}
@@ -9,7 +9,7 @@ use Rattle.dso_base.specs.declared.value.Value.{Value}
 use Rattle.dso_base.specs.declared.value.Value.TheVariants as value
 use Rattle.dso_machine.specs.declared.code.Code.{Code}
 use Rattle.dso_machine.specs.declared.code.Method.{Method}
-use Rattle.dso_machine.specs.Outcome.{Frame, Outcome, Gives, Leaves, Fails, Meaning, choose, on_value, look, on_object, moving, level_of, under}
+use Rattle.dso_machine.specs.Outcome.{Environment, Outcome, Gives, Leaves, Fails, Meaning, choose, on_value, look, on_object, moving, level_of, under}
 
 -- the number that stands beside the class
 abbrev pub beside : List (ℕ × ℕ) → ℕ → Option ℕ
@@ -30,15 +30,15 @@ variables count values = values ++ replicate (count - length values) value.Null
 abbrev pub Ways : Type 0
 Ways = ℕ → Meaning
 
--- The frame that stood below is the thread's again. A body that did not return gives null.
-abbrev pub back_in : Frame → Outcome → Outcome
-back_in below (Gives v at) = Gives value.Null (record at { frame = below })
-back_in below (Leaves v at) = Gives v (record at { frame = below })
-back_in below o = o
+-- The environment of the caller is the thread's again. A body that did not return gives null.
+abbrev pub back_in : Environment → Outcome → Outcome
+back_in caller (Gives v at) = Gives value.Null (record at { environment = caller })
+back_in caller (Leaves v at) = Gives v (record at { environment = caller })
+back_in caller o = o
 
--- a method's body in a frame of its own
+-- a method's body in an environment of its own, in which one call less may nest
 abbrev pub begin : Ways → ℕ → Value → List Value → Meaning
-begin ways m this vars at = back_in at.frame (ways m (record at { frame = record { this = this; vars = vars; room = at.frame.room - 1 } }))
+begin ways m this vars at = back_in at.environment (ways m (record at { environment = record { this = this; vars = vars; depth_left = at.environment.depth_left - 1 } }))
 
 -- so, as a move
 abbrev pub invoke : Ways → ℕ → Value → List Value → Meaning
@@ -59,10 +59,10 @@ abbrev pub run_method : Ways → ℕ → Method → ℕ → List Value → Meani
 run_method ways m method object args =
     under_name method.named (under_monitor method.synced object (invoke ways m (value.Ref object) (variables method.vars args)))
 
--- a method that was found
+-- a method that was found, if one more call may nest
 abbrev pub call_method : Ways → ℕ → ℕ → List Value → Option Method → Meaning
 call_method ways m object args None at = Fails NoSuchField at
-call_method ways m object args (Some method) at = choose (nat_lt 0 at.frame.room) (run_method ways m method object args) (Fails StackOverflow) at
+call_method ways m object args (Some method) at = choose (nat_lt 0 at.environment.depth_left) (run_method ways m method object args) (Fails StackOverflow) at
 
 -- the method of the object's class
 abbrev pub call_number : Code → Ways → ℕ → List Value → Option ℕ → Meaning

@@ -103,8 +103,8 @@ second o m a at = on_next (λ x y. result_of (between o x y)) m a at
 -- what an expression means, by what its parts mean
 abbrev pub expr_step : Code → Ways → Expr-F Meaning → Meaning
 expr_step code ways (e.Const v) at = Gives v at
-expr_step code ways (e.Var i) at = Gives (slice_index_or at.frame.vars i value.Null) at
-expr_step code ways e.This at = Gives at.frame.this at
+expr_step code ways (e.Var i) at = Gives (slice_index_or at.environment.vars i value.Null) at
+expr_step code ways e.This at = Gives at.environment.this at
 expr_step code ways (e.Root r) at = root r at
 expr_step code ways (e.Field a f) at = on_value (field_of f) (a at)
 expr_step code ways (e.Elem a b) at = on_value (on_next element_of b) (a at)

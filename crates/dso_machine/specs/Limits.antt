@@ -49,7 +49,7 @@ most_nested = 64
 abbrev pub most_elements : ℕ
 most_elements = 256
 
--- the most frames of a thread, that of its body among them
+-- how deep calls nest: the most frames of a thread, one for its body and one for each call that has not ended
 abbrev pub most_frames : ℕ
 most_frames = 64
 

@@ -28,9 +28,10 @@ finish (Wants q) = Wants q
 finish Over = Over
 finish Stopped = Stopped
 
--- where a thread stands before its first statement, with so many variables: its body is the first of its frames, and has no object
+-- Where a thread stands before its first statement: the environment of its body has no object and so many variables. The body is one
+-- of the frames, and the rest are calls that may nest in it.
 abbrev pub opening : ℕ → List Reply → State
-opening vars replies = record { frame = record { this = value.Null; vars = variables vars []; room = most_frames - 1 }; moves = 0; replies = replies }
+opening vars replies = record { environment = record { this = value.Null; vars = variables vars []; depth_left = most_frames - 1 }; moves = 0; replies = replies }
 
 -- what a thread's code comes to after these replies, for at most n moves
 abbrev pub whole : Code → ThreadBody → ℕ → List Reply → Outcome

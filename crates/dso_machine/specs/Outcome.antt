@@ -18,19 +18,19 @@ use Rattle.dso_base.specs.declared.value.Value.{Value}
 use Rattle.dso_base.specs.declared.value.Value.TheVariants as value
 use Rattle.dso_machine.specs.Limits.{most_moves}
 
--- a frame: the object that its method is called on, its variables, and how many more frames may stand on it
-pub record Frame : Type 0 where
+-- the environment of a body: the object that the method is called on, its variables, and how many more calls may nest in it
+pub record Environment : Type 0 where
   pub this : Value
   pub vars : List Value
-  pub room : ℕ
+  pub depth_left : ℕ
 
--- where a thread stands: its frame, its moves since the last request, and the replies that are left
+-- where a thread stands: the environment of the body that it runs, its moves since the last request, and the replies that are left
 pub record State : Type 0 where
-  pub frame : Frame
+  pub environment : Environment
   pub moves : ℕ
   pub replies : List Reply
 
--- What a part comes to: it wants a reply, gives a value, leaves its frame with one, or fails. Between a request and what is
+-- What a part comes to: it wants a reply, gives a value, leaves its body with one, or fails. Between a request and what is
 -- made of its reply, it hears the reply. The thread is over, or was stopped since it made more moves than were counted.
 pub data Outcome : Type 0 where
   Wants : Request → Outcome

@@ -35,7 +35,7 @@ use Rattle.dso_machine.specs.declared.tree.Stmt.{Stmt}
 use Rattle.dso_machine.specs.Calls.{back_in, begin, invoke, under_monitor, call_in, call_on, arguments}
 use Rattle.dso_machine.specs.Expressions.{field_of, field_in, element_of, element_in, new_array, a_boolean, second, expr}
 use Rattle.dso_machine.specs.Limits.{most_moves}
-use Rattle.dso_machine.specs.Outcome.{Frame, State, Outcome, Gives, Leaves, Fails, Over, Meaning, on_value, on_reply, on_next, on_object, result_of, ask, done, made, got, seen, tell, get, moved, moving, leave, entered}
+use Rattle.dso_machine.specs.Outcome.{Environment, State, Outcome, Gives, Leaves, Fails, Over, Meaning, on_value, on_reply, on_next, on_object, result_of, ask, done, made, got, seen, tell, get, moved, moving, leave, entered}
 use Rattle.dso_machine.specs.Statements.{assign, put_field, put_field_in, put_element, put_element_in, bind_null, put_root, sync, wait, branch, turn, spun, stmt, block, methods}
 use Rattle.dso_machine.specs.Values.{between, before}
 use Rattle.dso_machine.specs.Next.{finish, whole}
@@ -52,9 +52,9 @@ used a t = record { now = a; then = Some (task.Then t) }
 abbrev pub left : Now → LockName → Step
 left a l = record { now = a; then = Some (task.Leave l) }
 
--- the frame that stands for this one of the thread
-abbrev pub frame_of : table_frame.Frame → Frame
-frame_of frame = record { this = frame.this; vars = frame.vars; room = frame.room }
+-- the environment that a frame of the code stands for
+abbrev pub environment_of : table_frame.Frame → Environment
+environment_of frame = record { this = frame.this; vars = frame.vars; depth_left = frame.room }
 
 -- how a part has ended
 abbrev pub ended : End → Meaning
@@ -154,7 +154,7 @@ module _ (code : Code) (n k : ℕ) where
   -- what is done after a part that comes to this
   abbrev pub after_part : Task → Outcome → Outcome
   after_part (task.Then t) o = on_value (given t) o
-  after_part (task.Back frame) o = back_in (frame_of frame) o
+  after_part (task.Back frame) o = back_in (environment_of frame) o
   after_part (task.Leave l) o = leave l o
 
   -- what the thread is about to do
@@ -181,7 +181,7 @@ module _ (code : Code) (n k : ℕ) where
 
 -- where the thread stands, in this frame
 abbrev pub in_frame : table_frame.Frame → ℕ → List Reply → State
-in_frame frame moves rs = record { frame = frame_of frame; moves = moves; replies = rs }
+in_frame frame moves rs = record { environment = environment_of frame; moves = moves; replies = rs }
 
 -- What the thread is about to do in this frame comes to what the step comes to.
 pub record Opens (code : Code) (a : Now) (frame : table_frame.Frame) (step : Step) : Type 0 where
@@ -215,7 +215,7 @@ Rest code N (t ∷ ts) p o = (fuel : Fuel N) × Rest code N ts (after_part code 
 
 -- where the thread stands, with these replies left
 abbrev pub standing : Core → List Reply → State
-standing core rs = record { frame = frame_of core.frame; moves = core.moves; replies = rs }
+standing core rs = record { environment = environment_of core.frame; moves = core.moves; replies = rs }
 
 -- what the thread is about to do, and what is left after that, comes to o
 pub record Means (code : Code) (N : ℕ) (a : Now) (core : Core) (rs : List Reply) (o : Outcome) : Type 0 where

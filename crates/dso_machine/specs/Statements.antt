@@ -29,7 +29,7 @@ use Rattle.dso_machine.specs.Values.{takes}
 
 -- a variable is given a value
 abbrev pub assign : ℕ → Value → Meaning
-assign i v at = Gives value.Null (record at { frame = record at.frame { vars = slice_set at.frame.vars i v } })
+assign i v at = Gives value.Null (record at { environment = record at.environment { vars = slice_set at.environment.vars i v } })
 
 -- a field or an element of this kind is given a value
 abbrev pub put_fitting : Kind → ℕ → ℕ → Value → Meaning
@@ -111,7 +111,7 @@ spun test body (suc k) at = on_value (turn (moving (spun test body k)) body) (te
 
 -- ---- all forms
 
--- a frame is left with a value, or with null
+-- a body is left with a value, or with null
 abbrev pub returned : Code → Ways → Option Expr → Meaning
 returned code ways None at = Leaves value.Null at
 returned code ways (Some a) at = on_value Leaves (expr code ways a at)

@@ -18,11 +18,11 @@ use Rattle.dso_run.specs.Counter.{counter_shape, the_field, own_field, adds_argu
 
 -- `this`
 abbrev pub this : Meaning
-this at = Gives at.frame.this at
+this at = Gives at.environment.this at
 
 -- the first variable
 abbrev pub variable : Meaning
-variable at = Gives (slice_index_or at.frame.vars 0 value.Null) at
+variable at = Gives (slice_index_or at.environment.vars 0 value.Null) at
 
 -- `+ K` behind this value
 abbrev pub add_variable : Value → Meaning

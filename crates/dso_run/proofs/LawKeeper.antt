@@ -50,11 +50,15 @@ pub record Knows (g : Point) (object : ℕ) : Type 0 where
   pub real : object ≢ 0
   pub told : g.told object ≡ true
 
+-- any text may be named: the law asks nothing of texts
+abbrev pub AnyText : ℕ → Type 0
+AnyText t = Unit {0}
+
 -- it names only objects that it was told of
 abbrev pub NamesAt : (ℕ → Bool) → (ℕ → Type 0) → Request → Type 0
 NamesAt told knows (Look o) = told o ≡ true
 NamesAt told knows (Get o f) = told o ≡ true
-NamesAt told knows (Put o f v) = (told o ≡ true) × KnowsValue knows v
+NamesAt told knows (Put o f v) = (told o ≡ true) × KnowsValue AnyText knows v
 NamesAt told knows (Enter l level) = KnowsLock knows l
 NamesAt told knows request = Unit {0}
 
@@ -320,6 +324,7 @@ law_keeper shape = record {
   Asks = Asks shape;
   IsReply = MayCome;
   Knows = Knows;
+  HasText = AnyText;
   Awake = Awake;
   Same = Same;
   listed = λ g q r comes. comes.listed;
@@ -327,6 +332,8 @@ law_keeper shape = record {
   still_known = still_known;
   made_known = made_known;
   read_known = read_known;
+  literal_text = λ t own. tt;
+  read_text = λ g q t comes. tt;
   same_itself = same_itself;
   same_then = same_then;
   same_awake = same_awake;

@@ -24,7 +24,7 @@ use Rattle.dso_machine.specs.Next.{next_request}
 use Rattle.dso_machine.specs.Sound as machine
 use Rattle.dso_machine.proofs.Keeper.{KnowsValue, KnowsLock, through, FollowsAt}
 use Rattle.dso_machine.proofs.KeepingWhole.{keeps_to}
-use Rattle.dso_run.proofs.LawKeeper.{Point, first, next_point, Knows, NamesAt, Asks, WaitsHeld, law_keeper}
+use Rattle.dso_run.proofs.LawKeeper.{Point, first, next_point, Knows, AnyText, NamesAt, Asks, WaitsHeld, law_keeper}
 
 -- ---- what the points are of events
 
@@ -95,7 +95,7 @@ module _ (code : Code) (t : ThreadId) where
 -- ---- what is asked
 
 module _ (events : List Event) (g : Point) (told : (object : ℕ) → g.told object ≡ was_told object events) where
-  told_value : (v : Value) → KnowsValue (Knows g) v → IsToldValue v events
+  told_value : (v : Value) → KnowsValue AnyText (Knows g) v → IsToldValue v events
   told_value (value.Ref object) known = (known.real, sym (told object) ∙ known.told)
   told_value value.Null known = tt
   told_value (value.Long n) known = tt

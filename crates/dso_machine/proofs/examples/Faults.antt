@@ -75,13 +75,13 @@ descends = record {
 abbrev pub looks : ℕ → List Event
 looks count = act (request.New (Plain 0) 0) (Made 1) ∷ replicate count (act (request.Look 1) (Seen (Plain 0) 0))
 
--- after 63 calls there are 64 frames, and the thread looks once more
-pub there_are_64_frames : next_request (code_of descends) the_thread (looks 63) ≡ Some (request.Look 1)
-there_are_64_frames = is_asked descends (looks 63)
+-- 63 calls nest in the thread's body, and the thread looks once more
+pub there_are_63_calls : next_request (code_of descends) the_thread (looks 63) ≡ Some (request.Look 1)
+there_are_63_calls = is_asked descends (looks 63)
 
 -- the next call is one too many
-pub there_is_no_65th : next_request (code_of descends) the_thread (looks 64) ≡ Some (request.End (Some StackOverflow))
-there_is_no_65th = is_asked descends (looks 64)
+pub there_is_no_64th : next_request (code_of descends) the_thread (looks 64) ≡ Some (request.End (Some StackOverflow))
+there_is_no_64th = is_asked descends (looks 64)
 
 -- `thread 1 { var x = null; print(x.f); }`
 abbrev pub reads_null : Script
