@@ -78,3 +78,4 @@ pub mod OneProgramVariables
 pub mod OneProgramBodies
 pub mod OneProgramCode
 pub mod OneProgram
+pub mod Talking

@@ -26,3 +26,4 @@ pub mod Heads
 pub mod NamesOf
 pub mod Whole
 pub mod OneProgram
+pub mod Talks

@@ -7,8 +7,12 @@ mod clients;
 mod declared;
 mod declares;
 mod entries;
+#[cfg(test)]
+mod exchange_tests;
 mod expression;
 mod fault;
+#[cfg(test)]
+mod fault_tests;
 mod fields;
 pub mod laws;
 mod locks;
@@ -18,6 +22,8 @@ mod names;
 mod naming;
 mod narrow;
 mod numbered;
+#[cfg(test)]
+mod oracle_tests;
 mod place;
 mod program;
 mod resolution;
@@ -26,6 +32,8 @@ mod resolve_tests;
 mod rows;
 mod scope;
 mod statement;
+#[cfg(test)]
+mod statement_tests;
 mod statics;
 mod tables;
 #[cfg(test)]
@@ -34,6 +42,8 @@ mod texts;
 mod thread;
 mod threads;
 mod uses;
+#[cfg(test)]
+mod wording_tests;
 mod words;
 
 pub use fault::{NameFault, NameKind, What};

@@ -20,14 +20,11 @@ pub mod Judging
 pub mod Keeping
 pub mod Lacking
 pub mod LawKeeper
-pub mod Lines
 pub mod Looping
 pub mod Making
 pub mod NoCall
 pub mod Now
-pub mod OneReport
 pub mod Opening
-pub mod Orders
 pub mod PlainCourse
 pub mod Quiet
 pub mod Releasing
@@ -40,6 +37,5 @@ pub mod Standing
 pub mod Storing
 pub mod Sums
 pub mod Taken
-pub mod Talking
 pub mod Turning
 pub mod Whole

@@ -5,16 +5,12 @@ pub mod Ends
 pub mod Follows
 pub mod Memory
 pub mod MemoryFile
-pub mod Numbering
 pub mod Outside
 pub mod Printed
-pub mod Report
 pub mod Room
 pub mod Rounds
 pub mod Status
 pub mod Steps
-pub mod Talks
-pub mod Texts
 pub mod Turns
 pub mod Verdict
 pub mod Words

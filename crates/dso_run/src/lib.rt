@@ -4,20 +4,10 @@
 mod client;
 mod cluster;
 mod counter;
-#[cfg(test)]
-mod exchange_tests;
-#[cfg(test)]
-mod fault_tests;
-mod graph_lines;
-#[cfg(test)]
-mod graph_tests;
 mod known;
 mod main_call;
 mod mem_files;
 mod mem_sink;
-mod numbering;
-#[cfg(test)]
-mod oracle_tests;
 mod outside;
 mod refusal_lines;
 #[cfg(test)]
@@ -27,21 +17,14 @@ mod report;
 #[cfg(test)]
 mod run_tests;
 mod server;
-mod state_report;
-#[cfg(test)]
-mod statement_tests;
 mod status;
 mod std_files;
 mod std_sink;
 #[cfg(test)]
 mod tests;
-mod thread_lines;
 mod turn;
-mod value_texts;
 mod verdict;
 mod weighing;
-#[cfg(test)]
-mod wording_tests;
 mod words;
 mod writing;
 

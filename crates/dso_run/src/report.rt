@@ -1,12 +1,12 @@
 //! The report of a run.
 ghost use Rattle.std.specs.Prelude.{IfOk, reverse};
+ghost use Rattle.dso_class.specs.Sound.{IsSound};
 ghost use Rattle.dso_legal.specs.Central.{CommitsLegally};
 ghost use Rattle.dso_machine.specs.Next.{next_request};
 ghost use Rattle.dso_run.specs.Accepted.{settings_of};
 ghost use Rattle.dso_run.specs.Printed.{IsRunReport};
 
 use crate::replay::heap_after;
-use crate::state_report;
 use dso_base::{Journal, NoMemory};
 use dso_class::Program;
 use std::alloc::Global;
@@ -18,9 +18,10 @@ pub(crate) fn report(
     program: &Program,
     journal: &Journal,
 ) -> Result<Vec<u8>, NoMemory>
-    requires { CommitsLegally (settings_of program.now) (next_request program.now.code) (reverse journal.now.entries) }
+    requires sound { IsSound program.now }
+    requires legal { CommitsLegally (settings_of program.now) (next_request program.now.code) (reverse journal.now.entries) }
     ensures { IfOk result (λ text. IsRunReport program.now journal.now.entries text.items) }
 {
     let plain = heap_after(alloc, &program.code.shape, journal)?;
-    state_report::report(alloc, &program.names, program.threads.as_slice(), &plain)
+    dso_report::report(alloc, program, &plain)
 }

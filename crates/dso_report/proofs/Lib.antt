@@ -1,0 +1,17 @@
+pub mod Appends
+pub mod Chosen
+pub mod Closed
+pub mod Complete
+pub mod Course
+pub mod GoesOn
+pub mod HasText
+pub mod Lines
+pub mod NameKeeper
+pub mod Named
+pub mod Objects
+pub mod ObjectsThere
+pub mod OneReport
+pub mod Orders
+pub mod Values
+pub mod ValuesThere
+pub mod Whole

@@ -1,0 +1,9 @@
+use Rattle.std.proofs.Common.{◌≡◌, Some}
+use Rattle.std.specs.Fmt.{◌++?◌}
+use Rattle.dso_plain.specs.Tables.{state_of}
+use Rattle.dso_report.specs.Report.{field_text}
+use Rattle.dso_report.specs.Texts.{each_below}
+use Rattle.dso_report.proofs.graph_lines.push_fields.Given as goal
+
+abbrev pub invariant-loop-field : goal.invariant-loop-field
+invariant-loop-field l = Some l.fn.text.items ++? each_below (field_text l.names l.order.keys (state_of l.plain) l.object l.fields) l.field ≡ Some l.text.items

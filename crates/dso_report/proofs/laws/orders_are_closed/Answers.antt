@@ -1,0 +1,5 @@
+use Rattle.dso_report.proofs.Closed.{orders_are_closed}
+use Rattle.dso_report.proofs.laws.orders_are_closed.Goals as goal
+
+pub returns : goal.returns
+returns c = orders_are_closed

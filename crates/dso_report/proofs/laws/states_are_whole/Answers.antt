@@ -1,0 +1,5 @@
+use Rattle.dso_report.proofs.Whole.{whole}
+use Rattle.dso_report.proofs.laws.states_are_whole.Goals as goal
+
+pub returns : goal.returns
+returns c = whole

@@ -1,0 +1,15 @@
+use Rattle.std.proofs.Common.{◌≡◌, get_or, subst, arith}
+use Rattle.dso_plain.specs.Tables.{state_of}
+use Rattle.dso_report.specs.Numbering.{add_fields, fields_of}
+use Rattle.dso_report.proofs.Orders.{visits_more}
+use Rattle.dso_report.proofs.numbering.order_of.Goals as goal
+
+-- one visit more
+pub loop-visits-preserved : goal.loop-visits-preserved
+loop-visits-preserved c =
+    let s = state_of c.args.plain.now in
+    let order = c.loop-visits.order.keys in
+    let next = c.add_fields-in-loop-visits.new.order.keys in
+    let n = c.loop-visits.visits in
+    let is = subst (λ keys. next ≡ add_fields s (get_or keys n 0) (fields_of s (get_or keys n 0)) order) c.as_slice.ensures.keys c.in_ok-add_fields-2.ensures in
+    visits_more s order next n (omega (arith, c.loop-visits-test.true, c.len.ensures.len)) c.loop-visits.invariant.0 is

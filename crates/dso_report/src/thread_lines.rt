@@ -1,0 +1,160 @@
+//! The report's lines of threads and of what they printed.
+ghost use Rattle.std.specs.Prelude.{◌≡◌, ◌++◌, Some, None, reverse, IfOk, OnOk, IsErrOf};
+ghost use Rattle.std.specs.Fmt.{◌++?◌};
+ghost use Rattle.dso_plain.specs.Tables.{state_of};
+ghost use Rattle.dso_report.specs.declared.unwritten.Unwritten.TheVariants as unwritten;
+ghost use Rattle.dso_report.specs.Lacking.{LacksThreadText};
+ghost use Rattle.dso_report.specs.Report.{HasStanding, IsThreadsText, fault_text, standing_text, thread_line, output_line, thread_text};
+ghost use Rattle.dso_report.specs.Texts.{each_of};
+
+use crate::unwritten::Unwritten;
+use crate::value_texts::{push_number, push_printed};
+use dso_base::{Fault, ThreadId, Value, Word};
+use dso_class::Names;
+use dso_plain::Plain;
+use std::alloc::{AllocError, Global};
+
+/// How a thread stands: it has ended, with a fault or without one, or its client is lost, or it waits, or none of
+/// these.
+#[derive(Clone, Copy, Debug, PartialEq, Eq)]
+pub(crate) enum Standing {
+    Ended,
+    Faulted(Fault),
+    Lost,
+    Waiting,
+    Open,
+}
+
+/// The lines of the threads in their order.
+pub(crate) fn threads_text(
+    alloc: Global,
+    names: &Names,
+    threads: &[ThreadId],
+    plain: &Plain,
+) -> Result<Vec<u8>, Unwritten>
+    ensures written { IfOk result (λ text. IsThreadsText names.now (state_of plain.now) threads.now text.items) }
+    ensures missing { IsErrOf result unwritten.Missing → LacksThreadText names.now (state_of plain.now) }
+{
+    let mut text = Vec::new(alloc);
+    for thread in threads {
+        let standing = standing_of(plain, *thread);
+        push_thread(&mut text, names, plain, *thread, standing)?;
+    }
+    Ok(text)
+}
+
+/// How a thread stands. It takes no memory.
+fn standing_of(plain: &Plain, thread: ThreadId) -> Standing
+    ensures { HasStanding (state_of plain.now) thread result }
+{
+    match plain.ended(thread) {
+        Some(None) => Standing::Ended,
+        Some(Some(fault)) => Standing::Faulted(fault),
+        None => {
+            if plain.is_lost(thread.client) {
+                Standing::Lost
+            } else if plain.waits(thread) {
+                Standing::Waiting
+            } else {
+                Standing::Open
+            }
+        }
+    }
+}
+
+/// Puts the lines of a thread at the end.
+fn push_thread(
+    text: &mut Vec<u8>,
+    names: &Names,
+    plain: &Plain,
+    thread: ThreadId,
+    standing: Standing,
+) -> Result<(), Unwritten>
+    ensures written { OnOk result (Some text.old.items ++? thread_text names.now (state_of plain.now) thread standing ≡ Some text.new.items) }
+    ensures missing { IsErrOf result unwritten.Missing → thread_text names.now (state_of plain.now) thread standing ≡ None }
+{
+    push_thread_line(text, thread, standing)?;
+    push_output(text, names.texts.as_slice(), plain, thread)
+}
+
+/// Puts the line of a thread at the end.
+fn push_thread_line(
+    text: &mut Vec<u8>,
+    thread: ThreadId,
+    standing: Standing,
+) -> Result<(), AllocError>
+    ensures { OnOk result (text.new.items ≡ text.old.items ++ thread_line thread standing) }
+{
+    text.extend_from_slice(b"thread ")?;
+    push_number(text, thread.client as u64)?;
+    text.extend_from_slice(b".")?;
+    push_number(text, thread.index as u64)?;
+    text.extend_from_slice(b" ")?;
+    push_standing(text, standing)?;
+    text.extend_from_slice(b"\n")
+}
+
+/// Puts at the end how a thread stands.
+fn push_standing(text: &mut Vec<u8>, standing: Standing) -> Result<(), AllocError>
+    ensures { OnOk result (text.new.items ≡ text.old.items ++ standing_text standing) }
+{
+    match standing {
+        Standing::Ended => text.extend_from_slice(b"ended"),
+        Standing::Faulted(fault) => {
+            text.extend_from_slice(b"fault ")?;
+            text.extend_from_slice(name_of(fault))
+        }
+        Standing::Lost => text.extend_from_slice(b"lost"),
+        Standing::Waiting => text.extend_from_slice(b"waiting"),
+        Standing::Open => text.extend_from_slice(b"open"),
+    }
+}
+
+/// The name of a fault.
+fn name_of(fault: Fault) -> &'static [u8]
+    ensures { result.now ≡ fault_text fault }
+{
+    match fault {
+        Fault::NullPointer => b"NullPointer",
+        Fault::NoSuchField => b"NoSuchField",
+        Fault::BadValue => b"BadValue",
+        Fault::BadIndex => b"BadIndex",
+        Fault::BadSize => b"BadSize",
+        Fault::ZeroDivide => b"ZeroDivide",
+        Fault::StackOverflow => b"StackOverflow",
+        Fault::UnlockedSharedObject => b"UnlockedSharedObject",
+        Fault::WrongLock => b"WrongLock",
+        Fault::ReadOnly => b"ReadOnly",
+        Fault::LockUpgrade => b"LockUpgrade",
+        Fault::IllegalMonitor => b"IllegalMonitor",
+    }
+}
+
+/// Puts a line for each value that a thread printed at the end, the oldest first.
+fn push_output(
+    text: &mut Vec<u8>,
+    texts: &[Word],
+    plain: &Plain,
+    thread: ThreadId,
+) -> Result<(), Unwritten>
+    ensures written { OnOk result (Some text.old.items ++? each_of (output_line texts.now) (reverse ((state_of plain.now).output thread)) ≡ Some text.new.items) }
+    ensures missing { IsErrOf result unwritten.Missing → each_of (output_line texts.now) (reverse ((state_of plain.now).output thread)) ≡ None }
+{
+    for at in 0..plain.printed(thread) {
+        if let Some(value) = plain.output(thread, at) {
+            push_output_line(text, texts, value)?;
+        }
+    }
+    Ok(())
+}
+
+/// Puts the line of a value that a thread printed at the end.
+fn push_output_line(text: &mut Vec<u8>, texts: &[Word], value: Value) -> Result<(), Unwritten>
+    ensures written { OnOk result (Some text.old.items ++? output_line texts.now value ≡ Some text.new.items) }
+    ensures missing { IsErrOf result unwritten.Missing → output_line texts.now value ≡ None }
+{
+    text.extend_from_slice(b"| ")?;
+    push_printed(text, texts, value)?;
+    text.extend_from_slice(b"\n")?;
+    Ok(())
+}
