@@ -11,6 +11,7 @@ pub mod CounterCode
 pub mod CounterForms
 pub mod Counting
 pub mod Course
+pub mod EachTrue
 pub mod Finish
 pub mod FirstCall
 pub mod Following

@@ -7,6 +7,7 @@ use Rattle.dso_class.specs.Program.{IsProgramOf}
 use Rattle.dso_class.specs.Sound.{IsSound}
 use Rattle.dso_config.specs.Config.{empty}
 use Rattle.dso_law.specs.Settings.{Settings}
+use Rattle.dso_machine.specs.declared.code.Code.{Code}
 use Rattle.dso_syntax.specs.declared.fault.SyntaxFault.TheVariants as syntax
 use Rattle.dso_syntax.specs.declared.tree.Ast.{Ast}
 use Rattle.dso_syntax.specs.Answer.{Refuses}
@@ -14,6 +15,7 @@ use Rattle.dso_syntax.specs.Faults.{IsText}
 use Rattle.dso_run.specs.declared.status.ProgramFault.{ProgramFault}
 use Rattle.dso_run.specs.declared.status.ProgramFault.TheVariants as fault
 use Rattle.dso_run.specs.Counter.{IsCounter}
+use Rattle.dso_run.specs.Spelling.{IsPlainlySpelled}
 
 -- What the nodes of a run know of its program.
 abbrev pub settings_of : Program → Settings
@@ -29,38 +31,44 @@ pub record IsResolved (tree : Ast) (p : Program) : Type 0 where
   pub program : IsProgramOf empty tree p
   pub sound : IsSound p
 
--- A tree is taken as this program: it is of the first path's form.
+-- A text of this tree and code is of the first path's form.
+pub record IsOfForm (text : List ℕ) (tree : Ast) (code : Code) : Type 0 where
+  pub counter : IsCounter code
+  pub spelled : IsPlainlySpelled text tree
+
+-- A tree is taken as this program: its code is that of the first path's form.
 pub record IsTaken (tree : Ast) (p : Program) : Type 0 where
   pub resolved : IsResolved tree p
   pub counter : IsCounter p.code
 
--- Nothing is wrong with the tree's names, but the program isn't of the first path's form.
-pub record IsNotBuilt (tree : Ast) : Type 0 where
+-- Nothing is wrong with the names of this text's tree, but the text isn't of the first path's form.
+pub record IsNotBuilt (text : List ℕ) (tree : Ast) : Type 0 where
   pub program : Program
   pub resolved : IsResolved tree program
-  pub other : IsCounter program.code → ⊥
+  pub other : IsOfForm text tree program.code → ⊥
 
--- why a tree is refused: for the first fault of its names, or else because it isn't of the form
-abbrev pub IsTreeFault : Ast → ProgramFault → Type 0
-IsTreeFault tree (fault.Name (name.At kind line)) = IsFirstFault empty tree kind line
-IsTreeFault tree fault.NotBuilt = IsNotBuilt tree
-IsTreeFault tree other = ⊥
+-- why a text of this tree is refused: for the first fault of its names, or else because it isn't of the form
+abbrev pub IsTreeFault : List ℕ → Ast → ProgramFault → Type 0
+IsTreeFault text tree (fault.Name (name.At kind line)) = IsFirstFault empty tree kind line
+IsTreeFault text tree fault.NotBuilt = IsNotBuilt text tree
+IsTreeFault text tree other = ⊥
 
--- There is a tree that is the text's, and it is refused for this fault.
+-- There is a tree that is the text's, and the text is refused for this fault.
 pub record HasTreeFault (text : List ℕ) (which : ProgramFault) : Type 0 where
   pub tree : Ast
   pub has_tree : HasTree text tree
-  pub refused : IsTreeFault tree which
+  pub refused : IsTreeFault text tree which
 
--- Why a program text is refused: it is too long, or the program of no tree and this is its fault, or its tree is refused. The fault is never a
--- want of memory.
+-- Why a program text is refused: it is too long, or the program of no tree and this is its fault, or the program of a tree and refused for the
+-- tree's first fault or for its form. The fault is never a want of memory.
 abbrev pub IsTextFault : List ℕ → ProgramFault → Type 0
 IsTextFault text (fault.Syntax syntax.NoMemory) = ⊥
 IsTextFault text (fault.Syntax which) = Refuses text which
 IsTextFault text which = HasTreeFault text which
 
--- A program text is taken as this program.
+-- A program text is taken as this program: its tree is, and it has the spelling of the first path's form.
 pub record IsTakenText (text : List ℕ) (p : Program) : Type 0 where
   pub tree : Ast
   pub has_tree : HasTree text tree
   pub taken : IsTaken tree p
+  pub spelled : IsPlainlySpelled text tree

@@ -9,6 +9,7 @@ pub mod Outside
 pub mod Printed
 pub mod Room
 pub mod Rounds
+pub mod Spelling
 pub mod Status
 pub mod Steps
 pub mod Turns

@@ -6,12 +6,13 @@ use Rattle.dso_run.specs.declared.status.Refusal.TheVariants.{Config, Program}
 use Rattle.dso_run.specs.declared.verdict.Judged.{Judged}
 use Rattle.dso_run.specs.declared.verdict.Judged.TheVariants.{Refused, Accepted}
 use Rattle.dso_run.specs.Accepted.{IsTreeFault, IsTextFault, IsTaken, IsTakenText}
+use Rattle.dso_run.specs.Spelling.{IsPlainlySpelled}
 
--- what a tree comes to: it is refused for a fault, or taken as a program
-abbrev pub IsVerdictOfTree : Ast → Judged → Type 0
-IsVerdictOfTree tree (Refused (Program fault)) = IsTreeFault tree fault
-IsVerdictOfTree tree (Accepted p) = IsTaken tree p
-IsVerdictOfTree tree judged = ⊥
+-- what a text of this tree comes to: it is refused for a fault, or taken as a program where it is spelled so
+abbrev pub IsVerdictOfTree : List ℕ → Ast → Judged → Type 0
+IsVerdictOfTree text tree (Refused (Program fault)) = IsTreeFault text tree fault
+IsVerdictOfTree text tree (Accepted p) = IsTaken tree p × IsPlainlySpelled text tree
+IsVerdictOfTree text tree judged = ⊥
 
 -- what a program's text comes to
 abbrev pub IsVerdictOfProgram : List ℕ → Judged → Type 0

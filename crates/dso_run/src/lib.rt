@@ -17,6 +17,9 @@ mod report;
 #[cfg(test)]
 mod run_tests;
 mod server;
+mod spelling;
+#[cfg(test)]
+mod spelling_tests;
 mod status;
 mod std_files;
 mod std_sink;

@@ -28,12 +28,6 @@ const COUNT_LENGTH: &str = "class Counter {
 class Main { static ref counter; }
 thread 1 { Main.counter = new Counter(); var c = Main.counter; c.add(1); }";
 
-/// The counter with comments, and with parentheses that change nothing.
-const COUNT_RESPELLED: &str = "// counts
-class Counter{long n;synchronized add(k){this.n=((this).n+(k));print((this.n));}}
-class Main{static ref counter;} // holds it
-thread 01{Main.counter=(new Counter());var c=(Main.counter);(c).add((001));}";
-
 const COUNT_REPORT: &str =
     "thread 1.1 ended\n| 1\nunguarded 0\nroot Main.counter #1\n#1 Counter n=1\n";
 
@@ -99,14 +93,6 @@ fn a_field_called_length_counts(rt: HostRuntime) -> Result<(), Fail> {
     assert_eq!(rt; status, Status::Finished);
     let report = "thread 1.1 ended\n| 1\nunguarded 0\nroot Main.counter #1\n#1 Counter length=1\n";
     assert_eq!(rt; written.as_slice(), report.as_bytes());
-    Ok(())
-}
-
-#[test]
-fn another_spelling_is_the_same_program(rt: HostRuntime) -> Result<(), Fail> {
-    let (status, written) = tried(rt.alloc(), &plain_trial(COUNT_RESPELLED))?;
-    assert_eq!(rt; status, Status::Finished);
-    assert_eq!(rt; written.as_slice(), COUNT_REPORT.as_bytes());
     Ok(())
 }
 

@@ -1,18 +1,19 @@
 //! The judgement of a configuration's text and of a program's.
-ghost use Rattle.std.specs.Prelude.{◌≡◌, IfOk};
-ghost use Rattle.dso_syntax.specs.declared.tree.Ast.{Ast};
+ghost use Rattle.std.specs.Prelude.{◌≡◌, ◌↔◌, IfOk, IsTrue};
 ghost use Rattle.dso_syntax.specs.Grammar.{Tokens};
 ghost use Rattle.dso_syntax.specs.Program.{IsProgram, most_levels};
 ghost use Rattle.dso_run.specs.declared.status.Refusal.TheVariants as refusal;
-ghost use Rattle.dso_run.specs.Accepted.{IsResolved};
+ghost use Rattle.dso_run.specs.Accepted.{IsOfForm, IsResolved};
 ghost use Rattle.dso_run.specs.Verdict.{IsVerdictOfProgram, IsVerdictOfTexts, IsVerdictOfTree};
 
 use crate::counter::is_counter;
+use crate::spelling::is_plainly_spelled;
 use crate::status::Refusal;
 use crate::{ConfigFault, ProgramFault};
 use dso_base::NoMemory;
 use dso_class::{NameFault, Program, resolve};
 use dso_config::Config;
+use dso_machine::Code;
 use dso_syntax::{Ast, SyntaxFault, parse};
 use std::alloc::Global;
 
@@ -38,19 +39,19 @@ fn judge_program(alloc: Global, text: &[u8]) -> Result<Judged, NoMemory>
     ensures { IfOk result (IsVerdictOfProgram text.now) }
 {
     match parse(alloc, text) {
-        Ok(tree) => judge_tree(alloc, &tree),
+        Ok(tree) => judge_tree(alloc, text, &tree),
         Err(SyntaxFault::NoMemory) => Err(NoMemory),
         Err(fault) => Ok(refused(ProgramFault::Syntax(fault))),
     }
 }
 
-/// Judges a tree: by its names, and by what is built.
-fn judge_tree(alloc: Global, tree: &Ast) -> Result<Judged, NoMemory>
+/// Judges a text of this tree: by its names, and by what is built.
+fn judge_tree(alloc: Global, text: &[u8], tree: &Ast) -> Result<Judged, NoMemory>
     requires { (tokens : Tokens) × IsProgram most_levels tokens tree.now }
-    ensures { IfOk result (IsVerdictOfTree tree.now) }
+    ensures { IfOk result (IsVerdictOfTree text.now tree.now) }
 {
     match resolve(alloc, tree, &Config::empty(alloc)) {
-        Ok(program) => Ok(judge_code(program)),
+        Ok(program) => Ok(judge_code(text, tree, program)),
         Err(NameFault::NoMemory) => Err(NoMemory),
         Err(NameFault::At { kind, line }) => {
             Ok(refused(ProgramFault::Name(NameFault::At { kind, line })))
@@ -58,15 +59,22 @@ fn judge_tree(alloc: Global, tree: &Ast) -> Result<Judged, NoMemory>
     }
 }
 
-/// Judges a program by what is built: it is taken where its code is the counter's.
-fn judge_code(program: Program) -> Judged
-    ensures { (tree : Ast) → IsResolved tree program → IsVerdictOfTree tree result }
+/// Judges a program by what is built: it is taken where its text is of the first path's form.
+fn judge_code(text: &[u8], tree: &Ast, program: Program) -> Judged
+    ensures { IsResolved tree.now program → IsVerdictOfTree text.now tree.now result }
 {
-    if is_counter(&program.code) {
+    if is_of_form(text, tree, &program.code) {
         Judged::Accepted(program)
     } else {
         refused(ProgramFault::NotBuilt)
     }
+}
+
+/// Whether a text of this tree and code is of the first path's form: its code is the counter's, and it is spelled so.
+fn is_of_form(text: &[u8], tree: &Ast, code: &Code) -> bool
+    ensures { IsTrue result ↔ IsOfForm text.now tree.now code.now }
+{
+    is_counter(code) && is_plainly_spelled(text, tree)
 }
 
 /// A program that is refused.
