@@ -2,6 +2,6 @@ pub mod Value
 pub mod Shape
 pub mod Reach
 pub mod Block
-pub mod Program
+pub mod Following
 pub mod Weight
 pub mod formers

@@ -12,8 +12,6 @@ mod op;
 mod record;
 mod request;
 mod shape;
-#[cfg(test)]
-mod tests;
 mod value;
 mod word;
 

@@ -44,7 +44,8 @@ classes_of (item.Thread line number number_line statements ∷ rest) = classes_o
 abbrev pub threads_of : List Item → List ThreadTree
 threads_of [] = []
 threads_of (item.Class line name members ∷ rest) = threads_of rest
-threads_of (item.Thread line number number_line statements ∷ rest) = record { client = number; statements = statements } ∷ threads_of rest
+threads_of (item.Thread line number number_line statements ∷ rest) =
+    record { client = number; statements = statements } ∷ threads_of rest
 
 -- the fields of a class, by its members
 abbrev pub fields_of : List Member → List FieldTree
@@ -66,7 +67,14 @@ methods_of number class [] = []
 methods_of number class (member.Field line kind name ∷ rest) = methods_of number class rest
 methods_of number class (member.Static line name ∷ rest) = methods_of number class rest
 methods_of number class (member.Method line synced name params statements ∷ rest) =
-    record { number = number; class = class; synced = synced; name = name.name; params = params; statements = statements } ∷ methods_of number class rest
+    record {
+      number = number;
+      class = class;
+      synced = synced;
+      name = name.name;
+      params = params;
+      statements = statements;
+    } ∷ methods_of number class rest
 
 -- the methods of classes, of which the first has this number
 abbrev pub methods_from : ℕ → List ClassTree → List MethodTree

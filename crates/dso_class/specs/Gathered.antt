@@ -1,4 +1,5 @@
--- What the tables of a text have: the static fields by class and name, and for each name the fields and the methods of that name.
+-- What the tables of a text have: the static fields by class and name, and for each name the fields and the methods
+-- of that name.
 use Rattle.std.specs.Prelude.{◌≡◌, ℕ, suc, Bool, true, false, eqb, min, List, [], ◌∷◌, ◌++◌, map, length}
 use Rattle.std.specs.Borrow.{Bor}
 use Rattle.std.specs.declared.cmp.Ordering.{Ordering}
@@ -8,12 +9,12 @@ use Rattle.std.specs.BTreeMap.{BTreeMap}
 use Rattle.dso_config.specs.declared.config.RootEntry.{RootEntry}
 use Rattle.dso_syntax.specs.declared.tree.Item.{Item}
 use Rattle.dso_syntax.specs.declared.tree.Member.{Member}
-use Rattle.dso_class.specs.declared.methods.Declared.{Declared}
+use Rattle.dso_class.specs.declared.gathered_methods.Declared.{Declared}
 use Rattle.dso_class.specs.Words.{Word}
 use Rattle.dso_class.specs.Declarations.{MethodTree, classes_of, fields_of}
-use Rattle.dso_class.specs.Rows.{row_of}
+use Rattle.dso_class.specs.Multimap.{row_of}
 
--- the static field of a lent class name and field name
+-- the static field of a borrowed class name and field name
 abbrev pub static_named : Bor Word × Bor Word → RootEntry
 static_named pair = record { class = pair.0.now; field = pair.1.now }
 
@@ -21,7 +22,7 @@ static_named pair = record { class = pair.0.now; field = pair.1.now }
 abbrev pub statics_named : List (Bor Word × Bor Word) → List RootEntry
 statics_named pairs = map static_named pairs
 
--- the order of lent names
+-- the order of borrowed names
 abbrev pub by_name : Bor Word → Bor Word → Ordering
 by_name x y = slice_cmp nat_cmp x.now y.now
 
@@ -67,9 +68,12 @@ places_in name class fields = each_at (place_at name class) 0 fields
 abbrev pub places_of : List (List Word) → Word → List (ℕ × ℕ)
 places_of fields name = each_at (places_in name) 0 fields
 
--- a method of this number, where it has the name: its class and its number, as far as 32 bits have them, and how many parameters it has
+-- a method of this number, where it has the name: its class and its number, as far as 32 bits have them, and how many
+-- parameters it has
 abbrev pub declared_at : Word → ℕ → MethodTree → List Declared
-declared_at name number method = only (is_name method.name name) (record { class = capped method.number; number = capped number; params = length method.params })
+declared_at name number method =
+    only (is_name method.name name)
+    (record { class = capped method.number; number = capped number; params = length method.params })
 
 -- the methods that have the name
 abbrev pub declared_of : List MethodTree → Word → List Declared

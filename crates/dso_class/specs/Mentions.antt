@@ -1,5 +1,6 @@
 -- Where names matter in a program text: its mentions, in the order of the text.
-use Rattle.std.specs.Prelude.{ℕ, ℤ, Bool, true, false, if◌then◌else◌, List, [], ◌∷◌, ◌++◌, map, flat_map, length, Option, Some, None}
+use Rattle.std.specs.Prelude.{ℕ, ℤ, Bool, true, false, if◌then◌else◌, List, [], ◌∷◌, ◌++◌, map, flat_map, length}
+use Rattle.std.specs.Prelude.{Option, Some, None}
 use Rattle.dso_syntax.specs.declared.tree.Ast.{Ast}
 use Rattle.dso_syntax.specs.declared.tree.Ident.{Ident}
 use Rattle.dso_syntax.specs.declared.tree.Item.{Item}
@@ -27,7 +28,8 @@ pub data Mentioned : Type 0 where
   -- the word `thread`, and behind it the client's number
   thread : ℤ → Mentioned
   client : ℤ → Mentioned
-  -- uses: a name by itself; a name before a dot and a name; a name on which a method is called; `this` outside of methods
+  -- uses: a name by itself; a name before a dot and a name; a name on which a method is called; `this` outside of
+  -- methods
   alone : List Word → Word → Mentioned
   dotted : List Word → Word → Word → Mentioned
   called : List Word → Word → Mentioned
@@ -70,25 +72,29 @@ abbrev pub all_of : List Part → List Word → List Mention
 all_of parts known = flat_map (λ one. one.mentions known) parts
 
 -- what stands before a dot and the field of this name: a bare name there may be a class
-abbrev pub before_field : Option (ℕ × Word) → (List Word → List Mention) → Word → List Word → List Mention
-before_field None mentions name known = mentions known
-before_field (Some at) mentions name known = on at.0 (dotted known at.1 name) ∷ []
+abbrev pub qualifier_mentions : Option (ℕ × Word) → (List Word → List Mention) → Word → List Word → List Mention
+qualifier_mentions None mentions name known = mentions known
+qualifier_mentions (Some at) mentions name known = on at.0 (dotted known at.1 name) ∷ []
 
 -- what a method is called on: a bare name there may be a class
-abbrev pub before_call : Option (ℕ × Word) → (List Word → List Mention) → List Word → List Mention
-before_call None mentions known = mentions known
-before_call (Some at) mentions known = on at.0 (called known at.1) ∷ []
+abbrev pub receiver_mentions : Option (ℕ × Word) → (List Word → List Mention) → List Word → List Mention
+receiver_mentions None mentions known = mentions known
+receiver_mentions (Some at) mentions known = on at.0 (called known at.1) ∷ []
 
 -- what an expression mentions, by its form
 abbrev pub part_of : Owner → ExprForm-F (ℕ → Part) Part → ℕ → Part
 part_of owner (ExprForm-F.Text content) line = part (λ known. on line (text content) ∷ [])
 part_of owner ExprForm-F.This line = part (λ known. if owner.in_thread then on line this ∷ [] else [])
-part_of owner (ExprForm-F.Name name) line = record { bare = Some (line, name); mentions = λ known. on line (alone known name) ∷ [] }
+part_of owner (ExprForm-F.Name name) line =
+    record { bare = Some (line, name); mentions = λ known. on line (alone known name) ∷ [] }
 part_of owner (ExprForm-F.Paren a) line = part a.mentions
 part_of owner (ExprForm-F.NewObject name) line = part (λ known. on name.line (new name.name) ∷ [])
 part_of owner (ExprForm-F.NewArray kind a) line = part a.mentions
-part_of owner (ExprForm-F.Field a name) line = part (before_field a.bare a.mentions name.name)
-part_of owner (ExprForm-F.Call a name args) line = part (λ known. before_call a.bare a.mentions known ++ on name.line (call name.name (length args)) ∷ all_of args known)
+part_of owner (ExprForm-F.Field a name) line = part (qualifier_mentions a.bare a.mentions name.name)
+part_of owner (ExprForm-F.Call a name args) line =
+    part (λ known.
+    receiver_mentions a.bare a.mentions known
+    ++ on name.line (call name.name (length args)) ∷ all_of args known)
 part_of owner (ExprForm-F.Elem a b) line = part (λ known. a.mentions known ++ b.mentions known)
 part_of owner (ExprForm-F.Unary op a) line = part a.mentions
 part_of owner (ExprForm-F.Binary op a b) line = part (λ known. a.mentions known ++ b.mentions known)
@@ -119,12 +125,20 @@ answer owner (Some a) known = (expression owner a).mentions known
 
 -- what a statement mentions, by its form
 abbrev pub step_of : Owner → StmtForm-F (ℕ → Step) Step → ℕ → Step
-step_of owner (StmtForm-F.Var name a) line = record { mentions = λ known. on name.line (variable name.name) ∷ (expression owner a).mentions known; names = name.name ∷ [] }
-step_of owner (StmtForm-F.Assign a b) line = step (λ known. (expression owner a).mentions known ++ (expression owner b).mentions known)
+step_of owner (StmtForm-F.Var name a) line =
+    record {
+      mentions = λ known. on name.line (variable name.name) ∷ (expression owner a).mentions known;
+      names = name.name ∷ [];
+    }
+step_of owner (StmtForm-F.Assign a b) line =
+    step (λ known. (expression owner a).mentions known ++ (expression owner b).mentions known)
 step_of owner (StmtForm-F.Eval a) line = step (expression owner a).mentions
-step_of owner (StmtForm-F.If a all others) line = step (λ known. (expression owner a).mentions known ++ (block all known ++ block others known))
+step_of owner (StmtForm-F.If a all others) line =
+    step (λ known. (expression owner a).mentions known ++ (block all known ++ block others known))
 step_of owner (StmtForm-F.While a all) line = step (λ known. (expression owner a).mentions known ++ block all known)
-step_of owner (StmtForm-F.Sync a all) line = step (λ known. on line (synchronized owner.class owner.method) ∷ (expression owner a).mentions known ++ block all known)
+step_of owner (StmtForm-F.Sync a all) line =
+    step (λ known.
+    on line (synchronized owner.class owner.method) ∷ (expression owner a).mentions known ++ block all known)
 step_of owner (StmtForm-F.Wait a) line = step (expression owner a).mentions
 step_of owner (StmtForm-F.Notify a) line = step (expression owner a).mentions
 step_of owner (StmtForm-F.NotifyAll a) line = step (expression owner a).mentions
@@ -137,19 +151,24 @@ statement owner = fold-StmtTree (ℕ → Step) Step (step_of owner) (λ tree. tr
 
 -- what a body mentions: its parameters, which are known in all of it, and its statements
 abbrev pub body : Owner → List Ident → List StmtTree → List Mention
-body owner params statements = map (λ name. on name.line (parameter name.name)) params ++ block (map (statement owner) statements) (map (λ name. name.name) params)
+body owner params statements =
+    map (λ name. on name.line (parameter name.name)) params
+    ++ block (map (statement owner) statements) (map (λ name. name.name) params)
 
 -- what a member of a class mentions
 abbrev pub of_member : Word → Member → List Mention
 of_member class' (member.Field line kind name) = on name.line (field name.name) ∷ []
 of_member class' (member.Static line name) = on line (root class' name.name) ∷ on name.line (static name.name) ∷ []
 of_member class' (member.Method line synced name params statements) =
-    (if synced then on line (synchronized class' name.name) ∷ [] else []) ++ on name.line (method name.name) ∷ body (record { class = class'; method = name.name; in_thread = false }) params statements
+    (if synced then on line (synchronized class' name.name) ∷ [] else [])
+    ++ on name.line (method name.name)
+    ∷ body (record { class = class'; method = name.name; in_thread = false }) params statements
 
 -- what a class or a thread mentions
 abbrev pub of_item : Item → List Mention
 of_item (item.Class line name members) = on name.line (class name.name) ∷ flat_map (of_member name.name) members
-of_item (item.Thread line number number_line statements) = on line (thread number) ∷ on number_line (client number) ∷ body thread_owner [] statements
+of_item (item.Thread line number number_line statements) =
+    on line (thread number) ∷ on number_line (client number) ∷ body thread_owner [] statements
 
 -- what a program text mentions
 abbrev pub mentions_of : Ast → List Mention

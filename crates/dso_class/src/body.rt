@@ -3,22 +3,23 @@
 ghost use Rattle.std.specs.Prelude.{◌≡◌, ◌≤◌, [], List, length, map, ◌++◌, OnOk};
 ghost use Rattle.std.specs.Borrow.{Bor};
 ghost use Rattle.dso_class.specs.Assignable.{AreAssignable};
-ghost use Rattle.dso_class.specs.Before.{in_body};
-ghost use Rattle.dso_class.specs.Lent.{words_of};
+ghost use Rattle.dso_class.specs.Limits.{most_params};
+ghost use Rattle.dso_class.specs.PrecedingMentions.{in_body};
+ghost use Rattle.dso_class.specs.BorrowedWords.{words_of};
 ghost use Rattle.dso_class.specs.Mentions as mention;
 ghost use Rattle.dso_class.specs.Mentions.{Mention};
-ghost use Rattle.dso_class.specs.Program.{Source};
-ghost use Rattle.dso_class.specs.Walk.{HasMet, HasTexts, IsMade, IsPlace, IsWalked, known_in, met_in, owner_in};
-ghost use Rattle.dso_class.specs.Walked.{AnswersBody};
+ghost use Rattle.dso_class.specs.TextProgram.{Source};
+ghost use Rattle.dso_class.specs.BodyWalk.{HasMet, HasTexts, IsMade, IsPlace, IsWalked, known_in, met_in, owner_in};
+ghost use Rattle.dso_class.specs.TextWalk.{AnswersBody};
 ghost use Rattle.dso_class.specs.Words.{Word};
 
-use crate::declares::{know, parameter};
 use crate::fault::NameFault;
+use crate::interner::Interner;
 use crate::narrow::narrow;
-use crate::numbered::Numbered;
 use crate::place::Place;
 use crate::scope::Scope;
 use crate::statement::block;
+use crate::variables::{know, parameter};
 use dso_base::Items;
 use dso_machine::Stmt;
 use dso_syntax::{Ident, StmtTree};
@@ -39,7 +40,7 @@ fn judged<'a>(
 ) -> Result<(), NameFault>
     ensures walked { (texts : List (Bor Word)) (source : Source) (before : List Mention) → IsPlace source place.now → in_body before ≡ [] → HasMet before (met_in texts scope.old)
         → IsWalked source (owner_in place.now) before (map (λ name. mention.on name.line (mention.parameter name.name)) params.now) (met_in texts scope.old) (met_in texts scope.new) (λ n a. Unit {0}) result }
-    ensures few { OnOk result (length params.now ≤ 8) }
+    ensures few { OnOk result (length params.now ≤ most_params) }
     ensures known { scope.new.known ≡ scope.old.known }
 {
     for (count, name) in params.iter().enumerate() {
@@ -65,17 +66,17 @@ fn know_all<'a>(scope: &mut Scope<'a>, params: &'a [Ident]) -> Result<(), NameFa
 pub(crate) fn body_of<'a>(
     alloc: Global,
     place: &Place<'_, 'a>,
-    texts: &mut Numbered<&'a [u8]>,
+    texts: &mut Interner<&'a [u8]>,
     params: &'a [Ident],
     statements: &'a [StmtTree],
 ) -> Result<Body, NameFault>
     requires { AreAssignable statements.now }
     ensures right { (source : Source) (before : List Mention) → IsPlace source place.now → in_body before ≡ [] → HasTexts before (words_of texts.old)
         → AnswersBody source (owner_in place.now) before params.now statements.now (words_of texts.old) (words_of texts.new) result }
-    ensures few { OnOk result (length params.now ≤ 8) }
+    ensures few { OnOk result (length params.now ≤ most_params) }
 {
     let mut scope = Scope {
-        variables: Numbered::new(alloc),
+        variables: Interner::new(alloc),
         known: Items::new(alloc),
     };
     judged(place, &mut scope, params)?;

@@ -3,14 +3,16 @@
 ghost use Rattle.std.specs.Prelude.{◌≡◌, ◌<◌, ◌≤◌, ℕ, [], ◌∷◌, ◌++◌, flat_map, length, IfErr, IfOk, OnOk};
 ghost use Rattle.dso_class.specs.Assignable.{ItemsAssign, MembersAssign};
 ghost use Rattle.dso_class.specs.Heads.{IsClassTaken, IsRefused};
-ghost use Rattle.dso_class.specs.Lent.{words_of};
+ghost use Rattle.dso_class.specs.BorrowedWords.{words_of};
+ghost use Rattle.dso_class.specs.Limits.{most_classes};
 ghost use Rattle.dso_class.specs.Mentions.{of_item};
-ghost use Rattle.dso_class.specs.Walked.{IsReady, WalksItems};
+ghost use Rattle.dso_class.specs.TextWalk.{IsReady, WalksItems};
 
+use crate::declaration::declare;
 use crate::fault::{NameFault, NameKind, What};
+use crate::interner::Interner;
+use crate::limits::MOST_CLASSES;
 use crate::member::{Class, class_members};
-use crate::naming::declare;
-use crate::numbered::Numbered;
 use crate::tables::Tables;
 use crate::thread::thread;
 use dso_base::{ClassShape, Items, Word};
@@ -19,17 +21,14 @@ use dso_machine::{Method, ThreadBody};
 use dso_syntax::{Ident, Item, Member};
 use std::alloc::Global;
 
-/// The most classes of a text.
-const MOST_CLASSES: usize = 64;
-
 /// What a text is resolved by: the configuration with the names of its locks, and the tables of what the text declares.
 ///
 /// The locks' numbers follow those of the roots. A thread's statements belong to the method `run` of the class `Thread`,
-/// whose words are lent here.
+/// whose words are borrowed here.
 #[derive(Clone, Copy)]
 pub(crate) struct Setting<'b, 'a> {
     pub(crate) config: &'a Config,
-    pub(crate) locks: &'b Numbered<&'a [u8]>,
+    pub(crate) locks: &'b Interner<&'a [u8]>,
     pub(crate) tables: &'b Tables<'a>,
     pub(crate) roots: u32,
     pub(crate) thread_class: &'b Word,
@@ -39,8 +38,8 @@ pub(crate) struct Setting<'b, 'a> {
 /// What was resolved so far.
 #[derive(Drop)]
 pub(crate) struct Resolved<'a> {
-    pub(crate) names: Numbered<&'a [u8]>,
-    pub(crate) texts: Numbered<&'a [u8]>,
+    pub(crate) names: Interner<&'a [u8]>,
+    pub(crate) texts: Interner<&'a [u8]>,
     pub(crate) statics: usize,
     pub(crate) classes: Items<ClassShape>,
     pub(crate) methods: Items<Method>,
@@ -102,7 +101,7 @@ fn whole_class<'a>(
     let mut class = Class {
         name: &name.name,
         number,
-        members: Numbered::new(alloc),
+        members: Interner::new(alloc),
         fields: Items::new(alloc),
         methods: 0,
     };
@@ -114,10 +113,10 @@ fn whole_class<'a>(
 }
 
 /// Judges the name of a class, and gives its number.
-fn class_name<'a>(names: &mut Numbered<&'a [u8]>, name: &'a Ident) -> Result<u32, NameFault>
-    ensures refused { IfErr result (IsRefused (IsClassTaken (words_of names.old) name.now.name) (64 ≤ length names.old) What.Classes name.now.line) }
+fn class_name<'a>(names: &mut Interner<&'a [u8]>, name: &'a Ident) -> Result<u32, NameFault>
+    ensures refused { IfErr result (IsRefused (IsClassTaken (words_of names.old) name.now.name) (most_classes ≤ length names.old) What.Classes name.now.line) }
     ensures fresh { OnOk result (IsClassTaken (words_of names.old) name.now.name → ⊥) }
-    ensures few { OnOk result (length names.old < 64) }
+    ensures few { OnOk result (length names.old < most_classes) }
     ensures named { OnOk result (words_of names.new ≡ words_of names.old ++ name.now.name ∷ []) }
     ensures number { IfOk result (λ number. number ≡ length names.old) }
 {

@@ -1,7 +1,7 @@
 //! The clients that threads are for.
 
 ghost use Rattle.std.specs.Prelude.{◌≡◌, ◌↔◌, pos, IfSome, IsNone};
-ghost use Rattle.dso_class.specs.Faults.{IsClient};
+ghost use Rattle.dso_class.specs.NameFaults.{IsClient};
 
 use dso_config::Config;
 

@@ -2,9 +2,9 @@
 
 ghost use Rattle.std.specs.Prelude.{◌↔◌, Contains, IsTrue};
 ghost use Rattle.std.specs.Option.{option_copied};
-ghost use Rattle.dso_class.specs.Entries.{Guards, IsForField, IsRoot, Matches};
-ghost use Rattle.dso_class.specs.Lists.{LastGives, LastWith};
-ghost use Rattle.dso_class.specs.Program.{IsAutolock};
+ghost use Rattle.dso_class.specs.ConfigEntries.{Guards, IsForField, IsRoot, Matches};
+ghost use Rattle.dso_class.specs.LastAndFirst.{LastGives, LastWith};
+ghost use Rattle.dso_class.specs.TextProgram.{IsAutolock};
 
 use dso_base::{Grade, Same, Word};
 use dso_config::{AutoEntry, Config, GuardEntry, NamedEntry, Pattern, RootEntry};

@@ -11,13 +11,13 @@ ghost use Rattle.dso_syntax.specs.declared.tree.Ident.{Ident};
 ghost use Rattle.dso_class.specs.declared.place.Place.{Place};
 ghost use Rattle.dso_class.specs.declared.scope.Scope.{Scope};
 ghost use Rattle.dso_class.specs.Mentions as mention;
-ghost use Rattle.dso_class.specs.Mentions.{all_of, before_field, on};
+ghost use Rattle.dso_class.specs.Mentions.{all_of, qualifier_mentions, on};
 ghost use Rattle.dso_class.specs.Numbers.{MeansExpr, MeansExprs};
-ghost use Rattle.dso_class.specs.Walk.{IsMade, MeansField, Walks, bare_used, used};
+ghost use Rattle.dso_class.specs.BodyWalk.{IsMade, MeansField, Walks, bare_used, used};
 ghost use Rattle.dso_class.specs.Words.{Word};
 
 use crate::fault::NameFault;
-use crate::numbered::Numbered;
+use crate::interner::Interner;
 use crate::place::Place;
 use crate::scope::Scope;
 use crate::tables::field_ref;
@@ -37,7 +37,7 @@ fn long(number: &i64) -> Expr
 
 /// A text literal in numbers.
 fn literal<'a>(
-    texts: &mut Numbered<&'a [u8]>,
+    texts: &mut Interner<&'a [u8]>,
     line: u32,
     content: &'a Word,
 ) -> Result<Expr, NameFault>
@@ -164,7 +164,7 @@ pub(crate) fn expression<'a>(
     alloc: Global,
     place: &Place<'_, 'a>,
     scope: &Scope<'a>,
-    texts: &mut Numbered<&'a [u8]>,
+    texts: &mut Interner<&'a [u8]>,
     role: Role,
     tree: &'a ExprTree,
 ) -> Result<Expr, NameFault>
@@ -205,11 +205,11 @@ fn of_field<'a>(
     alloc: Global,
     place: &Place<'_, 'a>,
     scope: &Scope<'a>,
-    texts: &mut Numbered<&'a [u8]>,
+    texts: &mut Interner<&'a [u8]>,
     on: &'a ExprTree,
     word: &'a Ident,
 ) -> Result<Expr, NameFault>
-    ensures { Walks place.now texts.old scope.now texts.new scope.now (λ owner. before_field (mention.expression owner on.now).bare (mention.expression owner on.now).mentions word.now.name) (λ n a. (line : ℕ) → MeansExpr n (grammar.expression line (e.Field on.now word.now)) a) result }
+    ensures { Walks place.now texts.old scope.now texts.new scope.now (λ owner. qualifier_mentions (mention.expression owner on.now).bare (mention.expression owner on.now).mentions word.now.name) (λ n a. (line : ℕ) → MeansExpr n (grammar.expression line (e.Field on.now word.now)) a) result }
 {
     match bare(on) {
         Some(owner) => of_name(alloc, place, scope, on.line, owner, &word.name),
@@ -226,7 +226,7 @@ fn call_on<'a>(
     alloc: Global,
     place: &Place<'_, 'a>,
     scope: &Scope<'a>,
-    texts: &mut Numbered<&'a [u8]>,
+    texts: &mut Interner<&'a [u8]>,
     word: &'a Ident,
     trees: &'a [ExprTree],
     object: Expr,
@@ -244,7 +244,7 @@ fn new_array<'a>(
     alloc: Global,
     place: &Place<'_, 'a>,
     scope: &Scope<'a>,
-    texts: &mut Numbered<&'a [u8]>,
+    texts: &mut Interner<&'a [u8]>,
     kind: Kind,
     size: &'a ExprTree,
 ) -> Result<Expr, NameFault>
@@ -260,7 +260,7 @@ fn operation<'a>(
     alloc: Global,
     place: &Place<'_, 'a>,
     scope: &Scope<'a>,
-    texts: &mut Numbered<&'a [u8]>,
+    texts: &mut Interner<&'a [u8]>,
     op: Op,
     operand: &'a ExprTree,
 ) -> Result<Expr, NameFault>
@@ -276,7 +276,7 @@ fn expressions<'a>(
     alloc: Global,
     place: &Place<'_, 'a>,
     scope: &Scope<'a>,
-    texts: &mut Numbered<&'a [u8]>,
+    texts: &mut Interner<&'a [u8]>,
     trees: &'a [ExprTree],
 ) -> Result<Items<Expr>, NameFault>
     ensures { Walks place.now texts.old scope.now texts.new scope.now (λ owner. all_of (map (mention.expression owner) trees.now)) (λ n all. MeansExprs n trees.now all) result }

@@ -5,9 +5,9 @@ ghost use Rattle.dso_config.specs.declared.config.Config.{Config};
 ghost use Rattle.dso_syntax.specs.declared.tree.Ast.{Ast};
 ghost use Rattle.dso_class.specs.declared.fault.NameKind.{NameKind};
 ghost use Rattle.dso_class.specs.declared.program.Program.{Program};
-ghost use Rattle.dso_class.specs.Faults.{IsFirstFault};
+ghost use Rattle.dso_class.specs.NameFaults.{IsFirstFault};
 ghost use Rattle.dso_class.specs.OneProgram.{HasOneProgram};
-ghost use Rattle.dso_class.specs.Program.{IsProgramOf};
+ghost use Rattle.dso_class.specs.TextProgram.{IsProgramOf};
 
 /// At most one fault is the first one of a text, and a text that is a program has none and is no other program.
 pub fn one_answer()

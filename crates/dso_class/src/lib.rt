@@ -4,46 +4,33 @@
 mod body;
 mod class_item;
 mod clients;
-mod declared;
-mod declares;
+mod declaration;
 mod entries;
-#[cfg(test)]
-mod exchange_tests;
 mod expression;
 mod fault;
-#[cfg(test)]
-mod fault_tests;
-mod fields;
+mod gathered_classes;
+mod gathered_fields;
+mod gathered_methods;
+mod gathered_statics;
+mod interner;
 pub mod laws;
+mod limits;
 mod locks;
 mod member;
-mod methods;
+mod multimap;
 mod names;
-mod naming;
 mod narrow;
-mod numbered;
-#[cfg(test)]
-mod oracle_tests;
 mod place;
 mod program;
 mod resolution;
-#[cfg(test)]
-mod resolve_tests;
-mod rows;
 mod scope;
 mod statement;
-#[cfg(test)]
-mod statement_tests;
-mod statics;
 mod tables;
-#[cfg(test)]
-mod tests;
 mod texts;
 mod thread;
-mod threads;
+mod thread_order;
 mod uses;
-#[cfg(test)]
-mod wording_tests;
+mod variables;
 mod words;
 
 pub use fault::{NameFault, NameKind, What};

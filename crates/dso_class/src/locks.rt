@@ -2,25 +2,25 @@
 
 ghost use Rattle.std.specs.Prelude.{◌≡◌, ◌+◌, ◌<◌, ◌^◌, ◌++◌, List, Contains, length, map, IfOk, OnOk};
 ghost use Rattle.dso_config.specs.InRange.{entries};
-ghost use Rattle.dso_class.specs.Entries.{lock_mentions};
-ghost use Rattle.dso_class.specs.Lent.{words_of};
-ghost use Rattle.dso_class.specs.Lists.{AreFirsts};
+ghost use Rattle.dso_class.specs.ConfigEntries.{lock_mentions};
+ghost use Rattle.dso_class.specs.BorrowedWords.{words_of};
+ghost use Rattle.dso_class.specs.LastAndFirst.{AreFirsts};
 ghost use Rattle.dso_class.specs.LockNumbers.{IsLockNumber};
-ghost use Rattle.dso_class.specs.Program.{Source, roots_of, IsNamedLock, IsGuard};
+ghost use Rattle.dso_class.specs.TextProgram.{Source, roots_of, IsNamedLock, IsGuard};
 ghost use Rattle.dso_class.specs.Words.{Word};
 
 use crate::entries::{last_guard, last_named};
-use crate::numbered::Numbered;
+use crate::interner::Interner;
 use crate::words::{add, number_of};
 use dso_base::{Grade, Guard, Items, NoMemory, Word};
 use dso_config::{Config, GuardEntry, NamedEntry};
 use std::alloc::Global;
 
 /// The names of the locks, each once: those of the named locks in the order of their entries, then those of the guards.
-pub(crate) fn lock_names(alloc: Global, config: &Config) -> Result<Numbered<&[u8]>, NoMemory>
+pub(crate) fn lock_names(alloc: Global, config: &Config) -> Result<Interner<&[u8]>, NoMemory>
     ensures { IfOk result (λ names. AreFirsts (lock_mentions config.now) (words_of names)) }
 {
-    let mut names = Numbered::new(alloc);
+    let mut names = Interner::new(alloc);
     match &config.named {
         Some(entries) => add_named(&mut names, entries.as_slice())?,
         None => {}
@@ -30,7 +30,7 @@ pub(crate) fn lock_names(alloc: Global, config: &Config) -> Result<Numbered<&[u8
 }
 
 /// Puts the names of named locks behind the others.
-fn add_named<'a>(names: &mut Numbered<&'a [u8]>, entries: &'a [NamedEntry]) -> Result<(), NoMemory>
+fn add_named<'a>(names: &mut Interner<&'a [u8]>, entries: &'a [NamedEntry]) -> Result<(), NoMemory>
     ensures { (before : List Word) → AreFirsts before (words_of names.old) → OnOk result (AreFirsts (before ++ map (λ entry. entry.name) entries.now) (words_of names.new)) }
 {
     for entry in entries {
@@ -40,7 +40,7 @@ fn add_named<'a>(names: &mut Numbered<&'a [u8]>, entries: &'a [NamedEntry]) -> R
 }
 
 /// Puts the names of the guards' locks behind the others.
-fn add_guards<'a>(names: &mut Numbered<&'a [u8]>, entries: &'a [GuardEntry]) -> Result<(), NoMemory>
+fn add_guards<'a>(names: &mut Interner<&'a [u8]>, entries: &'a [GuardEntry]) -> Result<(), NoMemory>
     ensures { (before : List Word) → AreFirsts before (words_of names.old) → OnOk result (AreFirsts (before ++ map (λ entry. entry.lock) entries.now) (words_of names.new)) }
 {
     for entry in entries {
@@ -50,7 +50,7 @@ fn add_guards<'a>(names: &mut Numbered<&'a [u8]>, entries: &'a [GuardEntry]) -> 
 }
 
 /// The number of a lock of this name, which follow those of the roots.
-fn lock_number<'a>(locks: &Numbered<&'a [u8]>, roots: u32, name: &'a Word) -> u32
+fn lock_number<'a>(locks: &Interner<&'a [u8]>, roots: u32, name: &'a Word) -> u32
     requires there { Contains (words_of locks.now) name.now }
     requires few { roots + length locks.now < 2 ^ 32 }
     ensures { IsLockNumber (words_of locks.now) roots name.now result }
@@ -74,7 +74,7 @@ fn named_entries(named: &Option<Items<NamedEntry>>) -> &[NamedEntry]
 /// The named lock that a call of the method takes, by its number and level: that of the last entry for it.
 pub(crate) fn named_lock<'a>(
     config: &'a Config,
-    locks: &Numbered<&'a [u8]>,
+    locks: &Interner<&'a [u8]>,
     roots: u32,
     class: &Word,
     method: &Word,
@@ -92,7 +92,7 @@ pub(crate) fn named_lock<'a>(
 /// The guard of a field: the lock of the last entry for it, or the object's own monitor.
 pub(crate) fn guard_of<'a>(
     config: &'a Config,
-    locks: &Numbered<&'a [u8]>,
+    locks: &Interner<&'a [u8]>,
     roots: u32,
     class: &Word,
     field: &Word,

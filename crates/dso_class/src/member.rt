@@ -2,23 +2,25 @@
 
 ghost use Rattle.std.specs.Prelude.{◌≡◌, ◌≤◌, ℕ, List, [], ◌∷◌, flat_map, length, OnOk};
 ghost use Rattle.dso_class.specs.Assignable.{AreAssignable, MemberAssigns, MembersAssign};
-ghost use Rattle.dso_class.specs.Before.{in_body};
-ghost use Rattle.dso_class.specs.Faults.{HasNoFault};
+ghost use Rattle.dso_class.specs.Limits.{most_params};
+ghost use Rattle.dso_class.specs.PrecedingMentions.{in_body};
+ghost use Rattle.dso_class.specs.NameFaults.{HasNoFault};
 ghost use Rattle.dso_class.specs.Heads.{IsHeadRight, IsMonitorRight, head_of, owner_of, word_of};
-ghost use Rattle.dso_class.specs.Lent.{words_of};
+ghost use Rattle.dso_class.specs.BorrowedWords.{words_of};
 ghost use Rattle.dso_class.specs.Mentions.{Mention, of_member};
-ghost use Rattle.dso_class.specs.Program.{Source, IsNamedLock};
-ghost use Rattle.dso_class.specs.Walk.{HasTexts};
-ghost use Rattle.dso_class.specs.Walked.{AnswersBody, Gives, HasMetClass, IsReady, IsSetting, WalksMembers};
+ghost use Rattle.dso_class.specs.TextProgram.{Source, IsNamedLock};
+ghost use Rattle.dso_class.specs.BodyWalk.{HasTexts};
+ghost use Rattle.dso_class.specs.TextWalk.{AnswersBody, Gives, HasMetClass, IsReady, IsSetting, WalksMembers};
 ghost use Rattle.dso_class.specs.declared.class_item.Resolved.{Resolved};
 
 use crate::body::{Body, body_of};
 use crate::class_item::{Resolved, Setting};
+use crate::declaration::declare;
 use crate::entries::{autolock, is_root};
 use crate::fault::{NameFault, NameKind, What};
+use crate::interner::Interner;
+use crate::limits::{MOST_FIELDS, MOST_METHODS, MOST_STATICS};
 use crate::locks::{guard_of, named_lock};
-use crate::naming::declare;
-use crate::numbered::Numbered;
 use crate::place::Place;
 use dso_base::{FieldShape, Grade, Items, Kind, Word};
 use dso_config::Config;
@@ -26,21 +28,12 @@ use dso_machine::Method;
 use dso_syntax::{Ident, Member, StmtTree};
 use std::alloc::Global;
 
-/// The most fields of a class.
-const MOST_FIELDS: usize = 64;
-
-/// The most methods of a class.
-const MOST_METHODS: usize = 64;
-
-/// The most static fields of all classes together.
-const MOST_STATICS: usize = 16;
-
 /// A class as far as it was resolved.
 #[derive(Drop)]
 pub(crate) struct Class<'a> {
     pub(crate) name: &'a Word,
     pub(crate) number: u32,
-    pub(crate) members: Numbered<&'a [u8]>,
+    pub(crate) members: Interner<&'a [u8]>,
     pub(crate) fields: Items<FieldShape>,
     pub(crate) methods: usize,
 }
@@ -202,7 +195,7 @@ fn monitor(
 fn method_body<'a>(
     alloc: Global,
     setting: &Setting<'_, 'a>,
-    texts: &mut Numbered<&'a [u8]>,
+    texts: &mut Interner<&'a [u8]>,
     class: &'a Word,
     name: &'a Ident,
     params: &'a [Ident],
@@ -211,7 +204,7 @@ fn method_body<'a>(
     requires assigns { AreAssignable statements.now }
     ensures right { (source : Source) (before : List Mention) → IsSetting source setting.now → in_body before ≡ [] → HasTexts before (words_of texts.old)
         → AnswersBody source (owner_of class.now name.now) before params.now statements.now (words_of texts.old) (words_of texts.new) result }
-    ensures few { OnOk result (length params.now ≤ 8) }
+    ensures few { OnOk result (length params.now ≤ most_params) }
 {
     let place = Place {
         config: setting.config,
@@ -233,7 +226,7 @@ fn method<'a>(
     body: Body,
 ) -> Method
     requires setting { IsReady setting.now }
-    requires few { length params.now ≤ 8 }
+    requires few { length params.now ≤ most_params }
     ensures class { result.class ≡ class.now.number }
     ensures params { result.params ≡ length params.now }
     ensures vars { result.vars ≡ body.vars }

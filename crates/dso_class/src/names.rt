@@ -2,8 +2,8 @@
 
 ghost use Rattle.std.specs.Prelude.{◌≡◌, ◌++◌, IfOk, OnOk, map};
 ghost use Rattle.dso_class.specs.Declarations.{all_statics, class_names, fields_of, statics_of};
-ghost use Rattle.dso_class.specs.Lent.{words_of};
-ghost use Rattle.dso_class.specs.NamesOf.{AreWordsOf, field_words};
+ghost use Rattle.dso_class.specs.BorrowedWords.{words_of};
+ghost use Rattle.dso_class.specs.Symbols.{AreWordsOf, field_words};
 
 use crate::program::Names;
 use dso_base::{Items, NoMemory, Word};
@@ -107,7 +107,7 @@ fn push_statics(
     Ok(())
 }
 
-/// The words that are lent.
+/// The words that the texts hold.
 pub(crate) fn text_words(alloc: Global, texts: &[&[u8]]) -> Result<Items<Word>, NoMemory>
     ensures { IfOk result (λ words. words ≡ words_of texts.now) }
 {

@@ -4,29 +4,27 @@ ghost use Rattle.std.specs.Prelude.{◌≡◌, ◌+◌, ◌<◌, ◌≤◌, ◌^
 ghost use Rattle.dso_class.specs.Assignable.{ItemsAssign};
 ghost use Rattle.dso_class.specs.declared.fault.NameFault.TheVariants as fault;
 ghost use Rattle.dso_class.specs.declared.fault.NameKind.{NameKind};
-ghost use Rattle.dso_class.specs.Faults.{IsFirstFault};
-ghost use Rattle.dso_class.specs.Given.{AreGiven};
-ghost use Rattle.dso_class.specs.Program.{IsProgramOf, Source};
+ghost use Rattle.dso_class.specs.NameFaults.{IsFirstFault};
+ghost use Rattle.dso_class.specs.ValidInput.{IsValidInput};
+ghost use Rattle.dso_class.specs.TextProgram.{IsProgramOf, Source};
 ghost use Rattle.dso_class.specs.Sound.{IsSound};
-ghost use Rattle.dso_class.specs.Walked.{IsReady, IsSetting};
-ghost use Rattle.dso_class.specs.Whole.{AnswersWhole, IsMadeOf};
+ghost use Rattle.dso_class.specs.TextWalk.{IsReady, IsSetting};
+ghost use Rattle.dso_class.specs.WholeProgram.{AnswersWhole, IsMadeOf};
 
 use crate::class_item::{self, Resolved, Setting};
 use crate::fault::NameFault;
+use crate::interner::Interner;
+use crate::limits::MOST_STATICS;
 use crate::locks::lock_names;
 use crate::names::{names, text_words};
-use crate::numbered::Numbered;
 use crate::program::{Names, Program};
 use crate::tables::gather;
-use crate::threads::threads;
+use crate::thread_order::threads;
 use dso_base::{Items, NoMemory, Shape, Word};
 use dso_config::Config;
 use dso_machine::Code;
 use dso_syntax::{Ast, Item};
 use std::alloc::Global;
-
-/// The most static fields of a text.
-const MOST_ROOTS: usize = 16;
 
 /// Resolves the names of a program text under a configuration: the program in which every name is a number.
 ///
@@ -49,7 +47,7 @@ const MOST_ROOTS: usize = 16;
 /// methods and text literals are numbered in the order of the text, equal text literals once; named locks follow the
 /// static fields in the order of the configuration. [`NameFault::NoMemory`] says that an allocation was refused.
 pub fn resolve(alloc: Global, tree: &Ast, config: &Config) -> Result<Program, NameFault>
-    requires given { AreGiven config.now tree.now }
+    requires given { IsValidInput config.now tree.now }
     ensures program { IfOk result (IsProgramOf config.now tree.now) }
     ensures sound { IfOk result IsSound }
     ensures fault { (kind : NameKind) (line : ℕ) → result ≡ Err (fault.At kind line) → IsFirstFault config.now tree.now kind line }
@@ -64,7 +62,7 @@ pub fn resolve(alloc: Global, tree: &Ast, config: &Config) -> Result<Program, Na
         config,
         locks: &locks,
         tables: &tables,
-        roots: names.roots.len().min(MOST_ROOTS) as u32,
+        roots: names.roots.len().min(MOST_STATICS) as u32,
         thread_class: &thread_class,
         thread_method: &thread_method,
     };
@@ -90,8 +88,8 @@ fn walk<'a>(
     ensures { (source : Source) → IsSetting source setting.now → source.ast.items ≡ items.now → AnswersWhole source result }
 {
     let mut resolved = Resolved {
-        names: Numbered::new(alloc),
-        texts: Numbered::new(alloc),
+        names: Interner::new(alloc),
+        texts: Interner::new(alloc),
         statics: 0,
         classes: Items::new(alloc),
         methods: Items::new(alloc),

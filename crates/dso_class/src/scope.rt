@@ -1,19 +1,19 @@
 //! The variables of a body.
 
 ghost use Rattle.std.specs.Prelude.{◌↔◌, Contains, IfSome, IsNone, IsTrue};
-ghost use Rattle.dso_class.specs.Lent.{words_of};
+ghost use Rattle.dso_class.specs.BorrowedWords.{words_of};
 ghost use Rattle.dso_class.specs.Numbers.{IsNumber};
-ghost use Rattle.dso_class.specs.Walk.{known_in, variables_in};
+ghost use Rattle.dso_class.specs.BodyWalk.{known_in, variables_in};
 ghost use Rattle.dso_class.specs.Words.{Word};
 
-use crate::numbered::Numbered;
+use crate::interner::Interner;
 use crate::words::number_of;
 use dso_base::{Items, Same, Word};
 
 /// The variables of a body so far, and the names of those that are known, the latest at the end.
 #[derive(Drop)]
 pub(crate) struct Scope<'a> {
-    pub(crate) variables: Numbered<&'a [u8]>,
+    pub(crate) variables: Interner<&'a [u8]>,
     pub(crate) known: Items<&'a Word>,
 }
 

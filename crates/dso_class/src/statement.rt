@@ -5,7 +5,7 @@ ghost use Rattle.std.specs.Borrow.{Bor};
 ghost use Rattle.dso_base.specs.declared.lock.Grade.{Grade};
 ghost use Rattle.dso_machine.specs.declared.tree.Expr.{Expr};
 ghost use Rattle.dso_syntax.specs.Grammar as grammar;
-ghost use Rattle.dso_syntax.specs.Program as program;
+ghost use Rattle.dso_syntax.specs.ProgramGrammar as program;
 ghost use Rattle.dso_syntax.specs.declared.tree.ExprForm.TheVariants as e;
 ghost use Rattle.dso_syntax.specs.declared.tree.StmtForm.TheVariants as s;
 ghost use Rattle.dso_class.specs.declared.place.Place.{Place};
@@ -13,18 +13,18 @@ ghost use Rattle.dso_class.specs.declared.scope.Scope.{Scope};
 ghost use Rattle.dso_class.specs.Assignable.{AreAssignable, IsAssignable, IsTarget};
 ghost use Rattle.dso_class.specs.Mentions as mention;
 ghost use Rattle.dso_class.specs.Numbers.{MeansBlock, MeansExpr, MeansStmt};
-ghost use Rattle.dso_class.specs.Statements.{PutsField, PutsNamed};
-ghost use Rattle.dso_class.specs.Walk.{HeadMeans, Walks, known_in};
+ghost use Rattle.dso_class.specs.StatementWalk.{PutsField, PutsNamed};
+ghost use Rattle.dso_class.specs.BodyWalk.{HeadMeans, Walks, known_in};
 ghost use Rattle.dso_class.specs.Words.{Word};
 
-use crate::declares::{know, synchronized, variable};
 use crate::expression::{bare, expression};
 use crate::fault::NameFault;
-use crate::numbered::Numbered;
+use crate::interner::Interner;
 use crate::place::Place;
 use crate::scope::Scope;
 use crate::tables::field_ref;
 use crate::uses::{Head, Role, alone, dotted};
+use crate::variables::{know, synchronized, variable};
 use dso_base::{Grade, Items, Word};
 use dso_machine::{Expr, Stmt};
 use dso_syntax::{ExprForm, ExprTree, Ident, StmtForm, StmtTree};
@@ -35,7 +35,7 @@ fn value_of<'a>(
     alloc: Global,
     place: &Place<'_, 'a>,
     scope: &Scope<'a>,
-    texts: &mut Numbered<&'a [u8]>,
+    texts: &mut Interner<&'a [u8]>,
     tree: &'a ExprTree,
 ) -> Result<Expr, NameFault>
     ensures { Walks place.now texts.old scope.now texts.new scope.now (λ owner. (mention.expression owner tree.now).mentions) (λ n a. MeansExpr n tree.now a) result }
@@ -48,7 +48,7 @@ fn declared<'a>(
     alloc: Global,
     place: &Place<'_, 'a>,
     scope: &mut Scope<'a>,
-    texts: &mut Numbered<&'a [u8]>,
+    texts: &mut Interner<&'a [u8]>,
     name: &'a Ident,
     value: &'a ExprTree,
 ) -> Result<Stmt, NameFault>
@@ -96,7 +96,7 @@ fn to_variable<'a>(
     alloc: Global,
     place: &Place<'_, 'a>,
     scope: &Scope<'a>,
-    texts: &mut Numbered<&'a [u8]>,
+    texts: &mut Interner<&'a [u8]>,
     line: u32,
     name: &'a Word,
     value: &'a ExprTree,
@@ -114,7 +114,7 @@ fn to_named<'a>(
     alloc: Global,
     place: &Place<'_, 'a>,
     scope: &Scope<'a>,
-    texts: &mut Numbered<&'a [u8]>,
+    texts: &mut Interner<&'a [u8]>,
     line: u32,
     owner: &'a Word,
     name: &'a Ident,
@@ -133,7 +133,7 @@ fn to_field<'a>(
     alloc: Global,
     place: &Place<'_, 'a>,
     scope: &Scope<'a>,
-    texts: &mut Numbered<&'a [u8]>,
+    texts: &mut Interner<&'a [u8]>,
     object: &'a ExprTree,
     name: &'a Ident,
     value: &'a ExprTree,
@@ -151,7 +151,7 @@ fn to_element<'a>(
     alloc: Global,
     place: &Place<'_, 'a>,
     scope: &Scope<'a>,
-    texts: &mut Numbered<&'a [u8]>,
+    texts: &mut Interner<&'a [u8]>,
     array: &'a ExprTree,
     index: &'a ExprTree,
     value: &'a ExprTree,
@@ -170,7 +170,7 @@ fn assigned<'a>(
     alloc: Global,
     place: &Place<'_, 'a>,
     scope: &Scope<'a>,
-    texts: &mut Numbered<&'a [u8]>,
+    texts: &mut Interner<&'a [u8]>,
     target: &'a ExprTree,
     value: &'a ExprTree,
 ) -> Result<Stmt, NameFault>
@@ -205,7 +205,7 @@ fn lock<'a>(
     alloc: Global,
     place: &Place<'_, 'a>,
     scope: &Scope<'a>,
-    texts: &mut Numbered<&'a [u8]>,
+    texts: &mut Interner<&'a [u8]>,
     line: u32,
     on: &'a ExprTree,
 ) -> Result<(Grade, Expr), NameFault>
@@ -222,7 +222,7 @@ fn returned<'a>(
     alloc: Global,
     place: &Place<'_, 'a>,
     scope: &Scope<'a>,
-    texts: &mut Numbered<&'a [u8]>,
+    texts: &mut Interner<&'a [u8]>,
     value: &'a Option<ExprTree>,
 ) -> Result<Stmt, NameFault>
     ensures { Walks place.now texts.old scope.now texts.new scope.now (λ owner. mention.answer owner value.now) (λ n a. (line : ℕ) → MeansStmt n (program.statement line (s.Return value.now)) a) result }
@@ -253,7 +253,7 @@ pub(crate) fn statement<'a>(
     alloc: Global,
     place: &Place<'_, 'a>,
     scope: &mut Scope<'a>,
-    texts: &mut Numbered<&'a [u8]>,
+    texts: &mut Interner<&'a [u8]>,
     tree: &'a StmtTree,
 ) -> Result<Stmt, NameFault>
     requires { IsAssignable tree.now }
@@ -294,7 +294,7 @@ pub(crate) fn block<'a>(
     alloc: Global,
     place: &Place<'_, 'a>,
     scope: &mut Scope<'a>,
-    texts: &mut Numbered<&'a [u8]>,
+    texts: &mut Interner<&'a [u8]>,
     trees: &'a [StmtTree],
 ) -> Result<Items<Stmt>, NameFault>
     requires { AreAssignable trees.now }

@@ -2,20 +2,20 @@
 
 ghost use Rattle.std.specs.Prelude.{◌≡◌, ◌↔◌, [], Contains, IfOk, IfSome, IsNone, IsTrue, map};
 ghost use Rattle.dso_class.specs.Declarations.{all_methods, all_statics, class_names};
-ghost use Rattle.dso_class.specs.Faults.{HasMethod, HasNoFault, IsClass, TakesArguments};
+ghost use Rattle.dso_class.specs.NameFaults.{HasMethod, HasNoFault, IsClass, TakesArguments};
 ghost use Rattle.dso_class.specs.Gathered.{callees_of, capped_pair};
 ghost use Rattle.dso_class.specs.Numbers.{AreThePairs, IsFieldRef, IsNumber};
 ghost use Rattle.dso_class.specs.Numbers as numbers;
-ghost use Rattle.dso_class.specs.Program.{Source, field_names};
+ghost use Rattle.dso_class.specs.TextProgram.{Source, field_names};
 ghost use Rattle.dso_class.specs.Tables.{AreTables};
 
-use crate::declared::class_names;
-use crate::fields::all_fields;
-use crate::methods::{Declared, all_methods};
+use crate::gathered_classes::class_names;
+use crate::gathered_fields::all_fields;
+use crate::gathered_methods::{Declared, all_methods};
+use crate::gathered_statics::{all_statics, static_number};
+use crate::interner::Interner;
+use crate::multimap::row;
 use crate::narrow::narrow;
-use crate::numbered::Numbered;
-use crate::rows::row;
-use crate::statics::{all_statics, static_number};
 use crate::words::number_of;
 use dso_base::{Items, NoMemory};
 use dso_machine::FieldRef;
@@ -27,8 +27,8 @@ use std::collections::BTreeMap;
 /// of that name in the order of the classes.
 #[derive(Drop)]
 pub(crate) struct Tables<'a> {
-    classes: Numbered<&'a [u8]>,
-    statics: Numbered<(&'a [u8], &'a [u8])>,
+    classes: Interner<&'a [u8]>,
+    statics: Interner<(&'a [u8], &'a [u8])>,
     fields: BTreeMap<&'a [u8], Items<(usize, usize)>>,
     methods: BTreeMap<&'a [u8], Items<Declared>>,
 }

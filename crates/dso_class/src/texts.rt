@@ -6,20 +6,18 @@ ghost use Rattle.dso_class.specs.declared.scope.Scope.{Scope};
 ghost use Rattle.dso_class.specs.Mentions as mention;
 ghost use Rattle.dso_class.specs.Mentions.{on};
 ghost use Rattle.dso_class.specs.Numbers.{IsNumber};
-ghost use Rattle.dso_class.specs.Walk.{Walks};
+ghost use Rattle.dso_class.specs.BodyWalk.{Walks};
 
 use crate::fault::{NameFault, NameKind, What};
+use crate::interner::Interner;
+use crate::limits::MOST_TEXTS;
 use crate::narrow::narrow;
-use crate::numbered::Numbered;
 use crate::words::{add, number_of};
 use dso_base::Word;
 
-/// The most different text literals.
-const MOST_TEXTS: usize = 4096;
-
 /// The number of a text literal, which is put behind the others where it is new.
 pub(crate) fn text<'a>(
-    texts: &mut Numbered<&'a [u8]>,
+    texts: &mut Interner<&'a [u8]>,
     line: u32,
     content: &'a Word,
 ) -> Result<u32, NameFault>

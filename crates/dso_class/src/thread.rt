@@ -2,25 +2,23 @@
 
 ghost use Rattle.std.specs.Prelude.{◌≡◌, ◌∷◌, [], List, count_by, reverse};
 ghost use Rattle.dso_class.specs.Assignable.{AreAssignable};
-ghost use Rattle.dso_class.specs.Before.{in_text, thread_in};
+ghost use Rattle.dso_class.specs.PrecedingMentions.{in_text, thread_in};
 ghost use Rattle.dso_class.specs.Heads.{IsThreadNamed, is_number, thread_head};
 ghost use Rattle.dso_class.specs.Mentions.{Mention, of_item};
-ghost use Rattle.dso_class.specs.Program.{Source};
-ghost use Rattle.dso_class.specs.Walked.{Gives, WalksItems, clients_in};
+ghost use Rattle.dso_class.specs.TextProgram.{Source};
+ghost use Rattle.dso_class.specs.TextWalk.{Gives, WalksItems, clients_in};
 
 use crate::body::body_of;
 use crate::class_item::{Resolved, Setting};
 use crate::clients::client_of;
 use crate::fault::{NameFault, NameKind, What};
+use crate::limits::MOST_THREADS;
 use crate::place::Place;
 use dso_base::ThreadId;
 use dso_config::Config;
 use dso_machine::ThreadBody;
 use dso_syntax::{Item, StmtTree};
 use std::alloc::Global;
-
-/// The most threads of one client.
-const MOST_THREADS: usize = 16;
 
 /// Resolves a thread.
 pub(crate) fn thread<'a>(

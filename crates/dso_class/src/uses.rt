@@ -7,7 +7,7 @@ ghost use Rattle.dso_class.specs.declared.scope.Scope.{Scope};
 ghost use Rattle.dso_class.specs.Mentions as mention;
 ghost use Rattle.dso_class.specs.Mentions.{on};
 ghost use Rattle.dso_class.specs.Numbers.{AreThePairs, HasMethod, IsNumber};
-ghost use Rattle.dso_class.specs.Walk.{HeadMeans, Walks};
+ghost use Rattle.dso_class.specs.BodyWalk.{HeadMeans, Walks};
 ghost use Rattle.dso_class.specs.Words.{Word};
 
 use crate::fault::{NameFault, NameKind};

@@ -1,16 +1,16 @@
 //! Words in a row, each with its number.
 
 ghost use Rattle.std.specs.Prelude.{◌≡◌, ◌↔◌, ◌∷◌, ◌++◌, [], List, Contains, IfOk, IfSome, IsNone, IsTrue, OnErr, OnOk};
-ghost use Rattle.dso_class.specs.Lists.{AreFirsts};
+ghost use Rattle.dso_class.specs.LastAndFirst.{AreFirsts};
 ghost use Rattle.dso_class.specs.Numbers.{IsNumber};
-ghost use Rattle.dso_class.specs.Lent.{words_of};
+ghost use Rattle.dso_class.specs.BorrowedWords.{words_of};
 ghost use Rattle.dso_class.specs.Words.{Word};
 
-use crate::numbered::Numbered;
+use crate::interner::Interner;
 use dso_base::NoMemory;
 
 /// The number of a word, None where it isn't there.
-pub(crate) fn number_of<'a>(words: &Numbered<&'a [u8]>, word: &'a [u8]) -> Option<usize>
+pub(crate) fn number_of<'a>(words: &Interner<&'a [u8]>, word: &'a [u8]) -> Option<usize>
     ensures found { IfSome result (λ number. IsNumber (words_of words.now) word.now number) }
     ensures none { IsNone result ↔ (Contains (words_of words.now) word.now → ⊥) }
 {
@@ -18,7 +18,7 @@ pub(crate) fn number_of<'a>(words: &Numbered<&'a [u8]>, word: &'a [u8]) -> Optio
 }
 
 /// Puts a word behind the others where it isn't there yet, and tells whether it wasn't.
-pub(crate) fn add<'a>(words: &mut Numbered<&'a [u8]>, word: &'a [u8]) -> Result<bool, NoMemory>
+pub(crate) fn add<'a>(words: &mut Interner<&'a [u8]>, word: &'a [u8]) -> Result<bool, NoMemory>
     ensures firsts { (all : List Word) → AreFirsts all (words_of words.old) → OnOk result (AreFirsts (all ++ word.now ∷ []) (words_of words.new)) }
     ensures fresh { IfOk result (λ fresh. IsTrue fresh ↔ (Contains (words_of words.old) word.now → ⊥)) }
     ensures err { OnErr result (words.new ≡ words.old) }

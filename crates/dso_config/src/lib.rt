@@ -4,8 +4,6 @@
 
 mod config;
 mod pattern;
-#[cfg(test)]
-mod tests;
 
 pub use config::{AutoEntry, Config, GuardEntry, NamedEntry, RootEntry};
 pub use pattern::Pattern;

@@ -10,9 +10,9 @@ use Rattle.dso_base.specs.declared.lock.LockName.{LockName}
 use Rattle.dso_base.specs.declared.record.Body.{Body}
 use Rattle.dso_base.specs.declared.record.Set.{Set}
 use Rattle.dso_base.specs.Block.{insert_body, insert_bodies, insert_set, is_same_field, is_field_before}
-use Rattle.dso_plain.specs.Keys.{is_lock}
+use Rattle.dso_plain.specs.KeyTests.{is_lock}
 use Rattle.dso_plain.specs.State.{Hold}
-use Rattle.dso_law.specs.Threads.{Held, hold_so}
+use Rattle.dso_law.specs.Threads.{Held, set_hold}
 
 -- the place that was found
 place_is : {X : Type 0} (p : X → Bool) (xs : List X) (i : ℕ) → position p xs ≡ Some i → position_or_len p xs ≡ i
@@ -117,26 +117,26 @@ module _ (l : LockName) (hold : Hold) where
   held_so = record { lock = l; hold = hold }
 
   -- where it is held or not
-  held_step : (x : Held) (xs : List Held) → hold_so l hold (x ∷ xs) ≡ cond (is_lock l x.lock) (held_so ∷ xs) (cond (is_lock l x.lock) (held_so ∷ x ∷ xs) (x ∷ hold_so l hold xs))
+  held_step : (x : Held) (xs : List Held) → set_hold l hold (x ∷ xs) ≡ cond (is_lock l x.lock) (held_so ∷ xs) (cond (is_lock l x.lock) (held_so ∷ x ∷ xs) (x ∷ set_hold l hold xs))
   held_step x xs = by (is_lock l x.lock)
     where
-      by : (b : Bool) → cond b (held_so ∷ xs) (x ∷ hold_so l hold xs) ≡ cond b (held_so ∷ xs) (cond b (held_so ∷ x ∷ xs) (x ∷ hold_so l hold xs))
+      by : (b : Bool) → cond b (held_so ∷ xs) (x ∷ set_hold l hold xs) ≡ cond b (held_so ∷ xs) (cond b (held_so ∷ x ∷ xs) (x ∷ set_hold l hold xs))
       by true = refl
       by false = refl
 
   -- a lock that is held is held so in its place
-  pub hold_replaced : (holds : List Held) (i : ℕ) → position (λ held. is_lock l held.lock) holds ≡ Some i → set holds i held_so ≡ hold_so l hold holds
+  pub hold_replaced : (holds : List Held) (i : ℕ) → position (λ held. is_lock l held.lock) holds ≡ Some i → set holds i held_so ≡ set_hold l hold holds
   hold_replaced holds i e =
       let twice = same_twice (λ (held : Held). is_lock l held.lock) in
       let first = position-Some (λ held. is_lock l held.lock) holds i held_so e in
       let found : position_or_len (λ held. is_lock l held.lock || is_lock l held.lock) holds ≡ i = sym (ap (λ p. position_or_len p holds) twice) ∙ place_is (λ held. is_lock l held.lock) holds i e in
-      let at = replaced (λ held. is_lock l held.lock) (λ held. is_lock l held.lock) (hold_so l hold) held_so refl held_step holds (rw found first.0) (rw found first.1) in
+      let at = replaced (λ held. is_lock l held.lock) (λ held. is_lock l held.lock) (set_hold l hold) held_so refl held_step holds (rw found first.0) (rw found first.1) in
       ap (λ n. set holds n held_so) (sym found) ∙ sym at
 
   -- a lock that is not held is held so at the end
-  pub hold_pushed : (holds : List Held) → position (λ held. is_lock l held.lock) holds ≡ None → holds ++ held_so ∷ [] ≡ hold_so l hold holds
+  pub hold_pushed : (holds : List Held) → position (λ held. is_lock l held.lock) holds ≡ None → holds ++ held_so ∷ [] ≡ set_hold l hold holds
   hold_pushed holds e =
       let twice = same_twice (λ (held : Held). is_lock l held.lock) in
       let found : position_or_len (λ held. is_lock l held.lock || is_lock l held.lock) holds ≡ length holds = sym (ap (λ p. position_or_len p holds) twice) ∙ place_end (λ held. is_lock l held.lock) holds e in
-      let at = inserted (λ held. is_lock l held.lock) (λ held. is_lock l held.lock) (hold_so l hold) held_so refl held_step holds (inr found) in
+      let at = inserted (λ held. is_lock l held.lock) (λ held. is_lock l held.lock) (set_hold l hold) held_so refl held_step holds (inr found) in
       sym (insert_end holds held_so) ∙ ap (λ n. insert holds n held_so) (sym found) ∙ sym at

@@ -1,15 +1,16 @@
--- What is on the way between a client and the server, clocks, and connections.
-use Rattle.std.specs.Prelude.{ℕ, suc, max, ◌≤◌, ◌≡◌, Bool, true, false, cond, eqb, List, [], ◌∷◌, ◌++◌, drop}
+-- What is in flight between a client and the server, clocks, and connections.
+use Rattle.std.specs.Prelude.{ℕ, suc, max, ◌≤◌, ◌≡◌, Bool, true, false, cond, eqb, Option, Some, None, List, [], ◌∷◌, ◌++◌, drop}
 use Rattle.dso_base.specs.declared.journal.Entry.{Entry}
 use Rattle.dso_base.specs.declared.journal.Input.{Input}
 use Rattle.dso_base.specs.declared.journal.Input.TheVariants.{TookUp, TookDown, Break, Rejoin}
 use Rattle.dso_base.specs.declared.journal.Node.{Node}
 use Rattle.dso_base.specs.declared.journal.Node.TheVariants.{Server, Client}
+use Rattle.dso_base.specs.declared.journal.Sent.{Sent}
 use Rattle.dso_base.specs.declared.message.Down.{Down}
 use Rattle.dso_base.specs.declared.message.Up.{Up}
-use Rattle.dso_law.specs.Entries.{is_node, by_said, by_told, entries_of}
+use Rattle.dso_law.specs.Entries.{is_node, if_to, by_sent_up, by_sent_down, entries_of}
 
--- a message on its way, with the clock of the entry that sent it
+-- a message in flight, with the clock of the entry that sent it
 pub record Letter (M : Type 0) : Type 0 where
   pub message : M
   pub clock : ℕ
@@ -17,10 +18,6 @@ pub record Letter (M : Type 0) : Type 0 where
 -- the letters with one more at the end
 abbrev pub posted : {M : Type 0} → ℕ → M → List (Letter M) → List (Letter M)
 posted clock m letters = letters ++ record { message = m; clock = clock } ∷ []
-
--- posted to client c, if the message goes to it
-abbrev pub posted_to : ℕ → ℕ → ℕ → Down → List (Letter Down) → List (Letter Down)
-posted_to c clock d m letters = cond (eqb c d) (posted clock m letters) letters
 
 -- whether the server takes a message of the client
 abbrev pub takes_up : ℕ → Input → Bool
@@ -32,47 +29,85 @@ abbrev pub takes_down : Input → Bool
 takes_down (TookDown m) = true
 takes_down input = false
 
--- a server's entry drops the first letter up of the client that it takes; an entry of the client posts what it sends
-abbrev pub way_up_after : ℕ → Entry → Node → List (Letter Up) → List (Letter Up)
-way_up_after c e Server letters = cond (takes_up c e.input) (drop 1 letters) letters
-way_up_after c e (Client d) letters = cond (eqb c d) (by_said (posted e.clock) e.sent letters) letters
+-- the message that the server takes, if the input is one
+abbrev pub message_to_server : Input → Option Up
+message_to_server (TookUp c m) = Some m
+message_to_server input = None
 
--- what is on the way from client c to the server, the first that was sent first
-abbrev pub way_up : ℕ → List Entry → List (Letter Up)
-way_up c [] = []
-way_up c (e ∷ es) = way_up_after c e e.node (way_up c es)
+-- the message that a client takes, if the input is one
+abbrev pub message_to_client : Input → Option Down
+message_to_client (TookDown m) = Some m
+message_to_client input = None
 
--- a server's entry posts what it sends to the client; an entry of the client drops the first letter down if it takes one
-abbrev pub way_down_after : ℕ → Entry → Node → List (Letter Down) → List (Letter Down)
-way_down_after c e Server letters = by_told (posted_to c e.clock) e.sent letters
-way_down_after c e (Client d) letters = cond (eqb c d) (cond (takes_down e.input) (drop 1 letters) letters) letters
+-- One direction of the messages between a client and the server: the node that sends them and the node that takes them;
+-- a reading after those of an entry's messages that go this way; whether an input takes one; and the one that it takes.
+pub record Direction (M : Type 0) : Type 1 where
+  pub sender : Node
+  pub receiver : Node
+  pub by_sent : {S : Type 0} → (M → S → S) → List Sent → S → S
+  pub takes : Input → Bool
+  pub message : Input → Option M
 
--- what is on the way from the server to client c, the first that was sent first
-abbrev pub way_down : ℕ → List Entry → List (Letter Down)
-way_down c [] = []
-way_down c (e ∷ es) = way_down_after c e e.node (way_down c es)
+-- from client c to the server
+abbrev pub to_server : ℕ → Direction Up
+to_server c = record {
+  sender = Client c;
+  receiver = Server;
+  by_sent = by_sent_up;
+  takes = takes_up c;
+  message = message_to_server;
+}
+
+-- from the server to client c
+abbrev pub to_client : ℕ → Direction Down
+to_client c = record {
+  sender = Server;
+  receiver = Client c;
+  by_sent = λ step. by_sent_down (if_to c step);
+  takes = takes_down;
+  message = message_to_client;
+}
+
+-- An entry of the receiver takes the first letter away, if it takes one; an entry of the sender posts what it sends.
+abbrev pub in_flight_after : {M : Type 0} → Direction M → Entry → Node → List (Letter M) → List (Letter M)
+in_flight_after direction e node letters = cond (is_node direction.receiver node)
+    (cond (direction.takes e.input) (drop 1 letters) letters)
+    (cond (is_node direction.sender node) (direction.by_sent (posted e.clock) e.sent letters) letters)
+
+-- In flight: the letters posted in the direction that weren't taken, the first posted first.
+abbrev pub in_flight : {M : Type 0} → Direction M → List Entry → List (Letter M)
+in_flight direction [] = []
+in_flight direction (e ∷ es) = in_flight_after direction e e.node (in_flight direction es)
+
+-- what is in flight from client c to the server
+abbrev pub up_in_flight : ℕ → List Entry → List (Letter Up)
+up_in_flight c es = in_flight (to_server c) es
+
+-- what is in flight from the server to client c
+abbrev pub down_in_flight : ℕ → List Entry → List (Letter Down)
+down_in_flight c es = in_flight (to_client c) es
 
 -- the clock of the node's last entry, 0 before its first
 abbrev pub last_clock : Node → List Entry → ℕ
 last_clock node [] = 0
 last_clock node (e ∷ es) = cond (is_node node e.node) e.clock (last_clock node es)
 
--- the message is the first on the way
+-- the message is that of the first letter
 abbrev pub IsFirst : {M : Type 0} → M → List (Letter M) → Type 0
 IsFirst m [] = ⊥
 IsFirst m (letter ∷ letters) = m ≡ letter.message
 
--- what the server takes of a client, and what a client takes, is the first on its way
+-- what the server takes of a client, and what a client takes, is the first in flight
 abbrev pub TakesFirst : Input → Node → List Entry → Type 0
-TakesFirst (TookUp c m) Server es = IsFirst m (way_up c es)
-TakesFirst (TookDown m) (Client c) es = IsFirst m (way_down c es)
+TakesFirst (TookUp c m) Server es = IsFirst m (up_in_flight c es)
+TakesFirst (TookDown m) (Client c) es = IsFirst m (down_in_flight c es)
 TakesFirst input node es = Unit {0}
 
--- Channels: a message that an entry takes is the first on its way.
+-- Channels: a message that an entry takes is the first in flight.
 abbrev pub RespectsChannels : Entry → List Entry → Type 0
 RespectsChannels e es = TakesFirst e.input e.node es
 
--- each entry takes the first on its way
+-- each entry takes the first in flight
 abbrev pub KeepsChannels : List Entry → Type 0
 KeepsChannels [] = Unit {0}
 KeepsChannels (e ∷ es) = KeepsChannels es × RespectsChannels e es
@@ -83,15 +118,15 @@ first_clock [] = 0
 first_clock (letter ∷ letters) = letter.clock
 
 -- the clock of the entry that sent the message taken, 0 where none is taken
-abbrev pub heard_clock : Input → Node → List Entry → ℕ
-heard_clock (TookUp c m) Server es = first_clock (way_up c es)
-heard_clock (TookDown m) (Client c) es = first_clock (way_down c es)
-heard_clock input node es = 0
+abbrev pub taken_clock : Input → Node → List Entry → ℕ
+taken_clock (TookUp c m) Server es = first_clock (up_in_flight c es)
+taken_clock (TookDown m) (Client c) es = first_clock (down_in_flight c es)
+taken_clock input node es = 0
 
 -- Clocks: an entry's clock is 1 more than the greater of the node's last clock and the clock of the entry that sent
 -- the message taken, if one is taken.
 abbrev pub RespectsClocks : Entry → List Entry → Type 0
-RespectsClocks e es = e.clock ≡ suc (max (last_clock e.node es) (heard_clock e.input e.node es))
+RespectsClocks e es = e.clock ≡ suc (max (last_clock e.node es) (taken_clock e.input e.node es))
 
 -- whether the entry breaks the connection of the client
 abbrev pub breaks : ℕ → Input → Bool

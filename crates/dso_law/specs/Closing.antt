@@ -1,4 +1,5 @@
 -- Which of a client's leases are closing, which let a thread in, and which are to be given back.
+use Rattle.std.specs.List.{list_any}
 use Rattle.std.specs.Prelude.{ℕ, Bool, true, false, not, ◌&&◌, ◌||◌, is_none, Option, Some, List, filter}
 use Rattle.dso_base.specs.declared.journal.Entry.{Entry}
 use Rattle.dso_base.specs.declared.lock.Level.{Level}
@@ -7,11 +8,11 @@ use Rattle.dso_base.specs.declared.lock.LockName.{LockName}
 use Rattle.dso_base.specs.declared.lock.ThreadId.{ThreadId}
 use Rattle.dso_base.specs.declared.request.Request.{Request}
 use Rattle.dso_base.specs.declared.request.Request.TheVariants.{Enter, Resume}
-use Rattle.dso_plain.specs.Keys.{is_lock}
-use Rattle.dso_law.specs.Settings.{Settings, has, threads_of}
+use Rattle.dso_plain.specs.KeyTests.{is_lock}
+use Rattle.dso_law.specs.Settings.{Settings, threads_of}
 use Rattle.dso_law.specs.Threads.{hold_of}
 use Rattle.dso_law.specs.Leases.{leased, is_entered, is_recalled, leased_locks}
-use Rattle.dso_law.specs.Waits.{is_marked}
+use Rattle.dso_law.specs.ClientWaiters.{is_marked}
 
 -- the request is for the lock at Write: an Enter at Write, or a Resume of a thread that is marked
 abbrev pub wants_write : LockName → Bool → Option Request → Bool
@@ -30,10 +31,10 @@ module _ (p : Settings) (c : ℕ) (next : ThreadId → Option Request) where
   abbrev pub awaits_write : LockName → List Entry → ThreadId → Bool
   awaits_write l es t = is_none (hold_of t l es) && wants_write l (is_marked t es) (next t)
 
-  -- Closing: since its grant a recall of the lock was taken, or the lease's level is Read and a thread of the client that
-  -- doesn't hold the lock next wants it at Write.
+  -- Closing: since its grant a recall of the lock was taken, or the lease's level is Read and a thread of the client
+  -- that doesn't hold the lock next wants it at Write.
   abbrev pub is_closing : LockName → List Entry → Bool
-  is_closing l es = is_recalled l es || (is_read (leased l es) && has (awaits_write l es) (threads_of p c))
+  is_closing l es = is_recalled l es || (is_read (leased l es) && list_any (awaits_write l es) (threads_of p c))
 
   -- The lease admits an outer entry where it isn't closing or wasn't entered.
   abbrev pub admits : LockName → List Entry → Bool
@@ -41,7 +42,7 @@ module _ (p : Settings) (c : ℕ) (next : ThreadId → Option Request) where
 
   -- no thread of the client holds the lock
   abbrev pub is_free : LockName → List Entry → Bool
-  is_free l es = not (has (λ t. not (is_none (hold_of t l es))) (threads_of p c))
+  is_free l es = not (list_any (λ t. not (is_none (hold_of t l es))) (threads_of p c))
 
   -- a lease is to be given back where it is closing and entered and no thread of the client holds the lock
   abbrev pub is_due : LockName → List Entry → Bool

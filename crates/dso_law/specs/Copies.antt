@@ -1,4 +1,5 @@
 -- A client's copies: which objects are resident, and what they hold.
+use Rattle.std.specs.List.{list_any}
 use Rattle.std.specs.Prelude.{ℕ, Bool, true, false, cond, eqb, ◌&&◌, ltb, Option, Some, None, List, [], ◌∷◌, filter, length, slice_get, fold}
 use Rattle.dso_base.specs.declared.journal.Entry.{Entry}
 use Rattle.dso_base.specs.declared.journal.Input.{Input}
@@ -11,31 +12,31 @@ use Rattle.dso_base.specs.declared.record.Body.{Body}
 use Rattle.dso_base.specs.declared.record.Set.{Set}
 use Rattle.dso_base.specs.declared.value.ClassId.{ClassId}
 use Rattle.dso_base.specs.declared.value.Value.{Value}
-use Rattle.dso_law.specs.Settings.{has}
-use Rattle.dso_law.specs.Entries.{by_taken, by_said}
+use Rattle.dso_law.specs.Entries.{by_taken_down, by_sent_up}
 
 -- whether the object is one of the bodies
 abbrev pub is_among : ℕ → List Body → Bool
-is_among o bodies = has (λ body. eqb body.object o) bodies
+is_among o bodies = list_any (λ body. eqb body.object o) bodies
 
 -- an object that is taken becomes resident
 abbrev pub resident_by_taken : ℕ → Down → Bool → Bool
 resident_by_taken o (down.Object body) before = cond (eqb body.object o) true before
 resident_by_taken o m before = before
 
--- and so does one among the news of a record that is sent
-abbrev pub resident_by_said : ℕ → Up → Bool → Bool
-resident_by_said o (up.Commit txn) before = cond (is_among o txn.news) true before
-resident_by_said o m before = before
+-- an object among the news of a record that is sent becomes resident
+abbrev pub resident_by_sent : ℕ → Up → Bool → Bool
+resident_by_sent o (up.Commit txn) before = cond (is_among o txn.news) true before
+resident_by_sent o m before = before
 
--- a flush ends it
+-- a flush of the object ends its residency
 abbrev pub unless_flushed : ℕ → Input → Bool → Bool
 unless_flushed o (Flush x) before = cond (eqb x o) false before
 unless_flushed o input before = before
 
--- what an entry makes of it
+-- whether the object is resident after one more entry
 abbrev pub resident_after : ℕ → Entry → Bool → Bool
-resident_after o e before = unless_flushed o e.input (by_said (resident_by_said o) e.sent (by_taken (resident_by_taken o) e.input before))
+resident_after o e before = unless_flushed o e.input
+    (by_sent_up (resident_by_sent o) e.sent (by_taken_down (resident_by_taken o) e.input before))
 
 -- Resident: the latest entry that took the object, sent a record with it among the news, or is a flush of it, is there
 -- and isn't the flush.
@@ -69,14 +70,14 @@ value_by_taken o f (down.Object body) before = value_by_body o f before body
 value_by_taken o f (down.Changes sets) before = value_by_sets o f sets before
 value_by_taken o f m before = before
 
--- what a message sent makes of it
-abbrev pub value_by_said : ℕ → ℕ → Up → Option Value → Option Value
-value_by_said o f (up.Commit txn) before = value_by_sets o f txn.sets (value_by_bodies o f txn.news before)
-value_by_said o f m before = before
+-- what a message sent makes of the value held for the field
+abbrev pub value_by_sent : ℕ → ℕ → Up → Option Value → Option Value
+value_by_sent o f (up.Commit txn) before = value_by_sets o f txn.sets (value_by_bodies o f txn.news before)
+value_by_sent o f m before = before
 
--- what an entry makes of it
+-- the value held for the field after one more entry
 abbrev pub value_after : ℕ → ℕ → Entry → Option Value → Option Value
-value_after o f e before = by_said (value_by_said o f) e.sent (by_taken (value_by_taken o f) e.input before)
+value_after o f e before = by_sent_up (value_by_sent o f) e.sent (by_taken_down (value_by_taken o f) e.input before)
 
 -- The value held for a field: that given by the latest entry that took the object, sent a record with it among the
 -- news or with a set of that field, or took changes with such a set. Changes of an absent object count here and are
@@ -92,64 +93,68 @@ copy_of o f es = cond (is_resident o es) (value_held o f es) None
 -- the class and size of the last of the bodies that is of the object
 abbrev pub class_by_bodies : ℕ → List Body → Option (ClassId × ℕ) → Option (ClassId × ℕ)
 class_by_bodies o [] before = before
-class_by_bodies o (body ∷ bodies) before = class_by_bodies o bodies (cond (eqb body.object o) (Some (body.class, length body.values)) before)
+class_by_bodies o (body ∷ bodies) before = class_by_bodies o bodies
+    (cond (eqb body.object o) (Some (body.class, length body.values)) before)
 
 -- what a message taken makes of the class held for the object
 abbrev pub class_by_taken : ℕ → Down → Option (ClassId × ℕ) → Option (ClassId × ℕ)
 class_by_taken o (down.Object body) before = class_by_bodies o (body ∷ []) before
 class_by_taken o m before = before
 
--- what a message sent makes of it
-abbrev pub class_by_said : ℕ → Up → Option (ClassId × ℕ) → Option (ClassId × ℕ)
-class_by_said o (up.Commit txn) before = class_by_bodies o txn.news before
-class_by_said o m before = before
+-- what a message sent makes of the class held for the object
+abbrev pub class_by_sent : ℕ → Up → Option (ClassId × ℕ) → Option (ClassId × ℕ)
+class_by_sent o (up.Commit txn) before = class_by_bodies o txn.news before
+class_by_sent o m before = before
 
 -- the class and the size of the object, by the latest entry that took it or sent a record with it among the news
 abbrev pub class_held : ℕ → List Entry → Option (ClassId × ℕ)
 class_held o [] = None
-class_held o (e ∷ es) = by_said (class_by_said o) e.sent (by_taken (class_by_taken o) e.input (class_held o es))
+class_held o (e ∷ es) = by_sent_up (class_by_sent o) e.sent (by_taken_down (class_by_taken o) e.input (class_held o es))
 
 -- an object that is taken is no longer asked for
 abbrev pub asked_by_taken : ℕ → Down → Bool → Bool
 asked_by_taken o (down.Object body) before = cond (eqb body.object o) false before
 asked_by_taken o m before = before
 
--- it is asked for by a fault, and no longer where a record makes it resident
-abbrev pub asked_by_said : ℕ → Up → Bool → Bool
-asked_by_said o (up.Fault x) before = cond (eqb x o) true before
-asked_by_said o (up.Commit txn) before = cond (is_among o txn.news) false before
-asked_by_said o m before = before
+-- an object is asked for by a fault, and no longer where a record makes it resident
+abbrev pub asked_by_sent : ℕ → Up → Bool → Bool
+asked_by_sent o (up.Fault x) before = cond (eqb x o) true before
+asked_by_sent o (up.Commit txn) before = cond (is_among o txn.news) false before
+asked_by_sent o m before = before
 
 -- Asked: the object was asked for since it was last absent, and hasn't come.
 abbrev pub is_object_asked : ℕ → List Entry → Bool
 is_object_asked o [] = false
-is_object_asked o (e ∷ es) = by_said (asked_by_said o) e.sent (by_taken (asked_by_taken o) e.input (is_object_asked o es))
+is_object_asked o (e ∷ es) = by_sent_up (asked_by_sent o) e.sent
+    (by_taken_down (asked_by_taken o) e.input (is_object_asked o es))
 
 -- the numbers with one more, rising, each once
 abbrev pub insert_number : ℕ → List ℕ → List ℕ
 insert_number n [] = n ∷ []
-insert_number n (first ∷ rest) = cond (eqb n first) (first ∷ rest) (cond (ltb n first) (n ∷ first ∷ rest) (first ∷ insert_number n rest))
+insert_number n (first ∷ rest) = cond (eqb n first) (first ∷ rest)
+    (cond (ltb n first) (n ∷ first ∷ rest) (first ∷ insert_number n rest))
 
 -- the numbers with those of the bodies
 abbrev pub insert_objects : List Body → List ℕ → List ℕ
 insert_objects [] objects = objects
 insert_objects (body ∷ bodies) objects = insert_objects bodies (insert_number body.object objects)
 
--- the objects that came with a message taken
-abbrev pub known_by_taken : Down → List ℕ → List ℕ
-known_by_taken (down.Object body) objects = insert_number body.object objects
-known_by_taken m objects = objects
+-- the objects that were ever resident, with the one that a message taken brings
+abbrev pub ever_resident_by_taken : Down → List ℕ → List ℕ
+ever_resident_by_taken (down.Object body) objects = insert_number body.object objects
+ever_resident_by_taken m objects = objects
 
--- the objects that were published by a message sent
-abbrev pub known_by_said : Up → List ℕ → List ℕ
-known_by_said (up.Commit txn) objects = insert_objects txn.news objects
-known_by_said m objects = objects
+-- the objects that were ever resident, with those that a message sent publishes
+abbrev pub ever_resident_by_sent : Up → List ℕ → List ℕ
+ever_resident_by_sent (up.Commit txn) objects = insert_objects txn.news objects
+ever_resident_by_sent m objects = objects
 
 -- the objects that were ever resident, rising
-abbrev pub known : List Entry → List ℕ
-known [] = []
-known (e ∷ es) = by_said known_by_said e.sent (by_taken known_by_taken e.input (known es))
+abbrev pub ever_resident : List Entry → List ℕ
+ever_resident [] = []
+ever_resident (e ∷ es) = by_sent_up ever_resident_by_sent e.sent
+    (by_taken_down ever_resident_by_taken e.input (ever_resident es))
 
 -- the resident objects, rising
 abbrev pub residents : List Entry → List ℕ
-residents es = filter (λ o. is_resident o es) (known es)
+residents es = filter (λ o. is_resident o es) (ever_resident es)

@@ -1,4 +1,5 @@
 -- Which messages of a client fit, at the server that takes them. The entries are those that count.
+use Rattle.std.specs.List.{list_any, AllByRecursion}
 use Rattle.std.specs.Prelude.{ℕ, suc, ◌<◌, ◌≤◌, ◌≡◌, ◌≢◌, ◌⊎◌, Bool, true, false, eqb, ltb, Option, Some, None, List, [], ◌∷◌, ◌++◌, map, flat_map, length}
 use Rattle.dso_base.specs.declared.journal.Entry.{Entry}
 use Rattle.dso_base.specs.declared.lock.Level.TheVariants.{Read, Write}
@@ -21,14 +22,14 @@ use Rattle.dso_base.specs.declared.value.Value.TheVariants as value
 use Rattle.dso_base.specs.Block.{is_field_before}
 use Rattle.dso_base.specs.Shape.{guard_of, kind_of}
 use Rattle.dso_base.specs.Value.{Fits}
-use Rattle.dso_base.specs.Program.{is_thread}
-use Rattle.dso_law.specs.Settings.{Settings, Each, has, threads_of}
+use Rattle.dso_base.specs.Following.{is_thread}
+use Rattle.dso_law.specs.Settings.{Settings, threads_of}
 use Rattle.dso_law.specs.Copies.{is_among}
 use Rattle.dso_law.specs.FitsDown.{FitsShape}
-use Rattle.dso_law.specs.Served.{is_given, is_given_to, last_number, is_ended}
+use Rattle.dso_law.specs.ServerReadings.{is_given, is_given_to, last_number, is_ended}
 use Rattle.dso_law.specs.Store.{stored, holds_object}
-use Rattle.dso_law.specs.Serving.{leased_to, queue_of}
-use Rattle.dso_law.specs.Waking.{waiters_of}
+use Rattle.dso_law.specs.Granting.{leased_to, queue_of}
+use Rattle.dso_law.specs.ServerWaiters.{waiters_of}
 
 -- each item is in order before the next one
 abbrev pub Rises : {X : Type 0} → (X → X → Bool) → List X → Type 0
@@ -44,28 +45,29 @@ IsLock p (Mon o) es = (1 ≤ o) × (is_given o es ≡ true)
 -- a request: the client has neither a lease nor a request of the lock, and there is such a lock
 pub record FitsRequest (p : Settings) (c : ℕ) (l : LockName) (es : List Entry) : Type 0 where
   pub not_leased : leased_to c l es ≡ None
-  pub not_asked : has (λ waiter. eqb waiter.client c) (queue_of l es) ≡ false
+  pub not_asked : list_any (λ waiter. eqb waiter.client c) (queue_of l es) ≡ false
   pub lock : IsLock p l es
 
 -- each thread is named once
-abbrev pub EachOnce : List ThreadId → Type 0
-EachOnce [] = Unit {0}
-EachOnce (t ∷ threads) = (has (is_thread t) threads ≡ false) × EachOnce threads
+abbrev pub AreDistinct : List ThreadId → Type 0
+AreDistinct [] = Unit {0}
+AreDistinct (t ∷ threads) = (list_any (is_thread t) threads ≡ false) × AreDistinct threads
 
 -- the thread is one of the client's and isn't in the server's list of the lock
 abbrev pub IsNewWaiter : Settings → ℕ → LockName → List Entry → ThreadId → Type 0
-IsNewWaiter p c l es t = (has (is_thread t) (threads_of p c) ≡ true) × (has (is_thread t) (waiters_of l es) ≡ false)
+IsNewWaiter p c l es t = (list_any (is_thread t) (threads_of p c) ≡ true)
+    × (list_any (is_thread t) (waiters_of l es) ≡ false)
 
--- a return: the client has a lease of the lock; the threads are its own, each once, none in the server's list; there are
--- none where the lease is at Read
+-- a return: the client has a lease of the lock; the threads are its own, each once, none in the server's list; there
+-- are none where the lease is at Read
 pub record FitsReturn (p : Settings) (c : ℕ) (l : LockName) (threads : List ThreadId) (es : List Entry) : Type 0 where
   pub leased : leased_to c l es ≢ None
-  pub new : Each (IsNewWaiter p c l es) threads
-  pub once : EachOnce threads
+  pub new : AllByRecursion (IsNewWaiter p c l es) threads
+  pub once : AreDistinct threads
   pub none_at_read : leased_to c l es ≡ Some Read → threads ≡ []
 
--- an object published: its id was given to the client and isn't in the graph; its class isn't that of the roots, and its
--- class and values fit the shape
+-- an object published: its id was given to the client and isn't in the graph; its class isn't that of the roots, and
+-- its class and values fit the shape
 pub record FitsNews (p : Settings) (c : ℕ) (es : List Entry) (body : Body) : Type 0 where
   pub given : is_given_to c body.object es ≡ true
   pub new : stored p.shape body.object es ≡ None
@@ -79,7 +81,7 @@ FitsStored p c set (Some body) es = (set.field < length body.values)
     × (leased_to c (guard_of p.shape body.class set.object set.field) es ≡ Some Write)
     × Fits (kind_of p.shape body.class set.field) set.value
 
--- a set: the client holds the object, and so on
+-- a set: the client holds the object, and may change the field of it that is stored
 abbrev pub FitsSet : Settings → ℕ → List Entry → Set → Type 0
 FitsSet p c es set = (holds_object c set.object es ≡ true) × FitsStored p c set (stored p.shape set.object es) es
 
@@ -100,7 +102,7 @@ IsLiteral p v = Unit {0}
 
 -- a thread that was woken here is one of the client's
 abbrev pub FitsChoice : Settings → ℕ → Choice → Type 0
-FitsChoice p c (Here t) = has (is_thread t) (threads_of p c) ≡ true
+FitsChoice p c (Here t) = list_any (is_thread t) (threads_of p c) ≡ true
 FitsChoice p c choice = Unit {0}
 
 -- a notification: its lock is leased to the client at Write
@@ -117,20 +119,20 @@ FitsEnding c (ending.End fault) es = Unit {0}
 abbrev pub stored_values : Txn → List Value
 stored_values txn = flat_map (λ body. body.values) txn.news ++ map (λ set. set.value) txn.sets
 
--- a record: its number is the client's next; its thread is one of the client's and hasn't ended; and each part of it fits,
--- the objects published by rising id, the sets by rising object and field
+-- a record: its number is the client's next; its thread is one of the client's and hasn't ended; and each part of it
+-- fits, the objects published by rising id, the sets by rising object and field
 pub record FitsRecord (p : Settings) (c : ℕ) (txn : Txn) (es : List Entry) : Type 0 where
   pub number : txn.seq ≡ suc (last_number c es)
-  pub thread : has (is_thread txn.thread) (threads_of p c) ≡ true
+  pub thread : list_any (is_thread txn.thread) (threads_of p c) ≡ true
   pub going : is_ended txn.thread es ≡ false
-  pub news : Each (FitsNews p c es) txn.news
+  pub news : AllByRecursion (FitsNews p c es) txn.news
   pub news_rise : Rises (λ a b. ltb a.object b.object) txn.news
-  pub sets : Each (FitsSet p c es) txn.sets
+  pub sets : AllByRecursion (FitsSet p c es) txn.sets
   pub sets_rise : Rises is_field_before txn.sets
-  pub named : Each (IsNamed p txn.news es) (stored_values txn)
-  pub printed : Each (IsPrinted es) txn.outs
-  pub texts : Each (IsLiteral p) (stored_values txn ++ txn.outs)
-  pub notes : Each (FitsNote p c es) txn.notes
+  pub named : AllByRecursion (IsNamed p txn.news es) (stored_values txn)
+  pub printed : AllByRecursion (IsPrinted es) txn.outs
+  pub texts : AllByRecursion (IsLiteral p) (stored_values txn ++ txn.outs)
+  pub notes : AllByRecursion (FitsNote p c es) txn.notes
   pub ending : FitsEnding c txn.ending es
 
 -- Fits, at the server: the row of each message of client c. An ask for ids fits always; a fault of an object that is in

@@ -15,9 +15,9 @@ use Rattle.dso_base.specs.declared.request.Reply.{Reply}
 use Rattle.dso_base.specs.declared.request.Reply.TheVariants.{Done}
 use Rattle.dso_base.specs.declared.request.Request.{Request}
 use Rattle.dso_base.specs.declared.request.Request.TheVariants.{Enter, Resume}
-use Rattle.dso_plain.specs.Keys.{is_lock}
+use Rattle.dso_plain.specs.KeyTests.{is_lock}
 use Rattle.dso_law.specs.declared.readings.Standing.{Standing}
-use Rattle.dso_law.specs.Entries.{by_taken, by_said, by_event}
+use Rattle.dso_law.specs.Entries.{by_taken_down, by_sent_up, by_event}
 
 -- neither leased nor asked for
 abbrev pub idle : Standing
@@ -36,7 +36,7 @@ standing_down l m s = s
 
 -- what an entry of the client makes of it
 abbrev pub standing_after : LockName → Entry → Standing → Standing
-standing_after l e s = by_said (standing_up l) e.sent (by_taken (standing_down l) e.input s)
+standing_after l e s = by_sent_up (standing_up l) e.sent (by_taken_down (standing_down l) e.input s)
 
 -- how the lock stands, as the client sees it
 abbrev pub standing : LockName → List Entry → Standing
@@ -62,7 +62,7 @@ enters l (Enter k level) Done = is_lock l k
 enters l (Resume k) Done = is_lock l k
 enters l request reply = false
 
--- so does the event
+-- whether the event enters the lock, or it was entered before
 abbrev pub entered_by : LockName → Event → Bool → Bool
 entered_by l (Act thread request reply woken) before = enters l request reply || before
 entered_by l (Lost client) before = before
@@ -70,7 +70,7 @@ entered_by l (Lost client) before = before
 -- Entered: since the latest grant of the lock taken, an Enter of it was answered Done or a Resume of it was made.
 abbrev pub is_entered : LockName → List Entry → Bool
 is_entered l [] = false
-is_entered l (e ∷ es) = by_event (entered_by l) e.event (by_taken (since_grant l) e.input (is_entered l es))
+is_entered l (e ∷ es) = by_event (entered_by l) e.event (by_taken_down (since_grant l) e.input (is_entered l es))
 
 -- a recall of the lock counts until the next grant
 abbrev pub recalled_by : LockName → Down → Bool → Bool
@@ -80,7 +80,7 @@ recalled_by l m before = since_grant l m before
 -- Recalled: since the latest grant of the lock taken, a recall of it was taken.
 abbrev pub is_recalled : LockName → List Entry → Bool
 is_recalled l [] = false
-is_recalled l (e ∷ es) = by_taken (recalled_by l) e.input (is_recalled l es)
+is_recalled l (e ∷ es) = by_taken_down (recalled_by l) e.input (is_recalled l es)
 
 -- monitors stand before names, each kind by rising number
 abbrev pub is_lock_before : LockName → LockName → Bool
@@ -92,9 +92,10 @@ is_lock_before (Name n) (Name m) = ltb n m
 -- the locks with one more, rising, each once
 abbrev pub insert_lock : LockName → List LockName → List LockName
 insert_lock l [] = l ∷ []
-insert_lock l (first ∷ rest) = cond (is_lock l first) (first ∷ rest) (cond (is_lock_before l first) (l ∷ first ∷ rest) (first ∷ insert_lock l rest))
+insert_lock l (first ∷ rest) = cond (is_lock l first) (first ∷ rest)
+    (cond (is_lock_before l first) (l ∷ first ∷ rest) (first ∷ insert_lock l rest))
 
--- the lock of a grant taken
+-- the locks that were ever granted, with that of a grant taken
 abbrev pub granted_by : Down → List LockName → List LockName
 granted_by (down.Grant l level) locks = insert_lock l locks
 granted_by m locks = locks
@@ -102,7 +103,7 @@ granted_by m locks = locks
 -- the locks that were ever granted, rising
 abbrev pub granted : List Entry → List LockName
 granted [] = []
-granted (e ∷ es) = by_taken granted_by e.input (granted es)
+granted (e ∷ es) = by_taken_down granted_by e.input (granted es)
 
 -- the locks leased, rising, monitors first
 abbrev pub leased_locks : List Entry → List LockName

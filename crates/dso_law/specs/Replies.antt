@@ -16,9 +16,9 @@ use Rattle.dso_base.specs.Shape.{guard_of}
 use Rattle.dso_law.specs.Settings.{Settings}
 use Rattle.dso_law.specs.Threads.{Held, or_else, own, work_of, is_private, is_local, locks_of, hold_of}
 use Rattle.dso_law.specs.Copies.{copy_of, class_held, value_by_sets}
-use Rattle.dso_law.specs.Waits.{client_list}
+use Rattle.dso_law.specs.ClientWaiters.{client_list}
 use Rattle.dso_law.specs.Records.{next_id}
-use Rattle.dso_law.specs.Needs.{hold_level}
+use Rattle.dso_law.specs.RequestNeeds.{hold_level}
 
 -- the class and size of a body
 abbrev pub class_of_body : Body → ClassId × ℕ
@@ -68,9 +68,10 @@ module _ (p : Settings) where
 
   -- a Put into a field of an object of this class: done where the object is private, else by the field's guard
   abbrev pub put_answer : ThreadId → ℕ → ℕ → ClassId → List Entry → Reply
-  put_answer t o f class es = cond (is_private p.shape t o es) Done (put_reply (hold_level (hold_of t (guard_of p.shape class o f) es)) (locks_of t es).holds)
+  put_answer t o f class es = cond (is_private p.shape t o es) Done
+      (put_reply (hold_level (hold_of t (guard_of p.shape class o f) es)) (locks_of t es).holds)
 
-  -- so where the object is known and has the field
+  -- the answer to a Put where the object's class is known and has the field, else none
   abbrev pub answer_put : ThreadId → ℕ → ℕ → Option (ClassId × ℕ) → List Entry → Option Reply
   answer_put t o f None es = None
   answer_put t o f (Some class) es = cond (ltb f class.1) (Some (put_answer t o f class.0 es)) None
@@ -83,7 +84,8 @@ module _ (p : Settings) where
   reply_of t (Look o) es = option_map (λ class. Seen class.0 class.1) (class_known t o es)
   reply_of t (Get o f) es = option_map Val (value_in (own p.shape t o es) f (value_seen t o f es))
   reply_of t (Put o f v) es = answer_put t o f (class_known t o es) es
-  reply_of t (Enter l level) es = Some (cond (is_local p.shape t l es) Local (enter_reply level (hold_level (hold_of t l es))))
+  reply_of t (Enter l level) es = Some (cond (is_local p.shape t l es) Local
+      (enter_reply level (hold_level (hold_of t l es))))
   reply_of t (Wait l) es = Some (monitor_reply (hold_level (hold_of t l es)))
   reply_of t (Notify l) es = Some (monitor_reply (hold_level (hold_of t l es)))
   reply_of t (NotifyAll l) es = Some (monitor_reply (hold_level (hold_of t l es)))

@@ -1,4 +1,5 @@
 -- The server rule: which entry may follow the server's entries.
+use Rattle.std.specs.List.{list_any}
 use Rattle.std.specs.Prelude.{ℕ, ◌≡◌, Bool, true, false, cond, eqb, Option, Some, None, List, [], ◌∷◌, ◌++◌, filter, flat_map}
 use Rattle.dso_base.specs.declared.journal.Entry.{Entry}
 use Rattle.dso_base.specs.declared.journal.Input.{Input}
@@ -11,12 +12,12 @@ use Rattle.dso_base.specs.declared.message.Up.TheVariants as up
 use Rattle.dso_base.specs.declared.record.Body.{Body}
 use Rattle.dso_base.specs.declared.record.Set.{Set}
 use Rattle.dso_base.specs.declared.record.Txn.{Txn}
-use Rattle.dso_law.specs.Settings.{Settings, has, clients_of}
+use Rattle.dso_law.specs.Settings.{Settings, clients_of}
 use Rattle.dso_law.specs.Entries.{unsent}
-use Rattle.dso_law.specs.Served.{is_lost, counted, is_loss_due, is_break_due, next_batch}
+use Rattle.dso_law.specs.ServerReadings.{is_lost, counted, is_loss_due, is_break_due, next_batch}
 use Rattle.dso_law.specs.Store.{stored, holds_object}
-use Rattle.dso_law.specs.Serving.{serves, serves_all}
-use Rattle.dso_law.specs.Waking.{waiters_of, wakes}
+use Rattle.dso_law.specs.Granting.{serves, serves_all}
+use Rattle.dso_law.specs.ServerWaiters.{waiters_of, wakes}
 use Rattle.dso_law.specs.FitsUp.{FitsUp}
 
 -- the object to the client that asked for it
@@ -38,16 +39,17 @@ changes_to d (set ∷ sets) = ToClient d (down.Changes (set ∷ sets)) ∷ []
 abbrev pub changes_of : Settings → ℕ → Txn → List Entry → List Sent
 changes_of p c txn es = flat_map (λ d. cond (eqb d c) [] (changes_to d (sets_for d txn es))) (clients_of p)
 
--- Rows: what the server sends for a message of client c, whose entry, without what it sends, is the first of the entries.
--- Ids in batches; the object; nothing for a flush; grants and recalls for a request and a return; for a record its
--- acknowledgement, then the changes, then those it wakes.
+-- Rows: what the server sends for a message of client c, whose entry, without what it sends, is the first of the
+-- entries. Ids in batches; the object; nothing for a flush; grants and recalls for a request and a return; for a
+-- record its acknowledgement, then the changes, then those it wakes.
 abbrev pub answers : Settings → ℕ → Up → List Entry → List Sent
 answers p c up.IdAsk es = ToClient c (down.Ids (next_batch es)) ∷ []
 answers p c (up.Fault o) es = object_to c (stored p.shape o es)
 answers p c (up.Flushed o) es = []
 answers p c (up.Request l level) es = serves p l es
 answers p c (up.Return l threads) es = serves p l es
-answers p c (up.Commit txn) es = ToClient c (down.Ack txn.seq) ∷ changes_of p c txn es ++ wakes txn.notes (λ l. waiters_of l es)
+answers p c (up.Commit txn) es = ToClient c (down.Ack txn.seq) ∷ changes_of p c txn es
+    ++ wakes txn.notes (λ l. waiters_of l es)
 
 -- a message of client c that isn't lost: it fits, and is answered by its row
 pub record HeardStep (p : Settings) (c : ℕ) (m : Up) (e : Entry) (es : List Entry) : Type 0 where
@@ -61,7 +63,7 @@ HeardOrLost p c m false e es = HeardStep p c m e es
 
 -- a message taken, of a client of the cluster, where neither its loss nor a break of its connection is due
 pub record TookStep (p : Settings) (c : ℕ) (m : Up) (e : Entry) (es : List Entry) : Type 0 where
-  pub its : has (eqb c) (clients_of p) ≡ true
+  pub its : list_any (eqb c) (clients_of p) ≡ true
   pub no_loss : is_loss_due p c es ≡ false
   pub no_break : is_break_due p c es ≡ false
   pub event : e.event ≡ None
@@ -69,21 +71,21 @@ pub record TookStep (p : Settings) (c : ℕ) (m : Up) (e : Entry) (es : List Ent
 
 -- a loss, where it is due: the queues are served again
 pub record LoseStep (p : Settings) (c : ℕ) (e : Entry) (es : List Entry) : Type 0 where
-  pub its : has (eqb c) (clients_of p) ≡ true
+  pub its : list_any (eqb c) (clients_of p) ≡ true
   pub due : is_loss_due p c es ≡ true
   pub event : e.event ≡ None
   pub sends : e.sent ≡ serves_all p (unsent e ∷ counted es)
 
 -- a break of the client's connection, where it is due, sends nothing
 pub record BreakStep (p : Settings) (c : ℕ) (e : Entry) (es : List Entry) : Type 0 where
-  pub its : has (eqb c) (clients_of p) ≡ true
+  pub its : list_any (eqb c) (clients_of p) ≡ true
   pub due : is_break_due p c es ≡ true
   pub event : e.event ≡ None
   pub sends : e.sent ≡ []
 
 -- a rejoin of the client's connection sends nothing; where it may come is the connections' rule
 pub record TakenUpStep (p : Settings) (c : ℕ) (e : Entry) : Type 0 where
-  pub its : has (eqb c) (clients_of p) ≡ true
+  pub its : list_any (eqb c) (clients_of p) ≡ true
   pub event : e.event ≡ None
   pub sends : e.sent ≡ []
 

@@ -1,5 +1,5 @@
 -- What a cluster runs by, and its numbers of clients and threads.
-use Rattle.std.specs.Prelude.{ℕ, zero, suc, Bool, eqb, ◌||◌, false, List, [], ◌∷◌, ◌++◌, filter}
+use Rattle.std.specs.Prelude.{ℕ, zero, suc, eqb, List, [], ◌∷◌, ◌++◌, filter}
 use Rattle.dso_base.specs.declared.journal.Trigger.{Trigger}
 use Rattle.dso_base.specs.declared.lock.ThreadId.{ThreadId}
 use Rattle.dso_base.specs.declared.shape.Shape.{Shape}
@@ -14,15 +14,9 @@ pub record Settings : Type 0 where
   pub losses : List Trigger
   pub breaks : List Trigger
 
--- whether some item passes the test
-abbrev pub has : {X : Type 0} → (X → Bool) → List X → Bool
-has test [] = false
-has test (x ∷ xs) = test x || has test xs
-
--- the claim for each item of the list
-abbrev pub Each : {X : Type 0} → (X → Type 0) → List X → Type 0
-Each P [] = Unit {0}
-Each P (x ∷ xs) = P x × Each P xs
+-- how many ids are in a batch
+abbrev pub batch_size : ℕ
+batch_size = 256
 
 -- the numbers from 1 to n, rising
 abbrev pub up_to : ℕ → List ℕ

@@ -10,7 +10,7 @@ use Rattle.dso_base.specs.declared.record.Set.{Set}
 use Rattle.dso_base.specs.declared.shape.Shape.{Shape}
 use Rattle.dso_base.specs.declared.value.ClassId.TheVariants as class
 use Rattle.dso_base.specs.declared.value.Value.TheVariants as value
-use Rattle.dso_law.specs.Entries.{by_heard}
+use Rattle.dso_law.specs.Entries.{by_taken_up}
 use Rattle.dso_law.specs.Copies.{is_among}
 
 -- object 0 before any record: of class Roots, each root null
@@ -40,7 +40,7 @@ body_by o c m before = before
 -- Store: the body of an object, by the records taken, with the latest value of each field.
 abbrev pub stored : Shape → ℕ → List Entry → Option Body
 stored shape o [] = cond (eqb o 0) (Some (opening_roots shape)) None
-stored shape o (e ∷ es) = by_heard (body_by o) e.input (stored shape o es)
+stored shape o (e ∷ es) = by_taken_up (body_by o) e.input (stored shape o es)
 
 -- what a message of the client makes of its holding
 abbrev pub held_by_message : ℕ → Up → Bool → Bool
@@ -55,8 +55,8 @@ held_by c o (TookUp d m) before = cond (eqb c d) (held_by_message o m before) be
 held_by c o (Lose d) before = cond (eqb c d) false before
 held_by c o input before = before
 
--- Holds: the latest of the client's faults and flushes of the object and its records with it among the news is there and
--- isn't the flush, and the client isn't lost.
+-- Holds: the latest of the client's faults and flushes of the object and its records with it among the news is there
+-- and isn't the flush, and the client isn't lost.
 abbrev pub holds_object : ℕ → ℕ → List Entry → Bool
 holds_object c o [] = false
 holds_object c o (e ∷ es) = held_by c o e.input (holds_object c o es)

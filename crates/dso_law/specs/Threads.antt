@@ -1,4 +1,5 @@
 -- What a client's entries tell of one of its threads: its locks, its blocks, its own objects.
+use Rattle.std.specs.List.{list_any}
 use Rattle.std.specs.Prelude.{ℕ, Bool, true, false, cond, not, ◌&&◌, ◌||◌, is_some, Option, Some, None, List, [], ◌∷◌, ◌++◌, filter}
 use Rattle.dso_base.specs.declared.journal.Entry.{Entry}
 use Rattle.dso_base.specs.declared.lock.Level.TheVariants.{Write}
@@ -17,11 +18,10 @@ use Rattle.dso_base.specs.declared.request.Request.TheVariants.{Look, Enter, Exi
 use Rattle.dso_base.specs.declared.shape.Shape.{Shape}
 use Rattle.dso_base.specs.declared.value.ClassId.{ClassId}
 use Rattle.dso_base.specs.Block.{Work, start, body_in, worked}
-use Rattle.dso_plain.specs.Keys.{is_lock}
+use Rattle.dso_plain.specs.KeyTests.{is_lock}
 use Rattle.dso_plain.specs.State.{Hold}
 use Rattle.dso_plain.specs.After.{entered, exited, count_of}
 use Rattle.dso_plain.specs.History.{is_act_of}
-use Rattle.dso_law.specs.Settings.{has}
 use Rattle.dso_law.specs.Entries.{by_event, events_in}
 
 -- a lock that a thread holds, and how
@@ -45,14 +45,15 @@ hold_in l [] = None
 hold_in l (held ∷ holds) = cond (is_lock l held.lock) (Some held.hold) (hold_in l holds)
 
 -- the holds with the lock held so
-abbrev pub hold_so : LockName → Hold → List Held → List Held
-hold_so l hold [] = record { lock = l; hold = hold } ∷ []
-hold_so l hold (held ∷ holds) = cond (is_lock l held.lock) (record { lock = l; hold = hold } ∷ holds) (held ∷ hold_so l hold holds)
+abbrev pub set_hold : LockName → Hold → List Held → List Held
+set_hold l hold [] = record { lock = l; hold = hold } ∷ []
+set_hold l hold (held ∷ holds) = cond (is_lock l held.lock) (record { lock = l; hold = hold } ∷ holds)
+    (held ∷ set_hold l hold holds)
 
 -- the holds with the lock held as said, or no longer
 abbrev pub with_hold : LockName → Option Hold → List Held → List Held
 with_hold l None holds = filter (λ held. not (is_lock l held.lock)) holds
-with_hold l (Some hold) holds = hold_so l hold holds
+with_hold l (Some hold) holds = set_hold l hold holds
 
 -- a wait gives the whole hold up and keeps its count
 abbrev pub waiting_on : LockName → Locks → Locks
@@ -64,11 +65,16 @@ waiting_on l locks = record {
 -- a waiting thread that goes on holds the lock at Write with the count it had
 abbrev pub resumed : LockName → Option Waiting → Locks → Locks
 resumed l None locks = locks
-resumed l (Some waiting) locks = record { holds = with_hold l (Some (record { level = Write; count = waiting.count })) locks.holds; waiting = None }
+resumed l (Some waiting) locks = record {
+  holds = with_hold l (Some (record { level = Write; count = waiting.count })) locks.holds;
+  waiting = None;
+}
 
 -- what an act makes of its thread's locks: an Enter answered Done, an Exit, a Wait answered Done, a Resume
 abbrev pub locks_by : Request → Reply → Locks → Locks
-locks_by (Enter l level) Done locks = record locks { holds = with_hold l (entered level (hold_in l locks.holds)) locks.holds }
+locks_by (Enter l level) Done locks = record locks {
+  holds = with_hold l (entered level (hold_in l locks.holds)) locks.holds;
+}
 locks_by (Exit l) Done locks = record locks { holds = with_hold l (exited (hold_in l locks.holds)) locks.holds }
 locks_by (Wait l) Done locks = waiting_on l locks
 locks_by (Resume l) Done locks = resumed l locks.waiting locks
@@ -76,7 +82,8 @@ locks_by request reply locks = locks
 
 -- what an event makes of the locks of thread t
 abbrev pub locks_after : ThreadId → Event → Locks → Locks
-locks_after t (Act thread request reply woken) locks = cond (is_act_of t (Act thread request reply woken)) (locks_by request reply locks) locks
+locks_after t (Act thread request reply woken) locks = cond (is_act_of t (Act thread request reply woken))
+    (locks_by request reply locks) locks
 locks_after t (Lost client) locks = locks
 
 -- the thread's locks after its events
@@ -112,16 +119,21 @@ block_after event locks block = cond (is_some (ending_of event locks)) [] (block
 -- the open block of a thread: its events after its last ending, the first of them first
 abbrev pub open_block : ThreadId → List Entry → List Event
 open_block t [] = []
-open_block t (e ∷ es) = by_event (λ event block. cond (is_act_of t event) (block_after event (locks_of t es) block) block) e.event (open_block t es)
+open_block t (e ∷ es) = by_event (λ event block. cond (is_act_of t event)
+    (block_after event (locks_of t es) block) block) e.event (open_block t es)
 
 -- the private objects at the next block's start: at an ending those left by the block that it ends
 abbrev pub privates_after : Shape → Event → Locks → List Event → List Body → List Body
-privates_after shape event locks block privates = cond (is_some (ending_of event locks)) (worked shape (block ++ event ∷ []) (start privates)).privates privates
+privates_after shape event locks block privates = cond (is_some (ending_of event locks))
+    (worked shape (block ++ event ∷ []) (start privates)).privates privates
 
 -- the thread's private objects as they stood before its open block
 abbrev pub privates_before : Shape → ThreadId → List Entry → List Body
 privates_before shape t [] = []
-privates_before shape t (e ∷ es) = by_event (λ event privates. cond (is_act_of t event) (privates_after shape event (locks_of t es) (open_block t es) privates) privates) e.event (privates_before shape t es)
+privates_before shape t (e ∷ es) = by_event
+    (λ event privates. cond (is_act_of t event)
+    (privates_after shape event (locks_of t es) (open_block t es) privates) privates) e.event
+    (privates_before shape t es)
 
 -- the work that the thread has in hand: its private objects, and what it did in its open block
 abbrev pub work_of : Shape → ThreadId → List Entry → Work
@@ -152,7 +164,8 @@ seen_by request reply before = before
 
 -- what an event of thread t makes of its latest Look
 abbrev pub seen_after : ThreadId → Event → Option (ClassId × ℕ) → Option (ClassId × ℕ)
-seen_after t (Act thread request reply woken) before = cond (is_act_of t (Act thread request reply woken)) (seen_by request reply before) before
+seen_after t (Act thread request reply woken) before = cond (is_act_of t (Act thread request reply woken))
+    (seen_by request reply before) before
 seen_after t (Lost client) before = before
 
 -- the class and the size that the thread's latest Look saw
@@ -172,7 +185,7 @@ ends_thread (Lost client) = false
 
 -- whether one of the thread's events is its end
 abbrev pub has_end_event : ThreadId → List Entry → Bool
-has_end_event t es = has ends_thread (events_in t es)
+has_end_event t es = list_any ends_thread (events_in t es)
 
 -- whether the thread has ended after one more event
 abbrev pub ended_after : ThreadId → Event → Bool → Bool

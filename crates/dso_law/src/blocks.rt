@@ -1,11 +1,12 @@
 //! The open block of a thread, as its client's entries tell it.
-ghost use Rattle.std.specs.Prelude.{◌≡◌, [], ◌∷◌, ◌++◌, reverse, IfOk};
+ghost use Rattle.std.specs.Prelude.{◌≡◌, [], ◌∷◌, ◌++◌, IfOk};
 ghost use Rattle.dso_base.specs.declared.journal.Node.TheVariants.{Client};
 ghost use Rattle.dso_base.specs.Block.{txn_of};
 ghost use Rattle.dso_law.specs.Entries.{entries_of};
 ghost use Rattle.dso_law.specs.Threads.{open_block, privates_before, work_of};
-ghost use Rattle.dso_law.specs.InHand.{in_hand, work_on, work_by_entry};
+ghost use Rattle.dso_law.specs.WorkInHand.{in_hand, work_on, work_by_entry};
 
+use crate::entries::Entries;
 use crate::events::is_act_of;
 use crate::readings::is_client;
 use crate::threads::{Locks, ending_of};
@@ -59,17 +60,17 @@ fn work_by_entry(
 pub fn work_of(
     alloc: Global,
     shape: &Shape,
-    entries: &[Entry],
+    entries: &Entries<'_>,
     thread: ThreadId,
 ) -> Result<Work, NoMemory>
-    ensures { IfOk result (λ work. in_hand work ≡ work_of shape.now thread (entries_of (Client thread.client) (reverse entries.now))) }
+    ensures { IfOk result (λ work. in_hand work ≡ work_of shape.now thread (entries_of (Client thread.client) entries.now)) }
 {
     let mut locks = Locks::new(alloc);
     let mut work = start(alloc, Items::new(alloc));
-    for entry in entries {
+    for entry in entries.oldest_first() {
         if is_client(entry.node, thread.client) {
             work = work_by_entry(alloc, shape, thread, entry, &locks, work)?;
-            locks.take(entry, thread)?;
+            locks.apply(entry, thread)?;
         }
     }
     Ok(work)
@@ -82,11 +83,11 @@ pub fn record_of(
     shape: &Shape,
     seq: u64,
     thread: ThreadId,
-    entries: &[Entry],
+    entries: &Entries<'_>,
     event: &Event,
     ending: Ending,
 ) -> Result<Txn, NoMemory>
-    ensures { IfOk result (λ txn. let own = entries_of (Client thread.client) (reverse entries.now) in
+    ensures { IfOk result (λ txn. let own = entries_of (Client thread.client) entries.now in
         txn ≡ txn_of shape.now seq thread (privates_before shape.now thread own) (open_block thread own ++ event.now ∷ []) ending) }
 {
     let before = work_of(alloc, shape, entries, thread)?;

@@ -1,30 +1,31 @@
-ghost use Rattle.std.specs.Prelude.{◌≡◌, [], ◌∷◌, reverse};
+ghost use Rattle.std.specs.Prelude.{◌≡◌, [], ◌∷◌};
 ghost use Rattle.dso_base.specs.declared.journal.Node.TheVariants.{Client};
-ghost use Rattle.dso_law.specs.Entries.{entries_of, by_taken, by_said, said};
-ghost use Rattle.dso_law.specs.Copies.{copy_of, is_among, is_resident, resident_by_taken, resident_by_said, resident_after, unless_flushed, value_held, value_by_body, value_by_bodies, value_by_set, value_by_sets, value_by_taken, value_by_said, value_after, class_held, class_by_bodies, class_by_taken, class_by_said, is_object_asked, asked_by_taken, asked_by_said};
+ghost use Rattle.dso_law.specs.Entries.{newest_first, entries_of, by_taken_down, by_sent_up, one_sent_up};
+ghost use Rattle.dso_law.specs.Copies.{copy_of, is_among, is_resident, resident_by_taken, resident_by_sent, resident_after, unless_flushed, value_held, value_by_body, value_by_bodies, value_by_set, value_by_sets, value_by_taken, value_by_sent, value_after, class_held, class_by_bodies, class_by_taken, class_by_sent, is_object_asked, asked_by_taken, asked_by_sent};
 
 use crate::bodies::has_body;
+use crate::entries::Entries;
 use crate::readings::is_client;
 use dso_base::{Body, ClassId, Down, Entry, Input, Journal, Sent, Set, Up, Value};
 
 /// The client's copy of an object's field after a journal, None exactly where it has none. It takes no memory.
 pub fn copy_of(journal: &Journal, client: u8, object: u64, field: u32) -> Option<Value>
-    ensures { result ≡ copy_of object field (entries_of (Client client) (reverse journal.now.entries)) }
+    ensures { result ≡ copy_of object field (entries_of (Client client) (newest_first journal.now)) }
 {
-    let entries = journal.entries.as_slice();
-    if is_resident(entries, client, object) {
-        value_held(entries, client, object, field)
+    let entries = Entries::new(journal.entries.as_slice());
+    if is_resident(&entries, client, object) {
+        value_held(&entries, client, object, field)
     } else {
         None
     }
 }
 
 /// Whether the object is resident with the client after these entries. It takes no memory.
-pub fn is_resident(entries: &[Entry], client: u8, object: u64) -> bool
-    ensures { result ≡ is_resident object (entries_of (Client client) (reverse entries.now)) }
+pub fn is_resident(entries: &Entries<'_>, client: u8, object: u64) -> bool
+    ensures { result ≡ is_resident object (entries_of (Client client) entries.now) }
 {
     let mut resident = false;
-    for entry in entries {
+    for entry in entries.oldest_first() {
         if is_client(entry.node, client) {
             resident = resident_after(entry, object, resident);
         }
@@ -34,11 +35,11 @@ pub fn is_resident(entries: &[Entry], client: u8, object: u64) -> bool
 
 /// The value that the client holds for an object's field after these entries, None exactly where it holds none. It
 /// counts whether the object is resident or not. It takes no memory.
-pub fn value_held(entries: &[Entry], client: u8, object: u64, field: u32) -> Option<Value>
-    ensures { result ≡ value_held object field (entries_of (Client client) (reverse entries.now)) }
+pub fn value_held(entries: &Entries<'_>, client: u8, object: u64, field: u32) -> Option<Value>
+    ensures { result ≡ value_held object field (entries_of (Client client) entries.now) }
 {
     let mut value = None;
-    for entry in entries {
+    for entry in entries.oldest_first() {
         if is_client(entry.node, client) {
             value = value_after(entry, object, field, value);
         }
@@ -48,11 +49,11 @@ pub fn value_held(entries: &[Entry], client: u8, object: u64, field: u32) -> Opt
 
 /// The class of an object and how many values it has, as the client holds them after these entries; None exactly where
 /// the object never was resident. It takes no memory.
-pub fn class_held(entries: &[Entry], client: u8, object: u64) -> Option<(ClassId, usize)>
-    ensures { result ≡ class_held object (entries_of (Client client) (reverse entries.now)) }
+pub fn class_held(entries: &Entries<'_>, client: u8, object: u64) -> Option<(ClassId, usize)>
+    ensures { result ≡ class_held object (entries_of (Client client) entries.now) }
 {
     let mut class = None;
-    for entry in entries {
+    for entry in entries.oldest_first() {
         if is_client(entry.node, client) {
             class = class_after(entry, object, class);
         }
@@ -61,11 +62,11 @@ pub fn class_held(entries: &[Entry], client: u8, object: u64) -> Option<(ClassId
 }
 
 /// Whether the client asked for the object and it hasn't come, after these entries. It takes no memory.
-pub fn is_object_asked(entries: &[Entry], client: u8, object: u64) -> bool
-    ensures { result ≡ is_object_asked object (entries_of (Client client) (reverse entries.now)) }
+pub fn is_object_asked(entries: &Entries<'_>, client: u8, object: u64) -> bool
+    ensures { result ≡ is_object_asked object (entries_of (Client client) entries.now) }
 {
     let mut is_asked = false;
-    for entry in entries {
+    for entry in entries.oldest_first() {
         if is_client(entry.node, client) {
             is_asked = asked_after(entry, object, is_asked);
         }
@@ -93,7 +94,7 @@ fn resident_after(entry: &Entry, object: u64, before: bool) -> bool
 
 /// What the message that an entry takes makes of the residency.
 fn resident_by_taken(input: &Input, object: u64, before: bool) -> bool
-    ensures { result ≡ by_taken (resident_by_taken object) input.now before }
+    ensures { result ≡ by_taken_down (resident_by_taken object) input.now before }
 {
     match input {
         Input::TookDown(Down::Object(body)) => body.object == object || before,
@@ -103,7 +104,7 @@ fn resident_by_taken(input: &Input, object: u64, before: bool) -> bool
 
 /// What a message sent makes of the residency.
 fn resident_by_sent(sent: &Sent, object: u64, before: bool) -> bool
-    ensures { result ≡ said (resident_by_said object) before sent.now }
+    ensures { result ≡ one_sent_up (resident_by_sent object) before sent.now }
 {
     match sent {
         Sent::ToServer(Up::Commit(txn)) => is_among(txn.news.as_slice(), object) || before,
@@ -134,7 +135,7 @@ fn value_after(entry: &Entry, object: u64, field: u32, before: Option<Value>) ->
 
 /// What the message that an entry takes makes of the value.
 fn value_by_taken(input: &Input, object: u64, field: u32, before: Option<Value>) -> Option<Value>
-    ensures { result ≡ by_taken (value_by_taken object field) input.now before }
+    ensures { result ≡ by_taken_down (value_by_taken object field) input.now before }
 {
     match input {
         Input::TookDown(Down::Object(body)) => value_by_body(body, object, field, before),
@@ -147,7 +148,7 @@ fn value_by_taken(input: &Input, object: u64, field: u32, before: Option<Value>)
 
 /// What a message sent makes of the value.
 fn value_by_sent(sent: &Sent, object: u64, field: u32, before: Option<Value>) -> Option<Value>
-    ensures { result ≡ said (value_by_said object field) before sent.now }
+    ensures { result ≡ one_sent_up (value_by_sent object field) before sent.now }
 {
     match sent {
         Sent::ToServer(Up::Commit(txn)) => {
@@ -199,7 +200,7 @@ fn class_after(
     object: u64,
     before: Option<(ClassId, usize)>,
 ) -> Option<(ClassId, usize)>
-    ensures { result ≡ by_said (class_by_said object) entry.now.sent (by_taken (class_by_taken object) entry.now.input before) }
+    ensures { result ≡ by_sent_up (class_by_sent object) entry.now.sent (by_taken_down (class_by_taken object) entry.now.input before) }
 {
     let mut class = class_by_taken(&entry.input, object, before);
     for sent in entry.sent.as_slice() {
@@ -214,7 +215,7 @@ fn class_by_taken(
     object: u64,
     before: Option<(ClassId, usize)>,
 ) -> Option<(ClassId, usize)>
-    ensures { result ≡ by_taken (class_by_taken object) input.now before }
+    ensures { result ≡ by_taken_down (class_by_taken object) input.now before }
 {
     match input {
         Input::TookDown(Down::Object(body)) => class_by_body(body, object, before),
@@ -228,7 +229,7 @@ fn class_by_sent(
     object: u64,
     before: Option<(ClassId, usize)>,
 ) -> Option<(ClassId, usize)>
-    ensures { result ≡ said (class_by_said object) before sent.now }
+    ensures { result ≡ one_sent_up (class_by_sent object) before sent.now }
 {
     match sent {
         Sent::ToServer(Up::Commit(txn)) => class_by_bodies(txn.news.as_slice(), object, before),
@@ -268,7 +269,7 @@ fn class_by_bodies(
 
 /// Whether the object is asked for after one more entry of the client.
 fn asked_after(entry: &Entry, object: u64, before: bool) -> bool
-    ensures { result ≡ by_said (asked_by_said object) entry.now.sent (by_taken (asked_by_taken object) entry.now.input before) }
+    ensures { result ≡ by_sent_up (asked_by_sent object) entry.now.sent (by_taken_down (asked_by_taken object) entry.now.input before) }
 {
     let mut is_asked = asked_by_taken(&entry.input, object, before);
     for sent in entry.sent.as_slice() {
@@ -279,7 +280,7 @@ fn asked_after(entry: &Entry, object: u64, before: bool) -> bool
 
 /// What the message that an entry takes makes of whether the object is asked for.
 fn asked_by_taken(input: &Input, object: u64, before: bool) -> bool
-    ensures { result ≡ by_taken (asked_by_taken object) input.now before }
+    ensures { result ≡ by_taken_down (asked_by_taken object) input.now before }
 {
     match input {
         Input::TookDown(Down::Object(body)) => body.object != object && before,
@@ -289,7 +290,7 @@ fn asked_by_taken(input: &Input, object: u64, before: bool) -> bool
 
 /// What a message sent makes of whether the object is asked for.
 fn asked_by_sent(sent: &Sent, object: u64, before: bool) -> bool
-    ensures { result ≡ said (asked_by_said object) before sent.now }
+    ensures { result ≡ one_sent_up (asked_by_sent object) before sent.now }
 {
     match sent {
         Sent::ToServer(Up::Fault(wanted)) => *wanted == object || before,

@@ -1,21 +1,26 @@
-ghost use Rattle.std.specs.Prelude.{◌≡◌, IfOk, OnOk, reverse};
+ghost use Rattle.std.specs.Prelude.{◌≡◌, IfOk, OnOk};
 ghost use Rattle.dso_base.specs.declared.journal.Node.TheVariants.{Client};
-ghost use Rattle.dso_base.specs.Program.{is_thread};
+ghost use Rattle.dso_base.specs.Following.{is_thread};
 ghost use Rattle.dso_plain.specs.History.{is_act_of};
-ghost use Rattle.dso_law.specs.Entries.{entries_of, by_event, event_of, events_in};
+ghost use Rattle.dso_law.specs.Entries.{entries_of, by_event, add_event, events_in};
 ghost use Rattle.dso_law.specs.Threads.{seen_by, seen_after, last_seen, ended_after, has_end_event};
 
+use crate::entries::Entries;
 use crate::readings::is_client;
 use dso_base::{ClassId, Entry, Event, NoMemory, Reply, Request, ThreadId};
 use std::alloc::Global;
 
 /// The events of a thread in the entries, the first of them first. `NoMemory` is answered only where an allocation
 /// was refused.
-pub fn events_in(alloc: Global, entries: &[Entry], thread: ThreadId) -> Result<Vec<Event>, NoMemory>
-    ensures { IfOk result (λ events. events.items ≡ events_in thread (entries_of (Client thread.client) (reverse entries.now))) }
+pub fn events_in(
+    alloc: Global,
+    entries: &Entries<'_>,
+    thread: ThreadId,
+) -> Result<Vec<Event>, NoMemory>
+    ensures { IfOk result (λ events. events.items ≡ events_in thread (entries_of (Client thread.client) entries.now)) }
 {
     let mut events = Vec::new(alloc);
-    for entry in entries {
+    for entry in entries.oldest_first() {
         if is_client(entry.node, thread.client) {
             add_event(&mut events, &entry.event, thread)?;
         }
@@ -24,11 +29,11 @@ pub fn events_in(alloc: Global, entries: &[Entry], thread: ThreadId) -> Result<V
 }
 
 /// The class and the size that the thread's latest look saw, None exactly where it saw none. It takes no memory.
-pub fn last_seen(entries: &[Entry], thread: ThreadId) -> Option<(ClassId, usize)>
-    ensures { result ≡ last_seen thread (entries_of (Client thread.client) (reverse entries.now)) }
+pub fn last_seen(entries: &Entries<'_>, thread: ThreadId) -> Option<(ClassId, usize)>
+    ensures { result ≡ last_seen thread (entries_of (Client thread.client) entries.now) }
 {
     let mut seen = None;
-    for entry in entries {
+    for entry in entries.oldest_first() {
         if is_client(entry.node, thread.client) {
             seen = seen_after(&entry.event, thread, seen);
         }
@@ -37,11 +42,11 @@ pub fn last_seen(entries: &[Entry], thread: ThreadId) -> Option<(ClassId, usize)
 }
 
 /// Whether one of the thread's events in the entries is its end. It takes no memory.
-pub fn has_ended(entries: &[Entry], thread: ThreadId) -> bool
-    ensures { result ≡ has_end_event thread (entries_of (Client thread.client) (reverse entries.now)) }
+pub fn has_ended(entries: &Entries<'_>, thread: ThreadId) -> bool
+    ensures { result ≡ has_end_event thread (entries_of (Client thread.client) entries.now) }
 {
     let mut has_ended = false;
-    for entry in entries {
+    for entry in entries.oldest_first() {
         if is_client(entry.node, thread.client) {
             has_ended = ended_after(&entry.event, thread, has_ended);
         }
@@ -72,7 +77,7 @@ fn add_event(
     event: &Option<Event>,
     thread: ThreadId,
 ) -> Result<(), NoMemory>
-    ensures { OnOk result (events.new.items ≡ by_event (event_of thread) event.now events.old.items) }
+    ensures { OnOk result (events.new.items ≡ by_event (add_event thread) event.now events.old.items) }
 {
     if let Some(event) = event {
         if is_act_of(event, thread) {

@@ -1,29 +1,30 @@
-ghost use Rattle.std.specs.Prelude.{◌≡◌, reverse};
+ghost use Rattle.std.specs.Prelude.{◌≡◌};
 ghost use Rattle.dso_base.specs.declared.journal.Node.TheVariants.{Client};
-ghost use Rattle.dso_plain.specs.Keys.{is_lock};
-ghost use Rattle.dso_law.specs.Entries.{entries_of, by_taken, by_event, said};
+ghost use Rattle.dso_plain.specs.KeyTests.{is_lock};
+ghost use Rattle.dso_law.specs.Entries.{newest_first, entries_of, by_taken_down, by_event, one_sent_up};
 ghost use Rattle.dso_law.specs.Leases.{leased, standing, standing_up, standing_down, standing_after, is_entered, enters, entered_by, since_grant, is_recalled, recalled_by};
 
 use crate::Standing;
+use crate::entries::Entries;
 use crate::readings::is_client;
 use dso_base::{Down, Entry, Event, Input, Journal, Level, LockName, Reply, Request, Sent, Up};
 
 /// The lease that the client has of the lock after a journal, None exactly where it has none. It takes no memory.
 pub fn leased(journal: &Journal, client: u8, lock: LockName) -> Option<Level>
-    ensures { result ≡ leased lock (entries_of (Client client) (reverse journal.now.entries)) }
+    ensures { result ≡ leased lock (entries_of (Client client) (newest_first journal.now)) }
 {
-    standing(journal.entries.as_slice(), client, lock).lease
+    standing(&Entries::new(journal.entries.as_slice()), client, lock).lease
 }
 
 /// How the lock stands with the client after these entries. It takes no memory.
-pub fn standing(entries: &[Entry], client: u8, lock: LockName) -> Standing
-    ensures { result ≡ standing lock (entries_of (Client client) (reverse entries.now)) }
+pub fn standing(entries: &Entries<'_>, client: u8, lock: LockName) -> Standing
+    ensures { result ≡ standing lock (entries_of (Client client) entries.now) }
 {
     let mut standing = Standing {
         lease: None,
         is_asked: false,
     };
-    for entry in entries {
+    for entry in entries.oldest_first() {
         if is_client(entry.node, client) {
             standing = standing_after(entry, lock, standing);
         }
@@ -32,11 +33,11 @@ pub fn standing(entries: &[Entry], client: u8, lock: LockName) -> Standing
 }
 
 /// Whether a thread of the client entered the lock since it was last granted, after these entries. It takes no memory.
-pub fn is_entered(entries: &[Entry], client: u8, lock: LockName) -> bool
-    ensures { result ≡ is_entered lock (entries_of (Client client) (reverse entries.now)) }
+pub fn is_entered(entries: &Entries<'_>, client: u8, lock: LockName) -> bool
+    ensures { result ≡ is_entered lock (entries_of (Client client) entries.now) }
 {
     let mut entered = false;
-    for entry in entries {
+    for entry in entries.oldest_first() {
         if is_client(entry.node, client) {
             let granted = since_grant(&entry.input, lock, entered);
             entered = entered_by(&entry.event, lock, granted);
@@ -46,11 +47,11 @@ pub fn is_entered(entries: &[Entry], client: u8, lock: LockName) -> bool
 }
 
 /// Whether the lock was recalled of the client since it was last granted, after these entries. It takes no memory.
-pub fn is_recalled(entries: &[Entry], client: u8, lock: LockName) -> bool
-    ensures { result ≡ is_recalled lock (entries_of (Client client) (reverse entries.now)) }
+pub fn is_recalled(entries: &Entries<'_>, client: u8, lock: LockName) -> bool
+    ensures { result ≡ is_recalled lock (entries_of (Client client) entries.now) }
 {
     let mut recalled = false;
-    for entry in entries {
+    for entry in entries.oldest_first() {
         if is_client(entry.node, client) {
             recalled = recalled_by(&entry.input, lock, recalled);
         }
@@ -82,7 +83,7 @@ fn standing_after(entry: &Entry, lock: LockName, before: Standing) -> Standing
 
 /// What the message that an entry takes makes of how the lock stands.
 fn standing_by_taken(input: &Input, lock: LockName, before: Standing) -> Standing
-    ensures { result ≡ by_taken (standing_down lock) input.now before }
+    ensures { result ≡ by_taken_down (standing_down lock) input.now before }
 {
     match input {
         Input::TookDown(Down::Grant(name, level)) => if is_lock(lock, *name) {
@@ -99,7 +100,7 @@ fn standing_by_taken(input: &Input, lock: LockName, before: Standing) -> Standin
 
 /// What a message sent makes of how the lock stands.
 fn standing_by_sent(sent: &Sent, lock: LockName, before: Standing) -> Standing
-    ensures { result ≡ said (standing_up lock) before sent.now }
+    ensures { result ≡ one_sent_up (standing_up lock) before sent.now }
 {
     match sent {
         Sent::ToServer(Up::Request(name, _)) => if is_lock(lock, *name) {
@@ -124,7 +125,7 @@ fn standing_by_sent(sent: &Sent, lock: LockName, before: Standing) -> Standing
 
 /// A grant of the lock begins anew.
 fn since_grant(input: &Input, lock: LockName, before: bool) -> bool
-    ensures { result ≡ by_taken (since_grant lock) input.now before }
+    ensures { result ≡ by_taken_down (since_grant lock) input.now before }
 {
     match input {
         Input::TookDown(Down::Grant(name, _)) => !is_lock(lock, *name) && before,
@@ -155,7 +156,7 @@ fn enters(request: Request, reply: Reply, lock: LockName) -> bool
 
 /// What the message that an entry takes makes of whether the lock is recalled.
 fn recalled_by(input: &Input, lock: LockName, before: bool) -> bool
-    ensures { result ≡ by_taken (recalled_by lock) input.now before }
+    ensures { result ≡ by_taken_down (recalled_by lock) input.now before }
 {
     match input {
         Input::TookDown(Down::Recall(name)) => is_lock(lock, *name) || before,

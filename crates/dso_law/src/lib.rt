@@ -7,6 +7,7 @@ mod blocks;
 mod bodies;
 mod channels;
 mod copies;
+mod entries;
 mod events;
 mod ids;
 pub mod laws;
@@ -15,16 +16,13 @@ mod opening;
 mod publish;
 mod readings;
 mod store;
-#[cfg(test)]
-mod tests;
 mod threads;
 mod work;
-#[cfg(test)]
-mod work_tests;
 
 pub use blocks::{record_of, work_of};
 pub use channels::{first_down, first_up, last_clock};
 pub use copies::{class_held, copy_of, is_object_asked, is_resident, value_by_sets, value_held};
+pub use entries::Entries;
 pub use events::{events_in, has_ended, last_seen};
 pub use ids::{is_batch_asked, next_id, records};
 pub use leases::{is_entered, is_recalled, leased, standing};

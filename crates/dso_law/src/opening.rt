@@ -35,7 +35,7 @@ fn opening_value(kind: Kind) -> Value
 }
 
 /// The opening values of the first fields of the class.
-#[tactic(auto, using(crate::proofs::NewObjects::opening_more))]
+#[tactic(auto, using(crate::proofs::client::OpeningValues::opening_more))]
 fn opening_values(
     alloc: Global,
     shape: &Shape,

@@ -1,89 +1,87 @@
 //! Publishing: the private objects of a thread that are found from a value go to those published.
-ghost use Rattle.std.specs.Prelude.{ℕ, ◌≡◌, not, filter, OnOk, IfOk};
-ghost use Rattle.dso_base.specs.Block.{body_in, is_published, publish};
-ghost use Rattle.dso_law.specs.Publishing.{is_listed, with_found, with_named, with_all_named, with_body};
-ghost use Rattle.dso_law.specs.InHand.{in_hand};
+ghost use Rattle.std.specs.Prelude.{ℕ, ◌≡◌, not, filter, is_some, map, [], IfOk};
+ghost use Rattle.std.specs.Ordering.{nat_cmp};
+ghost use Rattle.std.specs.BTreeSet.{contains};
+ghost use Rattle.dso_base.specs.Block.{body_in, body_names, is_published, publish};
+ghost use Rattle.dso_lookup.proofs.Listed.{body_listed};
+ghost use Rattle.dso_law.specs.Publishing.{with_references};
+ghost use Rattle.dso_law.specs.WorkInHand.{in_hand};
 
 use crate::bodies::{body_in, has_body, insert_bodies};
 use crate::work::Work;
 use dso_base::{Body, Items, NoMemory, Value};
+use dso_lookup::{PrivateObjects, reached_from};
 use std::alloc::Global;
+use std::collections::BTreeSet;
 
-/// Whether the object is in the list.
-fn is_listed(objects: &[u64], object: u64) -> bool
-    ensures { result ≡ is_listed object objects.now }
-{
-    objects.contains(&object)
+/// The private objects of a thread, as its work has them.
+#[derive(Drop)]
+struct PrivateBodies<'a> {
+    bodies: &'a [Body],
 }
 
-/// Adds the object, if it is private and not in the list.
-fn add_found(privates: &[Body], object: u64, found: &mut Vec<u64>) -> Result<(), NoMemory>
-    ensures { OnOk result (found.new.items ≡ with_found privates.now object found.old.items) }
-{
-    if has_body(privates, object) && !is_listed(found.as_slice(), object) {
-        found.push(object)?;
+impl PrivateObjects for PrivateBodies<'_> {
+    ghost mine = { λ privates object. is_some (body_in object privates.bodies.now) };
+
+    ghost names = { λ privates object. body_names (body_in object privates.bodies.now) };
+
+    ghost objects = { λ privates. map (λ body. body.object) privates.bodies.now };
+
+    fn is_private(&self, object: u64) -> bool {
+        has_body(self.bodies, object)
     }
-    Ok(())
-}
 
-/// Adds the private object that the value names, if it names one.
-fn add_named(privates: &[Body], value: Value, found: &mut Vec<u64>) -> Result<(), NoMemory>
-    ensures { OnOk result (found.new.items ≡ with_named privates.now found.old.items value) }
-{
-    match value {
-        Value::Ref(object) => add_found(privates, object, found),
-        _ => Ok(()),
+    fn named(&self, alloc: Global, object: u64) -> Result<Vec<u64>, NoMemory> {
+        match body_in(self.bodies, object) {
+            Some(body) => {
+                let named = references_in(alloc, body.values.as_slice())?;
+                Ok(named)
+            }
+            None => Ok(Vec::new(alloc)),
+        }
     }
+
+    ghost listed = { λ privates. body_listed privates.bodies.now };
 }
 
-/// Adds the private objects that the values name.
-fn add_all_named(privates: &[Body], values: &[Value], found: &mut Vec<u64>) -> Result<(), NoMemory>
-    ensures { OnOk result (found.new.items ≡ with_all_named privates.now values.now found.old.items) }
+/// The objects that the values name, each as often as it is named.
+fn references_in(alloc: Global, values: &[Value]) -> Result<Vec<u64>, NoMemory>
+    ensures { IfOk result (λ named. named.items ≡ with_references values.now []) }
 {
+    let mut named = Vec::new(alloc);
     for value in values {
-        add_named(privates, *value, found)?;
+        if let Value::Ref(object) = value {
+            named.push(*object)?;
+        }
     }
-    Ok(())
+    Ok(named)
 }
 
-/// Adds the private objects that the fields of a private object name.
-fn look_at(privates: &[Body], object: u64, found: &mut Vec<u64>) -> Result<(), NoMemory>
-    ensures { OnOk result (found.new.items ≡ with_body privates.now (body_in object privates.now) found.old.items) }
+/// The private objects that are found from a value.
+fn published_objects(
+    alloc: Global,
+    privates: &[Body],
+    value: Value,
+) -> Result<BTreeSet<u64>, NoMemory>
+    ensures { IfOk result (λ found. (o : ℕ) → contains nat_cmp found o ≡ is_published privates.now value o) }
 {
-    match body_in(privates, object) {
-        Some(body) => add_all_named(privates, body.values.as_slice(), found),
-        None => Ok(()),
-    }
-}
-
-/// The private objects that are found from a value, in no order.
-fn published_objects(alloc: Global, privates: &[Body], value: Value) -> Result<Vec<u64>, NoMemory>
-    ensures { IfOk result (λ found. (o : ℕ) → is_listed o found.items ≡ is_published privates.now value o) }
-{
-    let mut found = Vec::new(alloc);
-    add_named(privates, value, &mut found)?;
-    let mut next = 0;
-    while next < found.len() {
-        let object = found[next];
-        look_at(privates, object, &mut found)?;
-        next += 1;
-    }
+    let found = reached_from(alloc, &PrivateBodies { bodies: privates }, value)?;
     Ok(found)
 }
 
-/// The bodies of the objects that are not in the list, and those of the objects that are.
+/// The bodies of the objects that are not in the set, and those of the objects that are.
 fn parted(
     alloc: Global,
     bodies: Items<Body>,
-    objects: &[u64],
+    objects: &BTreeSet<u64>,
 ) -> Result<(Items<Body>, Items<Body>), NoMemory>
-    ensures kept { IfOk result (λ parts. parts.0 ≡ filter (λ body. not (is_listed body.object objects.now)) bodies) }
-    ensures moved { IfOk result (λ parts. parts.1 ≡ filter (λ body. is_listed body.object objects.now) bodies) }
+    ensures kept { IfOk result (λ parts. parts.0 ≡ filter (λ body. not (contains nat_cmp objects.now body.object)) bodies) }
+    ensures moved { IfOk result (λ parts. parts.1 ≡ filter (λ body. contains nat_cmp objects.now body.object) bodies) }
 {
     let mut kept = Items::new(alloc);
     let mut moved = Items::new(alloc);
     for body in bodies.into_vec() {
-        if is_listed(objects, body.object) {
+        if objects.contains(&body.object) {
             moved.push(body)?;
         } else {
             kept.push(body)?;
@@ -104,7 +102,7 @@ pub(crate) fn publish(alloc: Global, value: Value, work: Work) -> Result<Work, N
         notes,
     } = work;
     let found = published_objects(alloc, privates.as_slice(), value)?;
-    let (kept, moved) = parted(alloc, privates, found.as_slice())?;
+    let (kept, moved) = parted(alloc, privates, &found)?;
     Ok(Work {
         privates: kept,
         news: insert_bodies(moved, news)?,

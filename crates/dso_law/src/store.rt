@@ -1,10 +1,12 @@
-ghost use Rattle.std.specs.Prelude.{◌≡◌, ◌<◌, ◌≤◌, ◌^◌, [], length, replicate, cond, eqb, Some, None, IfOk, reverse};
+ghost use Rattle.std.specs.Prelude.{◌≡◌, ◌<◌, ◌≤◌, ◌^◌, [], length, replicate, cond, eqb, Some, None, IfOk};
 ghost use Rattle.dso_base.specs.declared.journal.Node.TheVariants.{Server};
-ghost use Rattle.dso_law.specs.Entries.{entries_of, by_heard, by_told};
-ghost use Rattle.dso_law.specs.Served.{batch_by, next_batch};
+ghost use Rattle.dso_law.specs.Entries.{entries_of, by_taken_up, by_sent_down};
+ghost use Rattle.dso_law.specs.ServerReadings.{batch_by, next_batch};
 ghost use Rattle.dso_law.specs.Store.{opening_roots, body_by_news, body_with, body_by_sets, body_by, stored};
 
 use crate::bodies::with_field;
+use crate::entries::Entries;
+use crate::ids::BATCH_SIZE;
 use crate::readings::is_node;
 use dso_base::{
     Body, ClassId, Down, Entry, Input, Items, NoMemory, Node, Sent, Set, Shape, Up, Value,
@@ -12,14 +14,14 @@ use dso_base::{
 use std::alloc::Global;
 
 /// The first id of the next batch of ids, after those that the server gave out in the entries. It takes no memory.
-pub fn next_batch(entries: &[Entry]) -> u64
-    requires { next_batch (entries_of Server (reverse entries.now)) < 2 ^ 64 }
-    ensures { result ≡ next_batch (entries_of Server (reverse entries.now)) }
+pub fn next_batch(entries: &Entries<'_>) -> u64
+    requires { next_batch (entries_of Server entries.now) < 2 ^ 64 }
+    ensures { result ≡ next_batch (entries_of Server entries.now) }
 {
     let mut next = 1;
-    for entry in entries {
+    for entry in entries.oldest_first() {
         if is_node(Node::Server, entry.node) {
-            next += 256 * batches_in(entry.sent.as_slice());
+            next += BATCH_SIZE * batches_in(entry.sent.as_slice());
         }
     }
     next
@@ -30,13 +32,13 @@ pub fn next_batch(entries: &[Entry]) -> u64
 pub fn stored(
     alloc: Global,
     shape: &Shape,
-    entries: &[Entry],
+    entries: &Entries<'_>,
     object: u64,
 ) -> Result<Option<Body>, NoMemory>
-    ensures { IfOk result (λ body. body ≡ stored shape.now object (entries_of Server (reverse entries.now))) }
+    ensures { IfOk result (λ body. body ≡ stored shape.now object (entries_of Server entries.now)) }
 {
     let mut body = opening(alloc, shape, object)?;
-    for entry in entries {
+    for entry in entries.oldest_first() {
         if is_node(Node::Server, entry.node) {
             body = body_after(&entry.input, object, body)?;
         }
@@ -46,7 +48,7 @@ pub fn stored(
 
 /// How many batches of ids the messages give out.
 fn batches_in(messages: &[Sent]) -> u64
-    ensures { result ≡ length (by_told batch_by messages.now []) }
+    ensures { result ≡ length (by_sent_down batch_by messages.now []) }
 {
     let mut count = 0;
     for sent in messages {
@@ -84,7 +86,7 @@ fn nulls(alloc: Global, count: u32) -> Result<Vec<Value>, NoMemory>
 
 /// The body of the object after one more entry of the server.
 fn body_after(input: &Input, object: u64, before: Option<Body>) -> Result<Option<Body>, NoMemory>
-    ensures { IfOk result (λ body. body ≡ by_heard (body_by object) input.now before) }
+    ensures { IfOk result (λ body. body ≡ by_taken_up (body_by object) input.now before) }
 {
     match input {
         Input::TookUp(_, Up::Commit(txn)) => {

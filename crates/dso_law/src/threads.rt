@@ -1,16 +1,17 @@
 //! The locks of a thread, as its client's entries tell them, and which of its events are endings.
-ghost use Rattle.std.specs.Prelude.{◌≡◌, ◌↔◌, ◌<◌, ◌-◌, ◌^◌, IsTrue, not, is_some, filter, reverse, IfOk, OnOk, None, []};
+ghost use Rattle.std.specs.Prelude.{◌≡◌, ◌↔◌, ◌<◌, ◌-◌, ◌^◌, IsTrue, not, is_some, filter, IfOk, OnOk, None, []};
 ghost use Rattle.std.specs.List.{position};
 ghost use Rattle.dso_base.specs.declared.journal.Node.TheVariants.{Client};
 ghost use Rattle.dso_base.specs.declared.request.Reply.TheVariants.{Done};
 ghost use Rattle.dso_base.specs.declared.request.Request.TheVariants.{Enter, Exit};
-ghost use Rattle.dso_plain.specs.Keys.{is_lock};
+ghost use Rattle.dso_plain.specs.KeyTests.{is_lock};
 ghost use Rattle.dso_plain.specs.After.{entered, exited, count_of};
 ghost use Rattle.dso_law.specs.Entries.{entries_of, by_event};
-ghost use Rattle.dso_law.specs.Threads.{hold_in, hold_so, with_hold, waiting_on, resumed, locks_by, locks_after, locks_of, exit_ending, ending_by, ending_of};
-ghost use Rattle.dso_law.specs.Needs.{hold_level};
-ghost use Rattle.dso_law.specs.Counts.{CountsFit};
+ghost use Rattle.dso_law.specs.Threads.{hold_in, set_hold, with_hold, waiting_on, resumed, locks_by, locks_after, locks_of, exit_ending, ending_by, ending_of};
+ghost use Rattle.dso_law.specs.RequestNeeds.{hold_level};
+ghost use Rattle.dso_law.specs.HoldCounts.{CountsFit};
 
+use crate::entries::Entries;
 use crate::events::is_thread;
 use crate::leases::is_lock;
 use crate::readings::is_client;
@@ -108,8 +109,8 @@ fn place_of(holds: &[Held], lock: LockName) -> Option<usize>
 }
 
 /// Lets the lock be held so.
-fn hold_so(holds: &mut Vec<Held>, lock: LockName, hold: Hold) -> Result<(), NoMemory>
-    ensures { OnOk result (holds.new.items ≡ hold_so lock hold holds.old.items) }
+fn set_hold(holds: &mut Vec<Held>, lock: LockName, hold: Hold) -> Result<(), NoMemory>
+    ensures { OnOk result (holds.new.items ≡ set_hold lock hold holds.old.items) }
 {
     let held = Held { lock, hold };
     match place_of(holds.as_slice(), lock) {
@@ -134,7 +135,7 @@ fn with_hold(holds: &mut Vec<Held>, lock: LockName, hold: Option<Hold>) -> Resul
     ensures { OnOk result (holds.new.items ≡ with_hold lock hold holds.old.items) }
 {
     match hold {
-        Some(hold) => hold_so(holds, lock, hold),
+        Some(hold) => set_hold(holds, lock, hold),
         None => {
             release(holds, lock);
             Ok(())
@@ -256,7 +257,7 @@ impl Locks {
                     level: Level::Write,
                     count: waiting.count,
                 };
-                hold_so(&mut self.holds, lock, hold)?;
+                set_hold(&mut self.holds, lock, hold)?;
                 self.waiting = None;
                 Ok(())
             }
@@ -265,7 +266,7 @@ impl Locks {
     }
 
     /// What an act makes of its thread's locks.
-    fn act(&mut self, request: Request, reply: Reply) -> Result<(), NoMemory>
+    fn apply_act(&mut self, request: Request, reply: Reply) -> Result<(), NoMemory>
         requires { CountsFit self.old }
         ensures { OnOk result (self.new ≡ locks_by request reply self.old) }
     {
@@ -282,7 +283,7 @@ impl Locks {
     }
 
     /// What the entry makes of the thread's locks.
-    pub(crate) fn take(&mut self, entry: &Entry, thread: ThreadId) -> Result<(), NoMemory>
+    pub(crate) fn apply(&mut self, entry: &Entry, thread: ThreadId) -> Result<(), NoMemory>
         requires { CountsFit self.old }
         ensures { OnOk result (self.new ≡ by_event (locks_after thread) entry.now.event self.old) }
     {
@@ -295,7 +296,7 @@ impl Locks {
                     ..
                 },
             ) => if is_thread(thread, *actor) {
-                self.act(*request, *reply)
+                self.apply_act(*request, *reply)
             } else {
                 Ok(())
             },
@@ -305,13 +306,13 @@ impl Locks {
 }
 
 /// The locks of a thread after its events in the entries. `NoMemory` is answered only where an allocation was refused.
-pub fn locks_of(alloc: Global, entries: &[Entry], thread: ThreadId) -> Result<Locks, NoMemory>
-    ensures { IfOk result (λ locks. locks ≡ locks_of thread (entries_of (Client thread.client) (reverse entries.now))) }
+pub fn locks_of(alloc: Global, entries: &Entries<'_>, thread: ThreadId) -> Result<Locks, NoMemory>
+    ensures { IfOk result (λ locks. locks ≡ locks_of thread (entries_of (Client thread.client) entries.now)) }
 {
     let mut locks = Locks::new(alloc);
-    for entry in entries {
+    for entry in entries.oldest_first() {
         if is_client(entry.node, thread.client) {
-            locks.take(entry, thread)?;
+            locks.apply(entry, thread)?;
         }
     }
     Ok(locks)

@@ -4,7 +4,7 @@ ghost use Rattle.std.specs.Option.{option_copied};
 ghost use Rattle.dso_base.specs.Block.{body_in, start, with_value, opening_body, put_shared, put, choice_of, noted, work_by, work_after};
 ghost use Rattle.dso_law.specs.Threads.{or_else};
 ghost use Rattle.dso_law.specs.Copies.{value_by_sets};
-ghost use Rattle.dso_law.specs.InHand.{in_hand};
+ghost use Rattle.dso_law.specs.WorkInHand.{in_hand};
 
 use crate::bodies::{body_in, has_body, insert_set, with_value};
 use crate::copies::value_by_sets;

@@ -10,14 +10,14 @@ use Rattle.dso_plain.specs.History.{events_of}
 use Rattle.dso_plain.specs.Touches.{AreActsOf}
 use Rattle.dso_law.specs.Settings.{Settings}
 use Rattle.dso_law.specs.Entries.{entries_of, events_in}
-use Rattle.dso_law.specs.Channels.{way_up}
+use Rattle.dso_law.specs.Channels.{up_in_flight}
 use Rattle.dso_law.specs.Threads.{locks_of, open_block, privates_before}
-use Rattle.dso_law.specs.Served.{is_lost}
+use Rattle.dso_law.specs.ServerReadings.{is_lost}
 use Rattle.dso_legal.specs.Agreement.{messages}
 use Rattle.dso_legal.specs.Lawful.{IsLawful}
 use Rattle.dso_legal.specs.Committed.{ended_blocks, committed}
-use Rattle.dso_legal.specs.Calm.{WithoutWaits}
-use Rattle.dso_legal.specs.Pending.{joined, handed_in, taken_in, records_in, records_sent, no_locks, locks_through, privates_through, StaysOpen, AreRecordsOf}
+use Rattle.dso_legal.specs.WaitsAndLosses.{WithoutWaits}
+use Rattle.dso_legal.specs.PendingBlocks.{joined, handed_in, taken_in, records_in, records_sent, no_locks, locks_through, privates_through, StaysOpen, AreRecordsOf}
 
 -- By a client's entries: the thread's events are those of the ended blocks and then its open block, in which none is an
 -- ending; its locks are those that its events make; its private objects are those that its blocks leave.
@@ -28,7 +28,8 @@ pub record KeepsThread (shape : Shape) (t : ThreadId) (own : List Entry) : Type 
   pub stays : StaysOpen t (open_block t own) (locks_through t (joined (ended_blocks own)) no_locks)
   pub privates : privates_before shape t own ≡ privates_through shape t (ended_blocks own) []
 
--- so for each thread; and the records that the client sent are those of its ended blocks
+-- By a client's entries the blocks of each thread are kept so, and the records that the client sent are those of its
+-- ended blocks.
 pub record KeepsBlocks (shape : Shape) (own : List Entry) : Type 0 where
   pub thread : (t : ThreadId) → KeepsThread shape t own
   pub records : AreRecordsOf shape [] (records_sent own) (ended_blocks own)
@@ -38,16 +39,16 @@ abbrev pub BlocksAreKept : Type 0
 BlocksAreKept = (p : Settings) (next : ThreadId → List Event → Option Request) (es : List Entry) → IsLawful p next es
     → (c : ℕ) → KeepsBlocks p.shape (entries_of (Client c) es)
 
--- the server took no more records than the client has ended blocks, and the records on the way are those that it sent and the
--- server did not take
-pub record HandsIn (c : ℕ) (es : List Entry) : Type 0 where
+-- the server took no more records than the client has ended blocks, and the records in flight are those that it sent
+-- and the server did not take
+pub record IsHandedIn (c : ℕ) (es : List Entry) : Type 0 where
   pub few : handed_in c es ≤ length (ended_blocks (entries_of (Client c) es))
-  pub on_the_way : records_in (messages (way_up c es)) ≡ drop (handed_in c es) (records_sent (entries_of (Client c) es))
+  pub in_flight : records_in (messages (up_in_flight c es)) ≡ drop (handed_in c es) (records_sent (entries_of (Client c) es))
 
 -- Blocks are handed in, in every lawful journal, by each client that isn't lost.
 abbrev pub BlocksAreHandedIn : Type 0
 BlocksAreHandedIn = (p : Settings) (next : ThreadId → List Event → Option Request) (es : List Entry) → IsLawful p next es
-    → (c : ℕ) → is_lost c (entries_of Server es) ≡ false → HandsIn c es
+    → (c : ℕ) → is_lost c (entries_of Server es) ≡ false → IsHandedIn c es
 
 -- The history has, of each thread of a client that isn't lost, the events of the blocks that the server took in.
 abbrev pub HistoriesHoldBlocks : Type 0

@@ -1,65 +1,67 @@
 -- The central law: every lawful journal commits a legal history.
+use Rattle.std.specs.List.{list_any}
 use Rattle.std.specs.Prelude.{ℕ, ◌≡◌, true, false, Option, List}
 use Rattle.dso_base.specs.declared.journal.Entry.{Entry}
 use Rattle.dso_base.specs.declared.journal.Node.TheVariants.{Server, Client}
 use Rattle.dso_base.specs.declared.lock.ThreadId.{ThreadId}
 use Rattle.dso_base.specs.declared.request.Event.{Event}
 use Rattle.dso_base.specs.declared.request.Request.{Request}
-use Rattle.dso_base.specs.Program.{is_thread, Listed}
+use Rattle.dso_base.specs.Following.{is_thread, Listed}
 use Rattle.dso_plain.specs.History.{Runs, end_of, last_state, events_of, IsLegal}
 use Rattle.dso_plain.specs.State.{PlainState, opening}
-use Rattle.dso_law.specs.Settings.{Settings, has}
+use Rattle.dso_law.specs.Settings.{Settings}
 use Rattle.dso_law.specs.Entries.{entries_of, events_in}
-use Rattle.dso_law.specs.Channels.{way_up, way_down}
+use Rattle.dso_law.specs.Channels.{up_in_flight, down_in_flight}
 use Rattle.dso_law.specs.Prefixes.{IsPrefix}
 use Rattle.dso_law.specs.Threads.{open_block}
-use Rattle.dso_law.specs.Served.{is_lost, counted}
-use Rattle.dso_law.specs.Serving.{standing_with}
-use Rattle.dso_law.specs.Waking.{waiters_of}
+use Rattle.dso_law.specs.ServerReadings.{is_lost, counted}
+use Rattle.dso_law.specs.Granting.{standing_with}
+use Rattle.dso_law.specs.ServerWaiters.{waiters_of}
 use Rattle.dso_legal.specs.Agreement.{messages}
 use Rattle.dso_legal.specs.Lawful.{IsLawful}
 use Rattle.dso_legal.specs.Committed.{committed, resolved}
 use Rattle.dso_legal.specs.Slots.{is_finished}
-use Rattle.dso_legal.specs.Calm.{WithoutWaits, WithoutLosses}
-use Rattle.dso_legal.specs.Program.{IsSound}
-use Rattle.dso_legal.specs.Pending.{Lists, joined, pending, resolved_on, lists_on}
+use Rattle.dso_legal.specs.WaitsAndLosses.{WithoutWaits, WithoutLosses}
+use Rattle.dso_legal.specs.SoundProgram.{IsSound}
+use Rattle.dso_legal.specs.PendingBlocks.{WaiterLists, joined, pending, resolved_in_flight, lists_in_flight}
 use Rattle.dso_legal.specs.Line.{Line}
 use Rattle.dso_legal.specs.CopiesStand.{CopiesStand}
 
 -- the server's lists of waiters
-abbrev pub server_lists : List Entry → Lists
+abbrev pub server_lists : List Entry → WaiterLists
 server_lists es l = waiters_of l (counted (entries_of Server es))
 
--- the blocks on the way, as the server will resolve them
+-- the blocks in flight, as the server will resolve them
 abbrev pub pending_at : ℕ → List Entry → List (List Event)
-pending_at c es = resolved_on (messages (way_up c es)) (pending c es) (server_lists es)
+pending_at c es = resolved_in_flight (messages (up_in_flight c es)) (pending c es) (server_lists es)
 
--- a thread's open block, resolved where its client's messages on the way leave the lists
+-- a thread's open block, resolved where its client's messages in flight leave the lists
 abbrev pub open_at : ThreadId → ℕ → List Entry → List Event
-open_at t c es = resolved (open_block t (entries_of (Client c) es)) (lists_on (messages (way_up c es)) (pending c es) (server_lists es))
+open_at t c es = resolved (open_block t (entries_of (Client c) es)) (lists_in_flight (messages (up_in_flight c es)) (pending c es) (server_lists es))
 
--- the state of the one heap as the client has it before its open blocks: after the history, and then its blocks on the way
+-- the state of the one heap as the client has it before its open blocks: after the history, and then its blocks in
+-- flight
 abbrev pub state_with : Settings → ℕ → List Entry → PlainState
 state_with p c es = end_of p.shape (joined (pending_at c es)) (last_state p.shape (committed es))
 
--- What a client did and the server didn't take in yet can still be done: its messages on the way from the history on, and each
--- thread's open block, by itself, from where they end; and its copies stand.
+-- What a client did and the server didn't take in yet can still be done: its messages in flight from the history on,
+-- and each thread's open block, by itself, from where they end; and its copies stand.
 pub record ClientStands (p : Settings) (c : ℕ) (es : List Entry) : Type 0 where
-  pub line : Line p.shape c (messages (way_up c es)) (pending_at c es) (λ l. standing_with c l (counted (entries_of Server es))) (last_state p.shape (committed es))
+  pub line : Line p.shape c (messages (up_in_flight c es)) (pending_at c es) (λ l. standing_with c l (counted (entries_of Server es))) (last_state p.shape (committed es))
   pub opens : (t : ThreadId) → t.client ≡ c → Runs p.shape (open_at t c es) (state_with p c es)
-  pub copies : CopiesStand p.shape c (state_with p c es) (messages (way_down c es)) (entries_of (Client c) es)
+  pub copies : CopiesStand p.shape c (state_with p c es) (messages (down_in_flight c es)) (entries_of (Client c) es)
 
 -- The history runs, and each client that isn't lost stands.
-pub record Stands (p : Settings) (es : List Entry) : Type 0 where
+pub record ClusterStands (p : Settings) (es : List Entry) : Type 0 where
   pub runs : Runs p.shape (committed es) (opening p.shape)
   pub client : (c : ℕ) → is_lost c (entries_of Server es) ≡ false → ClientStands p c es
 
--- What is committed of a journal: a legal history in which each thread follows the program; of each thread a first part of its
--- events, each once and in order; and all of them where the journal is finished.
+-- What is committed of a journal: a legal history in which each thread follows the program; of each thread a prefix
+-- of its events, each once and in order; and all of them where the journal is finished.
 pub record CommitsLegally (p : Settings) (next : ThreadId → List Event → Option Request) (es : List Entry) : Type 0 where
   pub legal : IsLegal next (Listed next) p.shape (committed es)
   pub parts : (t : ThreadId) → IsPrefix (events_of t (committed es)) (events_in t (entries_of (Client t.client) es))
-  pub whole : is_finished p es ≡ true → (t : ThreadId) → has (is_thread t) p.threads ≡ true → events_of t (committed es) ≡ events_in t (entries_of (Client t.client) es)
+  pub whole : is_finished p es ≡ true → (t : ThreadId) → list_any (is_thread t) p.threads ≡ true → events_of t (committed es) ≡ events_in t (entries_of (Client t.client) es)
 
 -- The central law, for journals without waits and losses: where the program is sound, a lawful journal commits so.
 abbrev pub CentralLaw : Type 0
@@ -67,4 +69,4 @@ CentralLaw = (p : Settings) (next : ThreadId → List Event → Option Request) 
 
 -- All clients stand after such a journal.
 abbrev pub ClientsStand : Type 0
-ClientsStand = (p : Settings) (next : ThreadId → List Event → Option Request) → IsSound p.shape next → (es : List Entry) → IsLawful p next es → WithoutWaits es → WithoutLosses es → Stands p es
+ClientsStand = (p : Settings) (next : ThreadId → List Event → Option Request) → IsSound p.shape next → (es : List Entry) → IsLawful p next es → WithoutWaits es → WithoutLosses es → ClusterStands p es

@@ -1,5 +1,5 @@
 -- The history that a journal commits. Entries stand with the newest first, the events of a history with the first first.
-use Rattle.std.specs.Prelude.{ℕ, zero, suc, cond, Option, Some, None, List, [], ◌∷◌, ◌++◌, slice_get, reverse}
+use Rattle.std.specs.Prelude.{ℕ, zero, suc, cond, Option, Some, None, List, [], ◌∷◌, ◌++◌, slice_get}
 use Rattle.dso_base.specs.declared.journal.Entry.{Entry}
 use Rattle.dso_base.specs.declared.journal.Input.{Input}
 use Rattle.dso_base.specs.declared.journal.Input.TheVariants as input
@@ -17,11 +17,11 @@ use Rattle.dso_base.specs.declared.request.Reply.{Reply}
 use Rattle.dso_base.specs.declared.request.Reply.TheVariants.{Done}
 use Rattle.dso_base.specs.declared.request.Request.{Request}
 use Rattle.dso_base.specs.declared.request.Request.TheVariants.{Notify, NotifyAll}
-use Rattle.dso_law.specs.Entries.{entries_of, by_event}
+use Rattle.dso_law.specs.Entries.{newest_first, entries_of, by_event}
 use Rattle.dso_law.specs.Threads.{locks_of, ending_of, open_block}
 use Rattle.dso_law.specs.Replies.{first_of_list}
-use Rattle.dso_law.specs.Served.{is_lost, counted}
-use Rattle.dso_law.specs.Waking.{waiters_of, lists_after}
+use Rattle.dso_law.specs.ServerReadings.{is_lost, counted}
+use Rattle.dso_law.specs.ServerWaiters.{waiters_of, lists_after}
 
 -- a list of events, as the one block of a list where there is an ending
 abbrev pub block_if : Option Ending → List Event → List (List Event)
@@ -87,6 +87,6 @@ abbrev pub committed : List Entry → List Event
 committed [] = []
 committed (e ∷ es) = committed es ++ committed_at e.node e.input es
 
--- so of a journal, whose first entry stands first
+-- The committed history of a journal, whose first entry stands first.
 abbrev pub committed_of : Journal → List Event
-committed_of journal = committed (reverse journal.entries)
+committed_of journal = committed (newest_first journal)

@@ -1,5 +1,6 @@
--- A client's copies, now and after each message on its way: past values, and once all is taken what the client's own
+-- A client's copies, now and after each message in flight: past values, and once all is taken what the client's own
 -- blocks leave in the one heap.
+use Rattle.std.specs.List.{list_any, AllByRecursion}
 use Rattle.std.specs.Prelude.{ℕ, ◌≡◌, ◌≢◌, Bool, true, false, eqb, Option, Some, None, List}
 use Rattle.dso_base.specs.declared.journal.Entry.{Entry}
 use Rattle.dso_base.specs.declared.lock.LockName.{LockName}
@@ -12,13 +13,13 @@ use Rattle.dso_base.specs.declared.value.Value.{Value}
 use Rattle.dso_plain.specs.State.{PlainState, IsShared, is_shared, guard_in}
 use Rattle.dso_plain.specs.Possible.{StandsFrom, IsOf}
 use Rattle.dso_plain.specs.History.{end_of, last_state}
-use Rattle.dso_law.specs.Settings.{Settings, has, Each}
+use Rattle.dso_law.specs.Settings.{Settings}
 use Rattle.dso_law.specs.declared.readings.Standing.{Standing}
 use Rattle.dso_law.specs.Leases.{standing, standing_down}
 use Rattle.dso_law.specs.Copies.{is_resident, resident_by_taken, value_held, value_by_taken, class_held, class_by_taken, is_set_of}
 use Rattle.dso_legal.specs.Agreement.{after, EachMay}
 use Rattle.dso_legal.specs.Committed.{committed}
-use Rattle.dso_legal.specs.Pending.{joined, pending}
+use Rattle.dso_legal.specs.PendingBlocks.{joined, pending}
 use Rattle.dso_legal.specs.Residency.{is_set}
 
 -- The state of the one heap as a client has it before its open blocks: after the history, and then its pending blocks as it made
@@ -28,7 +29,7 @@ state_at p c es = end_of p.shape (joined (pending c es)) (last_state p.shape (co
 
 -- whether the message sets the field
 abbrev pub sets_field : ℕ → ℕ → Down → Bool
-sets_field o f (down.Changes sets) = has (is_set_of o f) sets
+sets_field o f (down.Changes sets) = list_any (is_set_of o f) sets
 sets_field o f m = false
 
 -- whether it brings the object
@@ -71,8 +72,8 @@ pub record MayTake (c o f : ℕ) (s : PlainState) (m : Down) (copy : FieldCopy) 
   pub unchanged : copy.guard.lease ≢ None → sets_field o f m ≡ false
   pub absent : copy.resident ≡ true → brings o m ≡ false
 
--- A field's copy stands, where this lock is the field's guard, with these messages on the way: each may come, and once all are
--- taken the copy is a past value, and the heap's.
+-- A field's copy stands, where this lock is the field's guard, with these messages in flight: each may come, and once
+-- all are taken the copy is a past value, and the heap's.
 pub record FieldStands (l : LockName) (c o f : ℕ) (s : PlainState) (ms : List Down) (copy : FieldCopy) : Type 0 where
   pub along : EachMay (MayTake c o f s) (field_by_taken l o f) ms copy
   pub past : IsPastCopy c o f s (after (field_by_taken l o f) ms copy)
@@ -96,7 +97,7 @@ pub record IsSharedCopy (o : ℕ) (s : PlainState) (copy : ClassCopy) : Type 0 w
   pub shared : copy.resident ≡ true → IsShared o s
   pub of : copy.resident ≡ true → (class : ClassId × ℕ) → copy.class ≡ Some class → IsOf class.0 class.1 (s.objects o)
 
--- An object's class stands, with these messages on the way: it is so in front of each, and behind all.
+-- An object's class stands, with these messages in flight: it is so in front of each, and behind all.
 pub record ClassStands (o : ℕ) (s : PlainState) (ms : List Down) (copy : ClassCopy) : Type 0 where
   pub along : EachMay (λ m before. IsSharedCopy o s before) (class_copy_by o) ms copy
   pub behind : IsSharedCopy o s (after (class_copy_by o) ms copy)
@@ -105,9 +106,9 @@ pub record ClassStands (o : ℕ) (s : PlainState) (ms : List Down) (copy : Class
 abbrev pub class_copy : ℕ → List Entry → ClassCopy
 class_copy o client = record { resident = is_resident o client; class = class_held o client }
 
--- The copies of a client stand, by the state of the one heap, the messages on the way down and the client's entries: each
--- object's class and each field; and nothing on the way speaks of an object that isn't shared.
+-- The copies of a client stand, by the state of the one heap, the messages in flight to the client and the client's
+-- entries: each object's class and each field; and nothing in flight speaks of an object that isn't shared.
 pub record CopiesStand (shape : Shape) (c : ℕ) (s : PlainState) (ms : List Down) (client : List Entry) : Type 0 where
   pub class : (o : ℕ) → ClassStands o s ms (class_copy o client)
   pub field : (o f : ℕ) → FieldStands (guard_in shape s o f) c o f s ms (field_copy (guard_in shape s o f) o f client)
-  pub shared : (o : ℕ) → is_shared (s.objects o) ≡ false → Each (λ m. speaks_of o m ≡ false) ms
+  pub shared : (o : ℕ) → is_shared (s.objects o) ≡ false → AllByRecursion (λ m. speaks_of o m ≡ false) ms

@@ -7,7 +7,7 @@ use Rattle.dso_base.specs.declared.request.Event.{Event}
 use Rattle.dso_base.specs.declared.request.Request.{Request}
 use Rattle.dso_law.specs.Settings.{Settings}
 use Rattle.dso_law.specs.Entries.{entries_of}
-use Rattle.dso_law.specs.Served.{is_lost, counted, is_given_to}
+use Rattle.dso_law.specs.ServerReadings.{is_lost, counted, is_given_to}
 use Rattle.dso_law.specs.Records.{next_id}
 use Rattle.dso_legal.specs.Lawful.{IsLawful}
 

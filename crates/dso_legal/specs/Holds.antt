@@ -7,15 +7,15 @@ use Rattle.dso_base.specs.declared.lock.LockName.{LockName}
 use Rattle.dso_base.specs.declared.lock.ThreadId.{ThreadId}
 use Rattle.dso_base.specs.declared.request.Event.{Event}
 use Rattle.dso_base.specs.declared.request.Request.{Request}
-use Rattle.dso_base.specs.Program.{is_thread}
+use Rattle.dso_base.specs.Following.{is_thread}
 use Rattle.dso_plain.specs.State.{Hold}
 use Rattle.dso_law.specs.Settings.{Settings}
 use Rattle.dso_law.specs.Entries.{entries_of}
 use Rattle.dso_law.specs.Threads.{hold_of}
 use Rattle.dso_law.specs.Leases.{leased, is_entered}
-use Rattle.dso_law.specs.Needs.{is_enough, conflicts}
-use Rattle.dso_law.specs.Served.{is_lost, counted}
-use Rattle.dso_law.specs.Serving.{leased_to}
+use Rattle.dso_law.specs.RequestNeeds.{is_enough, conflicts}
+use Rattle.dso_law.specs.ServerReadings.{is_lost, counted}
+use Rattle.dso_law.specs.Granting.{leased_to}
 use Rattle.dso_legal.specs.Lawful.{IsLawful}
 
 -- By a client's entries it has a lease of the lock, of at least the hold's level, and the lease is entered.

@@ -1,13 +1,13 @@
 -- Lawful journals. Entries stand with the newest first.
-use Rattle.std.specs.Prelude.{ℕ, ◌≡◌, true, eqb, Option, List, [], ◌∷◌, reverse}
+use Rattle.std.specs.List.{list_any, AllByRecursion}
+use Rattle.std.specs.Prelude.{ℕ, ◌≡◌, true, eqb, Option, List, [], ◌∷◌}
 use Rattle.dso_base.specs.declared.journal.Entry.{Entry}
-use Rattle.dso_base.specs.declared.journal.Journal.{Journal}
 use Rattle.dso_base.specs.declared.journal.Node.{Node}
 use Rattle.dso_base.specs.declared.journal.Node.TheVariants.{Server, Client}
 use Rattle.dso_base.specs.declared.lock.ThreadId.{ThreadId}
 use Rattle.dso_base.specs.declared.request.Event.{Event}
 use Rattle.dso_base.specs.declared.request.Request.{Request}
-use Rattle.dso_law.specs.Settings.{Settings, Each, has, clients_of}
+use Rattle.dso_law.specs.Settings.{Settings, clients_of}
 use Rattle.dso_law.specs.Entries.{entries_of, events_in}
 use Rattle.dso_law.specs.Channels.{RespectsChannels, RespectsClocks, FitsConnection, CountsRejoins}
 use Rattle.dso_law.specs.ClientStep.{ClientStep}
@@ -21,7 +21,7 @@ next_after next es t = next t (events_in t (entries_of (Client t.client) es))
 module _ (p : Settings) (next : ThreadId → List Event → Option Request) where
   -- an entry of client c, which is one of the cluster's, follows the client's entries by the client rule
   pub record ClientFollows (c : ℕ) (e : Entry) (es : List Entry) : Type 0 where
-    pub its : has (eqb c) (clients_of p) ≡ true
+    pub its : list_any (eqb c) (clients_of p) ≡ true
     pub step : ClientStep p c (next_after next es) (next_after next (e ∷ es)) e (entries_of (Client c) es)
 
   -- an entry of the server follows the server's entries by the server rule, and fits the connection
@@ -34,7 +34,7 @@ module _ (p : Settings) (next : ThreadId → List Event → Option Request) wher
   NodeFollows Server e es = ServerFollows e es
   NodeFollows (Client c) e es = ClientFollows c e es
 
-  -- an entry may follow: what it takes is the first on its way, its clock is right, and its node's rule allows it
+  -- an entry may follow: what it takes is the first in flight, its clock is right, and its node's rule allows it
   pub record MayFollow (e : Entry) (es : List Entry) : Type 0 where
     pub channels : RespectsChannels e es
     pub clocks : RespectsClocks e es
@@ -49,8 +49,4 @@ module _ (p : Settings) (next : ThreadId → List Event → Option Request) wher
   -- than it is broken.
   pub record IsLawful (es : List Entry) : Type 0 where
     pub follow : AllFollow es
-    pub connections : Each (λ c. CountsRejoins c es) (clients_of p)
-
-  -- so of a journal, whose first entry stands first
-  abbrev pub IsLawfulJournal : Journal → Type 0
-  IsLawfulJournal journal = IsLawful (reverse journal.entries)
+    pub connections : AllByRecursion (λ c. CountsRejoins c es) (clients_of p)

@@ -12,10 +12,11 @@ pub mod MadeOnce
 pub mod OwnObjects
 pub mod NewsAreNew
 pub mod Sorted
-pub mod Pending
+pub mod PendingBlocks
 pub mod Line
-pub mod Program
-pub mod Calm
+pub mod SoundProgram
+pub mod SoundCode
+pub mod WaitsAndLosses
 pub mod Works
 pub mod Blocks
 pub mod Names
@@ -23,6 +24,6 @@ pub mod Views
 pub mod CopiesStand
 pub mod Central
 pub mod Store
-pub mod Passing
-pub mod Keeping
+pub mod JournalPass
+pub mod JournalPassTables
 pub mod examples

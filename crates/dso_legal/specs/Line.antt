@@ -1,4 +1,4 @@
--- The line of a client: what its messages on the way say, read from the server's state on.
+-- The line of a client: what its messages in flight say, read from the server's state on.
 use Rattle.std.specs.Prelude.{ℕ, ◌≡◌, true, Some, List, [], ◌∷◌}
 use Rattle.dso_base.specs.declared.lock.Level.{Level}
 use Rattle.dso_base.specs.declared.lock.LockName.{LockName}
@@ -13,7 +13,7 @@ use Rattle.dso_plain.specs.History.{Runs, end_of}
 use Rattle.dso_plain.specs.Touches.{AreActsOf, TouchesIn}
 use Rattle.dso_law.specs.declared.readings.Standing.{Standing}
 use Rattle.dso_law.specs.Leases.{standing_up}
-use Rattle.dso_law.specs.Needs.{is_enough}
+use Rattle.dso_law.specs.RequestNeeds.{is_enough}
 
 -- how each lock stands with a client
 abbrev pub Standings : Type 0

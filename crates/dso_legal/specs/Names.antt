@@ -9,7 +9,7 @@ use Rattle.dso_plain.specs.State.{PlainState, IsPrivate, IsShared, opening}
 use Rattle.dso_plain.specs.Possible.{StandsFrom}
 use Rattle.dso_plain.specs.History.{Runs, last_state, events_of}
 use Rattle.dso_plain.specs.Touches.{MakesIn}
-use Rattle.dso_legal.specs.Program.{was_told, NamesOnlyTold}
+use Rattle.dso_legal.specs.SoundProgram.{was_told, NamesOnlyTold}
 
 -- the object is the thread's own or shared
 abbrev pub IsKnown : ThreadId → ℕ → PlainState → Type 0

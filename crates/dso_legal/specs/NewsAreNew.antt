@@ -1,4 +1,5 @@
 -- A record that comes publishes objects that the server doesn't know yet.
+use Rattle.std.specs.List.{AllByRecursion}
 use Rattle.std.specs.Prelude.{ℕ, ◌≡◌, true, Option, None, List}
 use Rattle.dso_base.specs.declared.journal.Entry.{Entry}
 use Rattle.dso_base.specs.declared.journal.Node.TheVariants.{Server}
@@ -8,10 +9,10 @@ use Rattle.dso_base.specs.declared.message.Up.TheVariants as up
 use Rattle.dso_base.specs.declared.record.Body.{Body}
 use Rattle.dso_base.specs.declared.request.Event.{Event}
 use Rattle.dso_base.specs.declared.request.Request.{Request}
-use Rattle.dso_law.specs.Settings.{Settings, Each}
+use Rattle.dso_law.specs.Settings.{Settings}
 use Rattle.dso_law.specs.Entries.{entries_of}
-use Rattle.dso_law.specs.Channels.{way_up, IsFirst}
-use Rattle.dso_law.specs.Served.{counted, is_given_to}
+use Rattle.dso_law.specs.Channels.{up_in_flight, IsFirst}
+use Rattle.dso_law.specs.ServerReadings.{counted, is_given_to}
 use Rattle.dso_law.specs.Store.{stored}
 use Rattle.dso_legal.specs.Lawful.{IsLawful}
 
@@ -22,10 +23,11 @@ pub record IsUnknown (p : Settings) (c : ℕ) (server : List Entry) (body : Body
 
 -- each object that the client's message publishes is so
 abbrev pub PublishesUnknown : Settings → ℕ → Up → List Entry → Type 0
-PublishesUnknown p c (up.Commit txn) server = Each (IsUnknown p c server) txn.news
+PublishesUnknown p c (up.Commit txn) server = AllByRecursion (IsUnknown p c server) txn.news
 PublishesUnknown p c m server = Unit {0}
 
--- In a lawful journal the first message on the way up of each client, of a lost one too, publishes only such objects.
+-- In a lawful journal the first message in flight to the server of each client, of a lost one too, publishes only
+-- such objects.
 abbrev pub NewsAreNew : Type 0
 NewsAreNew = (p : Settings) (next : ThreadId → List Event → Option Request) (es : List Entry) → IsLawful p next es
-    → (c : ℕ) (m : Up) → IsFirst m (way_up c es) → PublishesUnknown p c m (counted (entries_of Server es))
+    → (c : ℕ) (m : Up) → IsFirst m (up_in_flight c es) → PublishesUnknown p c m (counted (entries_of Server es))

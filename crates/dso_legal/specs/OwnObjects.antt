@@ -1,4 +1,5 @@
 -- What a thread has in hand is its own: it made these objects, and none of them was published before.
+use Rattle.std.specs.List.{list_any}
 use Rattle.std.specs.Prelude.{ℕ, ◌+◌, ◌≡◌, Bool, true, false, cond, eqb, ◌||◌, Option, List, [], ◌∷◌}
 use Rattle.dso_base.specs.declared.journal.Entry.{Entry}
 use Rattle.dso_base.specs.declared.journal.Node.TheVariants.{Client}
@@ -9,8 +10,8 @@ use Rattle.dso_base.specs.declared.record.Body.{Body}
 use Rattle.dso_base.specs.declared.request.Event.{Event}
 use Rattle.dso_base.specs.declared.request.Request.{Request}
 use Rattle.dso_base.specs.Block.{Work}
-use Rattle.dso_law.specs.Settings.{Settings, has}
-use Rattle.dso_law.specs.Entries.{entries_of, by_said}
+use Rattle.dso_law.specs.Settings.{Settings}
+use Rattle.dso_law.specs.Entries.{entries_of, by_sent_up}
 use Rattle.dso_law.specs.Threads.{work_of}
 use Rattle.dso_law.specs.Copies.{is_among}
 use Rattle.dso_legal.specs.Lawful.{IsLawful}
@@ -24,7 +25,7 @@ published_by o m before = before
 -- whether the client sent such a record
 abbrev pub was_published : ℕ → List Entry → Bool
 was_published o [] = false
-was_published o (e ∷ es) = by_said (published_by o) e.sent (was_published o es)
+was_published o (e ∷ es) = by_sent_up (published_by o) e.sent (was_published o es)
 
 -- how many of the bodies are of the object
 abbrev pub count_bodies : ℕ → List Body → ℕ
@@ -42,7 +43,7 @@ has_in_hand p t o es = let work = work_of p.shape t (entries_of (Client t.client
 -- An object that the thread has in hand: it made it, has it once, no client sent a record that publishes it, and no other
 -- thread has it in hand.
 pub record IsOwn (p : Settings) (t : ThreadId) (o : ℕ) (es : List Entry) : Type 0 where
-  pub made : has (eqb o) (objects_of t (entries_of (Client t.client) es)) ≡ true
+  pub made : list_any (eqb o) (objects_of t (entries_of (Client t.client) es)) ≡ true
   pub once : count_in_hand o (work_of p.shape t (entries_of (Client t.client) es)) ≡ 1
   pub unpublished : (c : ℕ) → was_published o (entries_of (Client c) es) ≡ false
   pub alone : (u : ThreadId) → has_in_hand p u o es ≡ true → u ≡ t

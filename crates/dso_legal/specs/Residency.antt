@@ -1,4 +1,5 @@
--- Which objects a client has: the client and the server say the same of each object, once all on the way is taken.
+-- Which objects a client has: the client and the server say the same of each object, once all in flight is taken.
+use Rattle.std.specs.List.{list_any}
 use Rattle.std.specs.Prelude.{ℕ, ◌≡◌, Bool, true, false, cond, not, eqb, ◌&&◌, Option, List, [], ◌∷◌}
 use Rattle.dso_base.specs.declared.journal.Entry.{Entry}
 use Rattle.dso_base.specs.declared.journal.Node.TheVariants.{Server, Client}
@@ -10,12 +11,12 @@ use Rattle.dso_base.specs.declared.message.Up.TheVariants as up
 use Rattle.dso_base.specs.declared.request.Event.{Event}
 use Rattle.dso_base.specs.declared.request.Request.{Request}
 use Rattle.dso_base.specs.declared.record.Set.{Set}
-use Rattle.dso_law.specs.Settings.{Settings, has}
-use Rattle.dso_law.specs.Entries.{entries_of, by_heard}
-use Rattle.dso_law.specs.Channels.{way_up, way_down, IsFirst}
+use Rattle.dso_law.specs.Settings.{Settings}
+use Rattle.dso_law.specs.Entries.{entries_of, by_taken_up}
+use Rattle.dso_law.specs.Channels.{up_in_flight, down_in_flight, IsFirst}
 use Rattle.dso_law.specs.Threads.{work_of}
 use Rattle.dso_law.specs.Copies.{is_among, is_resident, is_object_asked}
-use Rattle.dso_law.specs.Served.{is_lost, counted, is_given_to}
+use Rattle.dso_law.specs.ServerReadings.{is_lost, counted, is_given_to}
 use Rattle.dso_law.specs.Store.{holds_object}
 use Rattle.dso_legal.specs.Agreement.{messages, Agree}
 use Rattle.dso_legal.specs.Lawful.{IsLawful}
@@ -54,7 +55,7 @@ IsAway s = ⊥
 
 -- whether one of the sets is of the object
 abbrev pub is_set : ℕ → List Set → Bool
-is_set o sets = has (λ set. eqb set.object o) sets
+is_set o sets = list_any (λ set. eqb set.object o) sets
 
 -- a fault may come where the object is away, a flush where it is resident, a record with it among the news where it isn't
 -- published, and one that sets it where it is resident
@@ -76,7 +77,7 @@ published_from c o d m before = cond (eqb c d) (published_by o m before) before
 -- whether the server took a record of the client that published the object
 abbrev pub is_published_by : ℕ → ℕ → List Entry → Bool
 is_published_by c o [] = false
-is_published_by c o (e ∷ es) = by_heard (published_from c o) e.input (is_published_by c o es)
+is_published_by c o (e ∷ es) = by_taken_up (published_from c o) e.input (is_published_by c o es)
 
 -- by whether the object is asked for and whether it is resident
 abbrev pub asked_or_resident : Bool → Bool → Residency
@@ -96,11 +97,11 @@ residency_with own c o es = cond (own && not (is_published_by c o es)) Unpublish
 abbrev pub is_own : ℕ → ℕ → List Entry → Bool
 is_own c o es = is_given_to c o (counted (entries_of Server es))
 
--- The client and the server agree on the object: each fault on the way up stands where it is away, each flush and each
--- record that sets it where it is resident, each record that publishes it where it isn't published, and it stands on the way
--- down where it is asked for; once all is taken both say the same.
+-- The client and the server agree on the object: each fault in flight to the server stands where it is away, each
+-- flush and each record that sets it where it is resident, each record that publishes it where it isn't published,
+-- and it stands in flight to the client where it is asked for; once all is taken both say the same.
 abbrev pub AgreeOnObject : ℕ → ℕ → List Entry → Type 0
-AgreeOnObject c o es = Agree (MayMove o) (residency_up o) (MayCome o) (residency_down o) (messages (way_up c es)) (messages (way_down c es))
+AgreeOnObject c o es = Agree (MayMove o) (residency_up o) (MayCome o) (residency_down o) (messages (up_in_flight c es)) (messages (down_in_flight c es))
     (residency_with (is_own c o es) c o (counted (entries_of Server es))) (residency_at (is_own c o es) o (entries_of (Client c) es))
 
 -- Residency agrees: in a lawful journal, for each client that isn't lost, both agree on each object.
@@ -121,10 +122,10 @@ abbrev pub ObjectFitsDown : Down → List Entry → Type 0
 ObjectFitsDown (down.Object body) client = is_object_asked body.object client ≡ true
 ObjectFitsDown m client = Unit {0}
 
--- the first message on each way of a client fits
+-- the first message in flight of a client in each direction fits
 pub record ObjectsFirst (c : ℕ) (es : List Entry) : Type 0 where
-  pub ups : (m : Up) → IsFirst m (way_up c es) → ObjectFitsUp c m (counted (entries_of Server es))
-  pub downs : (m : Down) → IsFirst m (way_down c es) → ObjectFitsDown m (entries_of (Client c) es)
+  pub ups : (m : Up) → IsFirst m (up_in_flight c es) → ObjectFitsUp c m (counted (entries_of Server es))
+  pub downs : (m : Down) → IsFirst m (down_in_flight c es) → ObjectFitsDown m (entries_of (Client c) es)
 
 -- Objects fit: in a lawful journal, for each client that isn't lost, a fault that comes is of an object that the client
 -- doesn't hold, a flush that comes is of one that it holds, a record that comes sets what the client holds, and an object that

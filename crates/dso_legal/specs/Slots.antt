@@ -1,4 +1,5 @@
 -- Which steps are open after a journal, and when it is finished or stuck. Entries stand with the newest first.
+use Rattle.std.specs.List.{list_any}
 use Rattle.std.specs.Prelude.{ℕ, ◌+◌, Bool, true, false, cond, not, ltb, ◌&&◌, ◌||◌, Option, List, [], ◌∷◌, ◌++◌, map, filter, flat_map}
 use Rattle.dso_base.specs.declared.journal.Entry.{Entry}
 use Rattle.dso_base.specs.declared.journal.Node.TheVariants.{Server, Client}
@@ -8,11 +9,11 @@ use Rattle.dso_base.specs.declared.request.Event.TheVariants.{Act, Lost}
 use Rattle.dso_base.specs.declared.request.Request.{Request}
 use Rattle.dso_base.specs.declared.request.Request.TheVariants.{End}
 use Rattle.dso_base.specs.Weight.{entry_weight_of}
-use Rattle.dso_law.specs.Settings.{Settings, has, clients_of, threads_of}
+use Rattle.dso_law.specs.Settings.{Settings, clients_of, threads_of}
 use Rattle.dso_law.specs.Entries.{entries_of, events_in}
-use Rattle.dso_law.specs.Channels.{way_up, way_down, is_broken, count_inputs, breaks, rejoins}
+use Rattle.dso_law.specs.Channels.{up_in_flight, down_in_flight, is_broken, count_inputs, breaks, rejoins}
 use Rattle.dso_law.specs.ClientStep.{may_act, may_flush}
-use Rattle.dso_law.specs.Served.{is_lost, is_loss_due, is_break_due}
+use Rattle.dso_law.specs.ServerReadings.{is_lost, is_loss_due, is_break_due}
 use Rattle.dso_legal.specs.Lawful.{next_after}
 
 -- a step of the cluster: a thread acts, a client takes a message or flushes, the server takes a message of a client,
@@ -42,7 +43,7 @@ ends (Lost client) = false
 
 -- whether the thread has ended
 abbrev pub has_ended : ThreadId → List Entry → Bool
-has_ended t es = has ends (events_in t (entries_of (Client t.client) es))
+has_ended t es = list_any ends (events_in t (entries_of (Client t.client) es))
 
 module _ (p : Settings) where
   -- whether a loss of the client or a break of its connection is due
@@ -53,15 +54,15 @@ module _ (p : Settings) where
   abbrev pub has_rejoined : ℕ → List Entry → Bool
   has_rejoined c es = not (ltb (count_inputs (rejoins c) (entries_of (Client c) es)) (count_inputs (breaks c) (entries_of Server es)))
 
-  -- A client can take: while its connection isn't broken, where a message is on the way down; while it is broken, where
-  -- it hasn't taken the connection up as often as it was broken.
+  -- A client can take: while its connection isn't broken, where a message is in flight to the client; while it is
+  -- broken, where it hasn't taken the connection up as often as it was broken.
   abbrev pub can_take_down : ℕ → List Entry → Bool
-  can_take_down c es = cond (is_broken c (entries_of Server es)) (not (has_rejoined c es)) (is_any (way_down c es))
+  can_take_down c es = cond (is_broken c (entries_of Server es)) (not (has_rejoined c es)) (is_any (down_in_flight c es))
 
   -- The server can take of a client: never where its loss or a break is due; else, while the connection isn't broken,
-  -- where a message is on the way up; while it is broken, where the client has taken it up.
+  -- where a message is in flight to the server; while it is broken, where the client has taken it up.
   abbrev pub can_take_up : ℕ → List Entry → Bool
-  can_take_up c es = not (is_due c es) && cond (is_broken c (entries_of Server es)) (has_rejoined c es) (is_any (way_up c es))
+  can_take_up c es = not (is_due c es) && cond (is_broken c (entries_of Server es)) (has_rejoined c es) (is_any (up_in_flight c es))
 
   -- the slots of a client: its threads' acts, taking a message, flushing
   abbrev pub client_slots : ℕ → List Slot
@@ -72,19 +73,19 @@ module _ (p : Settings) where
   abbrev pub slots : List Slot
   slots = flat_map client_slots (clients_of p) ++ map TakesUp (clients_of p) ++ flat_map (λ c. Loses c ∷ Breaks c ∷ []) (clients_of p)
 
-  -- a client that isn't lost has no message on the way, up or down
+  -- a client that isn't lost has no message in flight, up or down
   abbrev pub is_quiet : ℕ → List Entry → Bool
-  is_quiet c es = is_lost c (entries_of Server es) || not (is_any (way_up c es) || is_any (way_down c es))
+  is_quiet c es = is_lost c (entries_of Server es) || not (is_any (up_in_flight c es) || is_any (down_in_flight c es))
 
   -- a thread has ended, or its client is lost
   abbrev pub is_over : List Entry → ThreadId → Bool
   is_over es t = is_lost t.client (entries_of Server es) || has_ended t es
 
-  -- Finished: every thread of a client that isn't lost has ended, no message between the server and such a client is on
-  -- the way, and no trigger is due.
+  -- Finished: every thread of a client that isn't lost has ended, no message between the server and such a client is
+  -- in flight, and no trigger is due.
   abbrev pub is_finished : List Entry → Bool
-  is_finished es = not (has (λ t. not (is_over es t)) p.threads)
-      && (not (has (λ c. not (is_quiet c es)) (clients_of p)) && not (has (λ c. is_due c es) (clients_of p)))
+  is_finished es = not (list_any (λ t. not (is_over es t)) p.threads)
+      && (not (list_any (λ c. not (is_quiet c es)) (clients_of p)) && not (list_any (λ c. is_due c es) (clients_of p)))
 
   module _ (next : ThreadId → List Event → Option Request) where
     -- whether a slot is open: the client rule has such an act or flush, the message can be taken, the trigger is due

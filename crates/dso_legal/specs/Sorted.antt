@@ -9,7 +9,7 @@ use Rattle.dso_base.specs.declared.request.Event.{Event}
 use Rattle.dso_base.specs.declared.request.Request.{Request}
 use Rattle.dso_base.specs.Block.{is_field_before}
 use Rattle.dso_law.specs.Settings.{Settings}
-use Rattle.dso_law.specs.Channels.{way_up, IsFirst}
+use Rattle.dso_law.specs.Channels.{up_in_flight, IsFirst}
 use Rattle.dso_law.specs.FitsUp.{Rises}
 use Rattle.dso_legal.specs.Lawful.{IsLawful}
 
@@ -23,7 +23,7 @@ abbrev pub IsSortedRecord : Up → Type 0
 IsSortedRecord (up.Commit txn) = IsSorted txn
 IsSortedRecord m = Unit {0}
 
--- In a lawful journal the first message on the way up of each client, of a lost one too, is so.
+-- In a lawful journal the first message in flight to the server of each client, of a lost one too, is so.
 abbrev pub RecordsAreSorted : Type 0
 RecordsAreSorted = (p : Settings) (next : ThreadId → List Event → Option Request) (es : List Entry) → IsLawful p next es
-    → (c : ℕ) (m : Up) → IsFirst m (way_up c es) → IsSortedRecord m
+    → (c : ℕ) (m : Up) → IsFirst m (up_in_flight c es) → IsSortedRecord m

@@ -10,13 +10,13 @@ use Rattle.dso_plain.specs.History.{last_state}
 use Rattle.dso_plain.specs.Possible.{IsOf}
 use Rattle.dso_plain.specs.State.{PlainState, IsShared}
 use Rattle.dso_law.specs.Entries.{entries_of}
-use Rattle.dso_law.specs.Served.{counted}
+use Rattle.dso_law.specs.ServerReadings.{counted}
 use Rattle.dso_law.specs.Settings.{Settings}
 use Rattle.dso_law.specs.Store.{stored}
-use Rattle.dso_legal.specs.Calm.{WithoutWaits, WithoutLosses}
+use Rattle.dso_legal.specs.WaitsAndLosses.{WithoutWaits, WithoutLosses}
 use Rattle.dso_legal.specs.Committed.{committed}
 use Rattle.dso_legal.specs.Lawful.{IsLawful}
-use Rattle.dso_legal.specs.Program.{IsSound}
+use Rattle.dso_legal.specs.SoundProgram.{IsSound}
 
 -- the object is shared, and the body has its class, size and values
 pub record IsHeapBody (o : ℕ) (body : Body) (s : PlainState) : Type 0 where

@@ -1,4 +1,5 @@
--- Leases are tokens: what the client and the server say of a lock's lease is one thing, once all on the way is taken.
+-- Leases are tokens: what the client and the server say of a lock's lease is one thing, once all in flight is taken.
+use Rattle.std.specs.List.{list_any}
 use Rattle.std.specs.Prelude.{ℕ, ◌≡◌, ◌≢◌, true, false, eqb, Option, Some, None, List}
 use Rattle.dso_base.specs.declared.journal.Entry.{Entry}
 use Rattle.dso_base.specs.declared.journal.Node.TheVariants.{Server, Client}
@@ -11,15 +12,15 @@ use Rattle.dso_base.specs.declared.message.Up.{Up}
 use Rattle.dso_base.specs.declared.message.Up.TheVariants as up
 use Rattle.dso_base.specs.declared.request.Event.{Event}
 use Rattle.dso_base.specs.declared.request.Request.{Request}
-use Rattle.dso_plain.specs.Keys.{is_lock}
+use Rattle.dso_plain.specs.KeyTests.{is_lock}
 use Rattle.dso_law.specs.declared.readings.Standing.{Standing}
-use Rattle.dso_law.specs.Settings.{Settings, has}
+use Rattle.dso_law.specs.Settings.{Settings}
 use Rattle.dso_law.specs.Entries.{entries_of}
-use Rattle.dso_law.specs.Channels.{way_up, way_down, IsFirst}
+use Rattle.dso_law.specs.Channels.{up_in_flight, down_in_flight, IsFirst}
 use Rattle.dso_law.specs.Leases.{idle, standing_up, standing_down, standing, is_asked_for}
-use Rattle.dso_law.specs.Needs.{conflicts}
-use Rattle.dso_law.specs.Served.{is_lost, counted}
-use Rattle.dso_law.specs.Serving.{standing_with, leased_to, queue_of}
+use Rattle.dso_law.specs.RequestNeeds.{conflicts}
+use Rattle.dso_law.specs.ServerReadings.{is_lost, counted}
+use Rattle.dso_law.specs.Granting.{standing_with, leased_to, queue_of}
 use Rattle.dso_legal.specs.Agreement.{messages, Agree}
 use Rattle.dso_legal.specs.Lawful.{IsLawful}
 
@@ -43,10 +44,11 @@ abbrev pub MayGoDown : LockName → Down → Standing → Type 0
 MayGoDown l (down.Grant k level) s = is_lock l k ≡ true → s ≡ asked
 MayGoDown l m s = Unit {0}
 
--- The client and the server agree on the lock: each request on the way up stands where the lock is idle, each return
--- where it is leased, each grant on the way down where it is asked for; once all is taken both say the same.
+-- The client and the server agree on the lock: each request in flight to the server stands where the lock is idle,
+-- each return where it is leased, each grant in flight to the client where it is asked for; once all is taken both
+-- say the same.
 abbrev pub AgreeOnLock : ℕ → LockName → List Entry → Type 0
-AgreeOnLock c l es = Agree (MayGoUp l) (standing_up l) (MayGoDown l) (standing_down l) (messages (way_up c es)) (messages (way_down c es))
+AgreeOnLock c l es = Agree (MayGoUp l) (standing_up l) (MayGoDown l) (standing_down l) (messages (up_in_flight c es)) (messages (down_in_flight c es))
     (standing_with c l (counted (entries_of Server es))) (standing l (entries_of (Client c) es))
 
 -- Leases are tokens: in a lawful journal, for each client that isn't lost, both agree on each lock.
@@ -57,7 +59,7 @@ LeasesAreTokens = (p : Settings) (next : ThreadId → List Event → Option Requ
 -- how a message fits, at the server, by its leases and queue: a request finds neither a lease nor a request of the client,
 -- a return finds the lease
 abbrev pub LeaseFitsUp : ℕ → Up → List Entry → Type 0
-LeaseFitsUp c (up.Request l level) server = (leased_to c l server ≡ None) × (has (λ waiter. eqb waiter.client c) (queue_of l server) ≡ false)
+LeaseFitsUp c (up.Request l level) server = (leased_to c l server ≡ None) × (list_any (λ waiter. eqb waiter.client c) (queue_of l server) ≡ false)
 LeaseFitsUp c (up.Return l threads) server = leased_to c l server ≢ None
 LeaseFitsUp c m server = Unit {0}
 
@@ -66,13 +68,13 @@ abbrev pub LeaseFitsDown : Down → List Entry → Type 0
 LeaseFitsDown (down.Grant l level) client = is_asked_for l client ≡ true
 LeaseFitsDown m client = Unit {0}
 
--- the first message on each way of a client fits
+-- the first message in flight of a client in each direction fits
 pub record FirstFits (c : ℕ) (es : List Entry) : Type 0 where
-  pub ups : (m : Up) → IsFirst m (way_up c es) → LeaseFitsUp c m (counted (entries_of Server es))
-  pub downs : (m : Down) → IsFirst m (way_down c es) → LeaseFitsDown m (entries_of (Client c) es)
+  pub ups : (m : Up) → IsFirst m (up_in_flight c es) → LeaseFitsUp c m (counted (entries_of Server es))
+  pub downs : (m : Down) → IsFirst m (down_in_flight c es) → LeaseFitsDown m (entries_of (Client c) es)
 
--- Leases fit: in a lawful journal, for each client that isn't lost, the first message on each way fits the leases of the
--- end that takes it.
+-- Leases fit: in a lawful journal, for each client that isn't lost, the first message in flight in each direction
+-- fits the leases of the end that takes it.
 abbrev pub LeasesFit : Type 0
 LeasesFit = (p : Settings) (next : ThreadId → List Event → Option Request) (es : List Entry) → IsLawful p next es
     → (c : ℕ) → is_lost c (entries_of Server es) ≡ false → FirstFits c es

@@ -1,4 +1,5 @@
 -- How a client sees the one heap, for one of its threads: what its readings say holds in the state in which the thread acts.
+use Rattle.std.specs.List.{list_any}
 use Rattle.std.specs.Prelude.{ℕ, ◌≡◌, ◌≢◌, ◌≤◌, ◌⊎◌, true, false, Option, Some, None, List}
 use Rattle.dso_base.specs.declared.journal.Entry.{Entry}
 use Rattle.dso_base.specs.declared.lock.Level.{Level}
@@ -9,21 +10,21 @@ use Rattle.dso_base.specs.declared.request.Request.{Request}
 use Rattle.dso_base.specs.declared.shape.Shape.{Shape}
 use Rattle.dso_base.specs.declared.value.ClassId.{ClassId}
 use Rattle.dso_base.specs.declared.value.Value.{Value}
-use Rattle.dso_base.specs.Program.{is_thread}
+use Rattle.dso_base.specs.Following.{is_thread}
 use Rattle.dso_plain.specs.Past.{KeepsPast}
-use Rattle.dso_plain.specs.Possible.{Beside, StandsFrom, IsOf, IsPossible}
+use Rattle.dso_plain.specs.Possible.{IsCompatible, StandsFrom, IsOf, IsPossible}
 use Rattle.dso_plain.specs.State.{PlainState, IsShared, HoldsGuard, hold_on_guard, level_of}
 use Rattle.dso_law.specs.Entries.{events_in}
-use Rattle.dso_law.specs.Settings.{Settings, has}
+use Rattle.dso_law.specs.Settings.{Settings}
 use Rattle.dso_law.specs.Copies.{is_resident, class_held}
 use Rattle.dso_law.specs.Leases.{leased}
-use Rattle.dso_law.specs.Needs.{is_enough, hold_level, unmet}
+use Rattle.dso_law.specs.RequestNeeds.{is_enough, hold_level, unmet}
 use Rattle.dso_law.specs.Records.{next_id}
 use Rattle.dso_law.specs.Replies.{value_seen, reply_of, woken_by}
 use Rattle.dso_law.specs.Threads.{own, locks_of, hold_of, work_of}
-use Rattle.dso_legal.specs.Calm.{waits_or_notifies}
+use Rattle.dso_legal.specs.WaitsAndLosses.{waits_or_notifies}
 use Rattle.dso_legal.specs.Names.{NamesAreKnown}
-use Rattle.dso_legal.specs.Program.{KeepsTo}
+use Rattle.dso_legal.specs.SoundProgram.{KeepsTo}
 use Rattle.dso_legal.specs.Works.{HaveLocks, TellsWork}
 
 -- A value that the thread reads of a shared object: under the guard the heap's; without it one of the past, not older than
@@ -44,7 +45,7 @@ pub record SeesCopy (p : Settings) (t : ThreadId) (client : List Entry) (o : ℕ
 pub record SeesHolds (t : ThreadId) (client : List Entry) (s : PlainState) : Type 0 where
   pub own : HaveLocks t (locks_of t client) s
   pub mates : (u : ThreadId) (l : LockName) → u ≢ t → u.client ≡ t.client → (s.monitors (l, u) ≡ None) ⊎ (level_of (s.monitors (l, u)) ≡ hold_level (hold_of u l client))
-  pub others : (u : ThreadId) (l : LockName) (x : Level) → u.client ≢ t.client → is_enough x (leased l client) ≡ true → Beside x (level_of (s.monitors (l, u)))
+  pub others : (u : ThreadId) (l : LockName) (x : Level) → u.client ≢ t.client → is_enough x (leased l client) ≡ true → IsCompatible x (level_of (s.monitors (l, u)))
 
 -- All that decides what the thread can do: the holds; what it has in hand, since its block's start; the copies; the next id is
 -- new; the objects that it can name are its own or shared; it has not ended, and its client is not lost.
@@ -60,7 +61,7 @@ pub record Sees (p : Settings) (t : ThreadId) (client : List Entry) (start_state
 
 -- No thread that isn't the program's holds a lock.
 abbrev pub OnlyListedHold : Settings → List Entry → Type 0
-OnlyListedHold p client = (u : ThreadId) (l : LockName) → has (is_thread u) p.threads ≡ false → hold_of u l client ≡ None
+OnlyListedHold p client = (u : ThreadId) (l : LockName) → list_any (is_thread u) p.threads ≡ false → hold_of u l client ≡ None
 
 -- The thread doesn't wait, and only threads of the program hold locks.
 pub record IsOrderly (p : Settings) (t : ThreadId) (client : List Entry) : Type 0 where

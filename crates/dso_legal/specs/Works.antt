@@ -6,7 +6,7 @@ use Rattle.dso_base.specs.declared.lock.ThreadId.{ThreadId}
 use Rattle.dso_base.specs.declared.record.Body.{Body}
 use Rattle.dso_base.specs.declared.request.Event.{Event}
 use Rattle.dso_base.specs.declared.shape.Shape.{Shape}
-use Rattle.dso_plain.specs.Keys.{is_lock}
+use Rattle.dso_plain.specs.KeyTests.{is_lock}
 use Rattle.dso_plain.specs.State.{PlainState, IsPrivate, IsShared, opening, is_shared}
 use Rattle.dso_plain.specs.History.{Runs, end_of, last_state}
 use Rattle.dso_plain.specs.Touches.{AreActsOf}

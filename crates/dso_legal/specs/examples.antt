@@ -5,7 +5,6 @@ pub mod Recall
 pub mod Flush
 pub mod Broken
 pub mod LostClient
-pub mod WaitingStart
 pub mod Waiting
 pub mod Refusals
 pub mod Misfits

@@ -4,57 +4,56 @@ ghost use Rattle.std.specs.BTreeMap.{is_at};
 ghost use Rattle.std.specs.Ordering.{nat_cmp};
 ghost use Rattle.dso_base.specs.declared.journal.Node.TheVariants.{Server};
 ghost use Rattle.dso_base.specs.declared.lock.ThreadId.{ThreadId};
-ghost use Rattle.dso_plain.specs.Keys.{writes, written};
-ghost use Rattle.dso_plain.specs.Maps.{look};
+ghost use Rattle.dso_lookup.specs.Maps.{writes, written, look};
 ghost use Rattle.dso_legal.specs.Committed.{committed_of};
-ghost use Rattle.dso_legal.specs.Passing.{HandFits, KeptFits, gives, gives_block, kept_at_client, kept_after};
-ghost use Rattle.dso_legal.specs.Keeping.{threads_in, kept_in, no_kept};
+ghost use Rattle.dso_legal.specs.JournalPass.{CountsFit, AllCountsFit, given_events, given_block, pass_state_at_client, pass_state_after};
+ghost use Rattle.dso_legal.specs.JournalPassTables.{client_state_in, pass_state_in, no_pass_state};
 
-use crate::hands::Threads;
-use crate::maps::{put, take};
 use crate::resolving::add_resolved;
-use crate::waiters::Lists;
+use crate::threads::ClientState;
+use crate::waiters::ServerState;
 use dso_base::{Entry, Event, Input, Journal, NoMemory, Node, Sent, Up};
+use dso_lookup::{put, take};
 use std::alloc::Global;
 use std::collections::BTreeMap;
 
 /// All that is kept of the entries so far, and the history that they commit.
 #[derive(Drop)]
-struct Kept {
-    clients: BTreeMap<u8, Threads>,
-    lists: Lists,
+struct PassState {
+    clients: BTreeMap<u8, ClientState>,
+    lists: ServerState,
     history: Vec<Event>,
 }
 
-impl Kept {
+impl PassState {
     /// No entry was taken in yet. It takes no memory.
-    fn new(alloc: Global) -> Kept
-        ensures { kept_in result ≡ no_kept }
+    fn new(alloc: Global) -> PassState
+        ensures { pass_state_in result ≡ no_pass_state }
     {
-        Kept {
+        PassState {
             clients: BTreeMap::new(alloc),
-            lists: Lists::new(alloc),
+            lists: ServerState::new(alloc),
             history: Vec::new(alloc),
         }
     }
 
     /// Takes out what is kept of a client.
-    fn take_threads(&mut self, alloc: Global, client: u8) -> Threads
-        ensures was { threads_in result ≡ (kept_in self.old).clients client }
+    fn take_threads(&mut self, alloc: Global, client: u8) -> ClientState
+        ensures was { client_state_in result ≡ (pass_state_in self.old).clients client }
         ensures gone { look nat_cmp self.new.clients ≡ written (writes (is_at (nat_cmp client)) (λ _. None)) (look nat_cmp self.old.clients) }
         ensures lists { self.new.lists ≡ self.old.lists }
         ensures history { self.new.history ≡ self.old.history }
     {
         match take(&mut self.clients, &client) {
             Some(threads) => threads,
-            None => Threads::new(alloc),
+            None => ClientState::new(alloc),
         }
     }
 
     /// Takes in the event of an entry of the client.
     fn act(&mut self, alloc: Global, client: u8, event: &Event) -> Result<(), NoMemory>
-        requires { (t : ThreadId) → HandFits (((kept_in self.old).clients client).hands t) }
-        ensures { OnOk result (kept_in self.new ≡ kept_at_client client (Some event.now) (kept_in self.old)) }
+        requires { (t : ThreadId) → CountsFit (((pass_state_in self.old).clients client).threads t) }
+        ensures { OnOk result (pass_state_in self.new ≡ pass_state_at_client client (Some event.now) (pass_state_in self.old)) }
     {
         let mut threads = self.take_threads(alloc, client);
         threads.take(alloc, event)?;
@@ -66,7 +65,7 @@ impl Kept {
     fn give_block(&mut self, alloc: Global, client: u8, number: u64) -> Result<(), NoMemory>
         ensures clients { self.new.clients ≡ self.old.clients }
         ensures lists { self.new.lists ≡ self.old.lists }
-        ensures history { OnOk result (self.new.history.items ≡ self.old.history.items ++ gives_block number ((kept_in self.old).clients client).ended ((kept_in self.old).lists.lost client) (kept_in self.old).lists.waiters) }
+        ensures history { OnOk result (self.new.history.items ≡ self.old.history.items ++ given_block number ((pass_state_in self.old).clients client).ended ((pass_state_in self.old).lists.lost client) (pass_state_in self.old).lists.waiters) }
     {
         if self.lists.is_lost(client) {
             return Ok(());
@@ -81,7 +80,7 @@ impl Kept {
     fn give(&mut self, alloc: Global, input: &Input) -> Result<(), NoMemory>
         ensures clients { self.new.clients ≡ self.old.clients }
         ensures lists { self.new.lists ≡ self.old.lists }
-        ensures history { OnOk result (self.new.history.items ≡ self.old.history.items ++ gives input.now (kept_in self.old)) }
+        ensures history { OnOk result (self.new.history.items ≡ self.old.history.items ++ given_events input.now (pass_state_in self.old)) }
     {
         match input {
             Input::TookUp(client, Up::Commit(txn)) => self.give_block(alloc, *client, txn.seq),
@@ -95,7 +94,7 @@ impl Kept {
 
     /// Takes in an entry of the server.
     fn serve(&mut self, alloc: Global, input: &Input, sent: &[Sent]) -> Result<(), NoMemory>
-        ensures { OnOk result (kept_in self.new ≡ kept_after Server input.now sent.now None (kept_in self.old)) }
+        ensures { OnOk result (pass_state_in self.new ≡ pass_state_after Server input.now sent.now None (pass_state_in self.old)) }
     {
         self.give(alloc, input)?;
         self.lists.take(alloc, input, sent)?;
@@ -104,8 +103,8 @@ impl Kept {
 
     /// Takes in an entry. Where an allocation was refused, nothing is known of what stands here afterwards.
     fn take(&mut self, alloc: Global, entry: &Entry) -> Result<(), NoMemory>
-        requires { KeptFits (kept_in self.old) }
-        ensures { OnOk result (kept_in self.new ≡ kept_after entry.now.node entry.now.input entry.now.sent entry.now.event (kept_in self.old)) }
+        requires { AllCountsFit (pass_state_in self.old) }
+        ensures { OnOk result (pass_state_in self.new ≡ pass_state_after entry.now.node entry.now.input entry.now.sent entry.now.event (pass_state_in self.old)) }
     {
         match entry.node {
             Node::Server => self.serve(alloc, &entry.input, entry.sent.as_slice()),
@@ -126,7 +125,7 @@ impl Kept {
 pub fn committed(alloc: Global, journal: &Journal) -> Result<Vec<Event>, NoMemory>
     ensures { IfOk result (λ history. history.items ≡ committed_of journal.now) }
 {
-    let mut kept = Kept::new(alloc);
+    let mut kept = PassState::new(alloc);
     for entry in journal.entries.as_slice() {
         kept.take(alloc, entry)?;
     }

@@ -31,7 +31,7 @@ pub fn waiting()
     ensures { WaitingJournal }
 {}
 
-/// A connection breaks with messages on the way, twice, and both ends take it up again.
+/// A connection breaks with messages in flight, twice, and both ends take it up again.
 pub fn broken()
     ensures { BrokenJournal }
 {}

@@ -16,15 +16,16 @@ ghost use Rattle.dso_legal.specs.Names.{NamesStayKnown, ObjectsAreMade};
 ghost use Rattle.dso_legal.specs.Views.{ActsArePossible};
 ghost use Rattle.dso_legal.specs.Central.{ClientsStand, CentralLaw};
 ghost use Rattle.dso_legal.specs.Store.{StoreIsHeap};
+ghost use Rattle.dso_legal.specs.SoundCode.{SoundCodeIsSoundProgram, SoundCodeGivesKnownTexts};
 
-/// For each client that isn't lost and each lock: each message on the way may come where it stands, and once all are taken
-/// the client and the server say the same of the lock's lease.
+/// For each client that isn't lost and each lock: each message in flight may come where it stands, and once all are taken the
+/// client and the server say the same of the lock's lease.
 pub fn leases_are_tokens()
     ensures { LeasesAreTokens }
 {}
 
-/// For each client that isn't lost the first message on each way fits the leases of the end that takes it: a grant was
-/// asked for, a request finds neither a lease nor a request of the client, a return finds the lease.
+/// For each client that isn't lost the first message in flight in each direction fits the leases of the end that takes it: a
+/// grant was asked for, a request finds neither a lease nor a request of the client, a return finds the lease.
 pub fn leases_fit()
     ensures { LeasesFit }
 {}
@@ -34,8 +35,9 @@ pub fn leases_are_compatible()
     ensures { LeasesAreCompatible }
 {}
 
-/// For each client that isn't lost: the records on the way up have the numbers after the server's last one, up to the
-/// client's; and those unacknowledged are those on the way up behind those whose acknowledgements are on the way down.
+/// For each client that isn't lost: the records in flight to the server have the numbers after the server's last one, up to the
+/// client's; and those unacknowledged are those in flight to the server behind those whose acknowledgements are in flight to
+/// the client.
 pub fn records_stay_in_order()
     ensures { RecordsStayInOrder }
 {}
@@ -46,8 +48,8 @@ pub fn records_fit()
     ensures { RecordsFit }
 {}
 
-/// For each client that isn't lost: each batch of ids on the way was asked for; and the batches that the server gave are
-/// those that the client has and behind them those on the way, each above those before it.
+/// For each client that isn't lost: each batch of ids in flight was asked for; and the batches that the server gave are those
+/// that the client has and behind them those in flight, each above those before it.
 pub fn batches_stay_in_order()
     ensures { BatchesStayInOrder }
 {}
@@ -82,9 +84,9 @@ pub fn holds_are_compatible()
     ensures { HoldsAreCompatible }
 {}
 
-/// For each client that isn't lost and each object: each message on the way may come where it stands, and once all are taken
-/// the client and the server say the same of whether the client has the object. An object of an id of the client's own counts
-/// from the first record on that publishes it.
+/// For each client that isn't lost and each object: each message in flight may come where it stands, and once all are taken the
+/// client and the server say the same of whether the client has the object. An object of an id of the client's own counts from
+/// the first record on that publishes it.
 pub fn residency_agrees()
     ensures { ResidencyAgrees }
 {}
@@ -129,7 +131,7 @@ pub fn blocks_are_kept()
     ensures { BlocksAreKept }
 {}
 
-/// For each client that isn't lost: the records on the way are those that it sent and the server didn't take.
+/// For each client that isn't lost: the records in flight are those that it sent and the server didn't take.
 pub fn blocks_are_handed_in()
     ensures { BlocksAreHandedIn }
 {}
@@ -158,10 +160,10 @@ pub fn acts_are_possible()
     ensures { ActsArePossible }
 {}
 
-/// After a journal without waits and losses, of a sound program: the history runs; of each client the blocks on the way to the
+/// After a journal without waits and losses, of a sound program: the history runs; of each client the blocks in flight to the
 /// server can run after it, with what they hold and touch within the client's leases there; each thread's open block can run
-/// behind them; and each copy is a past value, not older than what the client's threads have seen, and the heap's once all on the
-/// way is taken, where no change overtakes a lease of the field's guard.
+/// behind them; and each copy is a past value, not older than what the client's threads have seen, and the heap's once all in
+/// flight is taken, where no change overtakes a lease of the field's guard.
 pub fn clients_stand()
     ensures { ClientsStand }
 {}
@@ -171,9 +173,17 @@ pub fn store_is_heap()
     ensures { StoreIsHeap }
 {}
 
+/// The code of a thread's machine, where it is sound, is a sound program: its threads name only what they were told, leave only
+/// locks that they hold, end holding none, and make only what the classes have. Clause `texts`: they store and print no text but
+/// the program's and those that they read.
+pub fn sound_code_is_sound_program()
+    ensures sound { SoundCodeIsSoundProgram }
+    ensures texts { SoundCodeGivesKnownTexts }
+{}
+
 /// **The central law.** A lawful journal without waits and losses, of a sound program, commits a legal history, in which each
-/// thread follows the program; the history has of each thread a first part of its events, each once and in order, and all of
-/// them where the journal is finished.
+/// thread follows the program; the history has of each thread a prefix of its events, each once and in order, and all of them
+/// where the journal is finished.
 pub fn central_law()
     ensures { CentralLaw }
 {}

@@ -4,14 +4,11 @@
 //! has what holds of every lawful journal. [`committed`] computes the history that a journal commits.
 #![tactic(auto)]
 
-#[cfg(test)]
-mod committed_tests;
 mod committing;
 pub mod examples;
-mod hands;
 pub mod laws;
-mod maps;
 mod resolving;
+mod threads;
 mod waiters;
 
 pub use committing::committed;

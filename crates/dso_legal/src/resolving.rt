@@ -2,31 +2,31 @@
 ghost use Rattle.std.specs.Prelude.{◌≡◌, ◌++◌, OnOk, IfOk};
 ghost use Rattle.dso_base.specs.declared.record.Choice.TheVariants.{There, All};
 ghost use Rattle.dso_law.specs.Replies.{first_of_list};
-ghost use Rattle.dso_law.specs.Waking as waking;
+ghost use Rattle.dso_law.specs.ServerWaiters as waking;
 ghost use Rattle.dso_legal.specs.Committed.{resolved};
-ghost use Rattle.dso_legal.specs.Keeping.{lists_in, gone_at, left_in, resolved_event, lists_after_event};
+ghost use Rattle.dso_legal.specs.JournalPassTables.{server_state_in, woken_count, lists_left, resolved_event, lists_after_event};
 
-use crate::maps::put;
-use crate::waiters::Lists;
+use crate::waiters::ServerState;
 use dso_base::{Event, LockName, NoMemory, Reply, Request, ThreadId};
+use dso_lookup::put;
 use std::alloc::Global;
 use std::collections::BTreeMap;
 
 /// How many of a lock's list the notifications of the block woke already.
 fn gone_of(gone: &BTreeMap<LockName, usize>, lock: LockName) -> usize
-    ensures { result ≡ gone_at gone.now lock }
+    ensures { result ≡ woken_count gone.now lock }
 {
     gone.get(&lock).copied().unwrap_or(0)
 }
 
 /// The first that is left of the lock's list, which leaves it.
 fn wake_first(
-    lists: &Lists,
+    lists: &ServerState,
     gone: &mut BTreeMap<LockName, usize>,
     lock: LockName,
 ) -> Result<Option<ThreadId>, NoMemory>
-    ensures woken { IfOk result (λ woken. woken ≡ first_of_list (left_in (lists_in lists.now).waiters gone.old lock)) }
-    ensures left { OnOk result (left_in (lists_in lists.now).waiters gone.new ≡ waking.lists_after lock There (left_in (lists_in lists.now).waiters gone.old)) }
+    ensures woken { IfOk result (λ woken. woken ≡ first_of_list (lists_left (server_state_in lists.now).waiters gone.old lock)) }
+    ensures left { OnOk result (lists_left (server_state_in lists.now).waiters gone.new ≡ waking.lists_after lock There (lists_left (server_state_in lists.now).waiters gone.old)) }
 {
     let at = gone_of(gone, lock);
     match lists.waiters(lock).get(at) {
@@ -40,11 +40,11 @@ fn wake_first(
 
 /// All that are left of the lock's list leave it.
 fn wake_all(
-    lists: &Lists,
+    lists: &ServerState,
     gone: &mut BTreeMap<LockName, usize>,
     lock: LockName,
 ) -> Result<(), NoMemory>
-    ensures { OnOk result (left_in (lists_in lists.now).waiters gone.new ≡ waking.lists_after lock All (left_in (lists_in lists.now).waiters gone.old)) }
+    ensures { OnOk result (lists_left (server_state_in lists.now).waiters gone.new ≡ waking.lists_after lock All (lists_left (server_state_in lists.now).waiters gone.old)) }
 {
     put(gone, lock, lists.waiters(lock).len())?;
     Ok(())
@@ -52,12 +52,12 @@ fn wake_all(
 
 /// The event with whom the server woke for it.
 fn resolve_event(
-    lists: &Lists,
+    lists: &ServerState,
     gone: &mut BTreeMap<LockName, usize>,
     event: &Event,
 ) -> Result<Event, NoMemory>
-    ensures event { IfOk result (λ with_woken. with_woken ≡ resolved_event event.now (left_in (lists_in lists.now).waiters gone.old)) }
-    ensures left { OnOk result (left_in (lists_in lists.now).waiters gone.new ≡ lists_after_event event.now (left_in (lists_in lists.now).waiters gone.old)) }
+    ensures event { IfOk result (λ with_woken. with_woken ≡ resolved_event event.now (lists_left (server_state_in lists.now).waiters gone.old)) }
+    ensures left { OnOk result (lists_left (server_state_in lists.now).waiters gone.new ≡ lists_after_event event.now (lists_left (server_state_in lists.now).waiters gone.old)) }
 {
     match *event {
         Event::Act {
@@ -89,11 +89,11 @@ fn resolve_event(
 /// Adds the events of a block to the history, each with whom the server woke for it, by its lists.
 pub(crate) fn add_resolved(
     alloc: Global,
-    lists: &Lists,
+    lists: &ServerState,
     block: &[Event],
     history: &mut Vec<Event>,
 ) -> Result<(), NoMemory>
-    ensures { OnOk result (history.new.items ≡ history.old.items ++ resolved block.now (lists_in lists.now).waiters) }
+    ensures { OnOk result (history.new.items ≡ history.old.items ++ resolved block.now (server_state_in lists.now).waiters) }
 {
     let mut gone = BTreeMap::new(alloc);
     for event in block {

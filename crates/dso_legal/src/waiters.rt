@@ -1,28 +1,28 @@
 //! What the entries of the server tell of its clients and its lists of waiters, kept from entry to entry.
 ghost use Rattle.std.specs.Prelude.{◌≡◌, ◌++◌, cond, not, eqb, filter, true, None, OnOk, IfOk};
 ghost use Rattle.std.specs.BTreeMap.{is_at};
-ghost use Rattle.dso_plain.specs.Keys.{is_lock, writes, written};
-ghost use Rattle.dso_law.specs.Entries.{told, by_told};
-ghost use Rattle.dso_law.specs.Waits.{without};
-ghost use Rattle.dso_plain.specs.Maps.{look};
+ghost use Rattle.dso_lookup.specs.Maps.{written, writes, look};
+ghost use Rattle.dso_plain.specs.KeyTests.{is_lock};
+ghost use Rattle.dso_law.specs.Entries.{one_sent_down, by_sent_down};
+ghost use Rattle.dso_law.specs.ClientWaiters.{without};
 ghost use Rattle.dso_plain.specs.Tables.{lock_order};
 ghost use Rattle.dso_base.specs.declared.message.Down.TheVariants.{Wake};
 ghost use Rattle.dso_base.specs.declared.message.Up.TheVariants.{Return};
-ghost use Rattle.dso_base.specs.Program.{is_thread};
-ghost use Rattle.dso_law.specs.Waking.{without_client, waiters_by_message, waiters_by, waiters_told};
-ghost use Rattle.dso_law.specs.Served.{loses};
-ghost use Rattle.dso_legal.specs.Passing.{is_of_lost, lists_after};
-ghost use Rattle.dso_legal.specs.Keeping.{no_lists, lists_in, waiters_in};
+ghost use Rattle.dso_base.specs.Following.{is_thread};
+ghost use Rattle.dso_law.specs.ServerWaiters.{without_client, waiters_by_message, waiters_by, waiters_by_sent};
+ghost use Rattle.dso_law.specs.ServerReadings.{loses};
+ghost use Rattle.dso_legal.specs.JournalPass.{is_of_lost, server_state_after};
+ghost use Rattle.dso_legal.specs.JournalPassTables.{no_server_state, server_state_in, waiters_in};
 
-use crate::maps::{put, take};
 use dso_base::{Down, Input, Items, LockName, NoMemory, Sent, ThreadId, Up};
+use dso_lookup::{put, take};
 use std::alloc::Global;
 use std::collections::BTreeMap;
 use std::mem::replace;
 
 /// What is kept of the server: which clients are lost, and its list of waiters of each lock.
 #[derive(Drop)]
-pub(crate) struct Lists {
+pub(crate) struct ServerState {
     lost: BTreeMap<u8, bool>,
     waiters: BTreeMap<LockName, Items<ThreadId>>,
 }
@@ -116,12 +116,12 @@ fn lose(
     Ok(())
 }
 
-impl Lists {
+impl ServerState {
     /// A server that made no entry yet. It takes no memory.
-    pub(crate) fn new(alloc: Global) -> Lists
-        ensures { lists_in result ≡ no_lists }
+    pub(crate) fn new(alloc: Global) -> ServerState
+        ensures { server_state_in result ≡ no_server_state }
     {
-        Lists {
+        ServerState {
             lost: BTreeMap::new(alloc),
             waiters: BTreeMap::new(alloc),
         }
@@ -129,7 +129,7 @@ impl Lists {
 
     /// Whether the client is lost. It takes no memory.
     pub(crate) fn is_lost(&self, client: u8) -> bool
-        ensures { result ≡ (lists_in self.now).lost client }
+        ensures { result ≡ (server_state_in self.now).lost client }
     {
         match self.lost.get(&client) {
             Some(lost) => *lost,
@@ -139,7 +139,7 @@ impl Lists {
 
     /// The list of a lock. It takes no memory.
     pub(crate) fn waiters(&self, lock: LockName) -> &[ThreadId]
-        ensures { result.now ≡ (lists_in self.now).waiters lock }
+        ensures { result.now ≡ (server_state_in self.now).waiters lock }
     {
         match self.waiters.get(&lock) {
             Some(list) => list.as_slice(),
@@ -149,7 +149,7 @@ impl Lists {
 
     /// Whether the input is a message of a lost client.
     fn is_of_lost(&self, input: &Input) -> bool
-        ensures { result ≡ is_of_lost input.now (lists_in self.now).lost }
+        ensures { result ≡ is_of_lost input.now (server_state_in self.now).lost }
     {
         match input {
             Input::TookUp(client, _) => self.is_lost(*client),
@@ -159,7 +159,7 @@ impl Lists {
 
     /// What the server takes in makes of the lists.
     fn hear(&mut self, alloc: Global, input: &Input) -> Result<(), NoMemory>
-        ensures { OnOk result (lists_in self.new ≡ record { lost = λ c. cond (loses c input.now) true ((lists_in self.old).lost c); waiters = λ l. waiters_by l input.now ((lists_in self.old).waiters l) }) }
+        ensures { OnOk result (server_state_in self.new ≡ record { lost = λ c. cond (loses c input.now) true ((server_state_in self.old).lost c); waiters = λ l. waiters_by l input.now ((server_state_in self.old).waiters l) }) }
     {
         match input {
             Input::TookUp(_, Up::Return(lock, threads)) => {
@@ -178,7 +178,7 @@ impl Lists {
     /// What a message sent makes of the lists.
     fn tell(&mut self, alloc: Global, sent: &Sent) -> Result<(), NoMemory>
         ensures lost { OnOk result (self.new.lost ≡ self.old.lost) }
-        ensures waiters { OnOk result (waiters_in self.new.waiters ≡ (λ l. told (waiters_told l) (waiters_in self.old.waiters l) sent.now)) }
+        ensures waiters { OnOk result (waiters_in self.new.waiters ≡ (λ l. one_sent_down (waiters_by_sent l) (waiters_in self.old.waiters l) sent.now)) }
     {
         match sent {
             Sent::ToClient(_, Down::Wake(lock, thread)) => {
@@ -191,7 +191,7 @@ impl Lists {
     /// What all messages sent make of the lists.
     fn tell_all(&mut self, alloc: Global, messages: &[Sent]) -> Result<(), NoMemory>
         ensures lost { OnOk result (self.new.lost ≡ self.old.lost) }
-        ensures waiters { OnOk result (waiters_in self.new.waiters ≡ (λ l. by_told (waiters_told l) messages.now (waiters_in self.old.waiters l))) }
+        ensures waiters { OnOk result (waiters_in self.new.waiters ≡ (λ l. by_sent_down (waiters_by_sent l) messages.now (waiters_in self.old.waiters l))) }
     {
         for sent in messages {
             self.tell(alloc, sent)?;
@@ -207,7 +207,7 @@ impl Lists {
         input: &Input,
         sent: &[Sent],
     ) -> Result<(), NoMemory>
-        ensures { OnOk result (lists_in self.new ≡ lists_after input.now sent.now (lists_in self.old)) }
+        ensures { OnOk result (server_state_in self.new ≡ server_state_after input.now sent.now (server_state_in self.old)) }
     {
         if self.is_of_lost(input) {
             return Ok(());

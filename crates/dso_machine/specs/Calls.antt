@@ -11,24 +11,24 @@ use Rattle.dso_machine.specs.declared.code.Code.{Code}
 use Rattle.dso_machine.specs.declared.code.Method.{Method}
 use Rattle.dso_machine.specs.Outcome.{Environment, Outcome, Gives, Leaves, Fails, Meaning, choose, on_value, look, on_object, moving, level_of, under}
 
--- the number that stands beside the class
-abbrev pub beside : List (ℕ × ℕ) → ℕ → Option ℕ
-beside [] class = None
-beside (place ∷ places) class = cond (eqb place.0 class) (Some place.1) (beside places class)
+-- the number that the list has for the class, the first one
+abbrev pub lookup : List (ℕ × ℕ) → ℕ → Option ℕ
+lookup [] class = None
+lookup (place ∷ places) class = cond (eqb place.0 class) (Some place.1) (lookup places class)
 
--- so for the class of an object, which arrays are not in
-abbrev pub beside_class : List (ℕ × ℕ) → ClassId → Option ℕ
-beside_class places (Plain class) = beside places class
-beside_class places (Array kind) = None
-beside_class places Roots = None
+-- the number that the list has for the class of an object; arrays and object 0 have none
+abbrev pub lookup_class : List (ℕ × ℕ) → ClassId → Option ℕ
+lookup_class places (Plain class) = lookup places class
+lookup_class places (Array kind) = None
+lookup_class places Roots = None
 
 -- so many variables: these values, and then nulls
 abbrev pub variables : ℕ → List Value → List Value
 variables count values = values ++ replicate (count - length values) value.Null
 
 -- what the methods' bodies mean, by their numbers
-abbrev pub Ways : Type 0
-Ways = ℕ → Meaning
+abbrev pub MethodMeanings : Type 0
+MethodMeanings = ℕ → Meaning
 
 -- The environment of the caller is the thread's again. A body that did not return gives null.
 abbrev pub back_in : Environment → Outcome → Outcome
@@ -36,13 +36,18 @@ back_in caller (Gives v at) = Gives value.Null (record at { environment = caller
 back_in caller (Leaves v at) = Gives v (record at { environment = caller })
 back_in caller o = o
 
--- a method's body in an environment of its own, in which one call less may nest
-abbrev pub begin : Ways → ℕ → Value → List Value → Meaning
-begin ways m this vars at = back_in at.environment (ways m (record at { environment = record { this = this; vars = vars; depth_left = at.environment.depth_left - 1 } }))
+-- the environment of a method's body, in which one call less may nest than in its caller's
+abbrev pub callee : Value → List Value → Environment → Environment
+callee this vars caller = record { this = this; vars = vars; depth_left = caller.depth_left - 1 }
 
--- so, as a move
-abbrev pub invoke : Ways → ℕ → Value → List Value → Meaning
-invoke ways m this vars = moving (begin ways m this vars)
+-- a method's body in an environment of its own
+abbrev pub begin : MethodMeanings → ℕ → Value → List Value → Meaning
+begin bodies m this vars at =
+    back_in at.environment (bodies m (record at { environment = callee this vars at.environment }))
+
+-- a method's body, begun as a move
+abbrev pub invoke : MethodMeanings → ℕ → Value → List Value → Meaning
+invoke bodies m this vars = moving (begin bodies m this vars)
 
 -- a part under a method's named lock, if it has one
 abbrev pub under_name : Option (ℕ × Grade) → Meaning → Meaning
@@ -55,27 +60,29 @@ under_monitor None object m = m
 under_monitor (Some grade) object m = under (Mon object) (level_of grade) m
 
 -- a method of an object: its locks, the named one first, and then its body
-abbrev pub run_method : Ways → ℕ → Method → ℕ → List Value → Meaning
-run_method ways m method object args =
-    under_name method.named (under_monitor method.synced object (invoke ways m (value.Ref object) (variables method.vars args)))
+abbrev pub run_method : MethodMeanings → ℕ → Method → ℕ → List Value → Meaning
+run_method bodies m method object args =
+    under_name method.named (under_monitor method.synced object
+    (invoke bodies m (value.Ref object) (variables method.vars args)))
 
 -- a method that was found, if one more call may nest
-abbrev pub call_method : Ways → ℕ → ℕ → List Value → Option Method → Meaning
-call_method ways m object args None at = Fails NoSuchField at
-call_method ways m object args (Some method) at = choose (nat_lt 0 at.environment.depth_left) (run_method ways m method object args) (Fails StackOverflow) at
+abbrev pub call_method : MethodMeanings → ℕ → ℕ → List Value → Option Method → Meaning
+call_method bodies m object args None at = Fails NoSuchField at
+call_method bodies m object args (Some method) at =
+    choose (nat_lt 0 at.environment.depth_left) (run_method bodies m method object args) (Fails StackOverflow) at
 
 -- the method of the object's class
-abbrev pub call_number : Code → Ways → ℕ → List Value → Option ℕ → Meaning
-call_number code ways object args None at = Fails NoSuchField at
-call_number code ways object args (Some m) at = call_method ways m object args (slice_get code.methods m) at
+abbrev pub call_number : Code → MethodMeanings → ℕ → List Value → Option ℕ → Meaning
+call_number code bodies object args None at = Fails NoSuchField at
+call_number code bodies object args (Some m) at = call_method bodies m object args (slice_get code.methods m) at
 
 -- a call on an object of this class
-abbrev pub call_in : Code → Ways → List (ℕ × ℕ) → List Value → ℕ → ClassId → ℕ → Meaning
-call_in code ways callees args object class size = call_number code ways object args (beside_class callees class)
+abbrev pub call_in : Code → MethodMeanings → List (ℕ × ℕ) → List Value → ℕ → ClassId → ℕ → Meaning
+call_in code bodies callees args object class size = call_number code bodies object args (lookup_class callees class)
 
 -- a call with its operands
-abbrev pub call_on : Code → Ways → List (ℕ × ℕ) → Value → List Value → Meaning
-call_on code ways callees x args = on_object (λ object. look (call_in code ways callees args object) object) x
+abbrev pub call_on : Code → MethodMeanings → List (ℕ × ℕ) → Value → List Value → Meaning
+call_on code bodies callees x args = on_object (λ object. look (call_in code bodies callees args object) object) x
 
 -- the arguments that are left, from the left, behind those before them
 abbrev pub arguments : (List Value → Meaning) → List Meaning → List Value → Meaning

@@ -17,10 +17,10 @@ use Rattle.dso_machine.specs.declared.code.Code.{Code}
 use Rattle.dso_machine.specs.declared.tree.Expr.{Expr, Expr-F, fold-Expr}
 use Rattle.dso_machine.specs.declared.tree.Expr.TheOpen as e
 use Rattle.dso_machine.specs.declared.tree.FieldRef.{FieldRef}
-use Rattle.dso_machine.specs.Calls.{Ways, beside, call_on, arguments}
+use Rattle.dso_machine.specs.Calls.{lookup, call_on, arguments, MethodMeanings}
 use Rattle.dso_machine.specs.Limits.{most_elements}
 use Rattle.dso_machine.specs.Outcome.{Gives, Fails, Meaning, choose, on_value, on_next, on_reply, result_of, ask, made, get, look, on_object, under}
-use Rattle.dso_machine.specs.Values.{before, between}
+use Rattle.dso_machine.specs.Values.{unary, binary}
 
 -- ---- fields and elements
 
@@ -31,7 +31,7 @@ field_at object (Some place) at = get object place at
 
 -- a field of an object of this class: of an array only its length
 abbrev pub field_in : FieldRef → ℕ → ClassId → ℕ → Meaning
-field_in f object (Plain class) size at = field_at object (beside f.places class) at
+field_in f object (Plain class) size at = field_at object (lookup f.places class) at
 field_in f object (Array kind) size at = choose f.length (Gives (value.Long (pos size))) (Fails NoSuchField) at
 field_in f object Roots size at = Fails NoSuchField at
 
@@ -96,24 +96,25 @@ second op.And m v at = Fails BadValue at
 second op.Or m (value.Bool true) at = Gives (value.Bool true) at
 second op.Or m (value.Bool false) at = on_value a_boolean (m at)
 second op.Or m v at = Fails BadValue at
-second o m a at = on_next (λ x y. result_of (between o x y)) m a at
+second o m a at = on_next (λ x y. result_of (binary o x y)) m a at
 
 -- ---- all forms
 
 -- what an expression means, by what its parts mean
-abbrev pub expr_step : Code → Ways → Expr-F Meaning → Meaning
-expr_step code ways (e.Const v) at = Gives v at
-expr_step code ways (e.Var i) at = Gives (slice_index_or at.environment.vars i value.Null) at
-expr_step code ways e.This at = Gives at.environment.this at
-expr_step code ways (e.Root r) at = root r at
-expr_step code ways (e.Field a f) at = on_value (field_of f) (a at)
-expr_step code ways (e.Elem a b) at = on_value (on_next element_of b) (a at)
-expr_step code ways (e.Call a callees args) at = on_value (λ x. arguments (call_on code ways callees x) args []) (a at)
-expr_step code ways (e.NewObject class) at = new_object code.shape class at
-expr_step code ways (e.NewArray kind a) at = on_value (new_array kind) (a at)
-expr_step code ways (e.Unary o a) at = on_value (λ v. result_of (before o v)) (a at)
-expr_step code ways (e.Binary o a b) at = on_value (second o b) (a at)
+abbrev pub expr_step : Code → MethodMeanings → Expr-F Meaning → Meaning
+expr_step code bodies (e.Const v) at = Gives v at
+expr_step code bodies (e.Var i) at = Gives (slice_index_or at.environment.vars i value.Null) at
+expr_step code bodies e.This at = Gives at.environment.this at
+expr_step code bodies (e.Root r) at = root r at
+expr_step code bodies (e.Field a f) at = on_value (field_of f) (a at)
+expr_step code bodies (e.Elem a b) at = on_value (on_next element_of b) (a at)
+expr_step code bodies (e.Call a callees args) at =
+    on_value (λ x. arguments (call_on code bodies callees x) args []) (a at)
+expr_step code bodies (e.NewObject class) at = new_object code.shape class at
+expr_step code bodies (e.NewArray kind a) at = on_value (new_array kind) (a at)
+expr_step code bodies (e.Unary o a) at = on_value (λ v. result_of (unary o v)) (a at)
+expr_step code bodies (e.Binary o a b) at = on_value (second o b) (a at)
 
 -- what an expression means
-abbrev pub expr : Code → Ways → Expr → Meaning
-expr code ways = fold-Expr Meaning (expr_step code ways)
+abbrev pub expr : Code → MethodMeanings → Expr → Meaning
+expr code bodies = fold-Expr Meaning (expr_step code bodies)

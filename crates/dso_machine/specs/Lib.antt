@@ -3,9 +3,10 @@ pub mod Expressions
 pub mod Limits
 pub mod Next
 pub mod Outcome
-pub mod Running
+pub mod Continuation
 pub mod Sound
 pub mod Standing
 pub mod Statements
+pub mod Unwinding
 pub mod Values
 pub mod Weight

@@ -7,7 +7,7 @@ use Rattle.dso_base.specs.declared.request.Reply.{Reply}
 use Rattle.dso_base.specs.declared.request.Request.{Request}
 use Rattle.dso_base.specs.declared.request.Request.TheVariants.{End}
 use Rattle.dso_base.specs.declared.value.Value.TheVariants as value
-use Rattle.dso_base.specs.Program.{is_thread}
+use Rattle.dso_base.specs.Following.{is_thread}
 use Rattle.dso_machine.specs.declared.code.Code.{Code}
 use Rattle.dso_machine.specs.declared.code.ThreadBody.{ThreadBody}
 use Rattle.dso_machine.specs.Calls.{variables}
@@ -28,17 +28,21 @@ finish (Wants q) = Wants q
 finish Over = Over
 finish Stopped = Stopped
 
--- Where a thread stands before its first statement: the environment of its body has no object and so many variables. The body is one
--- of the frames, and the rest are calls that may nest in it.
+-- Where a thread stands before its first statement: the environment of its body has no object and so many variables.
+-- The body is one of the frames, and the rest are calls that may nest in it.
 abbrev pub opening : ℕ → List Reply → State
-opening vars replies = record { environment = record { this = value.Null; vars = variables vars []; depth_left = most_frames - 1 }; moves = 0; replies = replies }
+opening vars replies = record {
+  environment = record { this = value.Null; vars = variables vars []; depth_left = most_frames - 1 };
+  moves = 0;
+  replies = replies;
+}
 
 -- what a thread's code comes to after these replies, for at most n moves
 abbrev pub whole : Code → ThreadBody → ℕ → List Reply → Outcome
 whole code body n replies = finish (block code (methods code n) n body.body (opening body.vars replies))
 
--- No thread makes so many moves with these replies: for each of them the most moves that may be made without a request, and
--- those before the first.
+-- No thread makes so many moves with these replies: for each of them the most moves that may be made without a
+-- request, and those before the first.
 abbrev pub enough_for : List Reply → ℕ
 enough_for replies = most_moves * length replies + suc most_moves
 
@@ -65,6 +69,7 @@ abbrev pub next_of : Code → List Reply → Option ThreadBody → Option Reques
 next_of code replies None = None
 next_of code replies (Some body) = request_of (whole code body (enough_for replies) replies)
 
--- The next request of a thread after its events, the first of them first; None after its end, and where there is no such thread.
+-- The next request of a thread after its events, the first of them first; None after its end, and where there is no
+-- such thread.
 abbrev pub next_request : Code → ThreadId → List Event → Option Request
 next_request code t events = next_of code (replies_in events) (body_of t code.bodies)

@@ -1,6 +1,7 @@
 -- What a part of a program means: from where a thread stands to what comes of it.
 --
--- A part asks its requests of a list of replies. Where the list is at its end, what the part comes to is the request itself.
+-- A part asks its requests of a list of replies. Where the list is at its end, what the part comes to is the request
+-- itself.
 use Rattle.std.specs.Prelude.{ℕ, ◌+◌, Bool, true, false, nat_lt, List, [], ◌∷◌, Result, Ok, Err}
 use Rattle.dso_base.specs.declared.lock.Grade.{Grade}
 use Rattle.dso_base.specs.declared.lock.Grade.TheVariants as grade
@@ -18,20 +19,23 @@ use Rattle.dso_base.specs.declared.value.Value.{Value}
 use Rattle.dso_base.specs.declared.value.Value.TheVariants as value
 use Rattle.dso_machine.specs.Limits.{most_moves}
 
--- the environment of a body: the object that the method is called on, its variables, and how many more calls may nest in it
+-- the environment of a body: the object that the method is called on, its variables, and how many more calls may nest
+-- in it
 pub record Environment : Type 0 where
   pub this : Value
   pub vars : List Value
   pub depth_left : ℕ
 
--- where a thread stands: the environment of the body that it runs, its moves since the last request, and the replies that are left
+-- where a thread stands: the environment of the body that it runs, its moves since the last request, and the replies
+-- that are left
 pub record State : Type 0 where
   pub environment : Environment
   pub moves : ℕ
   pub replies : List Reply
 
--- What a part comes to: it wants a reply, gives a value, leaves its body with one, or fails. Between a request and what is
--- made of its reply, it hears the reply. The thread is over, or was stopped since it made more moves than were counted.
+-- What a part comes to: it wants a reply, gives a value, leaves its body with one, or fails. Between a request and
+-- what is made of its reply, it hears the reply. The thread is over, or was stopped since it made more moves than
+-- were counted.
 pub data Outcome : Type 0 where
   Wants : Request → Outcome
   Gives : Value → State → Outcome

@@ -65,33 +65,43 @@ mutual
     variable : {i : ℕ} → i < scope.vars → SoundExpr scope (x.Var i)
     this : scope.in_method ≡ true → SoundExpr scope x.This
     root : {r : ℕ} → r < scope.code.shape.roots → SoundExpr scope (x.Root r)
-    field : {a : Expr} {f : FieldRef} → SoundExpr scope a → ArePlaces scope.code.shape f.places → SoundExpr scope (x.Field a f)
+    field : {a : Expr} {f : FieldRef} → SoundExpr scope a → ArePlaces scope.code.shape f.places →
+        SoundExpr scope (x.Field a f)
     element : {a b : Expr} → SoundExpr scope a → SoundExpr scope b → SoundExpr scope (x.Elem a b)
-    call : {a : Expr} {callees : List (ℕ × ℕ)} {args : List Expr} → SoundExpr scope a → AreCallees scope.code (length args) callees → SoundExprs scope args →
+    call : {a : Expr} {callees : List (ℕ × ℕ)} {args : List Expr} → SoundExpr scope a →
+        AreCallees scope.code (length args) callees → SoundExprs scope args →
         SoundExpr scope (x.Call a callees args)
     object : {c : ℕ} → c < length scope.code.shape.classes → SoundExpr scope (x.NewObject c)
     array : {k : Kind} {a : Expr} → SoundExpr scope a → SoundExpr scope (x.NewArray k a)
     unary : {o : Op} {a : Expr} → is_unary o ≡ true → SoundExpr scope a → SoundExpr scope (x.Unary o a)
-    binary : {o : Op} {a b : Expr} → is_unary o ≡ false → SoundExpr scope a → SoundExpr scope b → SoundExpr scope (x.Binary o a b)
+    binary : {o : Op} {a b : Expr} → is_unary o ≡ false → SoundExpr scope a → SoundExpr scope b →
+        SoundExpr scope (x.Binary o a b)
 
-  -- the same of each of a list
+  -- what each expression of a list names is there
   pub data SoundExprs (scope : Scope) : List Expr → Type 0 where
     none : SoundExprs scope []
     more : {a : Expr} {rest : List Expr} → SoundExpr scope a → SoundExprs scope rest → SoundExprs scope (a ∷ rest)
 
 mutual
-  -- what a statement names is there, form by form, and at most so many statements stand one inside another, itself among them
+  -- what a statement names is there, form by form, and at most so many statements stand one inside another, itself
+  -- among them
   pub data SoundStmt (scope : Scope) : ℕ → Stmt → Type 0 where
     assign : {room i : ℕ} {a : Expr} → i < scope.vars → SoundExpr scope a → SoundStmt scope (suc room) (s.Assign i a)
-    put_field : {room : ℕ} {a b : Expr} {f : FieldRef} → SoundExpr scope a → ArePlaces scope.code.shape f.places → SoundExpr scope b →
+    put_field : {room : ℕ} {a b : Expr} {f : FieldRef} → SoundExpr scope a → ArePlaces scope.code.shape f.places →
+        SoundExpr scope b →
         SoundStmt scope (suc room) (s.PutField a f b)
-    put_element : {room : ℕ} {a b c : Expr} → SoundExpr scope a → SoundExpr scope b → SoundExpr scope c → SoundStmt scope (suc room) (s.PutElem a b c)
-    put_root : {room r : ℕ} {a : Expr} → r < scope.code.shape.roots → SoundExpr scope a → SoundStmt scope (suc room) (s.PutRoot r a)
+    put_element : {room : ℕ} {a b c : Expr} → SoundExpr scope a → SoundExpr scope b → SoundExpr scope c →
+        SoundStmt scope (suc room) (s.PutElem a b c)
+    put_root : {room r : ℕ} {a : Expr} → r < scope.code.shape.roots → SoundExpr scope a →
+        SoundStmt scope (suc room) (s.PutRoot r a)
     evaluate : {room : ℕ} {a : Expr} → SoundExpr scope a → SoundStmt scope (suc room) (s.Eval a)
-    conditional : {room : ℕ} {a : Expr} {all others : List Stmt} → SoundExpr scope a → SoundBlock scope room all → SoundBlock scope room others →
+    conditional : {room : ℕ} {a : Expr} {all others : List Stmt} → SoundExpr scope a → SoundBlock scope room all →
+        SoundBlock scope room others →
         SoundStmt scope (suc room) (s.If a all others)
-    loop : {room : ℕ} {a : Expr} {all : List Stmt} → SoundExpr scope a → SoundBlock scope room all → SoundStmt scope (suc room) (s.While a all)
-    locked : {room : ℕ} {a : Expr} {grade : Grade} {all : List Stmt} → SoundExpr scope a → SoundBlock scope room all → SoundStmt scope (suc room) (s.Sync a grade all)
+    loop : {room : ℕ} {a : Expr} {all : List Stmt} → SoundExpr scope a → SoundBlock scope room all →
+        SoundStmt scope (suc room) (s.While a all)
+    locked : {room : ℕ} {a : Expr} {grade : Grade} {all : List Stmt} → SoundExpr scope a →
+        SoundBlock scope room all → SoundStmt scope (suc room) (s.Sync a grade all)
     wait : {room : ℕ} {a : Expr} → SoundExpr scope a → SoundStmt scope (suc room) (s.Wait a)
     notify : {room : ℕ} {a : Expr} → SoundExpr scope a → SoundStmt scope (suc room) (s.Notify a)
     notify_all : {room : ℕ} {a : Expr} → SoundExpr scope a → SoundStmt scope (suc room) (s.NotifyAll a)
@@ -99,10 +109,11 @@ mutual
     leave : {room : ℕ} → SoundStmt scope (suc room) (s.Return None)
     answer : {room : ℕ} {a : Expr} → SoundExpr scope a → SoundStmt scope (suc room) (s.Return (Some a))
 
-  -- the same of each statement of a block
+  -- what each statement of a block names is there, and each has at most so many statements one inside another
   pub data SoundBlock (scope : Scope) : ℕ → List Stmt → Type 0 where
     done : {room : ℕ} → SoundBlock scope room []
-    next : {room : ℕ} {a : Stmt} {rest : List Stmt} → SoundStmt scope room a → SoundBlock scope room rest → SoundBlock scope room (a ∷ rest)
+    next : {room : ℕ} {a : Stmt} {rest : List Stmt} → SoundStmt scope room a → SoundBlock scope room rest →
+        SoundBlock scope room (a ∷ rest)
 
 -- a field's guard is its object's monitor, or a named lock that is there
 abbrev pub IsGuard : Shape → Guard → Type 0
@@ -143,7 +154,8 @@ threads_of code = map (λ body. body.thread) code.bodies
 
 -- with a thread each lower index of its client is there too
 abbrev pub HasNoGap : List ThreadId → Type 0
-HasNoGap threads = (client index lower : ℕ) → Contains threads (record { client = client; index = index }) → 1 ≤ lower → lower ≤ index →
+HasNoGap threads = (client index lower : ℕ) → Contains threads (record { client = client; index = index }) →
+    1 ≤ lower → lower ≤ index →
     Contains threads (record { client = client; index = lower })
 
 -- The code is sound.

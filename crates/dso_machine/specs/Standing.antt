@@ -8,24 +8,28 @@ use Rattle.dso_base.specs.declared.request.Request.TheVariants as request
 use Rattle.dso_machine.specs.declared.code.Code.{Code}
 use Rattle.dso_machine.specs.declared.code.ThreadBody.{ThreadBody}
 use Rattle.dso_machine.specs.declared.machine.Core.{Core}
-use Rattle.dso_machine.specs.declared.task.Now.{Now}
-use Rattle.dso_machine.specs.declared.task.Now.TheVariants as now
-use Rattle.dso_machine.specs.declared.task.OnReply.{OnReply}
+use Rattle.dso_machine.specs.declared.continuation.Now.{Now}
+use Rattle.dso_machine.specs.declared.continuation.Now.TheVariants as now
+use Rattle.dso_machine.specs.declared.continuation.OnReply.{OnReply}
 use Rattle.dso_machine.specs.declared.thread.Due.{Due}
 use Rattle.dso_machine.specs.declared.thread.Due.TheVariants as due
 use Rattle.dso_machine.specs.declared.thread.Thread.{Thread}
 use Rattle.dso_machine.specs.Limits.{most_moves}
 use Rattle.dso_machine.specs.Next.{body_of, replies_in, whole}
 use Rattle.dso_machine.specs.Outcome.{Outcome, Over}
-use Rattle.dso_machine.specs.Running.{Fuel, Rest, StandsAt, heard, standing}
+use Rattle.dso_machine.specs.Continuation.{Fuel, Completes, StandsAt, heard, standing}
 
 -- what is done with the reply that is there, and what is left after that, comes to o
-pub record MeansHeard (code : Code) (N : ℕ) (r : Reply) (on : OnReply) (core : Core) (rs : List Reply) (o : Outcome) : Type 0 where
+pub record MeansHeard (code : Code) (N : ℕ) (r : Reply) (on : OnReply) (core : Core) (rs : List Reply)
+    (o : Outcome) : Type 0 where
   pub fuel : Fuel N
-  pub rest : Rest code N core.tasks (heard code fuel.n fuel.k on r (standing core rs)) o
+  pub rest : Completes code N core.tasks (heard code fuel.n fuel.k on r (standing core rs)) o
 
--- so it comes to what all of the code comes to after these replies, of which this is the last, and any that are still to come
-pub record HearsAt (code : Code) (body : ThreadBody) (r : Reply) (on : OnReply) (core : Core) (past : List Reply) : Type 0 where
+-- What is done with the reply that is there comes to what all of the code comes to after these replies, of which it
+-- is the last, and any that are still to come: with so many moves as were made, of which there are not more than
+-- those replies allow.
+pub record HearsAt (code : Code) (body : ThreadBody) (r : Reply) (on : OnReply) (core : Core)
+    (past : List Reply) : Type 0 where
   pub made : ℕ
   pub bounded : made ≤ most_moves * length past
   pub rested : core.moves ≡ 0
@@ -43,9 +47,9 @@ StandsFor code body (due.Going a) core past = StandsAt code body a core past
 StandsFor code body (due.Heard r on) core past = HearsAt code body r on core past
 StandsFor code body due.Over core past = IsEnded code body past
 
--- The thread stands for these events, the first of them first: it is one of the program's, and stands where its code comes to
--- by the replies in them.
-pub record Stands (code : Code) (t : ThreadId) (thread : Thread) (events : List Event) : Type 0 where
+-- The thread stands for these events, the first of them first: it is one of the program's, and stands where its code
+-- comes to by the replies in them.
+pub record ThreadStands (code : Code) (t : ThreadId) (thread : Thread) (events : List Event) : Type 0 where
   pub body : ThreadBody
   pub its : body_of t code.bodies ≡ Some body
   pub stands : StandsFor code body thread.due thread.core (replies_in events)
@@ -56,25 +60,28 @@ asked_by (now.Ask q on) = Some q
 asked_by (now.End fault) = Some (request.End fault)
 asked_by a = None
 
--- so of a thread
+-- the request that is out where a thread stands, if one is
 abbrev pub asked_at : Due → Option Request
 asked_at (due.Going a) = asked_by a
 asked_at other = None
 
+-- the request that a thread has out, if it has one
 abbrev pub asked : Thread → Option Request
 asked thread = asked_at thread.due
 
--- the thread has ended
+-- where a thread stands, it has ended
 abbrev pub is_over : Due → Type 0
 is_over due.Over = Unit {0}
 is_over other = ⊥
 
+-- the thread has ended
 abbrev pub IsOver : Thread → Type 0
 IsOver thread = is_over thread.due
 
 -- what stood for replies does so still, where the thread is about to do this
 pub record Resumes (code : Code) (d : Due) (core : Core) (a : Now) (next : Core) : Type 0 where
-  pub resumes : (body : ThreadBody) (past : List Reply) → StandsFor code body d core past → StandsAt code body a next past
+  pub resumes : (body : ThreadBody) (past : List Reply) → StandsFor code body d core past →
+      StandsAt code body a next past
 
 -- after a reply a thread that asked is at what it does with it, and one that ended is over
 abbrev pub IsAnswered : Due → Reply → Due → Type 0

@@ -20,7 +20,7 @@ use Rattle.dso_machine.specs.declared.tree.FieldRef.{FieldRef}
 use Rattle.dso_machine.specs.declared.tree.Expr.{Expr}
 use Rattle.dso_machine.specs.declared.tree.Stmt.{Stmt, Stmt-F, fold-Stmt}
 use Rattle.dso_machine.specs.declared.tree.Stmt.TheOpen as s
-use Rattle.dso_machine.specs.Calls.{Ways, beside}
+use Rattle.dso_machine.specs.Calls.{lookup, MethodMeanings}
 use Rattle.dso_machine.specs.Expressions.{within, expr}
 use Rattle.dso_machine.specs.Outcome.{Gives, Leaves, Fails, Stopped, Meaning, choose, on_value, on_next, tell, get, put, look, on_object, moving, level_of, under}
 use Rattle.dso_machine.specs.Values.{takes}
@@ -29,7 +29,8 @@ use Rattle.dso_machine.specs.Values.{takes}
 
 -- a variable is given a value
 abbrev pub assign : ℕ → Value → Meaning
-assign i v at = Gives value.Null (record at { environment = record at.environment { vars = slice_set at.environment.vars i v } })
+assign i v at =
+    Gives value.Null (record at { environment = record at.environment { vars = slice_set at.environment.vars i v } })
 
 -- a field or an element of this kind is given a value
 abbrev pub put_fitting : Kind → ℕ → ℕ → Value → Meaning
@@ -42,7 +43,7 @@ put_field_at shape class object v (Some place) at = put_fitting (kind_of shape (
 
 -- a field of an object of this class: an array has none
 abbrev pub put_field_in : Shape → FieldRef → Value → ℕ → ClassId → ℕ → Meaning
-put_field_in shape f v object (Plain class) size at = put_field_at shape class object v (beside f.places class) at
+put_field_in shape f v object (Plain class) size at = put_field_at shape class object v (lookup f.places class) at
 put_field_in shape f v object class size at = Fails NoSuchField at
 
 -- a field of a value
@@ -112,34 +113,39 @@ spun test body (suc k) at = on_value (turn (moving (spun test body k)) body) (te
 -- ---- all forms
 
 -- a body is left with a value, or with null
-abbrev pub returned : Code → Ways → Option Expr → Meaning
-returned code ways None at = Leaves value.Null at
-returned code ways (Some a) at = on_value Leaves (expr code ways a at)
+abbrev pub returned : Code → MethodMeanings → Option Expr → Meaning
+returned code bodies None at = Leaves value.Null at
+returned code bodies (Some a) at = on_value Leaves (expr code bodies a at)
 
--- What a statement means, by what the statements in it mean, for at most n moves. Nobody looks at the value that it gives.
-abbrev pub stmt_step : Code → Ways → ℕ → Stmt-F Meaning → Meaning
-stmt_step code ways n (s.Assign i a) at = on_value (assign i) (expr code ways a at)
-stmt_step code ways n (s.PutField a f b) at = on_value (on_next (put_field code.shape f) (expr code ways b)) (expr code ways a at)
-stmt_step code ways n (s.PutElem a b c) at =
-    on_value (on_next (λ x. on_next (put_element x) (expr code ways c)) (expr code ways b)) (expr code ways a at)
-stmt_step code ways n (s.PutRoot r a) at = on_value (put_root r) (expr code ways a at)
-stmt_step code ways n (s.Eval a) at = expr code ways a at
-stmt_step code ways n (s.If a yes_block no_block) at = on_value (branch (seq yes_block) (seq no_block)) (expr code ways a at)
-stmt_step code ways n (s.While a body) at = moving (spun (expr code ways a) (seq body) n) at
-stmt_step code ways n (s.Sync a grade body) at = on_value (sync grade (seq body)) (expr code ways a at)
-stmt_step code ways n (s.Wait a) at = on_value (on_object (λ object. wait (Mon object))) (expr code ways a at)
-stmt_step code ways n (s.Notify a) at = on_value (on_object (λ object. tell (request.Notify (Mon object)))) (expr code ways a at)
-stmt_step code ways n (s.NotifyAll a) at = on_value (on_object (λ object. tell (request.NotifyAll (Mon object)))) (expr code ways a at)
-stmt_step code ways n (s.Print a) at = on_value (λ v. tell (request.Print v)) (expr code ways a at)
-stmt_step code ways n (s.Return a) at = returned code ways a at
+-- What a statement means, by what the statements in it mean, for at most n moves. Nobody looks at the value that it
+-- gives.
+abbrev pub stmt_step : Code → MethodMeanings → ℕ → Stmt-F Meaning → Meaning
+stmt_step code bodies n (s.Assign i a) at = on_value (assign i) (expr code bodies a at)
+stmt_step code bodies n (s.PutField a f b) at =
+    on_value (on_next (put_field code.shape f) (expr code bodies b)) (expr code bodies a at)
+stmt_step code bodies n (s.PutElem a b c) at =
+    on_value (on_next (λ x. on_next (put_element x) (expr code bodies c)) (expr code bodies b)) (expr code bodies a at)
+stmt_step code bodies n (s.PutRoot r a) at = on_value (put_root r) (expr code bodies a at)
+stmt_step code bodies n (s.Eval a) at = expr code bodies a at
+stmt_step code bodies n (s.If a yes_block no_block) at =
+    on_value (branch (seq yes_block) (seq no_block)) (expr code bodies a at)
+stmt_step code bodies n (s.While a body) at = moving (spun (expr code bodies a) (seq body) n) at
+stmt_step code bodies n (s.Sync a grade body) at = on_value (sync grade (seq body)) (expr code bodies a at)
+stmt_step code bodies n (s.Wait a) at = on_value (on_object (λ object. wait (Mon object))) (expr code bodies a at)
+stmt_step code bodies n (s.Notify a) at =
+    on_value (on_object (λ object. tell (request.Notify (Mon object)))) (expr code bodies a at)
+stmt_step code bodies n (s.NotifyAll a) at =
+    on_value (on_object (λ object. tell (request.NotifyAll (Mon object)))) (expr code bodies a at)
+stmt_step code bodies n (s.Print a) at = on_value (λ v. tell (request.Print v)) (expr code bodies a at)
+stmt_step code bodies n (s.Return a) at = returned code bodies a at
 
 -- what a statement means
-abbrev pub stmt : Code → Ways → ℕ → Stmt → Meaning
-stmt code ways n = fold-Stmt Meaning (stmt_step code ways n)
+abbrev pub stmt : Code → MethodMeanings → ℕ → Stmt → Meaning
+stmt code bodies n = fold-Stmt Meaning (stmt_step code bodies n)
 
 -- what statements mean, one after the other
-abbrev pub block : Code → Ways → ℕ → List Stmt → Meaning
-block code ways n ss = seq (map (stmt code ways n) ss)
+abbrev pub block : Code → MethodMeanings → ℕ → List Stmt → Meaning
+block code bodies n ss = seq (map (stmt code bodies n) ss)
 
 -- the statements of a method
 abbrev pub statements_of : Option Method → List Stmt
@@ -147,6 +153,6 @@ statements_of None = []
 statements_of (Some method) = method.body
 
 -- what the methods mean, for at most n moves one inside another
-abbrev pub methods : Code → ℕ → Ways
+abbrev pub methods : Code → ℕ → MethodMeanings
 methods code zero = λ m at. Stopped
 methods code (suc n) = λ m at. block code (methods code n) n (statements_of (slice_get code.methods m)) at

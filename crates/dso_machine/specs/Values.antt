@@ -39,29 +39,30 @@ takes k v = false
 abbrev pub unless_zero : ℤ → Value → Result Value Fault
 unless_zero n v = cond (int_eq n (pos 0)) (Err ZeroDivide) (Ok v)
 
--- What an operator gives between two longs. Division truncates toward zero, and the remainder has the sign of the dividend.
-abbrev pub between_longs : Op → ℤ → ℤ → Result Value Fault
-between_longs op.Add m n = Ok (wrapped (m +ℤ n))
-between_longs op.Sub m n = Ok (wrapped (m -ℤ n))
-between_longs op.Mul m n = Ok (wrapped (m *ℤ n))
-between_longs op.Div m n = unless_zero n (wrapped (int_div m n))
-between_longs op.Rem m n = unless_zero n (wrapped (int_rem m n))
-between_longs op.Lt m n = Ok (value.Bool (int_lt m n))
-between_longs op.Le m n = Ok (value.Bool (int_le m n))
-between_longs op.Gt m n = Ok (value.Bool (int_lt n m))
-between_longs op.Ge m n = Ok (value.Bool (int_le n m))
-between_longs other m n = Err BadValue
+-- What a binary operator gives of two longs. Division truncates toward zero, and the remainder has the sign of the
+-- dividend.
+abbrev pub binary_longs : Op → ℤ → ℤ → Result Value Fault
+binary_longs op.Add m n = Ok (wrapped (m +ℤ n))
+binary_longs op.Sub m n = Ok (wrapped (m -ℤ n))
+binary_longs op.Mul m n = Ok (wrapped (m *ℤ n))
+binary_longs op.Div m n = unless_zero n (wrapped (int_div m n))
+binary_longs op.Rem m n = unless_zero n (wrapped (int_rem m n))
+binary_longs op.Lt m n = Ok (value.Bool (int_lt m n))
+binary_longs op.Le m n = Ok (value.Bool (int_le m n))
+binary_longs op.Gt m n = Ok (value.Bool (int_lt n m))
+binary_longs op.Ge m n = Ok (value.Bool (int_le n m))
+binary_longs other m n = Err BadValue
 
--- What an operator gives between two values, those aside that look at the first one alone: `==` and `!=` take any values,
+-- What a binary operator gives, those aside that look at the first one alone: `==` and `!=` take any values,
 -- the others longs.
-abbrev pub between : Op → Value → Value → Result Value Fault
-between op.Eq a b = Ok (value.Bool (is_same a b))
-between op.Ne a b = Ok (value.Bool (not (is_same a b)))
-between o (value.Long m) (value.Long n) = between_longs o m n
-between o a b = Err BadValue
+abbrev pub binary : Op → Value → Value → Result Value Fault
+binary op.Eq a b = Ok (value.Bool (is_same a b))
+binary op.Ne a b = Ok (value.Bool (not (is_same a b)))
+binary o (value.Long m) (value.Long n) = binary_longs o m n
+binary o a b = Err BadValue
 
--- what an operator gives of one value
-abbrev pub before : Op → Value → Result Value Fault
-before op.Not (value.Bool b) = Ok (value.Bool (not b))
-before op.Neg (value.Long n) = Ok (wrapped (pos 0 -ℤ n))
-before o v = Err BadValue
+-- what a unary operator gives
+abbrev pub unary : Op → Value → Result Value Fault
+unary op.Not (value.Bool b) = Ok (value.Bool (not b))
+unary op.Neg (value.Long n) = Ok (wrapped (pos 0 -ℤ n))
+unary o v = Err BadValue

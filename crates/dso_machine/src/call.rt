@@ -2,16 +2,16 @@
 ghost use Rattle.std.specs.Prelude.{◌≡◌, ℕ, IfOk, List, Some};
 ghost use Rattle.dso_base.specs.declared.request.Reply.{Reply};
 ghost use Rattle.dso_machine.specs.declared.code.Code.{Code};
-ghost use Rattle.dso_machine.specs.declared.task.OnReply.{OnReply};
+ghost use Rattle.dso_machine.specs.declared.continuation.OnReply.{OnReply};
 ghost use Rattle.dso_machine.specs.Calls as calls;
 ghost use Rattle.dso_machine.specs.Outcome.{State};
-ghost use Rattle.dso_machine.specs.Running.{Takes, body_at, in_frame, meant, stepped};
+ghost use Rattle.dso_machine.specs.Continuation.{Takes, body_at, in_frame, meant, stepped};
 ghost use Rattle.dso_machine.specs.Statements.{methods};
 
 use crate::Code;
-use crate::heard::{enter_monitor, unwanted};
-use crate::operators::{beside, level_of};
-use crate::task::{Call, Frame, Locked, Now, OnReply, Step};
+use crate::continuation::{Call, Frame, Locked, Now, OnReply, Step};
+use crate::on_reply::{enter_monitor, unwanted};
+use crate::operators::{level_of, lookup};
 use dso_base::{ClassId, Fault, Grade, Items, LockName, NoMemory, Reply, Request, Value};
 
 /// So many variables: these values, and then nulls.
@@ -79,7 +79,7 @@ pub(crate) fn call_seen(
     ensures takes { IfOk result (λ step. Takes code.now (OnReply.Call object callees args) reply frame.now step) }
 {
     match reply {
-        Reply::Seen(ClassId::Plain(class), _) => match beside(callees.as_slice(), class) {
+        Reply::Seen(ClassId::Plain(class), _) => match lookup(callees.as_slice(), class) {
             Some(number) => call_method(code, frame, object, number, args),
             None => Ok(Step::fail(Fault::NoSuchField)),
         },

@@ -1,13 +1,13 @@
 //! How the evaluation of an expression begins.
 ghost use Rattle.std.specs.Prelude.{◌<◌, ◌≡◌, length, slice_index_or};
 ghost use Rattle.dso_base.specs.Shape.{fields_at};
-ghost use Rattle.dso_machine.specs.declared.task.Now.{Now};
-ghost use Rattle.dso_machine.specs.Running.{Opens};
+ghost use Rattle.dso_machine.specs.declared.continuation.Now.{Now};
+ghost use Rattle.dso_machine.specs.Continuation.{Opens};
 ghost use Rattle.dso_machine.specs.Sound.{IsSound};
 ghost use Rattle.dso_machine.specs.Weight.{expr_weight, step_weight};
 
+use crate::continuation::{Frame, Locked, OnReply, OnValue, Step};
 use crate::stack::Stack;
-use crate::task::{Frame, Locked, OnReply, OnValue, Step};
 use crate::{Code, Expr};
 use dso_base::{ClassId, Level, LockName, Request, Value};
 
@@ -36,7 +36,7 @@ fn count_of_fields(code: &Code, class: u32) -> u32
 }
 
 /// The evaluation of an expression begins.
-#[tactic(auto, using(crate::proofs::Beginning::evaluating, crate::proofs::Weights::weights))]
+#[tactic(auto, using(crate::proofs::forms::Beginnings::evaluating, crate::proofs::forms::Weights::weights))]
 pub(crate) fn evaluate(code: &Code, frame: &Frame, expr: Expr) -> Step
     requires sound { IsSound code.now }
     ensures opens { Opens code.now (Now.Evaluate expr) frame.now result }

@@ -1,16 +1,16 @@
 //! How the execution of a statement begins.
 ghost use Rattle.std.specs.Prelude.{◌<◌};
 ghost use Rattle.dso_machine.specs.declared.code.Code.{Code};
-ghost use Rattle.dso_machine.specs.declared.task.Frame.{Frame};
-ghost use Rattle.dso_machine.specs.Running.{Executes};
+ghost use Rattle.dso_machine.specs.declared.continuation.Frame.{Frame};
+ghost use Rattle.dso_machine.specs.Continuation.{Executes};
 ghost use Rattle.dso_machine.specs.Weight.{stmt_weight, step_weight};
 
 use crate::Stmt;
-use crate::task::{End, Monitor, Move, Now, OnValue, Step, Writing};
+use crate::continuation::{End, Monitor, Move, Now, OnValue, Step, Writing};
 use dso_base::Value;
 
 /// The execution of a statement begins.
-#[tactic(auto, using(crate::proofs::Beginning::executing, crate::proofs::Weights::weights))]
+#[tactic(auto, using(crate::proofs::forms::Beginnings::executing, crate::proofs::forms::Weights::weights))]
 pub(crate) fn execute(statement: Stmt) -> Step
     ensures executes { (code : Code) (frame : Frame) → Executes code statement frame result }
     ensures lighter { step_weight result < stmt_weight statement }

@@ -3,23 +3,21 @@
 
 mod call;
 mod code;
+mod continuation;
 mod copies;
-#[cfg(test)]
-mod copy_tests;
 mod evaluate;
 mod execute;
-mod given;
-mod heard;
+mod laws;
 mod machine;
 mod next_part;
-#[cfg(test)]
-mod operator_tests;
+mod on_reply;
+mod on_value;
 mod operators;
 mod stack;
-mod task;
 mod thread;
 mod tree;
 
 pub use code::{Code, Method, ThreadBody};
+pub use laws::{faults_unwind, locks_nest};
 pub use thread::Thread;
 pub use tree::{Expr, FieldRef, Stmt};

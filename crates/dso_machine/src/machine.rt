@@ -1,23 +1,24 @@
 //! The machine of a thread: its frame, what it is about to do, and what it has still to do.
 ghost use Rattle.std.specs.Prelude.{◌≡◌, ◌+◌, ◌++◌, ◌<◌, ◌↔◌, IfOk, IsTrue, Some, slice_get};
 ghost use Rattle.std.specs.Option.{option_to_list};
-ghost use Rattle.dso_machine.specs.declared.task.End.{End};
-ghost use Rattle.dso_machine.specs.declared.task.Move.{Move};
-ghost use Rattle.dso_machine.specs.declared.task.Now.{Now};
-ghost use Rattle.dso_machine.specs.declared.task.Task.{Task};
+ghost use Rattle.dso_machine.specs.declared.continuation.End.{End};
+ghost use Rattle.dso_machine.specs.declared.continuation.Move.{Move};
+ghost use Rattle.dso_machine.specs.declared.continuation.Now.{Now};
+ghost use Rattle.dso_machine.specs.declared.continuation.Task.{Task};
 ghost use Rattle.dso_machine.specs.declared.code.Code.{Code};
-ghost use Rattle.dso_machine.specs.Running.{IsAsk, IsRest, Keeps, Leads, MakesMove, with_then};
+ghost use Rattle.dso_machine.specs.Continuation.{IsAsk, IsSuspended, Keeps, Leads, MakesMove, with_then};
+ghost use Rattle.dso_machine.specs.Limits.{most_moves};
 ghost use Rattle.dso_machine.specs.Sound.{IsSound};
 ghost use Rattle.dso_machine.specs.Statements.{statements_of};
 ghost use Rattle.dso_machine.specs.Weight.{use_weight, weigh};
 
+use crate::continuation::{Call, End, Frame, Move, Now, OnReply, OnValue, Step, Task};
 use crate::copies::{copy_block, copy_expr};
 use crate::evaluate::evaluate;
 use crate::execute::execute;
-use crate::given::give;
 use crate::next_part::{next_argument, next_statement};
+use crate::on_value::use_value;
 use crate::stack::Stack;
-use crate::task::{Call, End, Frame, Move, Now, OnReply, OnValue, Step, Task};
 use crate::{Code, Expr, Stmt};
 use dso_base::{Items, NoMemory, Request, Value};
 use std::alloc::Global;
@@ -46,7 +47,7 @@ impl Core {
     }
 
     /// A frame ends: the one below is the thread's again. A body that did not return gives null.
-    #[tactic(auto, using(crate::proofs::Steps::steps))]
+    #[tactic(auto, using(crate::proofs::steps::Steps::steps))]
     fn back(&mut self, frame: Frame, end: End) -> Now
         ensures keeps { (code : Code) → Keeps code (Now.Have end) (with_then (Some (Task.Back frame)) self.old) result self.new }
         ensures lighter { weigh result self.new < weigh (Now.Have end) self.old + 1 }
@@ -66,18 +67,18 @@ impl Core {
     }
 
     /// A value is used.
-    #[tactic(auto, using(crate::proofs::Steps::steps))]
+    #[tactic(auto, using(crate::proofs::steps::Steps::steps))]
     fn use_value(&mut self, alloc: Global, value: Value, then: OnValue) -> Result<Now, NoMemory>
         ensures keeps { IfOk result (λ now. (code : Code) → Keeps code (Now.Have (End.Gives value)) (with_then (Some (Task.Then then)) self.old) now self.new) }
         ensures lighter { IfOk result (λ now. weigh now self.new < weigh (Now.Have (End.Gives value)) self.old + use_weight then) }
         ensures calm { IfOk result (λ now. self.new.moves ≡ self.old.moves) }
     {
-        let step = give(alloc, &mut self.frame, value, then)?;
+        let step = use_value(alloc, &mut self.frame, value, then)?;
         self.follow(step)
     }
 
     /// A part ends whose value is used: a return and a fault pass by.
-    #[tactic(auto, using(crate::proofs::Steps::steps))]
+    #[tactic(auto, using(crate::proofs::steps::Steps::steps))]
     fn hand_on(&mut self, alloc: Global, then: OnValue, end: End) -> Result<Now, NoMemory>
         ensures keeps { IfOk result (λ now. (code : Code) → Keeps code (Now.Have end) (with_then (Some (Task.Then then)) self.old) now self.new) }
         ensures lighter { IfOk result (λ now. weigh now self.new < weigh (Now.Have end) self.old + use_weight then) }
@@ -97,7 +98,7 @@ impl Core {
     }
 
     /// Goes on from the end of a part.
-    #[tactic(auto, using(crate::proofs::Steps::steps))]
+    #[tactic(auto, using(crate::proofs::steps::Steps::steps))]
     fn close(&mut self, alloc: Global, end: End) -> Result<Now, NoMemory>
         ensures keeps { IfOk result (λ then. (code : Code) → Keeps code (Now.Have end) self.old then self.new) }
         ensures lighter { IfOk result (λ then. weigh then self.new < weigh (Now.Have end) self.old) }
@@ -115,7 +116,7 @@ impl Core {
     }
 
     /// The evaluation of an expression begins.
-    #[tactic(auto, using(crate::proofs::Steps::steps))]
+    #[tactic(auto, using(crate::proofs::steps::Steps::steps))]
     fn begin_expr(&mut self, code: &Code, expr: Expr) -> Result<Now, NoMemory>
         requires sound { IsSound code.now }
         ensures keeps { IfOk result (λ then. Keeps code.now (Now.Evaluate expr) self.old then self.new) }
@@ -127,7 +128,7 @@ impl Core {
     }
 
     /// The next argument's evaluation begins, or the call where none is left.
-    #[tactic(auto, using(crate::proofs::Steps::steps))]
+    #[tactic(auto, using(crate::proofs::steps::Steps::steps))]
     fn begin_argument(
         &mut self,
         callees: Items<(u32, u32)>,
@@ -143,7 +144,7 @@ impl Core {
     }
 
     /// The execution of a statement begins.
-    #[tactic(auto, using(crate::proofs::Steps::steps))]
+    #[tactic(auto, using(crate::proofs::steps::Steps::steps))]
     fn begin_statement(&mut self, statement: Stmt) -> Result<Now, NoMemory>
         ensures keeps { IfOk result (λ then. (code : Code) → Keeps code (Now.Execute statement) self.old then self.new) }
         ensures lighter { IfOk result (λ then. weigh then self.new < weigh (Now.Execute statement) self.old) }
@@ -153,7 +154,7 @@ impl Core {
     }
 
     /// The next statement comes, or the end where none is left.
-    #[tactic(auto, using(crate::proofs::Steps::steps))]
+    #[tactic(auto, using(crate::proofs::steps::Steps::steps))]
     fn begin_next(&mut self, rest: Stack<Stmt>) -> Result<Now, NoMemory>
         ensures keeps { IfOk result (λ then. (code : Code) → Keeps code (Now.Run rest) self.old then self.new) }
         ensures lighter { IfOk result (λ then. weigh then self.new < weigh (Now.Run rest) self.old) }
@@ -165,7 +166,7 @@ impl Core {
     /// One step, which makes no move.
     fn step(&mut self, alloc: Global, code: &Code, now: Now) -> Result<Now, NoMemory>
         requires sound { IsSound code.now }
-        requires local { ¬ IsRest now }
+        requires local { ¬ IsSuspended now }
         ensures keeps { IfOk result (λ then. Keeps code.now now self.old then self.new) }
         ensures lighter { IfOk result (λ then. weigh then self.new < weigh now self.old) }
         ensures calm { IfOk result (λ then. self.new.moves ≡ self.old.moves) }
@@ -186,20 +187,20 @@ impl Core {
     fn settle(&mut self, alloc: Global, code: &Code, begun: Now) -> Result<Now, NoMemory>
         requires sound { IsSound code.now }
         ensures keeps { IfOk result (λ then. Keeps code.now begun self.old then self.new) }
-        ensures rests { IfOk result (λ then. IsRest then) }
+        ensures rests { IfOk result (λ then. IsSuspended then) }
         ensures calm { IfOk result (λ then. self.new.moves ≡ self.old.moves) }
     {
         let mut now = begun;
-        'going: while !is_rest(&now) {
+        'going: while !is_suspended(&now) {
             now = self.step(alloc, code, now)?;
         }
         Ok(now)
     }
 
     /// A turn of a loop is made: its condition is evaluated.
-    #[tactic(auto, using(crate::proofs::Standing::turned))]
+    #[tactic(auto, using(crate::proofs::standing::AfterReplies::turned))]
     fn make_turn(&mut self, alloc: Global, test: Expr, body: Items<Stmt>) -> Result<Now, NoMemory>
-        requires { self.old.moves < 1000 }
+        requires { self.old.moves < most_moves }
         ensures makes { IfOk result (λ then. (code : Code) → MakesMove code (Now.Pace (Move.Turn test body)) self.old then self.new) }
         ensures moved { IfOk result (λ then. self.new.moves ≡ self.old.moves + 1) }
     {
@@ -209,9 +210,9 @@ impl Core {
     }
 
     /// A method's body is begun, in a frame of its own.
-    #[tactic(auto, using(crate::proofs::Standing::begun))]
+    #[tactic(auto, using(crate::proofs::standing::AfterReplies::begun))]
     fn make_body(&mut self, alloc: Global, code: &Code, call: Call) -> Result<Now, NoMemory>
-        requires { self.old.moves < 1000 }
+        requires { self.old.moves < most_moves }
         ensures makes { IfOk result (λ then. MakesMove code.now (Now.Pace (Move.Body call)) self.old then self.new) }
         ensures moved { IfOk result (λ then. self.new.moves ≡ self.old.moves + 1) }
     {
@@ -228,7 +229,7 @@ impl Core {
 
     /// A move is made.
     fn make(&mut self, alloc: Global, code: &Code, then: Move) -> Result<Now, NoMemory>
-        requires { self.old.moves < 1000 }
+        requires { self.old.moves < most_moves }
         ensures makes { IfOk result (λ now. MakesMove code.now (Now.Pace then) self.old now self.new) }
         ensures moved { IfOk result (λ now. self.new.moves ≡ self.old.moves + 1) }
     {
@@ -281,8 +282,8 @@ fn put_before<N: Drop, T: Drop>(
 fn discard<T: Drop>(_unneeded: T) {}
 
 /// Whether the thread is at a request, a move or its end.
-fn is_rest(now: &Now) -> bool
-    ensures { IsTrue result ↔ IsRest now.now }
+fn is_suspended(now: &Now) -> bool
+    ensures { IsTrue result ↔ IsSuspended now.now }
 {
     matches!(now, Now::Pace(_) | Now::Ask(_, _) | Now::End(_))
 }

@@ -1,14 +1,14 @@
 //! How a list of parts goes on.
 ghost use Rattle.std.specs.Prelude.{◌<◌};
 ghost use Rattle.dso_machine.specs.declared.code.Code.{Code};
-ghost use Rattle.dso_machine.specs.declared.task.Frame.{Frame};
-ghost use Rattle.dso_machine.specs.declared.task.Now.{Now};
-ghost use Rattle.dso_machine.specs.Running.{Opens};
+ghost use Rattle.dso_machine.specs.declared.continuation.Frame.{Frame};
+ghost use Rattle.dso_machine.specs.declared.continuation.Now.{Now};
+ghost use Rattle.dso_machine.specs.Continuation.{Opens};
 ghost use Rattle.dso_machine.specs.Weight.{arguments_weight, block_weight, step_weight};
 
-use crate::given::object_of;
+use crate::continuation::{Now, OnReply, OnValue, Step, Task};
+use crate::on_value::object_of;
 use crate::stack::Stack;
-use crate::task::{Now, OnReply, OnValue, Step, Task};
 use crate::{Expr, Stmt};
 use dso_base::{Items, Request, Value};
 

@@ -7,24 +7,24 @@ ghost use Rattle.dso_machine.specs.Values as values;
 
 use dso_base::{Fault, Grade, Kind, Level, Op, Value, fits};
 
-/// What an operator gives between two values, `&&` and `||` aside.
+/// What a binary operator gives, `&&` and `||` aside.
 ///
 /// `==` and `!=` take any values, the others longs.
-pub(crate) fn between(op: Op, left: Value, right: Value) -> Result<Value, Fault>
-    ensures { result ≡ values.between op left right }
+pub(crate) fn binary(op: Op, left: Value, right: Value) -> Result<Value, Fault>
+    ensures { result ≡ values.binary op left right }
 {
     match (op, left, right) {
         (Op::Eq, _, _) => Ok(Value::Bool(same(left, right))),
         (Op::Ne, _, _) => Ok(Value::Bool(!same(left, right))),
-        (_, Value::Long(left), Value::Long(right)) => between_longs(op, left, right),
+        (_, Value::Long(left), Value::Long(right)) => binary_longs(op, left, right),
         _ => Err(Fault::BadValue),
     }
 }
 
-/// What an operator gives before a value: `!` takes a boolean, the minus sign a long.
-#[tactic(auto, using(crate::proofs::Arithmetic::negation_wraps))]
-pub(crate) fn before(op: Op, operand: Value) -> Result<Value, Fault>
-    ensures { result ≡ values.before op operand }
+/// What a unary operator gives: `!` takes a boolean, the minus sign a long.
+#[tactic(auto, using(crate::proofs::values::Arithmetic::negation_wraps))]
+pub(crate) fn unary(op: Op, operand: Value) -> Result<Value, Fault>
+    ensures { result ≡ values.unary op operand }
 {
     match (op, operand) {
         (Op::Not, Value::Bool(truth)) => Ok(Value::Bool(!truth)),
@@ -34,7 +34,7 @@ pub(crate) fn before(op: Op, operand: Value) -> Result<Value, Fault>
 }
 
 /// Whether two values are of one kind and have one content.
-#[tactic(auto, using(crate::proofs::Deciding::same_are_equal))]
+#[tactic(auto, using(crate::proofs::values::Tests::same_are_equal))]
 fn same(left: Value, right: Value) -> bool
     ensures { result ≡ values.is_same left right }
 {
@@ -42,8 +42,8 @@ fn same(left: Value, right: Value) -> bool
 }
 
 /// What an operator gives between two longs. Sums, differences and products wrap.
-fn between_longs(op: Op, left: i64, right: i64) -> Result<Value, Fault>
-    ensures { result ≡ values.between_longs op left right }
+fn binary_longs(op: Op, left: i64, right: i64) -> Result<Value, Fault>
+    ensures { result ≡ values.binary_longs op left right }
 {
     match op {
         Op::Add => Ok(Value::Long(left.wrapping_add(right))),
@@ -70,7 +70,7 @@ fn quotient(dividend: i64, divisor: i64) -> Result<Value, Fault>
 }
 
 /// The remainder, with the sign of the dividend.
-#[tactic(auto, using(crate::proofs::Arithmetic::remainder_wraps))]
+#[tactic(auto, using(crate::proofs::values::Arithmetic::remainder_wraps))]
 fn remainder(dividend: i64, divisor: i64) -> Result<Value, Fault>
     ensures { result ≡ values.unless_zero divisor (values.wrapped (int_rem dividend divisor)) }
 {
@@ -81,7 +81,7 @@ fn remainder(dividend: i64, divisor: i64) -> Result<Value, Fault>
 }
 
 /// Whether a field of this kind takes the value.
-#[tactic(auto, using(crate::proofs::Deciding::takes_what_fits))]
+#[tactic(auto, using(crate::proofs::values::Tests::takes_what_fits))]
 pub(crate) fn takes(kind: Kind, value: Value) -> bool
     ensures { result ≡ values.takes kind value }
 {
@@ -98,9 +98,9 @@ pub(crate) fn within(index: i64, size: u32) -> Option<u32>
     }
 }
 
-/// The number that stands beside the class, the first where it stands there twice.
-pub(crate) fn beside(places: &[(u32, u32)], class: u32) -> Option<u32>
-    ensures { result ≡ calls.beside places.now class }
+/// The number that the list has for the class, the first one; None where it has none.
+pub(crate) fn lookup(places: &[(u32, u32)], class: u32) -> Option<u32>
+    ensures { result ≡ calls.lookup places.now class }
 {
     for place in places {
         if place.0 == class {

@@ -4,20 +4,20 @@ ghost use Rattle.std.specs.Option.{option_copied};
 ghost use Rattle.dso_base.specs.declared.lock.ThreadId.{ThreadId};
 ghost use Rattle.dso_base.specs.declared.request.Event.{Event};
 ghost use Rattle.dso_base.specs.declared.request.Request.{Request};
-ghost use Rattle.dso_base.specs.Program.{IsListedFor};
+ghost use Rattle.dso_base.specs.Following.{IsListedFor};
 ghost use Rattle.dso_machine.specs.declared.code.Code.{Code};
 ghost use Rattle.dso_machine.specs.declared.thread.Due.{Due};
 ghost use Rattle.dso_machine.specs.Next.{body_of, next_request};
-ghost use Rattle.dso_machine.specs.Running.{IsAsk, StandsAt};
+ghost use Rattle.dso_machine.specs.Continuation.{IsAsk, StandsAt};
 ghost use Rattle.dso_machine.specs.Sound.{IsSound};
-ghost use Rattle.dso_machine.specs.Standing.{IsAnswered, IsOver, Resumes, Stands, StandsFor, asked, asked_at, asked_by, is_over};
+ghost use Rattle.dso_machine.specs.Standing.{IsAnswered, IsOver, Resumes, ThreadStands, StandsFor, asked, asked_at, asked_by, is_over};
 
 use crate::call::variables;
+use crate::continuation::{Frame, Now, OnReply};
 use crate::copies::copy_block;
-use crate::heard::hear;
 use crate::machine::Core;
+use crate::on_reply::hear;
 use crate::stack::Stack;
-use crate::task::{Frame, Now, OnReply};
 use crate::{Code, ThreadBody};
 use dso_base::{Items, NoMemory, Reply, Request, ThreadId, Value};
 use std::alloc::Global;
@@ -48,10 +48,12 @@ pub struct Thread {
 
 impl Thread {
     /// The thread before its first statement, of a program that has it.
-    #[tactic(auto, using(crate::proofs::Stands::stands_first))]
+    ///
+    /// It answers NoMemory where an allocation was refused.
+    #[tactic(auto, using(crate::proofs::standing::AfterEvents::stands_first))]
     pub fn new(alloc: Global, code: &Code, thread: ThreadId) -> Result<Thread, NoMemory>
         requires there { body_of thread code.now.bodies ≢ None }
-        ensures { IfOk result (λ made. Stands code.now thread made []) }
+        ensures { IfOk result (λ made. ThreadStands code.now thread made []) }
     {
         let Some(found) = find_body(code.bodies.as_slice(), thread) else {
             unreachable!()
@@ -75,13 +77,13 @@ impl Thread {
     /// Goes on up to the next request, and answers it.
     ///
     /// Until it is answered, the same request is given again: the thread stands for the same events. Between two requests it
-    /// makes at most 1,000 moves and what lies between them. Where an allocation was refused, the thread stands for no known
-    /// events afterwards.
+    /// makes at most 1,000 moves and what lies between them. It answers NoMemory where an allocation was refused; the thread
+    /// stands for no known events afterwards.
     pub fn next(&mut self, alloc: Global, code: &Code) -> Result<Request, NoMemory>
         requires sound { IsSound code.now }
         requires goes { IsOver self.old → ⊥ }
-        ensures stands { IfOk result (λ request. (t : ThreadId) (events : List Event) → Stands code.now t self.old events → Stands code.now t self.new events) }
-        ensures asks { IfOk result (λ request. (t : ThreadId) (events : List Event) → Stands code.now t self.old events → next_request code.now t events ≡ Some request) }
+        ensures stands { IfOk result (λ request. (t : ThreadId) (events : List Event) → ThreadStands code.now t self.old events → ThreadStands code.now t self.new events) }
+        ensures asks { IfOk result (λ request. (t : ThreadId) (events : List Event) → ThreadStands code.now t self.old events → next_request code.now t events ≡ Some request) }
         ensures out { IfOk result (λ request. asked self.new ≡ Some request) }
     {
         let due = mem::replace(&mut self.due, Due::Over);
@@ -95,8 +97,8 @@ impl Thread {
     /// Takes the reply to the request that is out. It takes no memory.
     pub fn answer(&mut self, reply: Reply)
         requires listed { IsListedFor (asked self.old) reply }
-        ensures stands { (code : Code) (t : ThreadId) (events : List Event) (request : Request) (woken : Option ThreadId) → Stands code t self.old events
-            → Stands code t self.new (events ++ Event.Act t request reply woken ∷ []) }
+        ensures stands { (code : Code) (t : ThreadId) (events : List Event) (request : Request) (woken : Option ThreadId) → ThreadStands code t self.old events
+            → ThreadStands code t self.new (events ++ Event.Act t request reply woken ∷ []) }
     {
         let due = mem::replace(&mut self.due, Due::Over);
         put_in(&mut self.due, answered(due, reply));
@@ -105,7 +107,7 @@ impl Thread {
 
     /// Whether the thread's end was answered: it asks nothing more. It takes no memory.
     pub fn over(&self) -> bool
-        ensures { (code : Code) (t : ThreadId) (events : List Event) → Stands code t self.now events → (IsTrue result ↔ (next_request code t events ≡ None)) }
+        ensures { (code : Code) (t : ThreadId) (events : List Event) → ThreadStands code t self.now events → (IsTrue result ↔ (next_request code t events ≡ None)) }
     {
         matches!(self.due, Due::Over)
     }

@@ -20,26 +20,40 @@ pub enum Stmt {
     PutElem(Expr, Expr, Expr),
     /// A root is given a value.
     PutRoot(u32, Expr),
+    /// An expression is evaluated, and its value dropped.
     Eval(Expr),
+    /// One block or the other, by a boolean.
     If(Expr, Items<Stmt>, Items<Stmt>),
+    /// A block again and again while a boolean is true.
     While(Expr, Items<Stmt>),
     /// The statements under the object's monitor, which is taken at this level.
     Sync(Expr, Grade, Items<Stmt>),
+    /// The thread waits on an object's monitor.
     Wait(Expr),
+    /// A thread that waits on an object's monitor is woken.
     Notify(Expr),
+    /// All threads that wait on an object's monitor are woken.
     NotifyAll(Expr),
+    /// A value is printed.
     Print(Expr),
+    /// The body is left with a value, or with null.
     Return(Option<Expr>),
 }
 
 /// An expression.
 #[derive(Debug, Drop)]
 pub enum Expr {
+    /// A literal.
     Const(Value),
+    /// A variable of the body, by its number.
     Var(u32),
+    /// The object that the method is called on.
     This,
+    /// A root, by its number.
     Root(u32),
+    /// A field of an object; an array's size, where its name is that of sizes.
     Field(Boxed<Expr>, FieldRef),
+    /// An element: the array, the index.
     Elem(Boxed<Expr>, Boxed<Expr>),
     /// A call: the object, the methods of that name and number of arguments, each by its class and its number, and the
     /// arguments.
@@ -48,6 +62,8 @@ pub enum Expr {
     NewObject(u32),
     /// A new array of a kind, with its size.
     NewArray(Kind, Boxed<Expr>),
+    /// An operator before one operand.
     Unary(Op, Boxed<Expr>),
+    /// An operator between two operands, the left one first.
     Binary(Op, Boxed<Expr>, Boxed<Expr>),
 }

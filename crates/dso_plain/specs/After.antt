@@ -19,8 +19,9 @@ use Rattle.dso_base.specs.declared.value.Value.{Value}
 use Rattle.dso_base.specs.declared.value.Value.TheVariants as value
 use Rattle.dso_base.specs.Shape.{kind_of}
 use Rattle.dso_base.specs.Reach.{reach}
-use Rattle.dso_base.specs.Program.{is_thread}
-use Rattle.dso_plain.specs.Keys.{is_lock, is_field, is_place, is_view, writes, nowhere, written}
+use Rattle.dso_base.specs.Following.{is_thread}
+use Rattle.dso_plain.specs.KeyTests.{is_lock, is_field, is_place, is_view}
+use Rattle.dso_lookup.specs.Maps.{writes, nowhere, written}
 use Rattle.dso_plain.specs.State.{Object, Hold, PlainState, is_mine, is_shared, size_of, hold_on_guard}
 use Rattle.dso_plain.specs.Possible.{May}
 

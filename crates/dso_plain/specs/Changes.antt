@@ -2,11 +2,12 @@
 use Rattle.std.specs.Prelude.{ℕ, ◌≡◌, Bool, true, false, cond, eqb, ◌&&◌, is_some, Option, None}
 use Rattle.dso_base.specs.declared.lock.LockName.{LockName}
 use Rattle.dso_base.specs.declared.lock.ThreadId.{ThreadId}
-use Rattle.dso_base.specs.Program.{is_thread}
-use Rattle.dso_plain.specs.Keys.{is_lock, is_place, writes, written}
+use Rattle.dso_base.specs.Following.{is_thread}
+use Rattle.dso_plain.specs.KeyTests.{is_lock, is_place}
+use Rattle.dso_lookup.specs.Maps.{writes, written}
 use Rattle.dso_plain.specs.Tables.{lock_order, thread_order, either, state_of}
 use Rattle.dso_plain.specs.declared.tables.Tables.{Tables}
-use Rattle.dso_plain.specs.Maps.{look_in}
+use Rattle.dso_lookup.specs.Rows.{look_in}
 use Rattle.dso_plain.specs.State.{Hold, PlainState}
 
 -- the state with another hold of the thread on the lock

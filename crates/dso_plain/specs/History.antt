@@ -6,7 +6,7 @@ use Rattle.dso_base.specs.declared.request.Event.TheVariants.{Act, Lost}
 use Rattle.dso_base.specs.declared.request.Reply.{Reply}
 use Rattle.dso_base.specs.declared.request.Request.{Request}
 use Rattle.dso_base.specs.declared.shape.Shape.{Shape}
-use Rattle.dso_base.specs.Program.{is_thread, FollowsProgram}
+use Rattle.dso_base.specs.Following.{is_thread, FollowsProgram}
 use Rattle.dso_plain.specs.State.{PlainState, opening}
 use Rattle.dso_plain.specs.Possible.{May}
 use Rattle.dso_plain.specs.After.{after}

@@ -7,7 +7,7 @@ use Rattle.dso_base.specs.declared.request.Event.{Event}
 use Rattle.dso_base.specs.declared.request.Reply.{Reply}
 use Rattle.dso_base.specs.declared.request.Request.{Request}
 use Rattle.dso_base.specs.declared.shape.Shape.{Shape}
-use Rattle.dso_base.specs.Program.{FollowsFrom}
+use Rattle.dso_base.specs.Following.{FollowsFrom}
 use Rattle.dso_plain.specs.State.{PlainState, opening}
 use Rattle.dso_plain.specs.History.{Runs, end_of, last_state, events_of, IsLegal}
 use Rattle.dso_plain.specs.Monitors.{KeepsMonitors}
@@ -40,7 +40,7 @@ Diamond = (shape : Shape) (t : ThreadId) (others own : List Event) (s : PlainSta
 abbrev pub RunsInParts : Type 0
 RunsInParts = (shape : Shape) (first second : List Event) (s : PlainState) → Runs shape (first ++ second) s ↔ (Runs shape first s × Runs shape second (end_of shape first s))
 
--- and it ends where the second does
+-- Parts: a run of two lists of events in order ends where the second does from the end of the first.
 abbrev pub EndsInParts : Type 0
 EndsInParts = (shape : Shape) (first second : List Event) (s : PlainState) → end_of shape (first ++ second) s ≡ end_of shape second (end_of shape first s)
 

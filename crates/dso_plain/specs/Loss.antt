@@ -24,7 +24,7 @@ abbrev pub IsApartFrom : ℕ → Event → Type 0
 IsApartFrom client (Act t request reply woken) = (t.client ≢ client) × WakesNoneOf client woken
 IsApartFrom client (Lost lost) = ⊥
 
--- each of the events is
+-- each of the events is an act of another client's thread, and wakes no thread of this client
 abbrev pub AreApartFrom : ℕ → List Event → Type 0
 AreApartFrom client [] = Unit {0}
 AreApartFrom client (e ∷ es) = IsApartFrom client e × AreApartFrom client es

@@ -2,17 +2,13 @@
 use Rattle.std.specs.Prelude.{ℕ, ◌<◌, ◌≡◌, ◌⊎◌, false, ltb, is_some, Option, Some, None, List, [], ◌∷◌, ◌++◌, length}
 use Rattle.dso_base.specs.declared.lock.ThreadId.{ThreadId}
 use Rattle.dso_base.specs.declared.value.Value.{Value}
+use Rattle.dso_lookup.specs.Reaching.{IsListed}
 use Rattle.dso_plain.specs.State.{PlainState, IsPrivate, IsShared, HasField, size_of, is_shared}
 
 -- the newest of a past, none where it is empty
 abbrev pub newest : List Value → Option Value
 newest [] = None
 newest (v ∷ older) = Some v
-
--- the list has the object
-abbrev pub IsListed : ℕ → List ℕ → Type 0
-IsListed o [] = ⊥
-IsListed o (first ∷ rest) = (o ≡ first) ⊎ IsListed o rest
 
 -- Past: the newest of a shared field's past is the heap's value; an object that is not shared has no past; `seen` is
 -- a place in the past, never beyond the newest; the heap has a value at exactly the fields that the object has; and

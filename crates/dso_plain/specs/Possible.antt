@@ -24,10 +24,14 @@ abbrev pub IsFieldCount : Option ClassShape → ℕ → Type 0
 IsFieldCount None n = ⊥
 IsFieldCount (Some class) n = n ≡ length class.fields
 
--- a class of the program with its number of fields, or an array of at most 256 elements
+-- how many elements an array has at most
+abbrev pub most_elements : ℕ
+most_elements = 256
+
+-- a class of the program with its number of fields, or an array with no more elements than an array has at most
 abbrev pub CanBeMade : Shape → ClassId → ℕ → Type 0
 CanBeMade shape (class.Plain number) n = IsFieldCount (slice_get shape.classes number) n
-CanBeMade shape (class.Array kind) n = n ≤ 256
+CanBeMade shape (class.Array kind) n = n ≤ most_elements
 CanBeMade shape class.Roots n = ⊥
 
 -- New: the id is at least 1 and no object's yet, and the class has such objects.
@@ -97,14 +101,14 @@ IsUpgrade Write hold = level_of hold ≡ Some Read
 IsUpgrade Read hold = ⊥
 
 -- the two levels do not conflict: another thread has none, or both are Read
-abbrev pub Beside : Level → Option Level → Type 0
-Beside level None = Unit {0}
-Beside Read (Some Read) = Unit {0}
-Beside level other = ⊥
+abbrev pub IsCompatible : Level → Option Level → Type 0
+IsCompatible level None = Unit {0}
+IsCompatible Read (Some Read) = Unit {0}
+IsCompatible level other = ⊥
 
 -- no other thread holds the lock in conflict with the level
 abbrev pub NoConflict : ThreadId → LockName → Level → PlainState → Type 0
-NoConflict t l level s = (other : ThreadId) → other ≢ t → Beside level (level_of (s.monitors (l, other)))
+NoConflict t l level s = (other : ThreadId) → other ≢ t → IsCompatible level (level_of (s.monitors (l, other)))
 
 -- Enter. Local: the lock is the monitor of an object private to the thread. LockUpgrade: the thread holds the lock
 -- at Read and wants Write. Done: a lock of the cluster, no upgrade, and the thread holds it or no other in conflict.

@@ -23,7 +23,7 @@ abbrev pub IsOfOtherClient : ℕ → Event → Type 0
 IsOfOtherClient client (Act t request reply woken) = t.client ≢ client
 IsOfOtherClient client (Lost lost) = ⊥
 
--- each of the events is
+-- each of the events is an act of another client's thread
 abbrev pub AreOfOtherClients : ℕ → List Event → Type 0
 AreOfOtherClients client [] = Unit {0}
 AreOfOtherClients client (e ∷ es) = IsOfOtherClient client e × AreOfOtherClients client es
@@ -49,7 +49,7 @@ abbrev pub FitsMarks : Event → PlainState → Type 0
 FitsMarks (Act t request reply woken) s = FindsMark request t s × Wakes request reply woken s
 FitsMarks (Lost client) s = Unit {0}
 
--- each of the events finds so, one after the other
+-- each of the events finds the marks that it asks, one after the other
 abbrev pub ChoicesFit : Shape → List Event → PlainState → Type 0
 ChoicesFit shape [] s = Unit {0}
 ChoicesFit shape (e ∷ es) s = FitsMarks e s × ChoicesFit shape es (after shape e s)

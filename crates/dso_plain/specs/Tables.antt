@@ -13,7 +13,9 @@ use Rattle.dso_base.specs.declared.value.Value.{Value}
 use Rattle.dso_plain.specs.declared.tables.Hold as table_hold
 use Rattle.dso_plain.specs.declared.tables.Object as table_object
 use Rattle.dso_plain.specs.declared.tables.Tables.{Tables}
-use Rattle.dso_plain.specs.Maps.{look, look_in}
+use Rattle.dso_lookup.specs.Lists.{newest_first}
+use Rattle.dso_lookup.specs.Maps.{look}
+use Rattle.dso_lookup.specs.Rows.{look_in}
 use Rattle.dso_plain.specs.State.{Object, Hold, PlainState}
 
 -- the order of locks in a table
@@ -40,19 +42,10 @@ object_of object = record { class = object.class; size = object.size; owner = ob
 abbrev pub hold_of : table_hold.Hold → Hold
 hold_of hold = record { level = hold.level; count = hold.count }
 
--- the list of a row that keeps the newest last, none where there is no row
-abbrev pub newest_first : {A : Type 0} → Option (List A) → List A
-newest_first None = []
-newest_first (Some row) = reverse row
-
 -- the first where it is there, else the second
 abbrev pub either : {A : Type 0} → Option A → Option A → Option A
 either None second = second
 either (Some x) second = Some x
-
--- a table of lists that keep the newest last, as a function to lists that have it first
-abbrev pub lists_of : {K A : Type 0} → (K → K → Ordering) → BTreeMap K (List A) → K → List A
-lists_of cmp table key = newest_first (look cmp table key)
 
 -- the pasts of a table
 abbrev pub pasts_of : BTreeMap (ℕ × ℕ) (List Value) → ℕ × ℕ → List Value

@@ -2,7 +2,7 @@
 ghost use Rattle.std.specs.Prelude.{◌≡◌, ◌≢◌, true, false, None, Some, OnOk, IfOk};
 ghost use Rattle.std.specs.Option.{option_map};
 ghost use Rattle.dso_plain.specs.After as After;
-ghost use Rattle.dso_plain.specs.Keeps.{Agrees};
+ghost use Rattle.dso_plain.specs.TableInvariants.{IndexesAgree};
 ghost use Rattle.dso_plain.specs.Changes.{with_hold, with_wait};
 ghost use Rattle.dso_plain.specs.Tables.{state_of, hold_of};
 
@@ -41,9 +41,9 @@ pub(crate) fn enter(
     lock: LockName,
     wanted: Level,
 ) -> Result<(), NoMemory>
-    requires { Agrees tables.old }
+    requires { IndexesAgree tables.old }
     ensures state { OnOk result (state_of tables.new ≡ with_hold lock thread (After.entered wanted ((state_of tables.old).monitors (lock, thread))) (state_of tables.old)) }
-    ensures agrees { OnOk result (Agrees tables.new) }
+    ensures agrees { OnOk result (IndexesAgree tables.new) }
 {
     let hold = drop_hold(alloc, tables, lock, thread)?;
     let hold = entered(alloc, wanted, hold)?;
@@ -76,9 +76,9 @@ pub(crate) fn exit(
     thread: ThreadId,
     lock: LockName,
 ) -> Result<(), NoMemory>
-    requires { Agrees tables.old }
+    requires { IndexesAgree tables.old }
     ensures state { OnOk result (state_of tables.new ≡ with_hold lock thread (After.exited ((state_of tables.old).monitors (lock, thread))) (state_of tables.old)) }
-    ensures agrees { OnOk result (Agrees tables.new) }
+    ensures agrees { OnOk result (IndexesAgree tables.new) }
 {
     let hold = drop_hold(alloc, tables, lock, thread)?;
     match exited(hold) {
@@ -107,10 +107,10 @@ pub(crate) fn wait(
     thread: ThreadId,
     lock: LockName,
 ) -> Result<(), NoMemory>
-    requires agrees { Agrees tables.old }
+    requires agrees { IndexesAgree tables.old }
     requires awake { (state_of tables.old).asleep (lock, thread) ≡ None }
     ensures state { OnOk result (state_of tables.new ≡ After.apply (After.waits thread lock (state_of tables.old)) (state_of tables.old)) }
-    ensures agrees { OnOk result (Agrees tables.new) }
+    ensures agrees { OnOk result (IndexesAgree tables.new) }
 {
     let hold = drop_hold(alloc, tables, lock, thread)?;
     let count = count_of(alloc, hold);
@@ -125,11 +125,11 @@ pub(crate) fn resume(
     thread: ThreadId,
     lock: LockName,
 ) -> Result<(), NoMemory>
-    requires agrees { Agrees tables.old }
+    requires agrees { IndexesAgree tables.old }
     requires free { (state_of tables.old).monitors (lock, thread) ≡ None }
     requires marked { (state_of tables.old).marked (lock, thread) ≡ true }
     ensures state { OnOk result (state_of tables.new ≡ After.apply (After.resumes thread lock (state_of tables.old)) (state_of tables.old)) }
-    ensures agrees { OnOk result (Agrees tables.new) }
+    ensures agrees { OnOk result (IndexesAgree tables.new) }
 {
     match drop_wait(alloc, tables, lock, thread)? {
         Some(count) => {

@@ -1,15 +1,16 @@
 //! The loss of a client in the tables: its threads leave the monitors and the waits.
 ghost use Rattle.std.specs.Prelude.{◌≡◌, ◌&&◌, eqb, OnOk};
-ghost use Rattle.dso_base.specs.Program.{is_thread};
+ghost use Rattle.dso_base.specs.Following.{is_thread};
 ghost use Rattle.dso_plain.specs.After as After;
-ghost use Rattle.dso_plain.specs.Keeps.{Agrees};
+ghost use Rattle.dso_plain.specs.TableInvariants.{IndexesAgree};
 ghost use Rattle.dso_plain.specs.Changes.{dropped, without, Mirrors, ClearsRow};
-ghost use Rattle.dso_plain.specs.Maps.{look, look_in};
+ghost use Rattle.dso_lookup.specs.Maps.{look};
+ghost use Rattle.dso_lookup.specs.Rows.{look_in};
 ghost use Rattle.dso_plain.specs.Tables.{state_of, lock_order, thread_order};
 
-use crate::maps::{discard_in, put, take_row};
 use crate::tables::Tables;
 use dso_base::{LockName, NoMemory, ThreadId};
+use dso_lookup::{discard_in, put, take_row};
 use std::alloc::Global;
 use std::collections::BTreeMap;
 
@@ -103,9 +104,9 @@ fn clear_all(
 
 /// The client is lost.
 pub(crate) fn lose(alloc: Global, tables: &mut Tables, client: u8) -> Result<(), NoMemory>
-    requires { Agrees tables.old }
+    requires { IndexesAgree tables.old }
     ensures state { OnOk result (state_of tables.new ≡ After.apply (After.loses client) (state_of tables.old)) }
-    ensures agrees { OnOk result (Agrees tables.new) }
+    ensures agrees { OnOk result (IndexesAgree tables.new) }
 {
     let row = take_row(alloc, &mut tables.threads, &client);
     clear_all(alloc, tables, row, client)?;

@@ -1,13 +1,13 @@
 //! The fields of an object in the tables: what they begin as, and their pasts.
 ghost use Rattle.std.specs.Prelude.{◌≡◌, slice_get, Some, OnOk, IfOk, [], ◌∷◌};
 ghost use Rattle.dso_base.specs.Shape.{kind_of, guard_of, fields_at};
-ghost use Rattle.dso_plain.specs.Keys.{is_field, writes, written};
-ghost use Rattle.dso_plain.specs.Maps.{look};
+ghost use Rattle.dso_plain.specs.KeyTests.{is_field};
+ghost use Rattle.dso_lookup.specs.Maps.{writes, written, look};
 ghost use Rattle.dso_plain.specs.After.{opening_value, present};
 ghost use Rattle.dso_plain.specs.Tables.{field_order, pasts_of, is_below};
 
-use crate::maps::{put, take};
 use dso_base::{ClassId, FieldShape, Guard, Items, Kind, LockName, NoMemory, Shape, Value};
+use dso_lookup::{put, take};
 use std::alloc::Global;
 use std::collections::BTreeMap;
 

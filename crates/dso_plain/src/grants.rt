@@ -1,8 +1,8 @@
 //! When a reply is possible for a request, of monitors and waits, and when an event is possible.
 ghost use Rattle.std.specs.Prelude.{◌≡◌, ◌≢◌, ◌↔◌, ◌⊎◌, IsTrue, None};
 ghost use Rattle.dso_plain.specs.Possible.{IsPrivateMonitor, IsClusterLock, IsUpgrade, NoConflict, AnswersEnter, AnswersExit, AnswersMonitor, AnswersResume, AnswersDone, AnswersEnd, Answers, Wakes, IsAwakeFor, IsPossible, May};
-ghost use Rattle.dso_plain.specs.Keeps.{Agrees, KeepsTables};
-ghost use Rattle.dso_plain.specs.Kept.{MonitorsAreKept};
+ghost use Rattle.dso_plain.specs.TableInvariants.{IndexesAgree, TablesInvariant};
+ghost use Rattle.dso_plain.specs.StepInvariants.{MonitorInvariant};
 ghost use Rattle.dso_plain.specs.State.{level_of};
 ghost use Rattle.dso_plain.specs.Tables.{state_of};
 
@@ -53,7 +53,7 @@ fn is_upgrade(tables: &Tables, thread: ThreadId, lock: LockName, wanted: Level) 
 
 /// Whether no other thread holds the lock in conflict, for a thread that does not hold it.
 fn has_no_conflict(tables: &Tables, thread: ThreadId, lock: LockName, wanted: Level) -> bool
-    requires kept { MonitorsAreKept (state_of tables.now) }
+    requires kept { MonitorInvariant (state_of tables.now) }
     requires absent { (state_of tables.now).monitors (lock, thread) ≡ None }
     ensures { IsTrue result ↔ NoConflict thread lock wanted (state_of tables.now) }
 {
@@ -66,7 +66,7 @@ fn has_no_conflict(tables: &Tables, thread: ThreadId, lock: LockName, wanted: Le
 
 /// Whether the thread can enter the lock as far as holds go.
 fn is_admitted(tables: &Tables, thread: ThreadId, lock: LockName, wanted: Level) -> bool
-    requires { MonitorsAreKept (state_of tables.now) }
+    requires { MonitorInvariant (state_of tables.now) }
     ensures { IsTrue result ↔ (((state_of tables.now).monitors (lock, thread) ≢ None) ⊎ NoConflict thread lock wanted (state_of tables.now)) }
 {
     match level(tables, lock, thread) {
@@ -83,7 +83,7 @@ fn answers_enter(
     wanted: Level,
     reply: Reply,
 ) -> bool
-    requires { MonitorsAreKept (state_of tables.now) }
+    requires { MonitorInvariant (state_of tables.now) }
     ensures { IsTrue result ↔ AnswersEnter thread lock wanted reply (state_of tables.now) }
 {
     match reply {
@@ -139,7 +139,7 @@ fn is_done(reply: Reply) -> bool
 
 /// Whether the reply is possible for End.
 fn answers_end(tables: &Tables, thread: ThreadId, reply: Reply) -> bool
-    requires { Agrees tables.now }
+    requires { IndexesAgree tables.now }
     ensures { IsTrue result ↔ AnswersEnd thread reply (state_of tables.now) }
 {
     match reply {
@@ -150,7 +150,7 @@ fn answers_end(tables: &Tables, thread: ThreadId, reply: Reply) -> bool
 
 /// Whether the reply is possible for the request.
 fn answers(tables: &Tables, shape: &Shape, thread: ThreadId, request: Request, reply: Reply) -> bool
-    requires { KeepsTables tables.now }
+    requires { TablesInvariant tables.now }
     ensures { IsTrue result ↔ Answers shape.now thread request reply (state_of tables.now) }
 {
     match request {
@@ -171,7 +171,7 @@ fn answers(tables: &Tables, shape: &Shape, thread: ThreadId, request: Request, r
 
 /// Whether the act wakes whom it says.
 fn wakes(tables: &Tables, request: Request, reply: Reply, woken: Option<ThreadId>) -> bool
-    requires { Agrees tables.now }
+    requires { IndexesAgree tables.now }
     ensures { IsTrue result ↔ Wakes request reply woken (state_of tables.now) }
 {
     match (request, reply, woken) {
@@ -183,7 +183,7 @@ fn wakes(tables: &Tables, request: Request, reply: Reply, woken: Option<ThreadId
 
 /// Whether the thread is awake, as far as the request needs it.
 fn is_awake_for(tables: &Tables, request: Request, thread: ThreadId) -> bool
-    requires { Agrees tables.now }
+    requires { IndexesAgree tables.now }
     ensures { IsTrue result ↔ IsAwakeFor request thread (state_of tables.now) }
 {
     match request {
@@ -201,7 +201,7 @@ fn is_possible(
     reply: Reply,
     woken: Option<ThreadId>,
 ) -> bool
-    requires { KeepsTables tables.now }
+    requires { TablesInvariant tables.now }
     ensures { IsTrue result ↔ IsPossible shape.now thread request reply woken (state_of tables.now) }
 {
     !is_lost(tables, thread.client)
@@ -213,7 +213,7 @@ fn is_possible(
 
 /// Whether the event is possible.
 pub(crate) fn may(tables: &Tables, shape: &Shape, event: &Event) -> bool
-    requires { KeepsTables tables.now }
+    requires { TablesInvariant tables.now }
     ensures { IsTrue result ↔ May shape.now event.now (state_of tables.now) }
 {
     match event {

@@ -1,14 +1,14 @@
 //! Changes of holds and waits in the tables, which stand by lock and are listed by thread.
 ghost use Rattle.std.specs.Prelude.{◌≡◌, ◌≢◌, true, false, None, Some, OnOk, IfOk};
-ghost use Rattle.dso_plain.specs.Keeps.{Agrees};
-ghost use Rattle.dso_plain.specs.Maps.{look_in};
+ghost use Rattle.dso_plain.specs.TableInvariants.{IndexesAgree};
+ghost use Rattle.dso_lookup.specs.Rows.{look_in};
 ghost use Rattle.dso_plain.specs.Changes.{with_hold, with_wait};
 ghost use Rattle.dso_plain.specs.Tables.{state_of, hold_of, lock_order, thread_order};
 
 use crate::count::Count;
-use crate::maps::{put_in, take_in};
 use crate::tables::{Hold, Tables};
 use dso_base::{LockName, NoMemory, ThreadId};
+use dso_lookup::{put_in, take_in};
 use std::alloc::Global;
 
 /// Gives the thread a hold on the lock.
@@ -19,9 +19,9 @@ pub(crate) fn set_hold(
     thread: ThreadId,
     hold: Hold,
 ) -> Result<(), NoMemory>
-    requires { Agrees tables.old }
+    requires { IndexesAgree tables.old }
     ensures state { OnOk result (state_of tables.new ≡ with_hold lock thread (Some (hold_of hold)) (state_of tables.old)) }
-    ensures agrees { OnOk result (Agrees tables.new) }
+    ensures agrees { OnOk result (IndexesAgree tables.new) }
 {
     put_in(alloc, &mut tables.holds, lock, thread, hold)?;
     put_in(alloc, &mut tables.held, thread, lock, ())?;
@@ -36,10 +36,10 @@ pub(crate) fn drop_hold(
     lock: LockName,
     thread: ThreadId,
 ) -> Result<Option<Hold>, NoMemory>
-    requires { Agrees tables.old }
+    requires { IndexesAgree tables.old }
     ensures was { IfOk result (λ hold. hold ≡ look_in lock_order thread_order tables.old.holds (lock, thread)) }
     ensures state { OnOk result (state_of tables.new ≡ with_hold lock thread None (state_of tables.old)) }
-    ensures agrees { OnOk result (Agrees tables.new) }
+    ensures agrees { OnOk result (IndexesAgree tables.new) }
 {
     let hold = take_in(alloc, &mut tables.holds, lock, &thread)?;
     let _ = take_in(alloc, &mut tables.held, thread, &lock)?;
@@ -54,10 +54,10 @@ pub(crate) fn set_wait(
     thread: ThreadId,
     count: Count,
 ) -> Result<(), NoMemory>
-    requires agrees { Agrees tables.old }
+    requires agrees { IndexesAgree tables.old }
     requires awake { (state_of tables.old).asleep (lock, thread) ≡ None }
     ensures state { OnOk result (state_of tables.new ≡ with_wait lock thread (Some count) false (state_of tables.old)) }
-    ensures agrees { OnOk result (Agrees tables.new) }
+    ensures agrees { OnOk result (IndexesAgree tables.new) }
 {
     put_in(alloc, &mut tables.waits, lock, thread, count)?;
     put_in(alloc, &mut tables.waiting, thread, lock, ())?;
@@ -72,10 +72,10 @@ pub(crate) fn drop_wait(
     lock: LockName,
     thread: ThreadId,
 ) -> Result<Option<Count>, NoMemory>
-    requires { Agrees tables.old }
+    requires { IndexesAgree tables.old }
     ensures was { IfOk result (λ count. count ≡ look_in lock_order thread_order tables.old.marked (lock, thread)) }
     ensures state { OnOk result (state_of tables.new ≡ with_wait lock thread None false (state_of tables.old)) }
-    ensures agrees { OnOk result (Agrees tables.new) }
+    ensures agrees { OnOk result (IndexesAgree tables.new) }
 {
     let count = take_in(alloc, &mut tables.marked, lock, &thread)?;
     let _ = take_in(alloc, &mut tables.waits, lock, &thread)?;

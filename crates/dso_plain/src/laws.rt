@@ -1,6 +1,7 @@
 //! The laws of one heap with plain monitors. Each is the contract of a function that does nothing.
 ghost use Rattle.dso_plain.specs.Loss.{Loss, WaitersLeft, ChoiceAfterLoss};
-ghost use Rattle.dso_plain.specs.Published.{ReachTells, PublishedIsReached};
+ghost use Rattle.dso_lookup.specs.Reaching.{ReachTells};
+ghost use Rattle.dso_plain.specs.Publishing.{PublishedIsReached};
 ghost use Rattle.dso_plain.specs.Rechoice.{Rechoice};
 ghost use Rattle.dso_plain.specs.Own.{Own, Guarded};
 ghost use Rattle.dso_plain.specs.Laws.{Diamond, RunsInParts, EndsInParts, Past, Growth, LegalGoesOn, Monitors};

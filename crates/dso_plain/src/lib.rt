@@ -10,15 +10,12 @@ mod fields;
 mod grants;
 mod holds;
 pub mod laws;
-mod maps;
 mod marks;
 mod plain;
 mod possible;
 mod publish;
 mod reads;
 mod steps;
-#[cfg(test)]
-mod table;
 mod tables;
 mod writes;
 

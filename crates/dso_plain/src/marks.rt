@@ -1,16 +1,17 @@
 //! Notifications in the tables.
 ghost use Rattle.std.specs.Prelude.{◌≡◌, Some, OnOk};
 ghost use Rattle.dso_plain.specs.After as After;
-ghost use Rattle.dso_plain.specs.Keeps.{Agrees};
+ghost use Rattle.dso_plain.specs.TableInvariants.{IndexesAgree};
 ghost use Rattle.dso_plain.specs.Possible.{IsUnmarkedWaiter};
 ghost use Rattle.dso_plain.specs.Changes.{moved};
-ghost use Rattle.dso_plain.specs.Maps.{look, look_in};
+ghost use Rattle.dso_lookup.specs.Maps.{look};
+ghost use Rattle.dso_lookup.specs.Rows.{look_in};
 ghost use Rattle.dso_plain.specs.Tables.{state_of, lock_order, thread_order};
 
 use crate::count::Count;
-use crate::maps::{put_in, take_in, take_row};
 use crate::tables::Tables;
 use dso_base::{LockName, NoMemory, ThreadId};
+use dso_lookup::{put_in, take_in, take_row};
 use std::alloc::Global;
 use std::collections::BTreeMap;
 
@@ -21,10 +22,10 @@ pub(crate) fn mark(
     lock: LockName,
     thread: ThreadId,
 ) -> Result<(), NoMemory>
-    requires agrees { Agrees tables.old }
+    requires agrees { IndexesAgree tables.old }
     requires waits { IsUnmarkedWaiter lock thread (state_of tables.old) }
     ensures state { OnOk result (state_of tables.new ≡ After.apply (After.notifies lock (Some thread)) (state_of tables.old)) }
-    ensures agrees { OnOk result (Agrees tables.new) }
+    ensures agrees { OnOk result (IndexesAgree tables.new) }
 {
     match take_in(alloc, &mut tables.waits, lock, &thread)? {
         Some(count) => {
@@ -52,9 +53,9 @@ fn move_row(
 
 /// Notifies all waiters of a lock.
 pub(crate) fn mark_all(alloc: Global, tables: &mut Tables, lock: LockName) -> Result<(), NoMemory>
-    requires { Agrees tables.old }
+    requires { IndexesAgree tables.old }
     ensures state { OnOk result (state_of tables.new ≡ After.apply (After.notifies_all lock (state_of tables.old)) (state_of tables.old)) }
-    ensures agrees { OnOk result (Agrees tables.new) }
+    ensures agrees { OnOk result (IndexesAgree tables.new) }
 {
     let row = take_row(alloc, &mut tables.waits, &lock);
     move_row(alloc, row, &mut tables.marked, lock)?;

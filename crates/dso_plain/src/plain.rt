@@ -8,11 +8,11 @@ ghost use Rattle.dso_base.specs.declared.lock.LockName.{LockName};
 ghost use Rattle.std.specs.Option.{option_map};
 
 use crate::fields::{make_fields, open_fields};
-use crate::maps::put;
 use crate::reads;
 use crate::steps::step;
 use crate::tables::{Object, Tables};
 use dso_base::{ClassId, Event, Fault, NoMemory, Shape, ThreadId, Value};
+use dso_lookup::put;
 use std::alloc::Global;
 use std::marker::Model;
 
@@ -30,11 +30,11 @@ impl Model for Plain {
 
     ghost coded = { the_row.coded };
 
-    ghost use Rattle.dso_plain.specs.Keeps.{KeepsTables};
+    ghost use Rattle.dso_plain.specs.TableInvariants.{TablesInvariant};
 
     ghost view = { λ plain. plain.tables };
 
-    ghost invariant = { λ plain. KeepsTables plain.tables };
+    ghost invariant = { λ plain. TablesInvariant plain.tables };
 }
 
 impl Plain {

@@ -2,10 +2,10 @@
 ghost use Rattle.std.specs.Prelude.{◌≡◌, ◌↔◌, ◌⊎◌, true, is_none, Some, IsTrue};
 ghost use Rattle.dso_base.specs.declared.request.Reply.TheVariants as Reply;
 ghost use Rattle.std.specs.Ordering.{nat_cmp};
-ghost use Rattle.dso_plain.specs.Maps.{look};
+ghost use Rattle.dso_lookup.specs.Maps.{look};
 ghost use Rattle.dso_plain.specs.State as State;
 ghost use Rattle.dso_plain.specs.Possible.{CanBeMade, AnswersNew, AnswersLook, AnswersGet, MayPut, AnswersPut};
-ghost use Rattle.dso_plain.specs.Keeps.{Agrees};
+ghost use Rattle.dso_plain.specs.TableInvariants.{IndexesAgree};
 ghost use Rattle.dso_plain.specs.State.{level_of, hold_on_guard};
 ghost use Rattle.dso_plain.specs.Tables.{state_of};
 
@@ -14,6 +14,9 @@ use crate::publish::is_owner;
 use crate::reads::{holds_nothing, holds_something, level, object, seen, stands_from, value};
 use crate::tables::{Object, Tables};
 use dso_base::{ClassId, Fault, Level, Reply, Same, Shape, ThreadId, Value};
+
+/// How many elements an array has at most.
+const MOST_ELEMENTS: u32 = 256;
 
 /// Whether there can be an object of this class with so many fields or elements.
 fn can_be_made(shape: &Shape, class: ClassId, size: u32) -> bool
@@ -24,7 +27,7 @@ fn can_be_made(shape: &Shape, class: ClassId, size: u32) -> bool
             Some(class) => class.fields.len() == size as usize,
             None => false,
         },
-        ClassId::Array(_) => size <= 256,
+        ClassId::Array(_) => size <= MOST_ELEMENTS,
         ClassId::Roots => false,
     }
 }
@@ -150,7 +153,7 @@ fn puts_shared(
     reply: Reply,
     object: Object,
 ) -> bool
-    requires agrees { Agrees tables.now }
+    requires agrees { IndexesAgree tables.now }
     requires there { look nat_cmp tables.now.objects id ≡ Some object }
     requires shared { is_none object.owner ≡ true }
     ensures { IsTrue result ↔ MayPut shape.now thread id field reply (state_of tables.now) }
@@ -173,7 +176,7 @@ pub(crate) fn answers_put(
     field: u32,
     reply: Reply,
 ) -> bool
-    requires { Agrees tables.now }
+    requires { IndexesAgree tables.now }
     ensures { IsTrue result ↔ AnswersPut shape.now thread id field reply (state_of tables.now) }
 {
     let Some(object) = object(tables, id) else {

@@ -4,16 +4,16 @@ ghost use Rattle.std.specs.Option.{option_map, option_copied};
 ghost use Rattle.std.specs.Ordering.{nat_cmp};
 ghost use Rattle.dso_base.specs.declared.lock.LockName.{LockName};
 ghost use Rattle.dso_base.specs.declared.lock.ThreadId.{ThreadId};
-ghost use Rattle.dso_base.specs.Program.{is_thread};
-ghost use Rattle.dso_plain.specs.Maps.{look};
-ghost use Rattle.dso_plain.specs.Keeps.{Agrees};
+ghost use Rattle.dso_base.specs.Following.{is_thread};
+ghost use Rattle.dso_lookup.specs.Maps.{look};
+ghost use Rattle.dso_plain.specs.TableInvariants.{IndexesAgree};
 ghost use Rattle.dso_plain.specs.State.{HoldsNothing, level_of};
 ghost use Rattle.dso_plain.specs.Possible.{StandsFrom, IsUnmarkedWaiter};
 ghost use Rattle.dso_plain.specs.Tables.{state_of, field_order};
 
-use crate::maps::{find_in, first_in, is_row_empty, is_row_taken};
 use crate::tables::{Object, Tables};
 use dso_base::{Items, Level, LockName, Same, ThreadId, Value};
+use dso_lookup::{find_in, first_in, is_row_empty, is_row_taken};
 
 /// Whether the client is lost.
 pub(crate) fn is_lost(tables: &Tables, client: u8) -> bool
@@ -34,7 +34,7 @@ pub(crate) fn is_going(tables: &Tables, thread: ThreadId) -> bool
 
 /// Whether the thread waits on no lock.
 pub(crate) fn is_awake(tables: &Tables, thread: ThreadId) -> bool
-    requires { Agrees tables.now }
+    requires { IndexesAgree tables.now }
     ensures { IsTrue result ↔ ((l : LockName) → (state_of tables.now).asleep (l, thread) ≡ None) }
 {
     is_row_empty(&tables.waiting, &thread)
@@ -42,7 +42,7 @@ pub(crate) fn is_awake(tables: &Tables, thread: ThreadId) -> bool
 
 /// Whether the thread holds no lock.
 pub(crate) fn holds_nothing(tables: &Tables, thread: ThreadId) -> bool
-    requires { Agrees tables.now }
+    requires { IndexesAgree tables.now }
     ensures { IsTrue result ↔ HoldsNothing thread (state_of tables.now) }
 {
     is_row_empty(&tables.held, &thread)
@@ -50,7 +50,7 @@ pub(crate) fn holds_nothing(tables: &Tables, thread: ThreadId) -> bool
 
 /// Whether the thread holds some lock.
 pub(crate) fn holds_something(tables: &Tables, thread: ThreadId) -> bool
-    requires { Agrees tables.now }
+    requires { IndexesAgree tables.now }
     ensures { IsTrue result ↔ ((l : LockName) × ((state_of tables.now).monitors (l, thread) ≢ None)) }
 {
     is_row_taken(&tables.held, &thread)
@@ -85,7 +85,7 @@ pub(crate) fn is_free(tables: &Tables, lock: LockName) -> bool
 
 /// Whether the thread waits on the lock and was not notified.
 pub(crate) fn is_unmarked(tables: &Tables, lock: LockName, thread: ThreadId) -> bool
-    requires { Agrees tables.now }
+    requires { IndexesAgree tables.now }
     ensures { IsTrue result ↔ IsUnmarkedWaiter lock thread (state_of tables.now) }
 {
     find_in(&tables.waits, &lock, &thread).is_some()
@@ -100,7 +100,7 @@ pub(crate) fn is_marked(tables: &Tables, lock: LockName, thread: ThreadId) -> bo
 
 /// Whether no thread waits on the lock that was not notified.
 pub(crate) fn has_no_unmarked(tables: &Tables, lock: LockName) -> bool
-    requires { Agrees tables.now }
+    requires { IndexesAgree tables.now }
     ensures { IsTrue result ↔ ((w : ThreadId) → IsUnmarkedWaiter lock w (state_of tables.now) → ⊥) }
 {
     is_row_empty(&tables.waits, &lock)

@@ -3,8 +3,8 @@ ghost use Rattle.std.specs.Prelude.{◌≡◌, true, false, Some, OnOk, IfOk};
 ghost use Rattle.dso_base.specs.declared.lock.ThreadId.{ThreadId};
 ghost use Rattle.dso_base.specs.declared.request.Reply.TheVariants as Reply;
 ghost use Rattle.dso_plain.specs.After as After;
-ghost use Rattle.dso_plain.specs.Keeps.{Agrees, KeepsTables};
-ghost use Rattle.dso_plain.specs.Kept.{PastIsKept};
+ghost use Rattle.dso_plain.specs.TableInvariants.{IndexesAgree, TablesInvariant};
+ghost use Rattle.dso_plain.specs.StepInvariants.{PastInvariant};
 ghost use Rattle.dso_plain.specs.Possible.{IsPossible, IsUnmarkedWaiter, AnswersPut, May};
 ghost use Rattle.dso_plain.specs.State.{is_shared};
 ghost use Rattle.dso_plain.specs.Tables.{state_of};
@@ -28,9 +28,9 @@ fn read(
     id: u64,
     field: u32,
 ) -> Result<(), NoMemory>
-    requires { Agrees tables.old }
+    requires { IndexesAgree tables.old }
     ensures state { OnOk result (state_of tables.new ≡ After.apply (After.read shape.now thread id field (is_shared ((state_of tables.old).objects id)) (state_of tables.old)) (state_of tables.old)) }
-    ensures agrees { OnOk result (Agrees tables.new) }
+    ensures agrees { OnOk result (IndexesAgree tables.new) }
 {
     let Some(object) = object(tables, id) else {
         return Ok(());
@@ -53,10 +53,10 @@ fn put_field(
     field: u32,
     value: Value,
 ) -> Result<(), NoMemory>
-    requires agrees { Agrees tables.old }
-    requires past { PastIsKept (state_of tables.old) }
+    requires agrees { IndexesAgree tables.old }
+    requires past { PastInvariant (state_of tables.old) }
     ensures state { OnOk result (state_of tables.new ≡ After.apply (After.put thread id field value (is_shared ((state_of tables.old).objects id)) (state_of tables.old)) (state_of tables.old)) }
-    ensures agrees { OnOk result (Agrees tables.new) }
+    ensures agrees { OnOk result (IndexesAgree tables.new) }
 {
     match object(tables, id) {
         Some(object) => {
@@ -77,10 +77,10 @@ fn notify(
     lock: LockName,
     woken: Option<ThreadId>,
 ) -> Result<(), NoMemory>
-    requires agrees { Agrees tables.old }
+    requires agrees { IndexesAgree tables.old }
     requires waits { (w : ThreadId) → woken ≡ Some w → IsUnmarkedWaiter lock w (state_of tables.old) }
     ensures state { OnOk result (state_of tables.new ≡ After.apply (After.notifies lock woken) (state_of tables.old)) }
-    ensures agrees { OnOk result (Agrees tables.new) }
+    ensures agrees { OnOk result (IndexesAgree tables.new) }
 {
     match woken {
         Some(thread) => mark(alloc, tables, lock, thread),
@@ -98,10 +98,10 @@ fn act(
     reply: Reply,
     woken: Option<ThreadId>,
 ) -> Result<(), NoMemory>
-    requires kept { KeepsTables tables.old }
+    requires kept { TablesInvariant tables.old }
     requires possible { IsPossible shape.now thread request reply woken (state_of tables.old) }
     ensures state { OnOk result (state_of tables.new ≡ After.apply (After.change_of shape.now thread request reply woken (state_of tables.old)) (state_of tables.old)) }
-    ensures agrees { OnOk result (Agrees tables.new) }
+    ensures agrees { OnOk result (IndexesAgree tables.new) }
 {
     match (request, reply) {
         (Request::New(class, size), Reply::Made(id)) => make_object(
@@ -127,10 +127,10 @@ fn act(
 
 /// An event that is possible is made.
 fn make(alloc: Global, tables: &mut Tables, shape: &Shape, event: &Event) -> Result<(), NoMemory>
-    requires kept { KeepsTables tables.old }
+    requires kept { TablesInvariant tables.old }
     requires possible { May shape.now event.now (state_of tables.old) }
     ensures state { OnOk result (state_of tables.new ≡ After.after shape.now event.now (state_of tables.old)) }
-    ensures agrees { OnOk result (Agrees tables.new) }
+    ensures agrees { OnOk result (IndexesAgree tables.new) }
 {
     match event {
         Event::Act {
@@ -150,10 +150,10 @@ pub(crate) fn step(
     shape: &Shape,
     event: &Event,
 ) -> Result<bool, NoMemory>
-    requires { KeepsTables tables.old }
+    requires { TablesInvariant tables.old }
     ensures made { IfOk result (λ made. made ≡ true → May shape.now event.now (state_of tables.old) × (state_of tables.new ≡ After.after shape.now event.now (state_of tables.old))) }
     ensures refused { IfOk result (λ made. made ≡ false → (May shape.now event.now (state_of tables.old) → ⊥) × (state_of tables.new ≡ state_of tables.old)) }
-    ensures kept { OnOk result (KeepsTables tables.new) }
+    ensures kept { OnOk result (TablesInvariant tables.new) }
 {
     if !may(tables, shape, event) {
         return Ok(false);

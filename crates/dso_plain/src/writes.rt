@@ -1,18 +1,19 @@
 //! What a request changes in the tables, of objects, threads and output.
 ghost use Rattle.std.specs.Prelude.{suc, ◌-◌, ◌≡◌, length, ◌∷◌, Some, None, true, false, OnOk};
-ghost use Rattle.dso_base.specs.Program.{is_thread};
+ghost use Rattle.dso_base.specs.Following.{is_thread};
 ghost use Rattle.dso_plain.specs.After as After;
-ghost use Rattle.dso_plain.specs.Keeps.{Agrees};
-ghost use Rattle.dso_plain.specs.Kept.{PastIsKept};
+ghost use Rattle.dso_plain.specs.TableInvariants.{IndexesAgree};
+ghost use Rattle.dso_plain.specs.StepInvariants.{PastInvariant};
 ghost use Rattle.dso_plain.specs.State.{IsShared};
-ghost use Rattle.dso_plain.specs.Keys.{is_view, writes, written};
+ghost use Rattle.dso_plain.specs.KeyTests.{is_view};
+ghost use Rattle.dso_lookup.specs.Maps.{writes, written};
 ghost use Rattle.dso_plain.specs.Tables.{state_of};
 
 use crate::fields::make_fields;
-use crate::maps::{push_at, put};
 use crate::publish::publish;
 use crate::tables::{Object, Tables};
 use dso_base::{ClassId, Fault, NoMemory, Shape, ThreadId, Value};
+use dso_lookup::{push_at, put};
 use std::alloc::Global;
 
 /// The thread prints a value.
@@ -22,9 +23,9 @@ pub(crate) fn print(
     thread: ThreadId,
     value: Value,
 ) -> Result<(), NoMemory>
-    requires { Agrees tables.old }
+    requires { IndexesAgree tables.old }
     ensures state { OnOk result (state_of tables.new ≡ record (state_of tables.old) { output = written (writes (is_thread thread) (λ _. value ∷ (state_of tables.old).output thread)) (state_of tables.old).output }) }
-    ensures agrees { OnOk result (Agrees tables.new) }
+    ensures agrees { OnOk result (IndexesAgree tables.new) }
 {
     push_at(alloc, &mut tables.output, thread, value)?;
     Ok(())
@@ -36,9 +37,9 @@ pub(crate) fn end(
     thread: ThreadId,
     fault: Option<Fault>,
 ) -> Result<(), NoMemory>
-    requires { Agrees tables.old }
+    requires { IndexesAgree tables.old }
     ensures state { OnOk result (state_of tables.new ≡ record (state_of tables.old) { ended = written (writes (is_thread thread) (λ _. Some fault)) (state_of tables.old).ended }) }
-    ensures agrees { OnOk result (Agrees tables.new) }
+    ensures agrees { OnOk result (IndexesAgree tables.new) }
 {
     put(&mut tables.ended, thread, fault)?;
     Ok(())
@@ -61,9 +62,9 @@ pub(crate) fn see(
     id: u64,
     field: u32,
 ) -> Result<(), NoMemory>
-    requires { Agrees tables.old }
+    requires { IndexesAgree tables.old }
     ensures state { OnOk result (state_of tables.new ≡ record (state_of tables.old) { seen = written (writes (is_view thread id field) (λ _. length ((state_of tables.old).past (id, field)) - 1)) (state_of tables.old).seen }) }
-    ensures agrees { OnOk result (Agrees tables.new) }
+    ensures agrees { OnOk result (IndexesAgree tables.new) }
 {
     let place = past_length(tables, id, field).saturating_sub(1);
     put(&mut tables.seen, (thread, id, field), place)?;
@@ -72,9 +73,9 @@ pub(crate) fn see(
 
 /// An unguarded read is counted.
 pub(crate) fn count_read(tables: &mut Tables) -> Result<(), NoMemory>
-    requires { Agrees tables.old }
+    requires { IndexesAgree tables.old }
     ensures state { OnOk result (state_of tables.new ≡ record (state_of tables.old) { unguarded = suc (state_of tables.old).unguarded }) }
-    ensures agrees { OnOk result (Agrees tables.new) }
+    ensures agrees { OnOk result (IndexesAgree tables.new) }
 {
     tables.unguarded.add()?;
     Ok(())
@@ -90,11 +91,11 @@ pub(crate) fn make_object(
     size: u32,
     id: u64,
 ) -> Result<(), NoMemory>
-    requires agrees { Agrees tables.old }
-    requires past { PastIsKept (state_of tables.old) }
+    requires agrees { IndexesAgree tables.old }
+    requires past { PastInvariant (state_of tables.old) }
     requires absent { (state_of tables.old).objects id ≡ None }
     ensures state { OnOk result (state_of tables.new ≡ After.apply (After.made_new shape.now thread class size id (state_of tables.old)) (state_of tables.old)) }
-    ensures agrees { OnOk result (Agrees tables.new) }
+    ensures agrees { OnOk result (IndexesAgree tables.new) }
 {
     let object = Object {
         class,
@@ -115,9 +116,9 @@ pub(crate) fn put_own(
     field: u32,
     value: Value,
 ) -> Result<(), NoMemory>
-    requires { Agrees tables.old }
+    requires { IndexesAgree tables.old }
     ensures state { OnOk result (state_of tables.new ≡ After.apply (After.put thread id field value false (state_of tables.old)) (state_of tables.old)) }
-    ensures agrees { OnOk result (Agrees tables.new) }
+    ensures agrees { OnOk result (IndexesAgree tables.new) }
 {
     put(&mut tables.heap, (id, field), value)?;
     Ok(())
@@ -132,11 +133,11 @@ pub(crate) fn put_shared(
     field: u32,
     value: Value,
 ) -> Result<(), NoMemory>
-    requires agrees { Agrees tables.old }
-    requires past { PastIsKept (state_of tables.old) }
+    requires agrees { IndexesAgree tables.old }
+    requires past { PastInvariant (state_of tables.old) }
     requires shared { IsShared id (state_of tables.old) }
     ensures state { OnOk result (state_of tables.new ≡ After.apply (After.put thread id field value true (state_of tables.old)) (state_of tables.old)) }
-    ensures agrees { OnOk result (Agrees tables.new) }
+    ensures agrees { OnOk result (IndexesAgree tables.new) }
 {
     let place = past_length(tables, id, field);
     publish(alloc, tables, thread, value)?;

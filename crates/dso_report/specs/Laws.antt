@@ -5,10 +5,10 @@ use Rattle.dso_class.specs.declared.program.Names.{Names}
 use Rattle.dso_class.specs.declared.program.Program.{Program}
 use Rattle.dso_class.specs.Sound.{IsSound}
 use Rattle.dso_plain.specs.State.{PlainState}
-use Rattle.dso_report.specs.Legal.{IsStateOf}
+use Rattle.dso_report.specs.HistoryState.{IsLastStateOf}
 use Rattle.dso_report.specs.Numbering.{IsOrder}
 use Rattle.dso_report.specs.Report.{IsReport}
-use Rattle.dso_report.specs.Whole.{IsWhole, IsClosed}
+use Rattle.dso_report.specs.WholeState.{IsWholeState, IsClosedOrder}
 
 -- A state has one report.
 abbrev pub OneReport : Type 0
@@ -16,8 +16,8 @@ OneReport = (names : Names) (threads : List ThreadId) (s : PlainState) (a b : Li
 
 -- In each state that a run of a sound program leads to, nothing is missing that its report names.
 abbrev pub StatesAreWhole : Type 0
-StatesAreWhole = (p : Program) (s : PlainState) → IsSound p → IsStateOf p s → IsWhole p.names s
+StatesAreWhole = (p : Program) (s : PlainState) → IsSound p → IsLastStateOf p s → IsWholeState p.names s
 
 -- Each object that is shown has a number.
 abbrev pub OrdersAreClosed : Type 0
-OrdersAreClosed = (s : PlainState) (order : List ℕ) → IsOrder s order → IsClosed s order
+OrdersAreClosed = (s : PlainState) (order : List ℕ) → IsOrder s order → IsClosedOrder s order

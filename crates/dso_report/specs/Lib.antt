@@ -1,7 +1,9 @@
-pub mod Lacking
+pub mod MissingText
 pub mod Laws
-pub mod Legal
+pub mod LeftOut
+pub mod HistoryState
 pub mod Numbering
 pub mod Report
 pub mod Texts
-pub mod Whole
+pub mod Told
+pub mod WholeState

@@ -52,7 +52,7 @@ shown texts order (value.Bool false) = Some (codes "false")
 shown texts order (value.Text i) = option_map quoted (slice_get texts i)
 shown texts order (value.Ref o) = numbered order o
 
--- so of a field's value, if it has one
+-- a field's value as the graph shows it; a field without a value has no text
 abbrev pub shown_in : List (List ℕ) → List ℕ → Option Value → Option (List ℕ)
 shown_in texts order None = None
 shown_in texts order (Some v) = shown texts order v

@@ -2,13 +2,9 @@
 #![tactic(auto)]
 
 mod graph_lines;
-#[cfg(test)]
-mod graph_tests;
 pub mod laws;
 mod numbering;
 mod program_report;
-#[cfg(test)]
-mod report_tests;
 mod state_report;
 mod thread_lines;
 mod unwritten;

@@ -2,7 +2,7 @@
 ghost use Rattle.std.specs.Prelude.{IfOk};
 ghost use Rattle.dso_class.specs.Sound.{IsSound};
 ghost use Rattle.dso_plain.specs.Tables.{state_of};
-ghost use Rattle.dso_report.specs.Legal.{IsStateOf};
+ghost use Rattle.dso_report.specs.HistoryState.{IsLastStateOf};
 ghost use Rattle.dso_report.specs.Report.{IsReport};
 
 use crate::state_report::report_of_state;
@@ -20,7 +20,7 @@ use std::alloc::Global;
 /// was refused, and then there is no text.
 pub fn report(alloc: Global, program: &Program, plain: &Plain) -> Result<Vec<u8>, NoMemory>
     requires sound { IsSound program.now }
-    requires legal { IsStateOf program.now (state_of plain.now) }
+    requires legal { IsLastStateOf program.now (state_of plain.now) }
     ensures { IfOk result (λ bytes. IsReport program.now.names program.now.threads (state_of plain.now) bytes.items) }
 {
     match report_of_state(alloc, &program.names, program.threads.as_slice(), plain) {

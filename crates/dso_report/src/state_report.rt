@@ -2,7 +2,7 @@
 ghost use Rattle.std.specs.Prelude.{◌≡◌, ◌++◌, IfOk, OnOk, IsErrOf};
 ghost use Rattle.dso_plain.specs.Tables.{state_of};
 ghost use Rattle.dso_report.specs.declared.unwritten.Unwritten.TheVariants as unwritten;
-ghost use Rattle.dso_report.specs.Lacking.{LacksText};
+ghost use Rattle.dso_report.specs.MissingText.{IsReportTextMissing};
 ghost use Rattle.dso_report.specs.Report.{IsReport, unguarded_line};
 
 use crate::graph_lines::push_graph;
@@ -26,7 +26,7 @@ pub(crate) fn report_of_state(
     plain: &Plain,
 ) -> Result<Vec<u8>, Unwritten>
     ensures written { IfOk result (λ bytes. IsReport names.now threads.now (state_of plain.now) bytes.items) }
-    ensures missing { IsErrOf result unwritten.Missing → LacksText names.now (state_of plain.now) }
+    ensures missing { IsErrOf result unwritten.Missing → IsReportTextMissing names.now (state_of plain.now) }
 {
     let order = order_of(alloc, plain)?;
     let mut text = threads_text(alloc, names, threads, plain)?;

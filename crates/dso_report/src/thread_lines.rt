@@ -3,7 +3,7 @@ ghost use Rattle.std.specs.Prelude.{◌≡◌, ◌++◌, Some, None, reverse, If
 ghost use Rattle.std.specs.Fmt.{◌++?◌};
 ghost use Rattle.dso_plain.specs.Tables.{state_of};
 ghost use Rattle.dso_report.specs.declared.unwritten.Unwritten.TheVariants as unwritten;
-ghost use Rattle.dso_report.specs.Lacking.{LacksThreadText};
+ghost use Rattle.dso_report.specs.MissingText.{IsThreadTextMissing};
 ghost use Rattle.dso_report.specs.Report.{HasStanding, IsThreadsText, fault_text, standing_text, thread_line, output_line, thread_text};
 ghost use Rattle.dso_report.specs.Texts.{each_of};
 
@@ -33,7 +33,7 @@ pub(crate) fn threads_text(
     plain: &Plain,
 ) -> Result<Vec<u8>, Unwritten>
     ensures written { IfOk result (λ text. IsThreadsText names.now (state_of plain.now) threads.now text.items) }
-    ensures missing { IsErrOf result unwritten.Missing → LacksThreadText names.now (state_of plain.now) }
+    ensures missing { IsErrOf result unwritten.Missing → IsThreadTextMissing names.now (state_of plain.now) }
 {
     let mut text = Vec::new(alloc);
     for thread in threads {

@@ -8,7 +8,7 @@ use Rattle.dso_plain.specs.After.{after}
 use Rattle.dso_plain.specs.History.{Runs, end_of}
 use Rattle.dso_plain.specs.Possible.{May}
 use Rattle.dso_plain.specs.State.{PlainState, opening}
-use Rattle.dso_plain.proofs.Diamond.{runs_in_parts, ends_in_parts}
+use Rattle.dso_plain.proofs.independence.RunsSwap.{runs_in_parts, ends_in_parts}
 
 module _ (shape : Shape) (events : List Event) (i : ℕ) (d : Event) (here : i < length events) (runs : Runs shape events (opening shape)) where
   -- the event is possible where it stands

@@ -2,28 +2,36 @@
 use Rattle.std.specs.Prelude.{◌≤◌, ℕ, List, length}
 use Rattle.dso_class.specs.declared.fault.NameFault.TheVariants as name
 use Rattle.dso_class.specs.declared.program.Program.{Program}
-use Rattle.dso_class.specs.Faults.{IsFirstFault}
-use Rattle.dso_class.specs.Program.{IsProgramOf}
+use Rattle.dso_class.specs.NameFaults.{IsFirstFault}
+use Rattle.dso_class.specs.TextProgram.{IsProgramOf}
 use Rattle.dso_class.specs.Sound.{IsSound}
 use Rattle.dso_config.specs.Config.{empty}
 use Rattle.dso_law.specs.Settings.{Settings}
 use Rattle.dso_machine.specs.declared.code.Code.{Code}
 use Rattle.dso_syntax.specs.declared.fault.SyntaxFault.TheVariants as syntax
 use Rattle.dso_syntax.specs.declared.tree.Ast.{Ast}
-use Rattle.dso_syntax.specs.Answer.{Refuses}
-use Rattle.dso_syntax.specs.Faults.{IsText}
+use Rattle.dso_syntax.specs.ParseAnswer.{Refuses}
+use Rattle.dso_syntax.specs.SyntaxFaults.{IsText}
+use Rattle.dso_syntax.specs.TextLimits.{longest_text}
 use Rattle.dso_run.specs.declared.status.ProgramFault.{ProgramFault}
 use Rattle.dso_run.specs.declared.status.ProgramFault.TheVariants as fault
-use Rattle.dso_run.specs.Counter.{IsCounter}
-use Rattle.dso_run.specs.Spelling.{IsPlainlySpelled}
+use Rattle.dso_run.specs.first_path.Counter.{IsCounter}
+use Rattle.dso_run.specs.first_path.Spelling.{IsPlainlySpelled}
 
 -- What the nodes of a run know of its program.
 abbrev pub settings_of : Program → Settings
-settings_of p = record { shape = p.code.shape; clients = p.clients; resident = p.resident; threads = p.threads; losses = p.losses; breaks = p.breaks }
+settings_of p = record {
+  shape = p.code.shape;
+  clients = p.clients;
+  resident = p.resident;
+  threads = p.threads;
+  losses = p.losses;
+  breaks = p.breaks;
+}
 
 -- The text is a program of this tree by the grammar, and isn't too long.
 pub record HasTree (text : List ℕ) (tree : Ast) : Type 0 where
-  pub short : length text ≤ 1048576
+  pub short : length text ≤ longest_text
   pub is_text : IsText text tree
 
 -- The tree is this program, with every key of the configuration absent.
@@ -59,8 +67,8 @@ pub record HasTreeFault (text : List ℕ) (which : ProgramFault) : Type 0 where
   pub has_tree : HasTree text tree
   pub refused : IsTreeFault text tree which
 
--- Why a program text is refused: it is too long, or the program of no tree and this is its fault, or the program of a tree and refused for the
--- tree's first fault or for its form. The fault is never a want of memory.
+-- Why a program text is refused: it is too long, or the program of no tree and this is its fault, or the program of a
+-- tree and refused for the tree's first fault or for its form. The fault is never a want of memory.
 abbrev pub IsTextFault : List ℕ → ProgramFault → Type 0
 IsTextFault text (fault.Syntax syntax.NoMemory) = ⊥
 IsTextFault text (fault.Syntax which) = Refuses text which

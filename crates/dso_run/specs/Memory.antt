@@ -1,7 +1,7 @@
 -- Files and a sink in memory, as contracts see them.
 use Rattle.std.specs.Prelude.{ℕ, ◌-◌, min, List, [], ◌∷◌, length, if◌then◌else◌}
 use Rattle.std.specs.Str.{bytes_eq}
-use Rattle.dso_run.specs.Outside.{Told, Missing, Holds}
+use Rattle.dso_run.specs.Environment.{Told, Missing, Holds}
 
 -- The sink: what it took, how much it takes at once and in all, the numbers of the calls that are to fail, how many
 -- calls there were, and how many failed.

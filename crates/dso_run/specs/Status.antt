@@ -7,13 +7,16 @@ use Rattle.dso_class.specs.declared.fault.NameKind.{NameKind}
 use Rattle.dso_class.specs.declared.fault.NameKind.TheVariants as kind
 use Rattle.dso_syntax.specs.declared.fault.SyntaxFault.{SyntaxFault}
 use Rattle.dso_syntax.specs.declared.fault.SyntaxFault.TheVariants as syntax
+use Rattle.dso_run.specs.declared.cluster.Outcome.{Outcome}
+use Rattle.dso_run.specs.declared.cluster.Outcome.TheVariants as outcome
 use Rattle.dso_run.specs.declared.status.ProgramFault.{ProgramFault}
 use Rattle.dso_run.specs.declared.status.ConfigFault.TheVariants as config
 use Rattle.dso_run.specs.declared.status.ProgramFault.TheVariants as program
 use Rattle.dso_run.specs.declared.status.Refusal.{Refusal}
 use Rattle.dso_run.specs.declared.status.Refusal.TheVariants.{Words, Reading, Config, Program}
 use Rattle.dso_run.specs.declared.status.Status.{Status}
-use Rattle.dso_run.specs.declared.status.Status.TheVariants.{Finished, Usage, BadConfig, BadProgram, ReadFault, WriteFault, Stuck, Budget, NoMemory}
+use Rattle.dso_run.specs.declared.status.Status.TheVariants.{Finished, Usage, BadConfig, BadProgram}
+use Rattle.dso_run.specs.declared.status.Status.TheVariants.{ReadFault, WriteFault, Stuck, Budget, NoMemory}
 
 -- the number that the process ends with
 abbrev pub exit_number_of : Status → ℕ
@@ -26,6 +29,12 @@ exit_number_of WriteFault = 5
 exit_number_of Stuck = 6
 exit_number_of Budget = 7
 exit_number_of NoMemory = 8
+
+-- the status of a run that ended so
+abbrev pub status_of_run : Outcome → Status
+status_of_run outcome.Finished = Finished
+status_of_run outcome.Stuck = Stuck
+status_of_run outcome.Budget = Budget
 
 -- the status of a refusal
 abbrev pub status_of : Refusal → Status

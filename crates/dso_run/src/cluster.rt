@@ -3,27 +3,24 @@ ghost use Rattle.std.specs.Prelude.{◌≡◌, ◌≤◌, false, min, reverse, I
 ghost use Rattle.dso_base.specs.Weight.{entry_weight_of};
 ghost use Rattle.dso_base.specs.declared.journal.Node.TheVariants as node;
 ghost use Rattle.dso_law.specs.Entries.{entries_of};
-ghost use Rattle.dso_law.specs.Served.{is_lost};
+ghost use Rattle.dso_law.specs.ServerReadings.{is_lost};
 ghost use Rattle.dso_legal.specs.Slots.{is_finished};
 ghost use Rattle.dso_machine.specs.Next.{next_request};
 ghost use Rattle.dso_machine.specs.Sound.{IsSound};
-ghost use Rattle.dso_run.specs.Counter.{IsCounter, settings};
-ghost use Rattle.dso_run.specs.Ends.{HasEnded};
-ghost use Rattle.dso_run.specs.Follows.{Follows, with_made};
-ghost use Rattle.dso_run.specs.Room.{HasRoom};
-ghost use Rattle.dso_run.specs.Rounds.{slot_at};
-ghost use Rattle.dso_run.specs.Steps.{last_done, tried_after};
+ghost use Rattle.dso_run.specs.first_path.Counter.{IsCounter, settings};
+ghost use Rattle.dso_run.specs.first_path.CounterRun.{HasEnded};
+ghost use Rattle.dso_run.specs.first_path.Follows.{Follows, with_made};
+ghost use Rattle.dso_run.specs.first_path.Room.{HasRoom};
+ghost use Rattle.dso_run.specs.RoundRobin.{slot_at};
+ghost use Rattle.dso_run.specs.first_path.Steps.{last_done, tried_after};
 
 use crate::known::{CLIENT, THREAD};
-use crate::weighing::weight_of;
+use crate::weighing::{BUDGET, weight_of};
 use crate::{client, server};
 use dso_base::{Entry, Input, Items, Journal, NoMemory, Node};
-use dso_law::{first_down, first_up, has_ended};
+use dso_law::{Entries, first_down, first_up, has_ended};
 use dso_machine::{Code, Thread};
 use std::alloc::Global;
-
-/// How much a journal may weigh.
-pub(crate) const STEPS: u64 = 1_000_000;
 
 /// How a run ended.
 #[derive(Clone, Copy, Debug, PartialEq, Eq)]
@@ -52,7 +49,7 @@ pub(crate) enum Last {
 pub(crate) fn run_program(alloc: Global, code: &Code, steps: u64) -> Result<Run, NoMemory>
     requires counter { IsCounter code.now }
     requires sound { IsSound code.now }
-    requires steps { steps ≤ STEPS }
+    requires steps { steps ≤ BUDGET }
     ensures { IfOk result (λ run. HasEnded code.now steps run) }
 {
     let mut thread = Thread::new(alloc, code, THREAD)?;
@@ -67,7 +64,7 @@ pub(crate) fn run_program(alloc: Global, code: &Code, steps: u64) -> Result<Run,
 fn run_thread(alloc: Global, code: &Code, thread: &mut Thread, steps: u64) -> Result<Run, NoMemory>
     requires counter { IsCounter code.now }
     requires sound { IsSound code.now }
-    requires steps { steps ≤ STEPS }
+    requires steps { steps ≤ BUDGET }
     requires follows { Follows code.now thread.old [] }
     ensures { IfOk result (λ run. HasEnded code.now steps run) }
 {
@@ -79,7 +76,7 @@ fn run_thread(alloc: Global, code: &Code, thread: &mut Thread, steps: u64) -> Re
         let Some(entry) = made else {
             return Ok(ended(Outcome::Stuck, entries));
         };
-        weight = (weight + weight_of(&entry)).min(STEPS);
+        weight = (weight + weight_of(&entry)).min(BUDGET);
         last = done_by(&entry);
         entries.push(entry)?;
     }
@@ -103,10 +100,18 @@ fn ended(outcome: Outcome, entries: Vec<Entry>) -> Run
     }
 }
 
-/// Whether the thread has ended and no message is on the way.
+/// Whether the thread has ended and no message is in flight.
 fn is_finished(entries: &[Entry]) -> bool
     requires { is_lost 1 (entries_of node.Server (reverse entries.now)) ≡ false }
     ensures { result ≡ is_finished settings (reverse entries.now) }
+{
+    is_finished_after(&Entries::new(entries))
+}
+
+/// Whether the thread has ended and no message is in flight after these entries.
+fn is_finished_after(entries: &Entries<'_>) -> bool
+    requires { is_lost 1 (entries_of node.Server entries.now) ≡ false }
+    ensures { result ≡ is_finished settings entries.now }
 {
     has_ended(entries, THREAD)
         && first_up(entries, CLIENT).is_none()
@@ -140,6 +145,25 @@ fn next_entry(
     requires follows { Follows code.now thread.old (reverse entries.now) }
     ensures made { IfOk result (λ made. made ≡ tried_after (next_request code.now) last (reverse entries.now)) }
     ensures follows { IfOk result (λ made. Follows code.now thread.new (with_made made (reverse entries.now))) }
+{
+    next_entry_after(alloc, code, thread, &Entries::new(entries), last)
+}
+
+/// The next entry after these, at the first place where a step can be made, going round from the one behind the last; None where
+/// none can be made. The thread follows the journal with that entry.
+fn next_entry_after(
+    alloc: Global,
+    code: &Code,
+    thread: &mut Thread,
+    entries: &Entries<'_>,
+    last: Last,
+) -> Result<Option<Entry>, NoMemory>
+    requires counter { IsCounter code.now }
+    requires sound { IsSound code.now }
+    requires room { HasRoom entries.now }
+    requires follows { Follows code.now thread.old entries.now }
+    ensures made { IfOk result (λ made. made ≡ tried_after (next_request code.now) last entries.now) }
+    ensures follows { IfOk result (λ made. Follows code.now thread.new (with_made made entries.now)) }
 {
     match last {
         Last::Acted => match client::take(alloc, entries)? {

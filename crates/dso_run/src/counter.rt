@@ -5,7 +5,7 @@ ghost use Rattle.dso_base.specs.declared.shape.Guard.TheVariants as guard;
 ghost use Rattle.dso_base.specs.declared.value.Kind.TheVariants as kind;
 ghost use Rattle.dso_base.specs.declared.value.Value.TheVariants as value;
 ghost use Rattle.dso_machine.specs.declared.tree.Expr.TheVariants as e;
-ghost use Rattle.dso_run.specs.Counter.{IsCounter, the_thread, counter_shape, counter_method, counter_thread, the_field, own_field, adds_argument, prints_field, binds_counter, reads_counter, calls_method};
+ghost use Rattle.dso_run.specs.first_path.Counter.{IsCounter, the_thread, counter_shape, counter_method, counter_thread, the_field, own_field, adds_argument, prints_field, binds_counter, reads_counter, calls_method};
 
 use dso_base::{ClassShape, FieldShape, Grade, Guard, Kind, Op, Shape, ThreadId, Value};
 use dso_machine::{Code, Expr, FieldRef, Method, Stmt, ThreadBody};

@@ -1,6 +1,7 @@
 //! What the thread knows of objects and locks: of its own objects what it did, of others what its client's copies hold.
-ghost use Rattle.std.specs.Prelude.{ℕ, ◌≡◌, reverse, None, Some, List, [], ltb, ◌^◌};
+ghost use Rattle.std.specs.Prelude.{ℕ, ◌≡◌, None, Some, List, [], ltb, ◌^◌};
 ghost use Rattle.std.specs.Option.{option_map};
+ghost use Rattle.dso_base.specs.declared.journal.Entry.{Entry};
 ghost use Rattle.dso_base.specs.declared.lock.Level.{Level};
 ghost use Rattle.dso_base.specs.declared.request.Reply.TheVariants as reply;
 ghost use Rattle.dso_base.specs.declared.request.Request.TheVariants as request;
@@ -9,17 +10,17 @@ ghost use Rattle.dso_base.specs.Shape.{guard_of};
 ghost use Rattle.dso_law.specs.Threads.{Held, own as own_body, work_of, locks_of};
 ghost use Rattle.dso_law.specs.Copies.{copy_of};
 ghost use Rattle.dso_law.specs.Closing.{is_closing, admits};
-ghost use Rattle.dso_law.specs.Needs.{is_kind, is_class, is_seen_class};
+ghost use Rattle.dso_law.specs.RequestNeeds.{is_kind, is_class, is_seen_class};
 ghost use Rattle.dso_law.specs.Replies.{class_known, value_in, value_seen, put_answer, answer_put};
-ghost use Rattle.dso_law.specs.InHand.{in_hand};
-ghost use Rattle.dso_run.specs.Counter.{the_thread, settings};
-ghost use Rattle.dso_run.specs.Steps.{own, tellable};
-ghost use Rattle.dso_run.specs.Turns.{asking};
+ghost use Rattle.dso_law.specs.WorkInHand.{in_hand};
+ghost use Rattle.dso_run.specs.first_path.Counter.{the_thread, settings};
+ghost use Rattle.dso_run.specs.first_path.Steps.{own, tellable};
+ghost use Rattle.dso_run.specs.first_path.Turns.{asking};
 
-use dso_base::{ClassId, Entry, Fault, Kind, Level, LockName, Reply, ThreadId, Value};
+use dso_base::{ClassId, Fault, Kind, Level, LockName, Reply, ThreadId, Value};
 use dso_law::{
-    Locks, Work, class_held, is_entered, is_recalled, is_resident, standing, value_by_sets,
-    value_held,
+    Entries, Locks, Work, class_held, is_entered, is_recalled, is_resident, standing,
+    value_by_sets, value_held,
 };
 
 /// The one client.
@@ -67,9 +68,13 @@ fn is_kind(kind: Kind, other: Kind) -> bool
 }
 
 /// The class and size of the thread's own object, else of the copy.
-pub(crate) fn class_known(entries: &[Entry], work: &Work, object: u64) -> Option<(ClassId, usize)>
-    requires { in_hand work.now ≡ work_of settings.shape the_thread (own (reverse entries.now)) }
-    ensures { result ≡ class_known settings the_thread object (own (reverse entries.now)) }
+pub(crate) fn class_known(
+    entries: &Entries<'_>,
+    work: &Work,
+    object: u64,
+) -> Option<(ClassId, usize)>
+    requires { in_hand work.now ≡ work_of settings.shape the_thread (own entries.now) }
+    ensures { result ≡ class_known settings the_thread object (own entries.now) }
 {
     match work.own(object) {
         Some(body) => Some((body.class, body.values.len())),
@@ -101,8 +106,8 @@ pub(crate) fn value_reply(value: Option<Value>) -> Option<Reply>
 }
 
 /// The client's copy of a field.
-fn copy(entries: &[Entry], object: u64, field: u32) -> Option<Value>
-    ensures { result ≡ copy_of object field (own (reverse entries.now)) }
+fn copy(entries: &Entries<'_>, object: u64, field: u32) -> Option<Value>
+    ensures { result ≡ copy_of object field (own entries.now) }
 {
     if is_resident(entries, CLIENT, object) {
         value_held(entries, CLIENT, object, field)
@@ -112,9 +117,14 @@ fn copy(entries: &[Entry], object: u64, field: u32) -> Option<Value>
 }
 
 /// The value of a field of the thread's own object, else the latest one that its open block put, else the copy.
-pub(crate) fn field_value(entries: &[Entry], work: &Work, object: u64, field: u32) -> Option<Value>
-    requires { in_hand work.now ≡ work_of settings.shape the_thread (own (reverse entries.now)) }
-    ensures { result ≡ value_in settings (own_body settings.shape the_thread object (own (reverse entries.now))) field (value_seen settings the_thread object field (own (reverse entries.now))) }
+pub(crate) fn field_value(
+    entries: &Entries<'_>,
+    work: &Work,
+    object: u64,
+    field: u32,
+) -> Option<Value>
+    requires { in_hand work.now ≡ work_of settings.shape the_thread (own entries.now) }
+    ensures { result ≡ value_in settings (own_body settings.shape the_thread object (own entries.now)) field (value_seen settings the_thread object field (own entries.now)) }
 {
     match work.own(object) {
         Some(body) => body.values.get(field as usize).copied(),
@@ -140,15 +150,15 @@ pub(crate) fn guard_of(class: ClassId, object: u64, field: u32) -> LockName
 
 /// The reply to a put, None where the object isn't known or has no such field.
 pub(crate) fn put_reply(
-    entries: &[Entry],
+    entries: &Entries<'_>,
     locks: &Locks,
     work: &Work,
     object: u64,
     field: u32,
 ) -> Option<Reply>
-    requires locks { locks.now ≡ locks_of the_thread (own (reverse entries.now)) }
-    requires work { in_hand work.now ≡ work_of settings.shape the_thread (own (reverse entries.now)) }
-    ensures { result ≡ answer_put settings the_thread object field (class_known settings the_thread object (own (reverse entries.now))) (own (reverse entries.now)) }
+    requires locks { locks.now ≡ locks_of the_thread (own entries.now) }
+    requires work { in_hand work.now ≡ work_of settings.shape the_thread (own entries.now) }
+    ensures { result ≡ answer_put settings the_thread object field (class_known settings the_thread object (own entries.now)) (own entries.now) }
 {
     match class_known(entries, work, object) {
         Some((class, size)) => {
@@ -183,9 +193,9 @@ fn put_answer(locks: &Locks, work: &Work, class: ClassId, object: u64, field: u3
 }
 
 /// Whether the lease of the lock is closing for the thread that next enters it at this level.
-fn is_closing(entries: &[Entry], locks: &Locks, lock: LockName, level: Level) -> bool
-    requires { locks.now ≡ locks_of the_thread (own (reverse entries.now)) }
-    ensures { result ≡ is_closing settings 1 (asking (request.Enter lock level)) lock (own (reverse entries.now)) }
+fn is_closing(entries: &Entries<'_>, locks: &Locks, lock: LockName, level: Level) -> bool
+    requires { locks.now ≡ locks_of the_thread (own entries.now) }
+    ensures { result ≡ is_closing settings 1 (asking (request.Enter lock level)) lock (own entries.now) }
 {
     let lease = standing(entries, CLIENT, lock).lease;
     is_recalled(entries, CLIENT, lock)
@@ -193,9 +203,9 @@ fn is_closing(entries: &[Entry], locks: &Locks, lock: LockName, level: Level) ->
 }
 
 /// Whether the lease of the lock admits an outer entry of the thread at this level.
-pub(crate) fn admits(entries: &[Entry], locks: &Locks, lock: LockName, level: Level) -> bool
-    requires { locks.now ≡ locks_of the_thread (own (reverse entries.now)) }
-    ensures { result ≡ admits settings 1 (asking (request.Enter lock level)) lock (own (reverse entries.now)) }
+pub(crate) fn admits(entries: &Entries<'_>, locks: &Locks, lock: LockName, level: Level) -> bool
+    requires { locks.now ≡ locks_of the_thread (own entries.now) }
+    ensures { result ≡ admits settings 1 (asking (request.Enter lock level)) lock (own entries.now) }
 {
     !is_closing(entries, locks, lock, level) || !is_entered(entries, CLIENT, lock)
 }

@@ -1,20 +1,20 @@
-ghost use Rattle.std.specs.Prelude.{◌≡◌, ◌⊎◌, ℕ, ◌≤◌, List, [], Ok, map, reverse, IfOk};
+ghost use Rattle.std.specs.Prelude.{◌≡◌, ℕ, ◌≤◌, List, [], Ok, map, IfOk};
 ghost use Rattle.std.specs.String.{string_bytes};
-ghost use Rattle.dso_machine.specs.Next.{next_request};
 ghost use Rattle.dso_syntax.specs.declared.tree.Ast.{Ast};
-ghost use Rattle.dso_run.specs.Accepted.{IsTaken, settings_of};
-ghost use Rattle.dso_run.specs.Answer.{IsVerdict, Stands, IsUsage};
-ghost use Rattle.dso_run.specs.Ends.{HasRun, status_of_run};
-ghost use Rattle.dso_run.specs.Writing.{Wrote, WroteReport};
-ghost use Rattle.dso_run.specs.Outside.{Rose};
-ghost use Rattle.dso_run.specs.Status.{HasLine, line_of, status_of};
+ghost use Rattle.dso_run.specs.Accepted.{IsTaken};
+ghost use Rattle.dso_run.specs.Environment.{Rose};
+ghost use Rattle.dso_run.specs.Headline.{StatusMeans, IsRunOf, IsUsage, run_budget};
+ghost use Rattle.dso_run.specs.Status.{HasLine, line_of, status_of, status_of_run};
+ghost use Rattle.dso_run.specs.Verdict.{IsVerdictOn};
 ghost use Rattle.dso_run.specs.Words.{AreUnlawful};
+ghost use Rattle.dso_run.specs.Writing.{Wrote, WroteReport};
 
-use crate::cluster::{Outcome, Run, STEPS, run_program};
+use crate::cluster::{Outcome, Run, run_program};
 use crate::refusal_lines::line_of;
 use crate::report::report;
 use crate::status::Refusal;
-use crate::verdict::{Judged, judge_texts};
+use crate::verdict::{Verdict, judge_texts};
+use crate::weighing::BUDGET;
 use crate::words::names_of;
 use crate::writing::write_text;
 use crate::{Done, FileFault, Files, Sink, Status};
@@ -26,13 +26,18 @@ use std::alloc::Global;
 const MOST_READ: u64 = 1_048_577;
 
 /// Reads the words, then both files, and judges the configuration and then the program.
-fn judge<F: Files>(alloc: Global, words: &[String], files: &mut F) -> Result<Judged, NoMemory>
-    ensures verdict { IfOk result (IsVerdict (F.content files.old) (map string_bytes words.now) (Rose (F.read_faults files.old) (F.read_faults files.new))) }
-    ensures unlawful { AreUnlawful (map string_bytes words.now) → result ≡ Ok (Judged.Refused Refusal.Words) }
+fn judge<F: Files>(alloc: Global, words: &[String], files: &mut F) -> Result<Verdict, NoMemory>
+    ensures verdict { IfOk result (IsVerdictOn (record {
+      words = map string_bytes words.now;
+      content = F.content files.old;
+      failed_before = F.read_faults files.old;
+      failed_after = F.read_faults files.new;
+    })) }
+    ensures unlawful { AreUnlawful (map string_bytes words.now) → result ≡ Ok (Verdict.Refused Refusal.Words) }
     ensures unchanged { (name : List ℕ) → F.content files.new name ≡ F.content files.old name }
 {
     let Some(names) = names_of(words) else {
-        return Ok(Judged::Refused(Refusal::Words));
+        return Ok(Verdict::Refused(Refusal::Words));
     };
     let config = match files.read(alloc, names.config, MOST_READ) {
         Ok(bytes) => bytes,
@@ -46,11 +51,11 @@ fn judge<F: Files>(alloc: Global, words: &[String], files: &mut F) -> Result<Jud
 }
 
 /// What a file that was not read comes to.
-fn unread(fault: FileFault) -> Result<Judged, NoMemory>
-    ensures { IfOk result (λ judged. (judged ≡ Judged.Refused Refusal.Reading) × (fault ≡ FileFault.Failed)) }
+fn unread(fault: FileFault) -> Result<Verdict, NoMemory>
+    ensures { IfOk result (λ verdict. (verdict ≡ Verdict.Refused Refusal.Reading) × (fault ≡ FileFault.Failed)) }
 {
     match fault {
-        FileFault::Failed => Ok(Judged::Refused(Refusal::Reading)),
+        FileFault::Failed => Ok(Verdict::Refused(Refusal::Reading)),
         FileFault::NoMemory => Err(NoMemory),
     }
 }
@@ -67,21 +72,22 @@ fn refuse<K: Sink>(refusal: Refusal, out: &mut K) -> Status
     }
 }
 
-/// Runs a program that is taken, for so many steps at most.
-pub(crate) fn run(alloc: Global, program: &Program, steps: u64) -> Result<Run, NoMemory>
+/// Runs a program that is taken, within a budget.
+fn run(alloc: Global, program: &Program, budget: u64) -> Result<Run, NoMemory>
     requires taken { (tree : Ast) × IsTaken tree program.now }
-    requires steps { steps ≤ STEPS }
-    ensures { IfOk result (λ run. HasRun (settings_of program.now) (next_request program.now.code) steps run.outcome (reverse run.journal.entries)) }
+    requires budget { budget ≤ BUDGET }
+    ensures { IfOk result (λ run. IsRunOf program.now budget run.outcome run.journal.entries) }
 {
-    run_program(alloc, &program.code, steps)
+    run_program(alloc, &program.code, budget)
 }
 
-/// Runs a program that is taken and writes the report of what was committed.
-fn run_and_report<K: Sink>(alloc: Global, program: &Program, out: &mut K) -> Done
-    requires { (tree : Ast) × IsTaken tree program.now }
-    ensures { WroteReport program.now (K.taken out.old) (K.taken out.new) (Rose (K.faults out.old) (K.faults out.new)) result.journal.entries result.status }
+/// Runs a program that is taken, within a budget, and writes the report of what was committed.
+fn run_and_report<K: Sink>(alloc: Global, program: &Program, out: &mut K, budget: u64) -> Done
+    requires taken { (tree : Ast) × IsTaken tree program.now }
+    requires budget { budget ≤ BUDGET }
+    ensures { WroteReport budget program.now (K.taken out.old) (K.taken out.new) (Rose (K.faults out.old) (K.faults out.new)) result.journal.entries result.status }
 {
-    let Ok(run) = run(alloc, program, STEPS) else {
+    let Ok(run) = run(alloc, program, budget) else {
         return nothing_ran(alloc, Status::NoMemory);
     };
     let Ok(text) = report(alloc, program, &run.journal) else {
@@ -123,19 +129,67 @@ fn nothing_ran(alloc: Global, status: Status) -> Done
 
 /// Does all that the program does: it reads the words and the files, runs the program and writes what is to be printed.
 ///
-/// The words are those behind the program's name. The order is: the words, reading the configuration, reading the
+/// The words are those after the program's name. The order is: the words, reading the configuration, reading the
 /// program, judging the configuration, judging the program, the run, writing. Clause `answer` is the table of the
-/// statuses: what is known of the words, the files and the sink where a status is answered. So each status has its
-/// cause, and where the cause of one is there no other can be answered but `WriteFault`, where the sink's count rose,
-/// and `NoMemory`, where an allocation was refused.
+/// statuses: what each means of the words, the files, the journal and the sink. So each status has its cause, and where
+/// the cause of one is there no other can be answered but `WriteFault`, where the sink's count rose, and `NoMemory`,
+/// where an allocation was refused.
 pub fn dso_main<F: Files, K: Sink>(
     alloc: Global,
     words: &[String],
     files: &mut F,
     out: &mut K,
 ) -> Done
-    ensures answer { Stands (F.content files.old) (map string_bytes words.now) (Rose (F.read_faults files.old) (F.read_faults files.new))
-        (K.taken out.old) (K.taken out.new) (Rose (K.faults out.old) (K.faults out.new)) result.journal.entries result.status }
+    ensures answer { StatusMeans run_budget
+        (record {
+          words = map string_bytes words.now;
+          content = F.content files.old;
+          failed_before = F.read_faults files.old;
+          failed_after = F.read_faults files.new;
+        })
+        (record {
+          sink_before = K.taken out.old;
+          sink_after = K.taken out.new;
+          failed_before = K.faults out.old;
+          failed_after = K.faults out.new;
+          journal = result.journal.entries;
+        })
+        result.status }
+
+    // Other words need no memory to be refused.
+    ensures usage { AreUnlawful (map string_bytes words.now) → IsUsage result.status }
+
+    // No file is changed.
+    ensures unchanged { (name : List ℕ) → F.content files.new name ≡ F.content files.old name }
+{
+    dso_main_with_budget(alloc, words, files, out, BUDGET)
+}
+
+/// Does all that the program does, with a budget of its own: the journal of the run may weigh so much, which is
+/// 1,000,000 at most.
+pub fn dso_main_with_budget<F: Files, K: Sink>(
+    alloc: Global,
+    words: &[String],
+    files: &mut F,
+    out: &mut K,
+    budget: u64,
+) -> Done
+    requires { budget ≤ run_budget }
+    ensures answer { StatusMeans budget
+        (record {
+          words = map string_bytes words.now;
+          content = F.content files.old;
+          failed_before = F.read_faults files.old;
+          failed_after = F.read_faults files.new;
+        })
+        (record {
+          sink_before = K.taken out.old;
+          sink_after = K.taken out.new;
+          failed_before = K.faults out.old;
+          failed_after = K.faults out.new;
+          journal = result.journal.entries;
+        })
+        result.status }
 
     // Other words need no memory to be refused.
     ensures usage { AreUnlawful (map string_bytes words.now) → IsUsage result.status }
@@ -144,8 +198,8 @@ pub fn dso_main<F: Files, K: Sink>(
     ensures unchanged { (name : List ℕ) → F.content files.new name ≡ F.content files.old name }
 {
     match judge(alloc, words, files) {
-        Ok(Judged::Refused(refusal)) => nothing_ran(alloc, refuse(refusal, out)),
-        Ok(Judged::Accepted(program)) => run_and_report(alloc, &program, out),
+        Ok(Verdict::Refused(refusal)) => nothing_ran(alloc, refuse(refusal, out)),
+        Ok(Verdict::Accepted(program)) => run_and_report(alloc, &program, out, budget),
         Err(NoMemory) => nothing_ran(alloc, Status::NoMemory),
     }
 }

@@ -1,5 +1,5 @@
 ghost use Rattle.std.specs.Prelude.{◌≡◌, ◌≢◌, ◌↔◌, ◌⊎◌, ℕ, ◌+◌, ◌-◌, ◌^◌, ◌≤◌, List, [], ◌∷◌, IfOk, IfErr, IsErrOf, IsTrue, OnOk, OnErr, MatchOption, Contains, min, take};
-ghost use Rattle.dso_run.specs.Outside.{Missing, Holds, MayGive, Rose, replaced};
+ghost use Rattle.dso_run.specs.Environment.{Missing, Holds, MayGive, Rose, replaced};
 ghost use Rattle.dso_run.specs.Memory.{file_of, told_by};
 ghost use Rattle.dso_run.specs.MemoryFile.{named_bytes};
 

@@ -1,5 +1,5 @@
 ghost use Rattle.std.specs.Prelude.{◌≡◌, ◌⊎◌, ◌+◌, ◌-◌, ◌^◌, ◌<◌, ◌≤◌, [], length, take, min, Some, IfOk, OnErr, IsErr, Contains};
-ghost use Rattle.dso_run.specs.Outside.{Rose, taken_after};
+ghost use Rattle.dso_run.specs.Environment.{Rose, taken_after};
 ghost use Rattle.dso_run.specs.Memory.{room_for};
 
 use crate::{Failed, Sink};

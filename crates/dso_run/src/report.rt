@@ -4,7 +4,7 @@ ghost use Rattle.dso_class.specs.Sound.{IsSound};
 ghost use Rattle.dso_legal.specs.Central.{CommitsLegally};
 ghost use Rattle.dso_machine.specs.Next.{next_request};
 ghost use Rattle.dso_run.specs.Accepted.{settings_of};
-ghost use Rattle.dso_run.specs.Printed.{IsRunReport};
+ghost use Rattle.dso_run.specs.Headline.{IsRunReport};
 
 use crate::replay::heap_after;
 use dso_base::{Journal, NoMemory};

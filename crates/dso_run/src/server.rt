@@ -1,27 +1,27 @@
 //! The server's steps: it takes a message and answers it.
-ghost use Rattle.std.specs.Prelude.{◌≡◌, ◌<◌, ◌^◌, reverse, map, IfOk, [], ◌∷◌};
+ghost use Rattle.std.specs.Prelude.{◌≡◌, ◌<◌, ◌^◌, map, IfOk, [], ◌∷◌};
 ghost use Rattle.dso_base.specs.declared.journal.Node.TheVariants as node;
 ghost use Rattle.dso_base.specs.declared.journal.Sent.TheVariants as to;
 ghost use Rattle.dso_law.specs.Entries.{entries_of};
-ghost use Rattle.dso_law.specs.Served.{next_batch};
-ghost use Rattle.dso_run.specs.Counter.{settings};
-ghost use Rattle.dso_run.specs.Room.{HasRoom};
-ghost use Rattle.dso_run.specs.Steps.{object_of, answer_to, takes_up};
+ghost use Rattle.dso_law.specs.ServerReadings.{next_batch};
+ghost use Rattle.dso_run.specs.first_path.Counter.{settings};
+ghost use Rattle.dso_run.specs.first_path.Room.{HasRoom};
+ghost use Rattle.dso_run.specs.first_path.Steps.{object_of, answer_to, takes_up};
 
 use crate::known::CLIENT;
 use dso_base::{Body, Down, Entry, Input, Items, NoMemory, Node, Sent, Shape, Up};
-use dso_law::{first_up, last_clock, next_batch, stored};
+use dso_law::{Entries, first_up, last_clock, next_batch, stored};
 use std::alloc::Global;
 
 /// The entry in which the server takes the next message, None where none is on the way.
 pub(crate) fn take(
     alloc: Global,
     shape: &Shape,
-    entries: &[Entry],
+    entries: &Entries<'_>,
 ) -> Result<Option<Entry>, NoMemory>
     requires shape { shape.now ≡ settings.shape }
-    requires room { HasRoom (reverse entries.now) }
-    ensures { IfOk result (λ made. made ≡ takes_up (reverse entries.now)) }
+    requires room { HasRoom entries.now }
+    ensures { IfOk result (λ made. made ≡ takes_up entries.now) }
 {
     let Some((heard, message)) = first_up(entries, CLIENT) else {
         return Ok(None);
@@ -41,12 +41,12 @@ pub(crate) fn take(
 fn answers(
     alloc: Global,
     shape: &Shape,
-    entries: &[Entry],
+    entries: &Entries<'_>,
     message: &Up,
 ) -> Result<Items<Sent>, NoMemory>
     requires shape { shape.now ≡ settings.shape }
-    requires batches { next_batch (entries_of node.Server (reverse entries.now)) < 2 ^ 64 }
-    ensures { IfOk result (λ all. all ≡ map (to.ToClient 1) (answer_to message.now (reverse entries.now))) }
+    requires batches { next_batch (entries_of node.Server entries.now) < 2 ^ 64 }
+    ensures { IfOk result (λ all. all ≡ map (to.ToClient 1) (answer_to message.now entries.now)) }
 {
     match message {
         Up::IdAsk => answer_alone(alloc, Down::Ids(next_batch(entries))),

@@ -1,7 +1,7 @@
 //! Which text is spelled as the first path's form is: no comment, its items in their order, no parentheses round an expression.
-ghost use Rattle.std.specs.Prelude.{◌≡◌, ◌↔◌, IsTrue, map};
-ghost use Rattle.dso_class.specs.Assignable.{each_true};
-ghost use Rattle.dso_run.specs.Spelling.{AreFieldAndMethod, AreCounterItems, IsOneStatic, IsPlainlySpelled, plain_body, plain_expression, plain_item, plain_member, plain_statement};
+ghost use Rattle.std.specs.Prelude.{◌≡◌, ◌↔◌, IsTrue};
+ghost use Rattle.std.specs.List.{list_all};
+ghost use Rattle.dso_run.specs.first_path.Spelling.{AreFieldAndMethod, AreCounterItems, IsOneStatic, IsPlainlySpelled, plain_body, plain_expression, plain_expressions, plain_item, plain_member, plain_statement};
 
 use dso_syntax::{Ast, ExprForm, ExprTree, Item, Member, StmtForm, StmtTree};
 
@@ -46,7 +46,7 @@ fn is_one_static(members: &[Member]) -> bool
 
 /// Whether no expression in the classes and threads stands in parentheses.
 fn are_plain_items(items: &[Item]) -> bool
-    ensures { result ≡ each_true (map plain_item items.now) }
+    ensures { result ≡ list_all plain_item items.now }
 {
     for item in items {
         if !is_plain_item(item) {
@@ -68,7 +68,7 @@ fn is_plain_item(item: &Item) -> bool
 
 /// Whether no expression in the members of a class stands in parentheses.
 fn are_plain_members(members: &[Member]) -> bool
-    ensures { result ≡ each_true (map plain_member members.now) }
+    ensures { result ≡ list_all plain_member members.now }
 {
     for member in members {
         if !is_plain_member(member) {
@@ -154,7 +154,7 @@ fn is_plain(tree: &ExprTree) -> bool
 /// Whether none of the expressions and no part of them stands in parentheses.
 #[cycle(expressions)]
 fn are_plain(trees: &[ExprTree]) -> bool
-    ensures { result ≡ each_true (map plain_expression trees.now) }
+    ensures { result ≡ plain_expressions trees.now }
 {
     for tree in trees {
         if !is_plain(tree) {

@@ -26,7 +26,7 @@ pub enum ProgramFault {
 /// How a call of the program ended.
 #[derive(Clone, Copy, Debug, PartialEq, Eq)]
 pub enum Status {
-    /// Every thread ended, and no message is on the way.
+    /// Every thread ended, and no message is in flight.
     Finished,
     /// The words are none that the program takes.
     Usage,

@@ -1,5 +1,5 @@
 ghost use Rattle.std.specs.Prelude.{◌≡◌, ◌≤◌, length, vec_len, IfOk, IfErr, OnOk};
-ghost use Rattle.dso_run.specs.Outside.{Untold};
+ghost use Rattle.dso_run.specs.Environment.{Untold};
 
 use crate::{FileFault, Files};
 use std::alloc::Global;
@@ -82,42 +82,4 @@ fn first_bytes(alloc: Global, file: &mut impl Read, most: u64) -> Result<Vec<u8>
         }
     }
     Ok(bytes)
-}
-
-#[cfg(test)]
-mod tests {
-    use super::*;
-    use std::io;
-    use std::test::Fail;
-
-    /// Gives zeros, and fails where none is left.
-    #[derive(Drop)]
-    struct Torn {
-        left: usize,
-    }
-
-    impl Read for Torn {
-        fn read(&mut self, buf: &mut [u8]) -> io::Result<usize> {
-            if self.left == 0 {
-                return Err(io::Error::from(io::ErrorKind::UnexpectedEof));
-            }
-            let count = buf.len().min(self.left);
-            for byte in buf.split_at_mut(count).0 {
-                *byte = 0;
-            }
-            self.left -= count;
-            Ok(count)
-        }
-    }
-
-    #[test]
-    fn a_read_that_fails_midway_is_a_fault(rt: HostRuntime) -> Result<(), Fail> {
-        let read = first_bytes(rt.alloc(), &mut Torn { left: 5000 }, 6000);
-        assert!(rt; matches!(read, Err(FileFault::Failed)));
-        let short = first_bytes(rt.alloc(), &mut Torn { left: 5000 }, 4999)
-            .ok()
-            .ok_or("read")?;
-        assert_eq!(rt; short.len(), 4999);
-        Ok(())
-    }
 }

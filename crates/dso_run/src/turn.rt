@@ -1,28 +1,29 @@
 //! What the thread's turn comes to: its request is answered, or what it needs is asked for.
-ghost use Rattle.std.specs.Prelude.{ℕ, ◌≡◌, ◌+◌, ◌<◌, ◌^◌, reverse, eqb, ◌||◌, is_some, Some, List};
+ghost use Rattle.std.specs.List.{AllByRecursion};
+ghost use Rattle.std.specs.Prelude.{ℕ, ◌≡◌, ◌+◌, ◌<◌, ◌^◌, eqb, ◌||◌, is_some, Some, List};
 ghost use Rattle.dso_base.specs.declared.journal.Entry.{Entry};
 ghost use Rattle.dso_base.specs.declared.request.Request.TheVariants as request;
 ghost use Rattle.dso_base.specs.declared.value.ClassId.{ClassId};
 ghost use Rattle.dso_base.specs.declared.value.Value.{Value};
-ghost use Rattle.dso_law.specs.Settings.{Each};
 ghost use Rattle.dso_law.specs.Threads.{own as own_body, is_local, last_seen, work_of, locks_of};
 ghost use Rattle.dso_law.specs.Copies.{class_held};
+ghost use Rattle.dso_law.specs.Settings.{batch_size};
 ghost use Rattle.dso_law.specs.Records.{batches};
-ghost use Rattle.dso_law.specs.Needs.{is_enough, is_seen_class, unless, NeedsObject, NeedsClass, look_need, access_need, entry_need, ask_for};
+ghost use Rattle.dso_law.specs.RequestNeeds.{is_enough, is_seen_class, unless, NeedsObject, NeedsClass, look_need, access_need, entry_need, ask_for};
 ghost use Rattle.dso_law.specs.Replies.{enter_reply};
-ghost use Rattle.dso_law.specs.InHand.{in_hand};
-ghost use Rattle.dso_run.specs.Counter.{the_thread, settings};
-ghost use Rattle.dso_run.specs.Steps.{own};
-ghost use Rattle.dso_run.specs.Turns.{asking, answering, asks, lacking, turn_of, IsAsked};
+ghost use Rattle.dso_law.specs.WorkInHand.{in_hand};
+ghost use Rattle.dso_run.specs.first_path.Counter.{the_thread, settings};
+ghost use Rattle.dso_run.specs.first_path.Steps.{own};
+ghost use Rattle.dso_run.specs.first_path.Turns.{asking, answering, asks, lacking, turn_of, IsAsked};
 
 use crate::known::{
     CLIENT, THREAD, admits, class_known, field_value, is_seen_class, put_reply, seen_reply,
     value_reply,
 };
-use dso_base::{Entry, Fault, Level, LockName, Reply, Request, Up};
+use dso_base::{Fault, Level, LockName, Reply, Request, Up};
 use dso_law::{
-    Locks, Work, class_held, is_batch_asked, is_object_asked, is_resident, last_seen, next_id,
-    standing,
+    Entries, Locks, Work, class_held, is_batch_asked, is_object_asked, is_resident, last_seen,
+    next_id, standing,
 };
 
 /// What the thread's turn comes to.
@@ -37,12 +38,12 @@ pub(crate) enum Turn {
 }
 
 /// What the thread's turn comes to with this request.
-pub(crate) fn take_turn(entries: &[Entry], locks: &Locks, work: &Work, request: Request) -> Turn
+pub(crate) fn take_turn(entries: &Entries<'_>, locks: &Locks, work: &Work, request: Request) -> Turn
     requires asked { IsAsked request }
-    requires batches { Each (λ first. first + 256 < 2 ^ 64) (batches (own (reverse entries.now))) }
-    requires locks { locks.now ≡ locks_of the_thread (own (reverse entries.now)) }
-    requires work { in_hand work.now ≡ work_of settings.shape the_thread (own (reverse entries.now)) }
-    ensures { result ≡ turn_of request (own (reverse entries.now)) }
+    requires batches { AllByRecursion (λ first. first + batch_size < 2 ^ 64) (batches (own entries.now)) }
+    requires locks { locks.now ≡ locks_of the_thread (own entries.now) }
+    requires work { in_hand work.now ≡ work_of settings.shape the_thread (own entries.now) }
+    ensures { result ≡ turn_of request (own entries.now) }
 {
     match request {
         Request::New(..) => create(entries),
@@ -58,9 +59,9 @@ pub(crate) fn take_turn(entries: &[Entry], locks: &Locks, work: &Work, request: 
 }
 
 /// An object needs an id.
-fn create(entries: &[Entry]) -> Turn
-    requires { Each (λ first. first + 256 < 2 ^ 64) (batches (own (reverse entries.now))) }
-    ensures { (class : ClassId) (n : ℕ) → result ≡ turn_of (request.New class n) (own (reverse entries.now)) }
+fn create(entries: &Entries<'_>) -> Turn
+    requires { AllByRecursion (λ first. first + batch_size < 2 ^ 64) (batches (own entries.now)) }
+    ensures { (class : ClassId) (n : ℕ) → result ≡ turn_of (request.New class n) (own entries.now) }
 {
     match next_id(entries, CLIENT) {
         Some(object) => Turn::Answers(Reply::Made(object)),
@@ -75,8 +76,8 @@ fn create(entries: &[Entry]) -> Turn
 }
 
 /// An object that isn't resident is asked for, once.
-fn ask_object(entries: &[Entry], object: u64) -> Turn
-    ensures { result ≡ asks (ask_for (NeedsObject object) (own (reverse entries.now))) }
+fn ask_object(entries: &Entries<'_>, object: u64) -> Turn
+    ensures { result ≡ asks (ask_for (NeedsObject object) (own entries.now)) }
 {
     if is_object_asked(entries, CLIENT, object) {
         Turn::Waits
@@ -86,9 +87,9 @@ fn ask_object(entries: &[Entry], object: u64) -> Turn
 }
 
 /// What a look at an object lacks: an object that isn't the thread's own is to be resident.
-fn look_lack(entries: &[Entry], work: &Work, object: u64) -> Option<Turn>
-    requires { in_hand work.now ≡ work_of settings.shape the_thread (own (reverse entries.now)) }
-    ensures { result ≡ lacking (look_need settings 1 (asking (request.Look object)) the_thread object (own (reverse entries.now))) (own (reverse entries.now)) }
+fn look_lack(entries: &Entries<'_>, work: &Work, object: u64) -> Option<Turn>
+    requires { in_hand work.now ≡ work_of settings.shape the_thread (own entries.now) }
+    ensures { result ≡ lacking (look_need settings 1 (asking (request.Look object)) the_thread object (own entries.now)) (own entries.now) }
 {
     if work.own(object).is_some() || is_resident(entries, CLIENT, object) {
         None
@@ -98,9 +99,9 @@ fn look_lack(entries: &[Entry], work: &Work, object: u64) -> Option<Turn>
 }
 
 /// What a read or a write of an object lacks: that it is resident, and of the class and size that the thread saw.
-fn access_lack(entries: &[Entry], work: &Work, object: u64) -> Option<Turn>
-    requires { in_hand work.now ≡ work_of settings.shape the_thread (own (reverse entries.now)) }
-    ensures { result ≡ lacking (access_need settings 1 (asking (request.Look object)) the_thread object (own (reverse entries.now))) (own (reverse entries.now)) }
+fn access_lack(entries: &Entries<'_>, work: &Work, object: u64) -> Option<Turn>
+    requires { in_hand work.now ≡ work_of settings.shape the_thread (own entries.now) }
+    ensures { result ≡ lacking (access_need settings 1 (asking (request.Look object)) the_thread object (own entries.now)) (own entries.now) }
 {
     match look_lack(entries, work, object) {
         Some(turn) => Some(turn),
@@ -110,10 +111,10 @@ fn access_lack(entries: &[Entry], work: &Work, object: u64) -> Option<Turn>
 
 /// What a read or a write of a resident object lacks: that it is of the class and size that the thread saw, unless it
 /// is the thread's own or has the roots.
-fn class_lack(entries: &[Entry], work: &Work, object: u64) -> Option<Turn>
-    requires { in_hand work.now ≡ work_of settings.shape the_thread (own (reverse entries.now)) }
-    ensures { result ≡ lacking (unless (is_some (own_body settings.shape the_thread object (own (reverse entries.now)))
-        || (eqb object 0 || is_seen_class (class_held object (own (reverse entries.now))) (last_seen the_thread (own (reverse entries.now))))) (NeedsClass object)) (own (reverse entries.now)) }
+fn class_lack(entries: &Entries<'_>, work: &Work, object: u64) -> Option<Turn>
+    requires { in_hand work.now ≡ work_of settings.shape the_thread (own entries.now) }
+    ensures { result ≡ lacking (unless (is_some (own_body settings.shape the_thread object (own entries.now))
+        || (eqb object 0 || is_seen_class (class_held object (own entries.now)) (last_seen the_thread (own entries.now)))) (NeedsClass object)) (own entries.now) }
 {
     let held = class_held(entries, CLIENT, object);
     let seen = last_seen(entries, THREAD);
@@ -135,9 +136,9 @@ fn answered(reply: Option<Reply>) -> Turn
 }
 
 /// The class and size of an object.
-fn look(entries: &[Entry], work: &Work, object: u64) -> Turn
-    requires { in_hand work.now ≡ work_of settings.shape the_thread (own (reverse entries.now)) }
-    ensures { result ≡ turn_of (request.Look object) (own (reverse entries.now)) }
+fn look(entries: &Entries<'_>, work: &Work, object: u64) -> Turn
+    requires { in_hand work.now ≡ work_of settings.shape the_thread (own entries.now) }
+    ensures { result ≡ turn_of (request.Look object) (own entries.now) }
 {
     match look_lack(entries, work, object) {
         Some(turn) => turn,
@@ -146,9 +147,9 @@ fn look(entries: &[Entry], work: &Work, object: u64) -> Turn
 }
 
 /// The value of a field.
-fn get(entries: &[Entry], work: &Work, object: u64, field: u32) -> Turn
-    requires { in_hand work.now ≡ work_of settings.shape the_thread (own (reverse entries.now)) }
-    ensures { result ≡ turn_of (request.Get object field) (own (reverse entries.now)) }
+fn get(entries: &Entries<'_>, work: &Work, object: u64, field: u32) -> Turn
+    requires { in_hand work.now ≡ work_of settings.shape the_thread (own entries.now) }
+    ensures { result ≡ turn_of (request.Get object field) (own entries.now) }
 {
     match access_lack(entries, work, object) {
         Some(turn) => turn,
@@ -157,10 +158,10 @@ fn get(entries: &[Entry], work: &Work, object: u64, field: u32) -> Turn
 }
 
 /// A put into a field is done or refused.
-fn put(entries: &[Entry], locks: &Locks, work: &Work, object: u64, field: u32) -> Turn
-    requires locks { locks.now ≡ locks_of the_thread (own (reverse entries.now)) }
-    requires work { in_hand work.now ≡ work_of settings.shape the_thread (own (reverse entries.now)) }
-    ensures { (v : Value) → result ≡ turn_of (request.Put object field v) (own (reverse entries.now)) }
+fn put(entries: &Entries<'_>, locks: &Locks, work: &Work, object: u64, field: u32) -> Turn
+    requires locks { locks.now ≡ locks_of the_thread (own entries.now) }
+    requires work { in_hand work.now ≡ work_of settings.shape the_thread (own entries.now) }
+    ensures { (v : Value) → result ≡ turn_of (request.Put object field v) (own entries.now) }
 {
     match access_lack(entries, work, object) {
         Some(turn) => turn,
@@ -169,9 +170,9 @@ fn put(entries: &[Entry], locks: &Locks, work: &Work, object: u64, field: u32) -
 }
 
 /// What an outer entry lacks: a lease of at least its level that admits it. The one thread has no rival for the lock.
-fn entry_lack(entries: &[Entry], locks: &Locks, lock: LockName, level: Level) -> Option<Turn>
-    requires { locks.now ≡ locks_of the_thread (own (reverse entries.now)) }
-    ensures { result ≡ lacking (entry_need settings 1 (asking (request.Enter lock level)) the_thread lock level (own (reverse entries.now))) (own (reverse entries.now)) }
+fn entry_lack(entries: &Entries<'_>, locks: &Locks, lock: LockName, level: Level) -> Option<Turn>
+    requires { locks.now ≡ locks_of the_thread (own entries.now) }
+    ensures { result ≡ lacking (entry_need settings 1 (asking (request.Enter lock level)) the_thread lock level (own entries.now)) (own entries.now) }
 {
     let stands = standing(entries, CLIENT, lock);
     if is_enough(level, stands.lease) && admits(entries, locks, lock, level) {
@@ -196,10 +197,10 @@ fn is_enough(level: Level, lease: Option<Level>) -> bool
 
 /// An entry is local at a private object, refused as an upgrade, done again where the lock is held, and else needs a
 /// lease.
-fn enter(entries: &[Entry], locks: &Locks, work: &Work, lock: LockName, level: Level) -> Turn
-    requires locks { locks.now ≡ locks_of the_thread (own (reverse entries.now)) }
-    requires work { in_hand work.now ≡ work_of settings.shape the_thread (own (reverse entries.now)) }
-    ensures { result ≡ turn_of (request.Enter lock level) (own (reverse entries.now)) }
+fn enter(entries: &Entries<'_>, locks: &Locks, work: &Work, lock: LockName, level: Level) -> Turn
+    requires locks { locks.now ≡ locks_of the_thread (own entries.now) }
+    requires work { in_hand work.now ≡ work_of settings.shape the_thread (own entries.now) }
+    ensures { result ≡ turn_of (request.Enter lock level) (own entries.now) }
 {
     if is_local(work, lock) {
         return Turn::Answers(Reply::Local);

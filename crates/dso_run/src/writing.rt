@@ -1,14 +1,14 @@
 ghost use Rattle.std.specs.Prelude.{◌≡◌, ◌≤◌, OnOk, OnErr};
-ghost use Rattle.dso_run.specs.Outside.{Rose, TookPart, taken_after};
+ghost use Rattle.dso_run.specs.Environment.{Rose, TookPrefix, taken_after};
 
 use crate::{Failed, Sink};
 
 /// Gives a whole text to a sink. Each put is given all that is left. It takes no memory.
 ///
-/// Where the sink fails, it took a first part of the text, and its count rose.
+/// Where the sink fails, it took a prefix of the text, and its count rose.
 pub(crate) fn write_text<K: Sink>(out: &mut K, text: &[u8]) -> Result<(), Failed>
     ensures ok { OnOk result (K.taken out.new ≡ taken_after (K.taken out.old) text.now) }
-    ensures part { OnErr result (TookPart (K.taken out.old) text.now (K.taken out.new)) }
+    ensures prefix { OnErr result (TookPrefix (K.taken out.old) text.now (K.taken out.new)) }
     ensures failed { OnErr result (Rose (K.faults out.old) (K.faults out.new)) }
     ensures faults { K.faults out.old ≤ K.faults out.new }
 {

@@ -3,7 +3,7 @@ use Rattle.std.specs.Prelude.{◌≡◌, Result, Ok, Err}
 use Rattle.dso_syntax.specs.declared.cursor.Rest.{Rest}
 use Rattle.dso_syntax.specs.declared.stop.Stop.{Stop}
 use Rattle.dso_syntax.specs.declared.stop.Stop.TheVariants as stop
-use Rattle.dso_syntax.specs.Reader.{Input, Outcome, unexpected, too_wide, too_deep}
+use Rattle.dso_syntax.specs.ExpressionReader.{Input, Outcome, unexpected, too_wide, too_deep}
 
 -- what is left, as the reader has it
 abbrev pub input : Rest → Input

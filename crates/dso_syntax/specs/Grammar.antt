@@ -32,7 +32,7 @@ expression line form = roll-ExprTree (record { line = line; form = form })
 abbrev pub line_of : ExprTree → ℕ
 line_of a = (out-ExprTree a).line
 
--- the token is this symbol, or this reserved word
+-- the token is this symbol
 abbrev pub IsMark : Mark → Token → Type 0
 IsMark mark t = t.form ≡ form.Mark mark
 
@@ -106,7 +106,7 @@ mutual
     signed : {room left : ℕ} {ts : Tokens} {a : ExprTree} (t : Token) (mark : Mark) (o : Op) → IsMark mark t → sign_of mark ≡ Some o →
         Unary room left ts a → Unary (suc room) (suc left) (t ∷ ts) (expression t.line (e.Unary o a))
 
-  -- a primary expression, and what is asked of it: fields, calls, elements
+  -- a primary expression with its suffixes: fields, calls, elements
   pub data Postfix : ℕ → ℕ → Tokens → ExprTree → Type 0 where
     primary : {room : ℕ} {ts : Tokens} {a : ExprTree} → Primary room ts a → Postfix room room ts a
     field : {room left : ℕ} {ts : Tokens} {a : ExprTree} (dot named : Token) (name : Ident) → IsMark m.Dot dot → IsName name named →

@@ -18,8 +18,8 @@ use Rattle.dso_syntax.specs.declared.tree.StmtForm.TheVariants as s
 use Rattle.dso_syntax.specs.declared.tree.ExprTree.{ExprTree, out-ExprTree}
 use Rattle.dso_syntax.specs.declared.tree.ExprForm.{out-ExprForm}
 use Rattle.dso_syntax.specs.Grammar.{Tokens, line_of}
-use Rattle.dso_syntax.specs.Program.{statement, is_place}
-use Rattle.dso_syntax.specs.Reader.{unexpected, too_wide, Outcome, Parser, and_then, pure, refuse, is_mark, is_keyword, next_mark, next_keyword, take_any, take_mark, take_keyword, enter, leave, open_mark, close_mark, take_name, whole}
+use Rattle.dso_syntax.specs.ProgramGrammar.{statement, is_place}
+use Rattle.dso_syntax.specs.ExpressionReader.{unexpected, too_wide, Outcome, Parser, and_then, pure, refuse, is_mark, is_keyword, next_mark, next_keyword, take_any, take_mark, take_keyword, enter, leave, open_mark, close_mark, take_name, whole}
 
 -- an expression in parentheses
 abbrev pub parenthesized : Parser ExprTree → Parser ExprTree
@@ -41,7 +41,7 @@ pub data Lead : Type 0 where
   variable : Lead
   conditional : Lead
   guarded : (ExprTree → List StmtTree → StmtForm) → Lead
-  told : (ExprTree → StmtForm) → Lead
+  command : (ExprTree → StmtForm) → Lead
   returned : Lead
   plain : Lead
 
@@ -51,10 +51,10 @@ lead_of (Some k.Var) = variable
 lead_of (Some k.If) = conditional
 lead_of (Some k.While) = guarded s.While
 lead_of (Some k.Synchronized) = guarded s.Sync
-lead_of (Some k.Wait) = told s.Wait
-lead_of (Some k.Notify) = told s.Notify
-lead_of (Some k.NotifyAll) = told s.NotifyAll
-lead_of (Some k.Print) = told s.Print
+lead_of (Some k.Wait) = command s.Wait
+lead_of (Some k.Notify) = command s.Notify
+lead_of (Some k.NotifyAll) = command s.NotifyAll
+lead_of (Some k.Print) = command s.Print
 lead_of (Some k.Return) = returned
 lead_of other = plain
 
@@ -98,7 +98,7 @@ abbrev pub by_lead : Parser ExprTree → Parser (List StmtTree) → ℕ → Lead
 by_lead expr block n variable i = and_then (take_any i) (λ t. behind_var expr t.line)
 by_lead expr block n conditional i = chain expr block n i
 by_lead expr block n (guarded made) i = and_then (take_any i) (λ t j. and_then (parenthesized expr j) (λ a l. and_then (block l) (λ all. pure (statement t.line (made a all)))))
-by_lead expr block n (told made) i = and_then (take_any i) (λ t j. and_then (parenthesized expr j) (λ a l. and_then (take_mark m.Semicolon l) (λ _. pure (statement t.line (made a)))))
+by_lead expr block n (command made) i = and_then (take_any i) (λ t j. and_then (parenthesized expr j) (λ a l. and_then (take_mark m.Semicolon l) (λ _. pure (statement t.line (made a)))))
 by_lead expr block n returned i = and_then (take_any i) (λ t. behind_return expr t.line)
 by_lead expr block n plain i = and_then (expr i) (behind_expression expr)
 

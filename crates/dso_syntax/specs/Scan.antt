@@ -8,13 +8,14 @@ use Rattle.dso_syntax.specs.declared.token.Keyword.{Keyword}
 use Rattle.dso_syntax.specs.declared.token.Mark.{Mark}
 use Rattle.dso_syntax.specs.declared.token.Form.{Form}
 use Rattle.dso_syntax.specs.declared.token.Form.TheVariants as form
-use Rattle.dso_syntax.specs.declared.literal.Bite.{Bite}
-use Rattle.dso_syntax.specs.declared.literal.Bite.TheVariants as bite
+use Rattle.dso_syntax.specs.declared.literal.LiteralByte.{LiteralByte}
+use Rattle.dso_syntax.specs.declared.literal.LiteralByte.TheVariants as literal_byte
 use Rattle.dso_syntax.specs.declared.scan.Front.{Front}
 use Rattle.dso_syntax.specs.declared.scan.Front.TheVariants as front
 use Rattle.dso_syntax.specs.Bytes.{Text, is_white, is_allowed, is_of_line, is_letter, is_digit, is_word, is_printable, begins}
 use Rattle.dso_syntax.specs.Spelling.{word_of, symbol_of, every_keyword, double_marks, single_marks}
-use Rattle.dso_syntax.specs.Token.{longest_name, longest_content, number_of}
+use Rattle.dso_syntax.specs.TextLimits.{longest_name, longest_content}
+use Rattle.dso_syntax.specs.Token.{number_of}
 
 -- a token, and how many bytes it takes
 abbrev pub Found : Type 0
@@ -54,22 +55,22 @@ one_further None = None
 one_further (Some found) = Some (found.0, found.1 + 1)
 
 -- what a byte of a text literal is: behind a backslash a quote or a backslash, else the closing quote, a backslash or a printable byte
-abbrev pub bite_of : Bool → ℕ → Bite
-bite_of true b = if b == 34 || b == 92 then bite.Content else bite.Bad
-bite_of false b = if b == 34 then bite.Close else (if b == 92 then bite.Backslash else (if is_printable b then bite.Content else bite.Bad))
+abbrev pub literal_byte_of : Bool → ℕ → LiteralByte
+literal_byte_of true b = if b == 34 || b == 92 then literal_byte.Content else literal_byte.Bad
+literal_byte_of false b = if b == 34 then literal_byte.Close else (if b == 92 then literal_byte.Backslash else (if is_printable b then literal_byte.Content else literal_byte.Bad))
 
 -- what is found from a byte on, by what that byte is and what is found behind it, where it is a backslash and where not
-abbrev pub content_by : Bite → ℕ → Option (Text × ℕ) → Option (Text × ℕ) → Option (Text × ℕ)
-content_by bite.Close b plain after = Some ([], 1)
-content_by bite.Backslash b plain after = one_further after
-content_by bite.Content b plain after = with_byte b plain
-content_by bite.Bad b plain after = None
+abbrev pub content_by : LiteralByte → ℕ → Option (Text × ℕ) → Option (Text × ℕ) → Option (Text × ℕ)
+content_by literal_byte.Close b plain after = Some ([], 1)
+content_by literal_byte.Backslash b plain after = one_further after
+content_by literal_byte.Content b plain after = with_byte b plain
+content_by literal_byte.Bad b plain after = None
 
 -- The content of a text literal, from behind its opening quote or, where that is told, from behind a backslash, and how many bytes there
 -- are up to its end and with the closing quote.
 abbrev pub content_at : Bool → Text → Option (Text × ℕ)
 content_at after_backslash [] = None
-content_at after_backslash (b ∷ rest) = content_by (bite_of after_backslash b) b (content_at false rest) (content_at true rest)
+content_at after_backslash (b ∷ rest) = content_by (literal_byte_of after_backslash b) b (content_at false rest) (content_at true rest)
 
 -- a literal whose content is not too long
 abbrev pub literal_of : Option (Text × ℕ) → Found

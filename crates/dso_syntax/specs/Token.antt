@@ -6,19 +6,8 @@ use Rattle.dso_syntax.specs.declared.token.Mark.{Mark}
 use Rattle.dso_syntax.specs.declared.token.Form.{Form}
 use Rattle.dso_syntax.specs.declared.token.Form.TheVariants as form
 use Rattle.dso_syntax.specs.Bytes.{Text, is_letter, is_digit, is_word, is_printable, begins}
+use Rattle.dso_syntax.specs.TextLimits.{longest_name, longest_content, largest_number}
 use Rattle.dso_syntax.specs.Spelling.{word_of, symbol_of}
-
--- the most bytes of a name, and the most of a text's content
-abbrev pub longest_name : ℕ
-longest_name = 64
-
--- the most bytes of a text's content
-abbrev pub longest_content : ℕ
-longest_content = 255
-
--- the largest number of the language
-abbrev pub largest : ℕ
-largest = 9223372036854775807
 
 -- the value of a row of decimal digits
 abbrev pub decimal : Text → ℕ
@@ -26,7 +15,7 @@ decimal = fold (λ value digit. 10 * value + (digit - 48)) 0
 
 -- the value of a number, none where it is too wide
 abbrev pub number_of : Text → Option ℤ
-number_of digits = if nat_le (decimal digits) largest then Some (pos (decimal digits)) else None
+number_of digits = if nat_le (decimal digits) largest_number then Some (pos (decimal digits)) else None
 
 -- in a text the quote and the backslash have a backslash before them
 abbrev pub escaped : ℕ → Text

@@ -1,8 +1,8 @@
 //! The parts of statements that hold no block.
 
 ghost use Rattle.std.specs.Prelude.{◌≡◌, ◌+◌, ◌≤◌, [], ◌∷◌, IfOk};
-ghost use Rattle.dso_syntax.specs.Blocks as blocks;
-ghost use Rattle.dso_syntax.specs.Program as program;
+ghost use Rattle.dso_syntax.specs.StatementLevels as blocks;
+ghost use Rattle.dso_syntax.specs.ProgramGrammar as program;
 ghost use Rattle.dso_syntax.specs.ProgramReader as reader;
 ghost use Rattle.dso_syntax.specs.declared.tree.ExprForm.{out-ExprForm};
 ghost use Rattle.dso_syntax.specs.Gives.{Gives, input};
@@ -12,40 +12,38 @@ use crate::cursor::{
     take_name,
 };
 use crate::expression::whole;
+use crate::limits::{MOST_LEVELS, PARSER_LEVELS};
 use crate::stop::Stop;
 use crate::token::{Keyword, Mark};
 use crate::tree::{ExprForm, ExprTree, StmtForm, StmtTree};
 use dso_base::Items;
 use std::alloc::{AllocFailed, Global};
 
-/// One more than the most levels of a program.
-pub const LEVELS: u32 = 65;
-
 /// A statement of one word and an expression in parentheses.
-#[derive(Clone, Copy, Debug)]
-pub enum Telling {
+#[derive(Clone, Copy)]
+pub enum Command {
     Wait,
     Notify,
     NotifyAll,
     Print,
 }
 
-impl Telling {
+impl Command {
     /// The statement's form with its expression.
     fn form(self, a: ExprTree) -> StmtForm
-        ensures { result ≡ blocks.telling_of self a }
+        ensures { result ≡ blocks.command_form self a }
     {
         match self {
-            Telling::Wait => StmtForm::Wait(a),
-            Telling::Notify => StmtForm::Notify(a),
-            Telling::NotifyAll => StmtForm::NotifyAll(a),
-            Telling::Print => StmtForm::Print(a),
+            Command::Wait => StmtForm::Wait(a),
+            Command::Notify => StmtForm::Notify(a),
+            Command::NotifyAll => StmtForm::NotifyAll(a),
+            Command::Print => StmtForm::Print(a),
         }
     }
 }
 
 /// A statement of one word, an expression in parentheses and a block.
-#[derive(Clone, Copy, Debug)]
+#[derive(Clone, Copy)]
 pub enum Guarding {
     While,
     Sync,
@@ -64,7 +62,7 @@ impl Guarding {
 }
 
 /// What stands behind the block of an `if`: nothing of it, an `else` before a block, an `else` before an `if`.
-#[derive(Clone, Copy, Debug)]
+#[derive(Clone, Copy)]
 pub enum Else {
     Nothing,
     Block,
@@ -73,16 +71,16 @@ pub enum Else {
 
 /// An expression.
 fn expression<'t>(alloc: Global, rest: Rest<'t>) -> Result<(ExprTree, Rest<'t>), Stop<'t>>
-    requires { rest.room ≤ 64 }
+    requires { rest.room ≤ MOST_LEVELS }
     ensures gives { Gives (λ a. a) result (blocks.expr (input rest.entry)) }
     ensures room { IfOk result (λ p. p.1.room ≡ rest.entry.room) }
 {
-    whole(alloc, LEVELS, rest)
+    whole(alloc, PARSER_LEVELS, rest)
 }
 
 /// An expression in parentheses.
 fn parenthesized<'t>(alloc: Global, rest: Rest<'t>) -> Result<(ExprTree, Rest<'t>), Stop<'t>>
-    requires { rest.room ≤ 64 }
+    requires { rest.room ≤ MOST_LEVELS }
     ensures gives { Gives (λ a. a) result (blocks.parenthesized (input rest.entry)) }
     ensures room { IfOk result (λ p. p.1.room ≡ rest.entry.room) }
 {
@@ -94,7 +92,7 @@ fn parenthesized<'t>(alloc: Global, rest: Rest<'t>) -> Result<(ExprTree, Rest<'t
 
 /// The word that is next, by its line, and an expression in parentheses.
 pub fn guard<'t>(alloc: Global, rest: Rest<'t>) -> Result<((u32, ExprTree), Rest<'t>), Stop<'t>>
-    requires { rest.room ≤ 64 }
+    requires { rest.room ≤ MOST_LEVELS }
     ensures gives { Gives (λ p. p) result (blocks.guard (input rest.entry)) }
     ensures room { IfOk result (λ p. p.1.room ≡ rest.entry.room) }
 {
@@ -106,7 +104,7 @@ pub fn guard<'t>(alloc: Global, rest: Rest<'t>) -> Result<((u32, ExprTree), Rest
 
 /// An `if`, by its line, and its condition.
 pub fn condition<'t>(alloc: Global, rest: Rest<'t>) -> Result<((u32, ExprTree), Rest<'t>), Stop<'t>>
-    requires { rest.room ≤ 64 }
+    requires { rest.room ≤ MOST_LEVELS }
     ensures gives { Gives (λ p. p) result (blocks.condition (input rest.entry)) }
     ensures room { IfOk result (λ p. p.1.room ≡ rest.entry.room) }
 {
@@ -142,26 +140,26 @@ pub fn alone(alloc: Global, statement: StmtTree) -> Result<Items<StmtTree>, Allo
 }
 
 /// A statement of one word and an expression in parentheses.
-pub fn told<'t>(
+pub fn command_statement<'t>(
     alloc: Global,
-    telling: Telling,
+    command: Command,
     rest: Rest<'t>,
 ) -> Result<(StmtTree, Rest<'t>), Stop<'t>>
-    requires { rest.room ≤ 64 }
-    ensures gives { Gives (λ a. a) result (blocks.simple (reader.told (blocks.telling_of telling)) (input rest.entry)) }
+    requires { rest.room ≤ MOST_LEVELS }
+    ensures gives { Gives (λ a. a) result (blocks.simple (reader.command (blocks.command_form command)) (input rest.entry)) }
     ensures room { IfOk result (λ p. p.1.room ≡ rest.entry.room) }
 {
     let (word, rest) = take_any(rest)?;
     let line = word.line;
     let (a, rest) = parenthesized(alloc, rest)?;
     let (_, rest) = take_mark(Mark::Semicolon, rest)?;
-    let form = telling.form(a);
+    let form = command.form(a);
     Ok((StmtTree { line, form }, rest))
 }
 
 /// A new variable.
 pub fn variable<'t>(alloc: Global, rest: Rest<'t>) -> Result<(StmtTree, Rest<'t>), Stop<'t>>
-    requires { rest.room ≤ 64 }
+    requires { rest.room ≤ MOST_LEVELS }
     ensures gives { Gives (λ a. a) result (blocks.simple reader.variable (input rest.entry)) }
     ensures room { IfOk result (λ p. p.1.room ≡ rest.entry.room) }
 {
@@ -177,7 +175,7 @@ pub fn variable<'t>(alloc: Global, rest: Rest<'t>) -> Result<(StmtTree, Rest<'t>
 
 /// A `return`.
 pub fn returned<'t>(alloc: Global, rest: Rest<'t>) -> Result<(StmtTree, Rest<'t>), Stop<'t>>
-    requires { rest.room ≤ 64 }
+    requires { rest.room ≤ MOST_LEVELS }
     ensures gives { Gives (λ a. a) result (blocks.simple reader.returned (input rest.entry)) }
     ensures room { IfOk result (λ p. p.1.room ≡ rest.entry.room) }
 {
@@ -209,7 +207,7 @@ pub fn led_by_expression<'t>(
     alloc: Global,
     rest: Rest<'t>,
 ) -> Result<(StmtTree, Rest<'t>), Stop<'t>>
-    requires { rest.room ≤ 64 }
+    requires { rest.room ≤ MOST_LEVELS }
     ensures gives { Gives (λ a. a) result (blocks.simple reader.plain (input rest.entry)) }
     ensures room { IfOk result (λ p. p.1.room ≡ rest.entry.room) }
 {
@@ -223,7 +221,7 @@ fn behind_expression<'t>(
     a: ExprTree,
     rest: Rest<'t>,
 ) -> Result<(StmtTree, Rest<'t>), Stop<'t>>
-    requires { rest.room ≤ 64 }
+    requires { rest.room ≤ MOST_LEVELS }
     ensures gives { Gives (λ a. a) result (reader.behind_expression blocks.expr a (input rest.entry)) }
     ensures room { IfOk result (λ p. p.1.room ≡ rest.entry.room) }
 {

@@ -3,7 +3,7 @@
 ghost use Rattle.std.specs.Prelude.{◌≡◌, ◌≤◌, length};
 ghost use Rattle.std.specs.List.{prefix_len};
 ghost use Rattle.dso_syntax.specs.Bytes as spec;
-ghost use Rattle.dso_syntax.specs.Classes as classes;
+ghost use Rattle.dso_syntax.specs.ByteClasses as classes;
 
 /// Tab, line feed, carriage return, space.
 pub fn is_white(b: u8) -> bool
@@ -55,7 +55,7 @@ pub fn is_word(b: u8) -> bool
 }
 
 /// A class of bytes that runs are made of.
-#[derive(Clone, Copy, Debug)]
+#[derive(Clone, Copy)]
 pub enum Class {
     Line,
     Digit,

@@ -1,7 +1,7 @@
 //! The tokens that are left to read, and how they are taken.
 
 ghost use Rattle.std.specs.Prelude.{◌≡◌, ◌<◌, suc, IfOk};
-ghost use Rattle.dso_syntax.specs.Reader as reader;
+ghost use Rattle.dso_syntax.specs.ExpressionReader as reader;
 ghost use Rattle.dso_syntax.specs.Gives.{Gives, input};
 
 use crate::stop::Stop;
@@ -10,7 +10,7 @@ use crate::tree::Ident;
 use std::alloc::Global;
 
 /// The tokens that are left, and how many levels may still be opened.
-#[derive(Clone, Copy, Debug)]
+#[derive(Clone, Copy)]
 pub struct Rest<'t> {
     pub tokens: &'t [Token],
     pub room: u32,

@@ -2,14 +2,16 @@
 //!
 //! `levels` bounds how many levels are opened within, and so how deep the functions call each other.
 
-ghost use Rattle.std.specs.Prelude.{◌≡◌, ◌<◌, ◌≤◌, length, IfOk};
-ghost use Rattle.dso_syntax.specs.Levels as parser;
-ghost use Rattle.dso_syntax.specs.Reader as reader;
+ghost use Rattle.std.specs.Prelude.{◌≡◌, ◌+◌, ◌<◌, ◌≤◌, length, IfOk};
+ghost use Rattle.dso_syntax.specs.ExpressionLevels as parser;
+ghost use Rattle.dso_syntax.specs.ExpressionReader as reader;
 ghost use Rattle.dso_syntax.specs.Gives.{Gives, input};
 
 use crate::cursor::{Rest, is_mark, take_any};
+use crate::limits::{MOST_LEVELS, PARSER_LEVELS};
 use crate::operand::{
-    Ask, Part, asked, binary, called, closed, entered, field, indexed, is_asked, opened, signed,
+    Part, Suffix, begins_suffix, binary, called, closed, entered, field, indexed, opened, signed,
+    take_suffix,
 };
 use crate::operators::{operator_at, sign_at};
 use crate::stop::Stop;
@@ -21,15 +23,15 @@ use std::alloc::Global;
 const TOP_RANK: u32 = 6;
 
 /// A whole expression.
-#[tactic(auto, using(crate::proofs::Levels::whole_none, crate::proofs::Levels::whole_goes, crate::proofs::Levels::whole_stops))]
+#[tactic(auto, using(crate::proofs::parser::ExpressionReturns::whole_none, crate::proofs::parser::ExpressionReturns::whole_goes, crate::proofs::parser::ExpressionReturns::whole_stops))]
 #[cycle(expression)]
 pub fn whole<'t>(
     alloc: Global,
     levels: u32,
     rest: Rest<'t>,
 ) -> Result<(ExprTree, Rest<'t>), Stop<'t>>
-    requires levels { levels ≤ 65 }
-    requires room { rest.room ≤ 64 }
+    requires levels { levels ≤ PARSER_LEVELS }
+    requires room { rest.room ≤ MOST_LEVELS }
     ensures gives { Gives (λ a. a) result (parser.whole levels (input rest.entry)) }
     ensures room { IfOk result (λ p. p.1.room ≡ rest.entry.room) }
 {
@@ -47,7 +49,7 @@ pub fn whole<'t>(
 }
 
 /// An expression of a rank.
-#[tactic(auto, using(crate::proofs::Levels::climb_flat, crate::proofs::Levels::climb_goes, crate::proofs::Levels::climb_stops))]
+#[tactic(auto, using(crate::proofs::parser::ExpressionReturns::climb_flat, crate::proofs::parser::ExpressionReturns::climb_goes, crate::proofs::parser::ExpressionReturns::climb_stops))]
 #[cycle(expression)]
 fn climb<'t>(
     alloc: Global,
@@ -55,8 +57,8 @@ fn climb<'t>(
     rank: u32,
     rest: Rest<'t>,
 ) -> Result<(ExprTree, Rest<'t>), Stop<'t>>
-    requires levels { levels ≤ 65 }
-    requires room { rest.room ≤ 64 }
+    requires levels { levels ≤ PARSER_LEVELS }
+    requires room { rest.room ≤ MOST_LEVELS }
     ensures gives { Gives (λ a. a) result (parser.climb levels rank (input rest.entry)) }
     ensures room { IfOk result (λ p. p.1.room ≤ rest.entry.room) }
 {
@@ -68,7 +70,7 @@ fn climb<'t>(
 }
 
 /// The operators of a rank behind an operand, with their operands.
-#[tactic(auto, using(crate::proofs::Levels::operations_none, crate::proofs::Levels::operations_enter_stops, crate::proofs::Levels::operations_stops, crate::proofs::Levels::operations_last, crate::proofs::Levels::operations_goes))]
+#[tactic(auto, using(crate::proofs::parser::ExpressionReturns::operations_none, crate::proofs::parser::ExpressionReturns::operations_enter_stops, crate::proofs::parser::ExpressionReturns::operations_stops, crate::proofs::parser::ExpressionReturns::operations_last, crate::proofs::parser::ExpressionReturns::operations_goes))]
 #[cycle(expression)]
 fn operations<'t>(
     alloc: Global,
@@ -78,8 +80,8 @@ fn operations<'t>(
     left: ExprTree,
     rest: Rest<'t>,
 ) -> Result<(ExprTree, Rest<'t>), Stop<'t>>
-    requires levels { levels ≤ 65 }
-    requires room { rest.room ≤ 64 }
+    requires levels { levels ≤ PARSER_LEVELS }
+    requires room { rest.room ≤ MOST_LEVELS }
     ensures gives { Gives (λ a. a) result (parser.operations levels rank more left (input rest.entry)) }
     ensures room { IfOk result (λ p. p.1.room ≤ rest.entry.room) }
 {
@@ -96,7 +98,7 @@ fn operations<'t>(
 }
 
 /// An operand with the signs before it.
-#[tactic(auto, using(crate::proofs::Levels::unary_primary_stops, crate::proofs::Levels::unary_plain, crate::proofs::Levels::unary_enter_stops, crate::proofs::Levels::unary_last, crate::proofs::Levels::unary_stops, crate::proofs::Levels::unary_goes))]
+#[tactic(auto, using(crate::proofs::parser::ExpressionReturns::unary_primary_stops, crate::proofs::parser::ExpressionReturns::unary_plain, crate::proofs::parser::ExpressionReturns::unary_enter_stops, crate::proofs::parser::ExpressionReturns::unary_last, crate::proofs::parser::ExpressionReturns::unary_stops, crate::proofs::parser::ExpressionReturns::unary_goes))]
 #[cycle(expression)]
 fn unary<'t>(
     alloc: Global,
@@ -104,14 +106,14 @@ fn unary<'t>(
     more: u32,
     rest: Rest<'t>,
 ) -> Result<(ExprTree, Rest<'t>), Stop<'t>>
-    requires levels { levels ≤ 65 }
-    requires room { rest.room ≤ 64 }
+    requires levels { levels ≤ PARSER_LEVELS }
+    requires room { rest.room ≤ MOST_LEVELS }
     ensures gives { Gives (λ a. a) result (parser.unary levels more (input rest.entry)) }
     ensures room { IfOk result (λ p. p.1.room ≤ rest.entry.room) }
 {
     let Some(op) = sign_at(rest.tokens) else {
         let (a, behind) = primary(alloc, levels, rest)?;
-        return asks(alloc, levels, levels, a, behind);
+        return suffixes(alloc, levels, levels, a, behind);
     };
     let (sign, inner) = entered(rest)?;
     if more == 0 {
@@ -127,11 +129,11 @@ fn unary<'t>(
 }
 
 /// A primary expression: one that is done, or one in a bracket.
-#[tactic(auto, using(crate::proofs::Levels::primary_open_stops, crate::proofs::Levels::primary_done, crate::proofs::Levels::primary_stops, crate::proofs::Levels::primary_goes))]
+#[tactic(auto, using(crate::proofs::parser::ExpressionReturns::primary_open_stops, crate::proofs::parser::ExpressionReturns::primary_done, crate::proofs::parser::ExpressionReturns::primary_stops, crate::proofs::parser::ExpressionReturns::primary_goes))]
 #[cycle(expression)]
 fn primary<'t>(alloc: Global, levels: u32, rest: Rest<'t>) -> Result<(ExprTree, Rest<'t>), Stop<'t>>
-    requires levels { levels ≤ 65 }
-    requires room { rest.room ≤ 64 }
+    requires levels { levels ≤ PARSER_LEVELS }
+    requires room { rest.room ≤ MOST_LEVELS }
     ensures gives { Gives (λ a. a) result (parser.primary levels (input rest.entry)) }
     ensures room { IfOk result (λ p. p.1.room ≤ rest.entry.room) }
 {
@@ -145,56 +147,73 @@ fn primary<'t>(alloc: Global, levels: u32, rest: Rest<'t>) -> Result<(ExprTree, 
     }
 }
 
-/// What is asked of an expression: fields, calls, elements.
-#[tactic(auto, using(crate::proofs::Levels::asks_nothing, crate::proofs::Levels::asks_deep, crate::proofs::Levels::asks_ask_stops, crate::proofs::Levels::asks_field, crate::proofs::Levels::asks_call_stops, crate::proofs::Levels::asks_call_open, crate::proofs::Levels::asks_call, crate::proofs::Levels::asks_element_stops, crate::proofs::Levels::asks_element_open, crate::proofs::Levels::asks_element))]
+/// The suffixes behind an expression: fields, calls, elements.
+#[tactic(auto, using(crate::proofs::parser::ExpressionReturns::suffixes_nothing, crate::proofs::parser::ExpressionReturns::suffixes_deep, crate::proofs::parser::ExpressionReturns::suffixes_take_stops, crate::proofs::parser::ExpressionReturns::suffixes_stops, crate::proofs::parser::ExpressionReturns::suffixes_goes))]
 #[cycle(expression)]
-fn asks<'t>(
+fn suffixes<'t>(
     alloc: Global,
     levels: u32,
     more: u32,
     a: ExprTree,
     rest: Rest<'t>,
 ) -> Result<(ExprTree, Rest<'t>), Stop<'t>>
-    requires levels { levels ≤ 65 }
-    requires room { rest.room ≤ 64 }
-    ensures gives { Gives (λ a. a) result (parser.asks levels more a (input rest.entry)) }
+    requires levels { levels ≤ PARSER_LEVELS }
+    requires room { rest.room ≤ MOST_LEVELS }
+    ensures gives { Gives (λ a. a) result (parser.suffixes levels more a (input rest.entry)) }
     ensures room { IfOk result (λ p. p.1.room ≤ rest.entry.room) }
 {
-    if !is_asked(rest.tokens) {
+    if !begins_suffix(rest.tokens) {
         return Ok((a, rest));
     }
     if more == 0 {
         return Err(Stop::TooDeep(rest.tokens));
     }
-    let (ask, inner) = asked(alloc, rest)?;
-    match ask {
-        Ask::Field(name) => {
-            let a = field(alloc, a, name)?;
-            asks(alloc, levels, more - 1, a, inner)
+    let (suffix, inner) = take_suffix(alloc, rest)?;
+    let (longer, behind) = suffixed(alloc, levels, suffix, a, inner)?;
+    suffixes(alloc, levels, more - 1, longer, behind)
+}
+
+/// An expression with one suffix, from behind what `take_suffix` takes of it.
+#[tactic(auto, using(crate::proofs::parser::ExpressionReturns::suffixed_field, crate::proofs::parser::ExpressionReturns::suffixed_call_stops, crate::proofs::parser::ExpressionReturns::suffixed_call, crate::proofs::parser::ExpressionReturns::suffixed_element_stops, crate::proofs::parser::ExpressionReturns::suffixed_element))]
+#[cycle(expression)]
+fn suffixed<'t>(
+    alloc: Global,
+    levels: u32,
+    suffix: Suffix,
+    a: ExprTree,
+    rest: Rest<'t>,
+) -> Result<(ExprTree, Rest<'t>), Stop<'t>>
+    requires levels { levels ≤ PARSER_LEVELS }
+    requires room { rest.room ≤ MOST_LEVELS }
+    ensures gives { Gives (λ a. a) result (parser.suffixed levels suffix a (input rest.entry)) }
+    ensures room { IfOk result (λ p. p.1.room ≤ rest.entry.room + 1) }
+{
+    match suffix {
+        Suffix::Field(name) => {
+            let field = field(alloc, a, name)?;
+            Ok((field, rest))
         }
-        Ask::Call(name) => {
-            let (all, behind) = arguments(alloc, levels, inner)?;
-            let (a, behind) = called(alloc, a, name, all, behind)?;
-            asks(alloc, levels, more - 1, a, behind)
+        Suffix::Call(name) => {
+            let (all, behind) = arguments(alloc, levels, rest)?;
+            called(alloc, a, name, all, behind)
         }
-        Ask::Element => {
-            let (at, behind) = whole(alloc, levels, inner)?;
-            let (a, behind) = indexed(alloc, a, at, behind)?;
-            asks(alloc, levels, more - 1, a, behind)
+        Suffix::Element => {
+            let (at, behind) = whole(alloc, levels, rest)?;
+            indexed(alloc, a, at, behind)
         }
     }
 }
 
 /// The arguments of a call, up to the closing parenthesis.
-#[tactic(auto, using(crate::proofs::Levels::arguments_none, crate::proofs::Levels::arguments_some))]
+#[tactic(auto, using(crate::proofs::parser::ExpressionReturns::arguments_none, crate::proofs::parser::ExpressionReturns::arguments_some))]
 #[cycle(expression)]
 fn arguments<'t>(
     alloc: Global,
     levels: u32,
     rest: Rest<'t>,
 ) -> Result<(Items<ExprTree>, Rest<'t>), Stop<'t>>
-    requires levels { levels ≤ 65 }
-    requires room { rest.room ≤ 64 }
+    requires levels { levels ≤ PARSER_LEVELS }
+    requires room { rest.room ≤ MOST_LEVELS }
     ensures gives { Gives (λ all. all) result (parser.arguments levels (input rest.entry)) }
     ensures room { IfOk result (λ p. p.1.room ≡ rest.entry.room) }
 {
@@ -211,8 +230,8 @@ fn listed<'t>(
     levels: u32,
     rest: Rest<'t>,
 ) -> Result<(Items<ExprTree>, Rest<'t>), Stop<'t>>
-    requires levels { levels ≤ 65 }
-    requires room { rest.room ≤ 64 }
+    requires levels { levels ≤ PARSER_LEVELS }
+    requires room { rest.room ≤ MOST_LEVELS }
     ensures gives { Gives (λ all. all) result (reader.listed (parser.whole levels) (length rest.entry.tokens.now) (input rest.entry)) }
     ensures room { IfOk result (λ p. p.1.room ≡ rest.entry.room) }
 {

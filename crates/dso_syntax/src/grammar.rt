@@ -3,8 +3,8 @@
 ghost use Rattle.std.specs.Prelude.{◌≡◌, ◌↔◌, ℕ, [], Ok};
 ghost use Rattle.dso_syntax.specs.Bytes.{Text};
 ghost use Rattle.dso_syntax.specs.Grammar.{Tokens};
-ghost use Rattle.dso_syntax.specs.Program.{IsProgram};
-ghost use Rattle.dso_syntax.specs.Faults.{IsText, HasFault};
+ghost use Rattle.dso_syntax.specs.ProgramGrammar.{IsProgram};
+ghost use Rattle.dso_syntax.specs.SyntaxFaults.{IsText, HasFault};
 ghost use Rattle.dso_syntax.specs.ProgramReader.{program};
 ghost use Rattle.dso_syntax.specs.declared.tree.Ast.{Ast};
 ghost use Rattle.dso_syntax.specs.declared.fault.SyntaxFault.{SyntaxFault};

@@ -1,11 +1,12 @@
 //! Classes and threads: read from token to token.
 
 ghost use Rattle.std.specs.Prelude.{◌≡◌, ◌≤◌, length, IfOk};
-ghost use Rattle.dso_syntax.specs.Blocks as blocks;
+ghost use Rattle.dso_syntax.specs.StatementLevels as blocks;
 ghost use Rattle.dso_syntax.specs.ProgramReader as reader;
 ghost use Rattle.dso_syntax.specs.Gives.{Gives, input};
 
 use crate::cursor::{Rest, is_keyword, take_any, take_keyword, take_name};
+use crate::limits::MOST_LEVELS;
 use crate::member::{body, members};
 use crate::stop::Stop;
 use crate::token::{Form, Keyword};
@@ -36,7 +37,7 @@ fn take_number<'t>(rest: Rest<'t>) -> Result<((i64, u32), Rest<'t>), Stop<'t>>
 
 /// A class.
 fn class<'t>(alloc: Global, rest: Rest<'t>) -> Result<(Item, Rest<'t>), Stop<'t>>
-    requires { rest.room ≤ 64 }
+    requires { rest.room ≤ MOST_LEVELS }
     ensures gives { Gives (λ a. a) result (blocks.class (input rest.entry)) }
     ensures room { IfOk result (λ p. p.1.room ≡ rest.entry.room) }
 {
@@ -54,7 +55,7 @@ fn class<'t>(alloc: Global, rest: Rest<'t>) -> Result<(Item, Rest<'t>), Stop<'t>
 
 /// A thread.
 fn thread<'t>(alloc: Global, rest: Rest<'t>) -> Result<(Item, Rest<'t>), Stop<'t>>
-    requires { rest.room ≤ 64 }
+    requires { rest.room ≤ MOST_LEVELS }
     ensures gives { Gives (λ a. a) result (blocks.thread (input rest.entry)) }
     ensures room { IfOk result (λ p. p.1.room ≡ rest.entry.room) }
 {
@@ -73,7 +74,7 @@ fn thread<'t>(alloc: Global, rest: Rest<'t>) -> Result<(Item, Rest<'t>), Stop<'t
 
 /// A class or a thread.
 fn item<'t>(alloc: Global, rest: Rest<'t>) -> Result<(Item, Rest<'t>), Stop<'t>>
-    requires { rest.room ≤ 64 }
+    requires { rest.room ≤ MOST_LEVELS }
     ensures gives { Gives (λ a. a) result (reader.one_item blocks.body (input rest.entry)) }
     ensures room { IfOk result (λ p. p.1.room ≡ rest.entry.room) }
 {
@@ -85,9 +86,9 @@ fn item<'t>(alloc: Global, rest: Rest<'t>) -> Result<(Item, Rest<'t>), Stop<'t>>
 }
 
 /// Classes and threads up to the end.
-#[tactic(auto, using(crate::proofs::Members::items_end, crate::proofs::Members::items_rest))]
+#[tactic(auto, using(crate::proofs::parser::MemberReturns::items_end, crate::proofs::parser::MemberReturns::items_rest))]
 pub fn items<'t>(alloc: Global, rest: Rest<'t>) -> Result<(Items<Item>, Rest<'t>), Stop<'t>>
-    requires { rest.room ≤ 64 }
+    requires { rest.room ≤ MOST_LEVELS }
     ensures gives { Gives (λ all. all) result (reader.items_from blocks.body (length rest.entry.tokens.now) rest.entry.room rest.entry.tokens.now) }
 {
     let mut all = Items::new(alloc);

@@ -1,18 +1,19 @@
 //! The tokens of a text.
 
-ghost use Rattle.std.specs.Prelude.{◌≡◌, ◌≤◌, ℕ, List, length, IfOk};
+ghost use Rattle.std.specs.Prelude.{◌≡◌, ◌≤◌, ◌+◌, ℕ, List, length, IfOk};
 ghost use Rattle.dso_syntax.specs.Bytes.{Text, line_after};
 ghost use Rattle.dso_syntax.specs.Reading.{Reads};
 ghost use Rattle.dso_syntax.specs.declared.token.Token.{Token};
 ghost use Rattle.dso_syntax.specs.declared.token.Ending.{Ending};
 
+use crate::limits::LONGEST_TEXT;
 use crate::scan::{Front, front_at};
 use crate::token::{Ending, Token};
 use dso_base::{Items, NoMemory};
 use std::alloc::Global;
 
 /// The tokens of a text, and how they end.
-#[derive(Debug, Drop)]
+#[derive(Drop)]
 pub struct Lexed {
     pub tokens: Items<Token>,
     pub ending: Ending,
@@ -20,7 +21,7 @@ pub struct Lexed {
 
 /// Reads the tokens of a text, up to its end or to the first place where no token begins.
 pub fn tokens_of(alloc: Global, text: &[u8]) -> Result<Lexed, NoMemory>
-    requires { length text.now ≤ 1048576 }
+    requires { length text.now ≤ LONGEST_TEXT }
     ensures { IfOk result (λ lexed. Reads 0 1 text.now lexed.tokens lexed.ending) }
 {
     let mut tokens = Items::new(alloc);
@@ -63,7 +64,7 @@ pub fn tokens_of(alloc: Global, text: &[u8]) -> Result<Lexed, NoMemory>
 
 /// The line behind a byte.
 fn line_after(b: u8, line: u32) -> u32
-    requires { line ≤ 1048577 }
+    requires { line ≤ LONGEST_TEXT + 1 }
     ensures { result ≡ line_after b line }
 {
     if b == b'\n' { line + 1 } else { line }

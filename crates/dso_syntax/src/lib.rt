@@ -9,6 +9,7 @@ mod fault;
 mod grammar;
 mod item;
 mod lex;
+mod limits;
 mod literal;
 mod member;
 mod operand;
@@ -24,8 +25,3 @@ pub use fault::SyntaxFault;
 pub use grammar::{one_fault, one_tree, read_exactly};
 pub use text::parse;
 pub use tree::{Ast, ExprForm, ExprTree, Ident, Item, Member, StmtForm, StmtTree};
-
-#[cfg(test)]
-mod parse_tests;
-#[cfg(test)]
-mod tests;

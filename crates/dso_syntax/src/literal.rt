@@ -4,37 +4,36 @@ ghost use Rattle.std.specs.Prelude.{◌≡◌, ◌<◌, ◌≤◌, ◌-◌, ◌^
 ghost use Rattle.dso_syntax.specs.Scan as spec;
 
 use crate::bytes::is_printable;
+use crate::limits::LONGEST_CONTENT;
 use crate::token::Form;
 use dso_base::{Items, NoMemory, Word};
 use std::alloc::Global;
 
 /// What a byte of a text literal is, from behind the opening quote on.
-#[derive(Clone, Copy, Debug)]
-pub enum Bite {
+#[derive(Clone, Copy)]
+pub enum LiteralByte {
     Close,
     Backslash,
     Content,
     Bad,
 }
 
-const LONGEST_CONTENT: usize = 255;
-
 /// What a byte is, behind a backslash or not.
-fn bite_of(after_backslash: bool, b: u8) -> Bite
-    ensures { result ≡ spec.bite_of after_backslash b }
+fn literal_byte_of(after_backslash: bool, b: u8) -> LiteralByte
+    ensures { result ≡ spec.literal_byte_of after_backslash b }
 {
     match (after_backslash, b) {
-        (true, b'"' | b'\\') => Bite::Content,
-        (true, _) => Bite::Bad,
-        (false, b'"') => Bite::Close,
-        (false, b'\\') => Bite::Backslash,
-        (false, other) if is_printable(other) => Bite::Content,
-        _ => Bite::Bad,
+        (true, b'"' | b'\\') => LiteralByte::Content,
+        (true, _) => LiteralByte::Bad,
+        (false, b'"') => LiteralByte::Close,
+        (false, b'\\') => LiteralByte::Backslash,
+        (false, other) if is_printable(other) => LiteralByte::Content,
+        _ => LiteralByte::Bad,
     }
 }
 
 /// The content of a text literal from behind its opening quote, and its length with the closing quote.
-#[tactic(auto, using(crate::proofs::Content::at_close, crate::proofs::Content::at_backslash, crate::proofs::Content::at_content, crate::proofs::Content::at_bad))]
+#[tactic(auto, using(crate::proofs::tokens::LiteralContent::at_close, crate::proofs::tokens::LiteralContent::at_backslash, crate::proofs::tokens::LiteralContent::at_content, crate::proofs::tokens::LiteralContent::at_bad))]
 fn content_at(alloc: Global, text: &[u8]) -> Result<Option<(Word, usize)>, NoMemory>
     ensures value { IfOk result (λ found. found ≡ spec.content_at false text.now) }
     ensures within { IfOk result (λ found. IfSome found (λ taken. taken.1 ≤ length text.now)) }
@@ -46,14 +45,14 @@ fn content_at(alloc: Global, text: &[u8]) -> Result<Option<(Word, usize)>, NoMem
     while let [b, rest @ ..] = text {
         len += 1;
         text = rest;
-        match bite_of(after_backslash, *b) {
-            Bite::Close => return Ok(Some((content, len))),
-            Bite::Backslash => after_backslash = true,
-            Bite::Content => {
+        match literal_byte_of(after_backslash, *b) {
+            LiteralByte::Close => return Ok(Some((content, len))),
+            LiteralByte::Backslash => after_backslash = true,
+            LiteralByte::Content => {
                 content.push(*b)?;
                 after_backslash = false;
             }
-            Bite::Bad => return Ok(None),
+            LiteralByte::Bad => return Ok(None),
         }
     }
     Ok(None)

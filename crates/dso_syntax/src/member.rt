@@ -1,15 +1,15 @@
 //! The members of classes: read from token to token.
 
 ghost use Rattle.std.specs.Prelude.{◌≡◌, ◌≤◌, length, IfOk};
-ghost use Rattle.dso_syntax.specs.Blocks as blocks;
+ghost use Rattle.dso_syntax.specs.StatementLevels as blocks;
 ghost use Rattle.dso_syntax.specs.ProgramReader as reader;
 ghost use Rattle.dso_syntax.specs.Gives.{Gives, input};
 
-use crate::blockless::LEVELS;
 use crate::cursor::{
     Rest, close_mark, is_mark, next_keyword, open_mark, take_any, take_keyword, take_mark,
     take_name,
 };
+use crate::limits::{MOST_LEVELS, PARSER_LEVELS};
 use crate::statement::block;
 use crate::stop::Stop;
 use crate::token::{Keyword, Mark, Token};
@@ -19,11 +19,11 @@ use std::alloc::Global;
 
 /// A block of a method or a thread.
 pub fn body<'t>(alloc: Global, rest: Rest<'t>) -> Result<(Items<StmtTree>, Rest<'t>), Stop<'t>>
-    requires { rest.room ≤ 64 }
+    requires { rest.room ≤ MOST_LEVELS }
     ensures gives { Gives (λ all. all) result (blocks.body (input rest.entry)) }
     ensures room { IfOk result (λ p. p.1.room ≡ rest.entry.room) }
 {
-    block(alloc, LEVELS, rest)
+    block(alloc, PARSER_LEVELS, rest)
 }
 
 /// One name or more, with commas between them.
@@ -63,7 +63,7 @@ fn method<'t>(
     synced: bool,
     rest: Rest<'t>,
 ) -> Result<(Member, Rest<'t>), Stop<'t>>
-    requires { rest.room ≤ 64 }
+    requires { rest.room ≤ MOST_LEVELS }
     ensures gives { Gives (λ a. a) result (reader.method blocks.body line synced (input rest.entry)) }
     ensures room { IfOk result (λ p. p.1.room ≡ rest.entry.room) }
 {
@@ -84,7 +84,7 @@ fn method<'t>(
 
 /// A method, from its word `synchronized` on.
 fn synchronized<'t>(alloc: Global, rest: Rest<'t>) -> Result<(Member, Rest<'t>), Stop<'t>>
-    requires { rest.room ≤ 64 }
+    requires { rest.room ≤ MOST_LEVELS }
     ensures gives { Gives (λ a. a) result (reader.by_start blocks.body reader.synchronized (input rest.entry)) }
     ensures room { IfOk result (λ p. p.1.room ≡ rest.entry.room) }
 {
@@ -128,9 +128,9 @@ fn next_line(tokens: &[Token]) -> u32
 }
 
 /// One member of a class.
-#[tactic(auto, using(crate::proofs::Members::member_by))]
+#[tactic(auto, using(crate::proofs::parser::MemberReturns::member_by))]
 fn member<'t>(alloc: Global, rest: Rest<'t>) -> Result<(Member, Rest<'t>), Stop<'t>>
-    requires { rest.room ≤ 64 }
+    requires { rest.room ≤ MOST_LEVELS }
     ensures gives { Gives (λ a. a) result (reader.one_member blocks.body (input rest.entry)) }
     ensures room { IfOk result (λ p. p.1.room ≡ rest.entry.room) }
 {
@@ -147,7 +147,7 @@ fn member<'t>(alloc: Global, rest: Rest<'t>) -> Result<(Member, Rest<'t>), Stop<
 
 /// Members up to the closing brace.
 fn until_brace<'t>(alloc: Global, rest: Rest<'t>) -> Result<(Items<Member>, Rest<'t>), Stop<'t>>
-    requires { rest.room ≤ 64 }
+    requires { rest.room ≤ MOST_LEVELS }
     ensures gives { Gives (λ all. all) result (reader.until_brace (reader.one_member blocks.body) (length rest.entry.tokens.now) (input rest.entry)) }
     ensures room { IfOk result (λ p. p.1.room ≡ rest.entry.room) }
 {
@@ -169,7 +169,7 @@ fn until_brace<'t>(alloc: Global, rest: Rest<'t>) -> Result<(Items<Member>, Rest
 
 /// Members in braces.
 pub fn members<'t>(alloc: Global, rest: Rest<'t>) -> Result<(Items<Member>, Rest<'t>), Stop<'t>>
-    requires { rest.room ≤ 64 }
+    requires { rest.room ≤ MOST_LEVELS }
     ensures gives { Gives (λ all. all) result (reader.braced (reader.one_member blocks.body) (input rest.entry)) }
     ensures room { IfOk result (λ p. p.1.room ≡ rest.entry.room) }
 {

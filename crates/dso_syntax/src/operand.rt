@@ -1,9 +1,9 @@
 //! The parts of an expression that hold no whole expression: what stands before one and behind it.
 
-ghost use Rattle.std.specs.Prelude.{◌≡◌, ◌+◌, ◌<◌, ◌≤◌, IfOk};
+ghost use Rattle.std.specs.Prelude.{◌≡◌, ◌+◌, ◌<◌, ◌≤◌, None, IfOk};
 ghost use Rattle.dso_syntax.specs.Grammar as grammar;
-ghost use Rattle.dso_syntax.specs.Parts as parts;
-ghost use Rattle.dso_syntax.specs.Reader as reader;
+ghost use Rattle.dso_syntax.specs.OperandReader as operand;
+ghost use Rattle.dso_syntax.specs.ExpressionReader as reader;
 ghost use Rattle.dso_syntax.specs.declared.tree.ExprForm.TheVariants as e;
 ghost use Rattle.dso_syntax.specs.Gives.{Gives, input};
 
@@ -19,22 +19,34 @@ use dso_base::{Boxed, Items, Kind, Op};
 use std::alloc::{AllocFailed, Global};
 
 /// A bracket that a primary expression opened, with the line where it begins.
-#[derive(Clone, Copy, Debug)]
+#[derive(Clone, Copy)]
 pub enum Bracket {
     Paren(u32),
     Array(u32, Kind),
 }
 
+impl Bracket {
+    /// The symbol that closes it.
+    fn closing(self) -> Mark
+        ensures { result ≡ operand.closing_of self }
+    {
+        match self {
+            Bracket::Paren(_) => Mark::CloseParen,
+            Bracket::Array(_, _) => Mark::CloseBracket,
+        }
+    }
+}
+
 /// What a primary expression is so far: done, or behind a bracket that holds an expression.
-#[derive(Debug, Drop)]
+#[derive(Drop)]
 pub enum Part {
     Done(ExprTree),
     Inside(Bracket),
 }
 
-/// What is asked of an expression: a field, a call from its arguments on, an element from its index on.
-#[derive(Debug, Drop)]
-pub enum Ask {
+/// A suffix of an expression: a field, a call from its arguments on, an element from its index on.
+#[derive(Drop)]
+pub enum Suffix {
     Field(Ident),
     Call(Ident),
     Element,
@@ -42,7 +54,7 @@ pub enum Ask {
 
 /// Takes a token that opens a level.
 pub fn entered<'t>(rest: Rest<'t>) -> Result<(&'t Token, Rest<'t>), Stop<'t>>
-    ensures gives { Gives (λ t. t.now) result (parts.entered (input rest.entry)) }
+    ensures gives { Gives (λ t. t.now) result (operand.entered (input rest.entry)) }
     ensures room { IfOk result (λ p. p.1.room < rest.entry.room) }
 {
     let ((), rest) = enter(rest)?;
@@ -51,14 +63,22 @@ pub fn entered<'t>(rest: Rest<'t>) -> Result<(&'t Token, Rest<'t>), Stop<'t>>
 
 /// A primary expression up to the expression that it holds, or whole.
 pub fn opened<'t>(alloc: Global, rest: Rest<'t>) -> Result<(Part, Rest<'t>), Stop<'t>>
-    ensures gives { Gives (λ a. a) result (parts.opened (input rest.entry)) }
-    ensures room { IfOk result (λ p. p.1.room + parts.held p.0 ≤ rest.entry.room) }
+    ensures gives { Gives (λ a. a) result (operand.opened (input rest.entry)) }
+    ensures room { IfOk result (λ p. p.1.room + operand.held p.0 ≤ rest.entry.room) }
 {
-    if let Some(form) = plain_at(alloc, rest.tokens)? {
-        let (token, rest) = take_any(rest)?;
-        let line = token.line;
-        return Ok((Part::Done(ExprTree { line, form }), rest));
-    }
+    let Some(form) = plain_at(alloc, rest.tokens)? else {
+        return opened_bracket(alloc, rest);
+    };
+    let (token, rest) = take_any(rest)?;
+    let line = token.line;
+    Ok((Part::Done(ExprTree { line, form }), rest))
+}
+
+/// An expression in parentheses or behind `new`, up to the expression that it holds, or whole.
+fn opened_bracket<'t>(alloc: Global, rest: Rest<'t>) -> Result<(Part, Rest<'t>), Stop<'t>>
+    ensures gives { Gives (λ a. a) result (operand.opened_of None (input rest.entry)) }
+    ensures room { IfOk result (λ p. p.1.room + operand.held p.0 ≤ rest.entry.room) }
+{
     if is_mark(Mark::OpenParen, rest.tokens) {
         let (token, rest) = open_mark(Mark::OpenParen, rest)?;
         return Ok((Part::Inside(Bracket::Paren(token.line)), rest));
@@ -72,8 +92,8 @@ pub fn opened<'t>(alloc: Global, rest: Rest<'t>) -> Result<(Part, Rest<'t>), Sto
 
 /// What stands behind `new`, up to the bracket of an array.
 fn made<'t>(alloc: Global, line: u32, rest: Rest<'t>) -> Result<(Part, Rest<'t>), Stop<'t>>
-    ensures gives { Gives (λ a. a) result (parts.made line (input rest.entry)) }
-    ensures room { IfOk result (λ p. p.1.room + parts.held p.0 ≤ rest.entry.room) }
+    ensures gives { Gives (λ a. a) result (operand.made line (input rest.entry)) }
+    ensures room { IfOk result (λ p. p.1.room + operand.held p.0 ≤ rest.entry.room) }
 {
     if let Some(kind) = kind_at(rest.tokens) {
         let (_, rest) = take_any(rest)?;
@@ -95,54 +115,61 @@ pub fn closed<'t>(
     rest: Rest<'t>,
 ) -> Result<(ExprTree, Rest<'t>), Stop<'t>>
     requires { rest.room < 4294967295 }
-    ensures gives { Gives (λ a. a) result (parts.closed bracket a (input rest.entry)) }
+    ensures gives { Gives (λ a. a) result (operand.closed bracket a (input rest.entry)) }
     ensures room { IfOk result (λ p. p.1.room ≤ rest.entry.room + 1) }
 {
+    let (_, rest) = close_mark(bracket.closing(), rest)?;
+    Ok((enclosed(alloc, bracket, a)?, rest))
+}
+
+/// What a bracket makes of the expression in it.
+fn enclosed(alloc: Global, bracket: Bracket, a: ExprTree) -> Result<ExprTree, AllocFailed<ExprTree>>
+    ensures { IfOk result (λ whole. whole ≡ operand.enclosed bracket a) }
+{
+    let a = Boxed::new(alloc, a)?;
     match bracket {
-        Bracket::Paren(line) => {
-            let (_, rest) = close_mark(Mark::CloseParen, rest)?;
-            let form = ExprForm::Paren(Boxed::new(alloc, a)?);
-            Ok((ExprTree { line, form }, rest))
-        }
-        Bracket::Array(line, kind) => {
-            let (_, rest) = close_mark(Mark::CloseBracket, rest)?;
-            let form = ExprForm::NewArray(kind, Boxed::new(alloc, a)?);
-            Ok((ExprTree { line, form }, rest))
-        }
+        Bracket::Paren(line) => Ok(ExprTree {
+            line,
+            form: ExprForm::Paren(a),
+        }),
+        Bracket::Array(line, kind) => Ok(ExprTree {
+            line,
+            form: ExprForm::NewArray(kind, a),
+        }),
     }
 }
 
-/// Whether something is asked next.
-pub fn is_asked(tokens: &[Token]) -> bool
-    ensures { result ≡ parts.is_asked (reader.next_mark tokens.now) }
+/// Whether a suffix is next.
+pub fn begins_suffix(tokens: &[Token]) -> bool
+    ensures { result ≡ operand.begins_suffix (reader.next_mark tokens.now) }
 {
     is_mark(Mark::Dot, tokens) || is_mark(Mark::OpenBracket, tokens)
 }
 
-/// What is asked next, where something is.
-pub fn asked<'t>(alloc: Global, rest: Rest<'t>) -> Result<(Ask, Rest<'t>), Stop<'t>>
-    ensures gives { Gives (λ ask. ask) result (parts.asked (input rest.entry)) }
+/// Takes a suffix, up to the expressions that it holds.
+pub fn take_suffix<'t>(alloc: Global, rest: Rest<'t>) -> Result<(Suffix, Rest<'t>), Stop<'t>>
+    ensures gives { Gives (λ suffix. suffix) result (operand.take_suffix (input rest.entry)) }
     ensures room { IfOk result (λ p. p.1.room < rest.entry.room) }
 {
     if is_mark(Mark::Dot, rest.tokens) {
         return named(alloc, rest);
     }
     let (_, rest) = open_mark(Mark::OpenBracket, rest)?;
-    Ok((Ask::Element, rest))
+    Ok((Suffix::Element, rest))
 }
 
 /// A dot and a name, and the parenthesis of a call.
-fn named<'t>(alloc: Global, rest: Rest<'t>) -> Result<(Ask, Rest<'t>), Stop<'t>>
-    ensures gives { Gives (λ ask. ask) result (parts.named (input rest.entry)) }
+fn named<'t>(alloc: Global, rest: Rest<'t>) -> Result<(Suffix, Rest<'t>), Stop<'t>>
+    ensures gives { Gives (λ suffix. suffix) result (operand.named (input rest.entry)) }
     ensures room { IfOk result (λ p. p.1.room < rest.entry.room) }
 {
     let (_, rest) = open_mark(Mark::Dot, rest)?;
     let (name, rest) = take_name(alloc, rest)?;
     if !is_mark(Mark::OpenParen, rest.tokens) {
-        return Ok((Ask::Field(name), rest));
+        return Ok((Suffix::Field(name), rest));
     }
     let (_, rest) = open_mark(Mark::OpenParen, rest)?;
-    Ok((Ask::Call(name), rest))
+    Ok((Suffix::Call(name), rest))
 }
 
 /// The field of this name.
@@ -163,13 +190,25 @@ pub fn called<'t>(
     rest: Rest<'t>,
 ) -> Result<(ExprTree, Rest<'t>), Stop<'t>>
     requires { rest.room < 4294967295 }
-    ensures gives { Gives (λ a. a) result (parts.called a name all (input rest.entry)) }
+    ensures gives { Gives (λ a. a) result (operand.called a name all (input rest.entry)) }
     ensures room { IfOk result (λ p. p.1.room ≤ rest.entry.room + 1) }
 {
-    let line = a.line;
     let (_, rest) = close_mark(Mark::CloseParen, rest)?;
+    Ok((call(alloc, a, name, all)?, rest))
+}
+
+/// The call of a method with its arguments.
+fn call(
+    alloc: Global,
+    a: ExprTree,
+    name: Ident,
+    all: Items<ExprTree>,
+) -> Result<ExprTree, AllocFailed<ExprTree>>
+    ensures { IfOk result (λ call. call ≡ grammar.expression (grammar.line_of a) (e.Call a name all)) }
+{
+    let line = a.line;
     let form = ExprForm::Call(Boxed::new(alloc, a)?, name, all);
-    Ok((ExprTree { line, form }, rest))
+    Ok(ExprTree { line, form })
 }
 
 /// The bracket behind an index, and the element.
@@ -179,13 +218,20 @@ pub fn indexed<'t>(
     at: ExprTree,
     rest: Rest<'t>,
 ) -> Result<(ExprTree, Rest<'t>), Stop<'t>>
-    ensures gives { Gives (λ a. a) result (parts.indexed a at (input rest.entry)) }
+    ensures gives { Gives (λ a. a) result (operand.indexed a at (input rest.entry)) }
     ensures room { IfOk result (λ p. p.1.room ≤ rest.entry.room) }
 {
-    let line = a.line;
     let (_, rest) = take_mark(Mark::CloseBracket, rest)?;
+    Ok((element(alloc, a, at)?, rest))
+}
+
+/// The element of an array at an index.
+fn element(alloc: Global, a: ExprTree, at: ExprTree) -> Result<ExprTree, AllocFailed<ExprTree>>
+    ensures { IfOk result (λ element. element ≡ grammar.expression (grammar.line_of a) (e.Elem a at)) }
+{
+    let line = a.line;
     let form = ExprForm::Elem(Boxed::new(alloc, a)?, Boxed::new(alloc, at)?);
-    Ok((ExprTree { line, form }, rest))
+    Ok(ExprTree { line, form })
 }
 
 /// An operand behind its sign.

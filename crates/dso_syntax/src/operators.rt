@@ -2,7 +2,7 @@
 
 ghost use Rattle.std.specs.Prelude.{◌≡◌, IfOk};
 ghost use Rattle.dso_syntax.specs.Grammar as grammar;
-ghost use Rattle.dso_syntax.specs.Reader as reader;
+ghost use Rattle.dso_syntax.specs.ExpressionReader as reader;
 
 use crate::cursor::{next_keyword, next_mark};
 use crate::token::{Form, Keyword, Mark, Token};

@@ -11,13 +11,14 @@ ghost use Rattle.dso_syntax.specs.Scan as spec;
 use crate::bytes::{
     Class, is_allowed, is_digit, is_letter, is_printable, is_white, is_word, run_len,
 };
+use crate::limits::{LARGEST_NUMBER, LONGEST_NAME};
 use crate::literal::literal_at;
 use crate::token::{Form, Keyword, Mark};
 use dso_base::{Items, NoMemory, Word};
 use std::alloc::Global;
 
 /// What a text begins with. A gap is white space or a comment, with its number of bytes.
-#[derive(Debug, Drop)]
+#[derive(Drop)]
 pub enum Front {
     End,
     Gap(usize),
@@ -25,10 +26,6 @@ pub enum Front {
     BadByte,
     BadToken,
 }
-
-const LONGEST_NAME: usize = 64;
-
-const LARGEST: u64 = 9_223_372_036_854_775_807;
 
 const KEYWORDS: [Keyword; 22] = [
     Keyword::Class,
@@ -211,9 +208,9 @@ fn number_of(digits: &[u8]) -> Option<i64>
 {
     let mut value: u128 = 0;
     for digit in digits {
-        value = (value * 10 + digit.saturating_sub(b'0') as u128).min(LARGEST as u128 + 1);
+        value = (value * 10 + digit.saturating_sub(b'0') as u128).min(LARGEST_NUMBER as u128 + 1);
     }
-    if value <= LARGEST as u128 {
+    if value <= LARGEST_NUMBER as u128 {
         Some(value as i64)
     } else {
         None

@@ -3,15 +3,16 @@
 //! `levels` bounds how many levels are opened within, and so how deep the functions call each other.
 
 ghost use Rattle.std.specs.Prelude.{◌≡◌, ◌≤◌, length, IfOk};
-ghost use Rattle.dso_syntax.specs.Blocks as parser;
+ghost use Rattle.dso_syntax.specs.StatementLevels as parser;
 ghost use Rattle.dso_syntax.specs.ProgramReader as reader;
 ghost use Rattle.dso_syntax.specs.Gives.{Gives, input};
 
 use crate::blockless::{
-    Else, Guarding, Telling, alone, condition, else_part, guard, led_by_expression, returned, told,
-    variable,
+    Command, Else, Guarding, alone, command_statement, condition, else_part, guard,
+    led_by_expression, returned, variable,
 };
 use crate::cursor::{Rest, close_mark, is_mark, next_keyword, open_mark};
+use crate::limits::{MOST_LEVELS, PARSER_LEVELS};
 use crate::stop::Stop;
 use crate::token::{Keyword, Mark};
 use crate::tree::{StmtForm, StmtTree};
@@ -19,15 +20,15 @@ use dso_base::Items;
 use std::alloc::Global;
 
 /// Statements in braces.
-#[tactic(auto, using(crate::proofs::Blocks::block_none, crate::proofs::Blocks::block_open_stops, crate::proofs::Blocks::block_stops, crate::proofs::Blocks::block_close_stops, crate::proofs::Blocks::block_goes))]
+#[tactic(auto, using(crate::proofs::parser::StatementReturns::block_none, crate::proofs::parser::StatementReturns::block_open_stops, crate::proofs::parser::StatementReturns::block_stops, crate::proofs::parser::StatementReturns::block_close_stops, crate::proofs::parser::StatementReturns::block_goes))]
 #[cycle(statement)]
 pub fn block<'t>(
     alloc: Global,
     levels: u32,
     rest: Rest<'t>,
 ) -> Result<(Items<StmtTree>, Rest<'t>), Stop<'t>>
-    requires levels { levels ≤ 65 }
-    requires room { rest.room ≤ 64 }
+    requires levels { levels ≤ PARSER_LEVELS }
+    requires room { rest.room ≤ MOST_LEVELS }
     ensures gives { Gives (λ all. all) result (parser.block levels (input rest.entry)) }
     ensures room { IfOk result (λ p. p.1.room ≡ rest.entry.room) }
 {
@@ -47,8 +48,8 @@ fn statements<'t>(
     levels: u32,
     rest: Rest<'t>,
 ) -> Result<(Items<StmtTree>, Rest<'t>), Stop<'t>>
-    requires levels { levels ≤ 65 }
-    requires room { rest.room ≤ 64 }
+    requires levels { levels ≤ PARSER_LEVELS }
+    requires room { rest.room ≤ MOST_LEVELS }
     ensures gives { Gives (λ all. all) result (reader.until_brace (parser.statement levels) (length rest.entry.tokens.now) (input rest.entry)) }
     ensures room { IfOk result (λ p. p.1.room ≡ rest.entry.room) }
 {
@@ -69,15 +70,15 @@ fn statements<'t>(
 }
 
 /// One statement.
-#[tactic(auto, using(crate::proofs::Blocks::statement_variable, crate::proofs::Blocks::statement_if, crate::proofs::Blocks::statement_guarded, crate::proofs::Blocks::statement_told, crate::proofs::Blocks::statement_returned, crate::proofs::Blocks::statement_plain))]
+#[tactic(auto, using(crate::proofs::parser::StatementReturns::statement_variable, crate::proofs::parser::StatementReturns::statement_if, crate::proofs::parser::StatementReturns::statement_guarded, crate::proofs::parser::StatementReturns::statement_command, crate::proofs::parser::StatementReturns::statement_returned, crate::proofs::parser::StatementReturns::statement_plain))]
 #[cycle(statement)]
 fn statement<'t>(
     alloc: Global,
     levels: u32,
     rest: Rest<'t>,
 ) -> Result<(StmtTree, Rest<'t>), Stop<'t>>
-    requires levels { levels ≤ 65 }
-    requires room { rest.room ≤ 64 }
+    requires levels { levels ≤ PARSER_LEVELS }
+    requires room { rest.room ≤ MOST_LEVELS }
     ensures gives { Gives (λ a. a) result (parser.statement levels (input rest.entry)) }
     ensures room { IfOk result (λ p. p.1.room ≡ rest.entry.room) }
 {
@@ -86,17 +87,17 @@ fn statement<'t>(
         Some(Keyword::If) => conditional(alloc, levels, levels, rest),
         Some(Keyword::While) => guarded(alloc, levels, Guarding::While, rest),
         Some(Keyword::Synchronized) => guarded(alloc, levels, Guarding::Sync, rest),
-        Some(Keyword::Wait) => told(alloc, Telling::Wait, rest),
-        Some(Keyword::Notify) => told(alloc, Telling::Notify, rest),
-        Some(Keyword::NotifyAll) => told(alloc, Telling::NotifyAll, rest),
-        Some(Keyword::Print) => told(alloc, Telling::Print, rest),
+        Some(Keyword::Wait) => command_statement(alloc, Command::Wait, rest),
+        Some(Keyword::Notify) => command_statement(alloc, Command::Notify, rest),
+        Some(Keyword::NotifyAll) => command_statement(alloc, Command::NotifyAll, rest),
+        Some(Keyword::Print) => command_statement(alloc, Command::Print, rest),
         Some(Keyword::Return) => returned(alloc, rest),
         _ => led_by_expression(alloc, rest),
     }
 }
 
 /// A statement of one word, an expression in parentheses and a block.
-#[tactic(auto, using(crate::proofs::Blocks::guarded_head_stops, crate::proofs::Blocks::guarded_stops, crate::proofs::Blocks::guarded_goes))]
+#[tactic(auto, using(crate::proofs::parser::StatementReturns::guarded_head_stops, crate::proofs::parser::StatementReturns::guarded_stops, crate::proofs::parser::StatementReturns::guarded_goes))]
 #[cycle(statement)]
 fn guarded<'t>(
     alloc: Global,
@@ -104,8 +105,8 @@ fn guarded<'t>(
     which: Guarding,
     rest: Rest<'t>,
 ) -> Result<(StmtTree, Rest<'t>), Stop<'t>>
-    requires levels { levels ≤ 65 }
-    requires room { rest.room ≤ 64 }
+    requires levels { levels ≤ PARSER_LEVELS }
+    requires room { rest.room ≤ MOST_LEVELS }
     ensures gives { Gives (λ a. a) result (parser.guarded levels which (input rest.entry)) }
     ensures room { IfOk result (λ p. p.1.room ≡ rest.entry.room) }
 {
@@ -116,7 +117,7 @@ fn guarded<'t>(
 }
 
 /// An `if`. The last number bounds how many are chained.
-#[tactic(auto, using(crate::proofs::Blocks::chain_head_stops, crate::proofs::Blocks::chain_block_stops, crate::proofs::Blocks::chain_stops, crate::proofs::Blocks::chain_goes))]
+#[tactic(auto, using(crate::proofs::parser::StatementReturns::chain_head_stops, crate::proofs::parser::StatementReturns::chain_block_stops, crate::proofs::parser::StatementReturns::chain_stops, crate::proofs::parser::StatementReturns::chain_goes))]
 #[cycle(statement)]
 fn conditional<'t>(
     alloc: Global,
@@ -124,8 +125,8 @@ fn conditional<'t>(
     more: u32,
     rest: Rest<'t>,
 ) -> Result<(StmtTree, Rest<'t>), Stop<'t>>
-    requires levels { levels ≤ 65 }
-    requires room { rest.room ≤ 64 }
+    requires levels { levels ≤ PARSER_LEVELS }
+    requires room { rest.room ≤ MOST_LEVELS }
     ensures gives { Gives (λ a. a) result (parser.chain levels more (input rest.entry)) }
     ensures room { IfOk result (λ p. p.1.room ≡ rest.entry.room) }
 {
@@ -137,7 +138,7 @@ fn conditional<'t>(
 }
 
 /// The statements of the `else` of an `if`, none where it has none.
-#[tactic(auto, using(crate::proofs::Blocks::otherwise_head_stops, crate::proofs::Blocks::otherwise_none, crate::proofs::Blocks::otherwise_block, crate::proofs::Blocks::otherwise_last, crate::proofs::Blocks::otherwise_stops, crate::proofs::Blocks::otherwise_goes))]
+#[tactic(auto, using(crate::proofs::parser::StatementReturns::otherwise_head_stops, crate::proofs::parser::StatementReturns::otherwise_none, crate::proofs::parser::StatementReturns::otherwise_block, crate::proofs::parser::StatementReturns::otherwise_last, crate::proofs::parser::StatementReturns::otherwise_stops, crate::proofs::parser::StatementReturns::otherwise_goes))]
 #[cycle(statement)]
 fn otherwise<'t>(
     alloc: Global,
@@ -145,8 +146,8 @@ fn otherwise<'t>(
     more: u32,
     rest: Rest<'t>,
 ) -> Result<(Items<StmtTree>, Rest<'t>), Stop<'t>>
-    requires levels { levels ≤ 65 }
-    requires room { rest.room ≤ 64 }
+    requires levels { levels ≤ PARSER_LEVELS }
+    requires room { rest.room ≤ MOST_LEVELS }
     ensures gives { Gives (λ all. all) result (parser.otherwise levels more (input rest.entry)) }
     ensures room { IfOk result (λ p. p.1.room ≡ rest.entry.room) }
 {

@@ -7,7 +7,7 @@ use crate::token::Token;
 use std::alloc::{AllocError, AllocFailed};
 
 /// Why reading stops. The tokens are those from the one that is wrong on.
-#[derive(Clone, Copy, Debug)]
+#[derive(Clone, Copy)]
 pub enum Stop<'t> {
     Unexpected(&'t [Token]),
     TooWide(&'t [Token]),

@@ -1,23 +1,20 @@
 //! Whole program texts.
 
 ghost use Rattle.std.specs.Prelude.{◌≡◌, ◌≤◌, ◌<◌, Err, length, IfOk, IfErr};
-ghost use Rattle.dso_syntax.specs.Answer as answer;
-ghost use Rattle.dso_syntax.specs.Faults.{IsText};
+ghost use Rattle.dso_syntax.specs.ParseAnswer as answer;
+ghost use Rattle.dso_syntax.specs.TextLimits.{longest_text};
+ghost use Rattle.dso_syntax.specs.SyntaxFaults.{IsText};
 ghost use Rattle.dso_syntax.specs.declared.fault.SyntaxFault.TheVariants as fault;
 
 use crate::cursor::Rest;
 use crate::fault::SyntaxFault;
 use crate::item::items;
 use crate::lex::{Lexed, tokens_of};
+use crate::limits::{LONGEST_TEXT, MOST_LEVELS};
 use crate::stop::Stop;
 use crate::token::{Ending, Token};
 use crate::tree::Ast;
 use std::alloc::Global;
-
-const LONGEST_TEXT: usize = 1_048_576;
-
-/// The most levels of nesting.
-const MOST_LEVELS: u32 = 64;
 
 /// What is wrong behind all tokens.
 fn fault_behind(ending: Ending) -> SyntaxFault
@@ -62,7 +59,7 @@ fn fault_of(stop: Stop<'_>, ending: Ending) -> SyntaxFault
 }
 
 /// The tree of a text by its tokens, or its fault.
-#[tactic(auto, using(crate::proofs::Answer::tree_answered, crate::proofs::Answer::end_answered, crate::proofs::Answer::stop_answered))]
+#[tactic(auto, using(crate::proofs::faults::AnswerOfText::tree_answered, crate::proofs::faults::AnswerOfText::end_answered, crate::proofs::faults::AnswerOfText::stop_answered))]
 fn tree_of(alloc: Global, lexed: &Lexed) -> Result<Ast, SyntaxFault>
     ensures { answer.Answers result (answer.answer_of lexed.now.tokens lexed.now.ending) }
 {
@@ -82,9 +79,9 @@ fn tree_of(alloc: Global, lexed: &Lexed) -> Result<Ast, SyntaxFault>
 /// Reads a program text of at most 1,048,576 bytes.
 ///
 /// The answer is its one tree, or why it is no program, or that an allocation was refused.
-#[tactic(auto, using(crate::proofs::Answer::tree_given, crate::proofs::Answer::refusal_given))]
+#[tactic(auto, using(crate::proofs::faults::AnswerOfText::tree_given, crate::proofs::faults::AnswerOfText::refusal_given))]
 pub fn parse(alloc: Global, text: &[u8]) -> Result<Ast, SyntaxFault>
-    ensures too_long { 1048576 < length text.now → result ≡ Err fault.TooLong }
+    ensures too_long { longest_text < length text.now → result ≡ Err fault.TooLong }
     ensures tree { IfOk result (λ ast. IsText text.now ast) }
     ensures refused { IfErr result (λ fault. answer.Refuses text.now fault) }
 {

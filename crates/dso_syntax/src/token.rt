@@ -3,7 +3,7 @@
 use dso_base::Word;
 
 /// A reserved word.
-#[derive(Clone, Copy, Debug, PartialEq, Eq)]
+#[derive(Clone, Copy, PartialEq, Eq)]
 pub enum Keyword {
     Class,
     Static,
@@ -30,7 +30,7 @@ pub enum Keyword {
 }
 
 /// A symbol.
-#[derive(Clone, Copy, Debug, PartialEq, Eq)]
+#[derive(Clone, Copy, PartialEq, Eq)]
 pub enum Mark {
     OpenBrace,
     CloseBrace,
@@ -59,7 +59,7 @@ pub enum Mark {
 }
 
 /// What a token is.
-#[derive(Debug, Drop)]
+#[derive(Drop)]
 pub enum Form {
     Name(Word),
     Keyword(Keyword),
@@ -71,7 +71,7 @@ pub enum Form {
 }
 
 /// A token with the place of its first byte, counted from 0, and its line, counted from 1.
-#[derive(Debug, Drop)]
+#[derive(Drop)]
 pub struct Token {
     pub place: u64,
     pub line: u32,
@@ -79,7 +79,7 @@ pub struct Token {
 }
 
 /// How the tokens of a text end: with the text, or before a fault. The number is the place.
-#[derive(Clone, Copy, Debug, PartialEq, Eq)]
+#[derive(Clone, Copy)]
 pub enum Ending {
     End(u64),
     BadByte(u64),

@@ -42,73 +42,25 @@ scripts = (thread 1 1, (request.New (class.Plain 0) 1) ∷ (request.Enter (Mon 1
 abbrev pub next : ThreadId → List Event → Option Request
 next t events = slice_get (script_of t scripts) (length events)
 
--- 1 c1 act 1.1 ; to s idask
-abbrev pub entry_1 : Entry
-entry_1 = entry 1 (Client 1) (input.Act 1) ((ToServer up.IdAsk) ∷ []) None
-
--- 1 s break 1
-abbrev pub entry_2 : Entry
-entry_2 = entry 1 Server (input.Break 1) [] None
-
--- 2 c1 rejoin 1
-abbrev pub entry_3 : Entry
-entry_3 = entry 2 (Client 1) (input.Rejoin 1) [] None
-
--- 2 s rejoin 1
-abbrev pub entry_4 : Entry
-entry_4 = entry 2 Server (input.Rejoin 1) [] None
-
--- 3 s took c1 idask ; to c1 ids 1
-abbrev pub entry_5 : Entry
-entry_5 = entry 3 Server (input.TookUp 1 up.IdAsk) ((ToClient 1 (down.Ids 1)) ∷ []) None
-
--- 4 c1 took s ids 1
-abbrev pub entry_6 : Entry
-entry_6 = entry 4 (Client 1) (input.TookDown (down.Ids 1)) [] None
-
--- 5 c1 act 1.1 ; event new k0 1 made 1
-abbrev pub entry_7 : Entry
-entry_7 = entry 5 (Client 1) (input.Act 1) [] (Some (act (thread 1 1) (request.New (class.Plain 0) 1) (reply.Made 1) None))
-
--- 6 c1 act 1.1 ; event enter m1 write local
-abbrev pub entry_8 : Entry
-entry_8 = entry 6 (Client 1) (input.Act 1) [] (Some (act (thread 1 1) (request.Enter (Mon 1) Write) reply.Local None))
-
--- 7 c1 act 1.1 ; event print 7 done
-abbrev pub entry_9 : Entry
-entry_9 = entry 7 (Client 1) (input.Act 1) [] (Some (act (thread 1 1) (request.Print (value.Long (pos 7))) reply.Done None))
-
--- 8 c1 act 1.1 ; event print 8 done
-abbrev pub entry_10 : Entry
-entry_10 = entry 8 (Client 1) (input.Act 1) [] (Some (act (thread 1 1) (request.Print (value.Long (pos 8))) reply.Done None))
-
--- 9 c1 act 1.1 ; to s commit 1 1.1 new 0 set 0 out 2 7 8 note 0 end 0 ; event end 0 done
-abbrev pub entry_11 : Entry
-entry_11 = entry 9 (Client 1) (input.Act 1) ((ToServer (up.Commit (txn 1 (thread 1 1) [] [] ((value.Long (pos 7)) ∷ (value.Long (pos 8)) ∷ []) [] (ending.End None)))) ∷ []) (Some (act (thread 1 1) (request.End None) reply.Done None))
-
--- 10 s took c1 commit 1 1.1 new 0 set 0 out 2 7 8 note 0 end 0 ; to c1 ack 1
-abbrev pub entry_12 : Entry
-entry_12 = entry 10 Server (input.TookUp 1 (up.Commit (txn 1 (thread 1 1) [] [] ((value.Long (pos 7)) ∷ (value.Long (pos 8)) ∷ []) [] (ending.End None)))) ((ToClient 1 (down.Ack 1)) ∷ []) None
-
--- 11 s break 1
-abbrev pub entry_13 : Entry
-entry_13 = entry 11 Server (input.Break 1) [] None
-
--- 10 c1 rejoin 1
-abbrev pub entry_14 : Entry
-entry_14 = entry 10 (Client 1) (input.Rejoin 1) [] None
-
--- 12 s rejoin 1
-abbrev pub entry_15 : Entry
-entry_15 = entry 12 Server (input.Rejoin 1) [] None
-
--- 11 c1 took s ack 1
-abbrev pub entry_16 : Entry
-entry_16 = entry 11 (Client 1) (input.TookDown (down.Ack 1)) [] None
-
 -- the entries, the newest first
 abbrev pub entries : List Entry
-entries = entry_16 ∷ entry_15 ∷ entry_14 ∷ entry_13 ∷ entry_12 ∷ entry_11 ∷ entry_10 ∷ entry_9 ∷ entry_8 ∷ entry_7 ∷ entry_6 ∷ entry_5 ∷ entry_4 ∷ entry_3 ∷ entry_2 ∷ entry_1 ∷ []
+entries = entry 11 (Client 1) (input.TookDown (down.Ack 1)) [] None
+    ∷ entry 12 Server (input.Rejoin 1) [] None
+    ∷ entry 10 (Client 1) (input.Rejoin 1) [] None
+    ∷ entry 11 Server (input.Break 1) [] None
+    ∷ entry 10 Server (input.TookUp 1 (up.Commit (txn 1 (thread 1 1) [] [] ((value.Long (pos 7)) ∷ (value.Long (pos 8)) ∷ []) [] (ending.End None)))) ((ToClient 1 (down.Ack 1)) ∷ []) None
+    ∷ entry 9 (Client 1) (input.Act 1) ((ToServer (up.Commit (txn 1 (thread 1 1) [] [] ((value.Long (pos 7)) ∷ (value.Long (pos 8)) ∷ []) [] (ending.End None)))) ∷ []) (Some (act (thread 1 1) (request.End None) reply.Done None))
+    ∷ entry 8 (Client 1) (input.Act 1) [] (Some (act (thread 1 1) (request.Print (value.Long (pos 8))) reply.Done None))
+    ∷ entry 7 (Client 1) (input.Act 1) [] (Some (act (thread 1 1) (request.Print (value.Long (pos 7))) reply.Done None))
+    ∷ entry 6 (Client 1) (input.Act 1) [] (Some (act (thread 1 1) (request.Enter (Mon 1) Write) reply.Local None))
+    ∷ entry 5 (Client 1) (input.Act 1) [] (Some (act (thread 1 1) (request.New (class.Plain 0) 1) (reply.Made 1) None))
+    ∷ entry 4 (Client 1) (input.TookDown (down.Ids 1)) [] None
+    ∷ entry 3 Server (input.TookUp 1 up.IdAsk) ((ToClient 1 (down.Ids 1)) ∷ []) None
+    ∷ entry 2 Server (input.Rejoin 1) [] None
+    ∷ entry 2 (Client 1) (input.Rejoin 1) [] None
+    ∷ entry 1 Server (input.Break 1) [] None
+    ∷ entry 1 (Client 1) (input.Act 1) ((ToServer up.IdAsk) ∷ []) None
+    ∷ []
 
 -- the slots that are open before each entry, the last entry first
 abbrev pub opens : List (List Slot)

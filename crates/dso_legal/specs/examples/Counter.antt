@@ -42,165 +42,48 @@ scripts = (thread 1 1, (request.New (class.Plain 0) 1) ∷ (request.Enter (Name 
 abbrev pub next : ThreadId → List Event → Option Request
 next t events = slice_get (script_of t scripts) (length events)
 
--- 1 c1 act 1.1 ; to s idask
-abbrev pub entry_1 : Entry
-entry_1 = entry 1 (Client 1) (input.Act 1) ((ToServer up.IdAsk) ∷ []) None
-
--- 2 s took c1 idask ; to c1 ids 1
-abbrev pub entry_2 : Entry
-entry_2 = entry 2 Server (input.TookUp 1 up.IdAsk) ((ToClient 1 (down.Ids 1)) ∷ []) None
-
--- 3 c1 took s ids 1
-abbrev pub entry_3 : Entry
-entry_3 = entry 3 (Client 1) (input.TookDown (down.Ids 1)) [] None
-
--- 4 c1 act 1.1 ; event new k0 1 made 1
-abbrev pub entry_4 : Entry
-entry_4 = entry 4 (Client 1) (input.Act 1) [] (Some (act (thread 1 1) (request.New (class.Plain 0) 1) (reply.Made 1) None))
-
--- 5 c1 act 1.1 ; to s request n0 write
-abbrev pub entry_5 : Entry
-entry_5 = entry 5 (Client 1) (input.Act 1) ((ToServer (up.Request (Name 0) Write)) ∷ []) None
-
--- 6 s took c1 request n0 write ; to c1 grant n0 write
-abbrev pub entry_6 : Entry
-entry_6 = entry 6 Server (input.TookUp 1 (up.Request (Name 0) Write)) ((ToClient 1 (down.Grant (Name 0) Write)) ∷ []) None
-
--- 7 c1 took s grant n0 write
-abbrev pub entry_7 : Entry
-entry_7 = entry 7 (Client 1) (input.TookDown (down.Grant (Name 0) Write)) [] None
-
--- 8 c1 act 1.1 ; event enter n0 write done
-abbrev pub entry_8 : Entry
-entry_8 = entry 8 (Client 1) (input.Act 1) [] (Some (act (thread 1 1) (request.Enter (Name 0) Write) reply.Done None))
-
--- 9 c1 act 1.1 ; to s fault 0
-abbrev pub entry_9 : Entry
-entry_9 = entry 9 (Client 1) (input.Act 1) ((ToServer (up.Fault 0)) ∷ []) None
-
--- 10 s took c1 fault 0 ; to c1 object 0 roots 1 null
-abbrev pub entry_10 : Entry
-entry_10 = entry 10 Server (input.TookUp 1 (up.Fault 0)) ((ToClient 1 (down.Object (body 0 class.Roots (value.Null ∷ [])))) ∷ []) None
-
--- 11 c1 took s object 0 roots 1 null
-abbrev pub entry_11 : Entry
-entry_11 = entry 11 (Client 1) (input.TookDown (down.Object (body 0 class.Roots (value.Null ∷ [])))) [] None
-
--- 12 c1 act 1.1 ; event get 0 0 val null
-abbrev pub entry_12 : Entry
-entry_12 = entry 12 (Client 1) (input.Act 1) [] (Some (act (thread 1 1) (request.Get 0 0) (reply.Val value.Null) None))
-
--- 13 c1 act 1.1 ; event put 0 0 r1 done
-abbrev pub entry_13 : Entry
-entry_13 = entry 13 (Client 1) (input.Act 1) [] (Some (act (thread 1 1) (request.Put 0 0 (value.Ref 1)) reply.Done None))
-
--- 14 c1 act 1.1 ; to s commit 1 1.1 new 1 1 k0 1 0 set 1 0 0 r1 out 0 note 0 exit n0 ; event exit n0 done
-abbrev pub entry_14 : Entry
-entry_14 = entry 14 (Client 1) (input.Act 1) ((ToServer (up.Commit (txn 1 (thread 1 1) ((body 1 (class.Plain 0) ((value.Long (pos 0)) ∷ [])) ∷ []) ((set 0 0 (value.Ref 1)) ∷ []) [] [] (ending.Exit (Name 0))))) ∷ []) (Some (act (thread 1 1) (request.Exit (Name 0)) reply.Done None))
-
--- 15 s took c1 commit 1 1.1 new 1 1 k0 1 0 set 1 0 0 r1 out 0 note 0 exit n0 ; to c1 ack 1
-abbrev pub entry_15 : Entry
-entry_15 = entry 15 Server (input.TookUp 1 (up.Commit (txn 1 (thread 1 1) ((body 1 (class.Plain 0) ((value.Long (pos 0)) ∷ [])) ∷ []) ((set 0 0 (value.Ref 1)) ∷ []) [] [] (ending.Exit (Name 0))))) ((ToClient 1 (down.Ack 1)) ∷ []) None
-
--- 15 c1 act 1.1 ; event enter n0 read done
-abbrev pub entry_16 : Entry
-entry_16 = entry 15 (Client 1) (input.Act 1) [] (Some (act (thread 1 1) (request.Enter (Name 0) Read) reply.Done None))
-
--- 16 c1 took s ack 1
-abbrev pub entry_17 : Entry
-entry_17 = entry 16 (Client 1) (input.TookDown (down.Ack 1)) [] None
-
--- 17 c1 act 1.1 ; event get 0 0 val r1
-abbrev pub entry_18 : Entry
-entry_18 = entry 17 (Client 1) (input.Act 1) [] (Some (act (thread 1 1) (request.Get 0 0) (reply.Val (value.Ref 1)) None))
-
--- 18 c1 act 1.1 ; to s commit 2 1.1 new 0 set 0 out 0 note 0 exit n0 ; event exit n0 done
-abbrev pub entry_19 : Entry
-entry_19 = entry 18 (Client 1) (input.Act 1) ((ToServer (up.Commit (txn 2 (thread 1 1) [] [] [] [] (ending.Exit (Name 0))))) ∷ []) (Some (act (thread 1 1) (request.Exit (Name 0)) reply.Done None))
-
--- 19 s took c1 commit 2 1.1 new 0 set 0 out 0 note 0 exit n0 ; to c1 ack 2
-abbrev pub entry_20 : Entry
-entry_20 = entry 19 Server (input.TookUp 1 (up.Commit (txn 2 (thread 1 1) [] [] [] [] (ending.Exit (Name 0))))) ((ToClient 1 (down.Ack 2)) ∷ []) None
-
--- 19 c1 act 1.1 ; event look 1 seen k0 1
-abbrev pub entry_21 : Entry
-entry_21 = entry 19 (Client 1) (input.Act 1) [] (Some (act (thread 1 1) (request.Look 1) (reply.Seen (class.Plain 0) 1) None))
-
--- 20 c1 took s ack 2
-abbrev pub entry_22 : Entry
-entry_22 = entry 20 (Client 1) (input.TookDown (down.Ack 2)) [] None
-
--- 21 c1 act 1.1 ; to s request m1 write
-abbrev pub entry_23 : Entry
-entry_23 = entry 21 (Client 1) (input.Act 1) ((ToServer (up.Request (Mon 1) Write)) ∷ []) None
-
--- 22 s took c1 request m1 write ; to c1 grant m1 write
-abbrev pub entry_24 : Entry
-entry_24 = entry 22 Server (input.TookUp 1 (up.Request (Mon 1) Write)) ((ToClient 1 (down.Grant (Mon 1) Write)) ∷ []) None
-
--- 23 c1 took s grant m1 write
-abbrev pub entry_25 : Entry
-entry_25 = entry 23 (Client 1) (input.TookDown (down.Grant (Mon 1) Write)) [] None
-
--- 24 c1 act 1.1 ; event enter m1 write done
-abbrev pub entry_26 : Entry
-entry_26 = entry 24 (Client 1) (input.Act 1) [] (Some (act (thread 1 1) (request.Enter (Mon 1) Write) reply.Done None))
-
--- 25 c1 act 1.1 ; event look 1 seen k0 1
-abbrev pub entry_27 : Entry
-entry_27 = entry 25 (Client 1) (input.Act 1) [] (Some (act (thread 1 1) (request.Look 1) (reply.Seen (class.Plain 0) 1) None))
-
--- 26 c1 act 1.1 ; event get 1 0 val 0
-abbrev pub entry_28 : Entry
-entry_28 = entry 26 (Client 1) (input.Act 1) [] (Some (act (thread 1 1) (request.Get 1 0) (reply.Val (value.Long (pos 0))) None))
-
--- 27 c1 act 1.1 ; event look 1 seen k0 1
-abbrev pub entry_29 : Entry
-entry_29 = entry 27 (Client 1) (input.Act 1) [] (Some (act (thread 1 1) (request.Look 1) (reply.Seen (class.Plain 0) 1) None))
-
--- 28 c1 act 1.1 ; event put 1 0 1 done
-abbrev pub entry_30 : Entry
-entry_30 = entry 28 (Client 1) (input.Act 1) [] (Some (act (thread 1 1) (request.Put 1 0 (value.Long (pos 1))) reply.Done None))
-
--- 29 c1 act 1.1 ; event look 1 seen k0 1
-abbrev pub entry_31 : Entry
-entry_31 = entry 29 (Client 1) (input.Act 1) [] (Some (act (thread 1 1) (request.Look 1) (reply.Seen (class.Plain 0) 1) None))
-
--- 30 c1 act 1.1 ; event get 1 0 val 1
-abbrev pub entry_32 : Entry
-entry_32 = entry 30 (Client 1) (input.Act 1) [] (Some (act (thread 1 1) (request.Get 1 0) (reply.Val (value.Long (pos 1))) None))
-
--- 31 c1 act 1.1 ; event print 1 done
-abbrev pub entry_33 : Entry
-entry_33 = entry 31 (Client 1) (input.Act 1) [] (Some (act (thread 1 1) (request.Print (value.Long (pos 1))) reply.Done None))
-
--- 32 c1 act 1.1 ; to s commit 3 1.1 new 0 set 1 1 0 1 out 1 1 note 0 exit m1 ; event exit m1 done
-abbrev pub entry_34 : Entry
-entry_34 = entry 32 (Client 1) (input.Act 1) ((ToServer (up.Commit (txn 3 (thread 1 1) [] ((set 1 0 (value.Long (pos 1))) ∷ []) ((value.Long (pos 1)) ∷ []) [] (ending.Exit (Mon 1))))) ∷ []) (Some (act (thread 1 1) (request.Exit (Mon 1)) reply.Done None))
-
--- 33 s took c1 commit 3 1.1 new 0 set 1 1 0 1 out 1 1 note 0 exit m1 ; to c1 ack 3
-abbrev pub entry_35 : Entry
-entry_35 = entry 33 Server (input.TookUp 1 (up.Commit (txn 3 (thread 1 1) [] ((set 1 0 (value.Long (pos 1))) ∷ []) ((value.Long (pos 1)) ∷ []) [] (ending.Exit (Mon 1))))) ((ToClient 1 (down.Ack 3)) ∷ []) None
-
--- 33 c1 act 1.1 ; to s commit 4 1.1 new 0 set 0 out 0 note 0 end 0 ; event end 0 done
-abbrev pub entry_36 : Entry
-entry_36 = entry 33 (Client 1) (input.Act 1) ((ToServer (up.Commit (txn 4 (thread 1 1) [] [] [] [] (ending.End None)))) ∷ []) (Some (act (thread 1 1) (request.End None) reply.Done None))
-
--- 34 c1 took s ack 3
-abbrev pub entry_37 : Entry
-entry_37 = entry 34 (Client 1) (input.TookDown (down.Ack 3)) [] None
-
--- 34 s took c1 commit 4 1.1 new 0 set 0 out 0 note 0 end 0 ; to c1 ack 4
-abbrev pub entry_38 : Entry
-entry_38 = entry 34 Server (input.TookUp 1 (up.Commit (txn 4 (thread 1 1) [] [] [] [] (ending.End None)))) ((ToClient 1 (down.Ack 4)) ∷ []) None
-
--- 35 c1 took s ack 4
-abbrev pub entry_39 : Entry
-entry_39 = entry 35 (Client 1) (input.TookDown (down.Ack 4)) [] None
-
 -- the entries, the newest first
 abbrev pub entries : List Entry
-entries = entry_39 ∷ entry_38 ∷ entry_37 ∷ entry_36 ∷ entry_35 ∷ entry_34 ∷ entry_33 ∷ entry_32 ∷ entry_31 ∷ entry_30 ∷ entry_29 ∷ entry_28 ∷ entry_27 ∷ entry_26 ∷ entry_25 ∷ entry_24 ∷ entry_23 ∷ entry_22 ∷ entry_21 ∷ entry_20 ∷ entry_19 ∷ entry_18 ∷ entry_17 ∷ entry_16 ∷ entry_15 ∷ entry_14 ∷ entry_13 ∷ entry_12 ∷ entry_11 ∷ entry_10 ∷ entry_9 ∷ entry_8 ∷ entry_7 ∷ entry_6 ∷ entry_5 ∷ entry_4 ∷ entry_3 ∷ entry_2 ∷ entry_1 ∷ []
+entries = entry 35 (Client 1) (input.TookDown (down.Ack 4)) [] None
+    ∷ entry 34 Server (input.TookUp 1 (up.Commit (txn 4 (thread 1 1) [] [] [] [] (ending.End None)))) ((ToClient 1 (down.Ack 4)) ∷ []) None
+    ∷ entry 34 (Client 1) (input.TookDown (down.Ack 3)) [] None
+    ∷ entry 33 (Client 1) (input.Act 1) ((ToServer (up.Commit (txn 4 (thread 1 1) [] [] [] [] (ending.End None)))) ∷ []) (Some (act (thread 1 1) (request.End None) reply.Done None))
+    ∷ entry 33 Server (input.TookUp 1 (up.Commit (txn 3 (thread 1 1) [] ((set 1 0 (value.Long (pos 1))) ∷ []) ((value.Long (pos 1)) ∷ []) [] (ending.Exit (Mon 1))))) ((ToClient 1 (down.Ack 3)) ∷ []) None
+    ∷ entry 32 (Client 1) (input.Act 1) ((ToServer (up.Commit (txn 3 (thread 1 1) [] ((set 1 0 (value.Long (pos 1))) ∷ []) ((value.Long (pos 1)) ∷ []) [] (ending.Exit (Mon 1))))) ∷ []) (Some (act (thread 1 1) (request.Exit (Mon 1)) reply.Done None))
+    ∷ entry 31 (Client 1) (input.Act 1) [] (Some (act (thread 1 1) (request.Print (value.Long (pos 1))) reply.Done None))
+    ∷ entry 30 (Client 1) (input.Act 1) [] (Some (act (thread 1 1) (request.Get 1 0) (reply.Val (value.Long (pos 1))) None))
+    ∷ entry 29 (Client 1) (input.Act 1) [] (Some (act (thread 1 1) (request.Look 1) (reply.Seen (class.Plain 0) 1) None))
+    ∷ entry 28 (Client 1) (input.Act 1) [] (Some (act (thread 1 1) (request.Put 1 0 (value.Long (pos 1))) reply.Done None))
+    ∷ entry 27 (Client 1) (input.Act 1) [] (Some (act (thread 1 1) (request.Look 1) (reply.Seen (class.Plain 0) 1) None))
+    ∷ entry 26 (Client 1) (input.Act 1) [] (Some (act (thread 1 1) (request.Get 1 0) (reply.Val (value.Long (pos 0))) None))
+    ∷ entry 25 (Client 1) (input.Act 1) [] (Some (act (thread 1 1) (request.Look 1) (reply.Seen (class.Plain 0) 1) None))
+    ∷ entry 24 (Client 1) (input.Act 1) [] (Some (act (thread 1 1) (request.Enter (Mon 1) Write) reply.Done None))
+    ∷ entry 23 (Client 1) (input.TookDown (down.Grant (Mon 1) Write)) [] None
+    ∷ entry 22 Server (input.TookUp 1 (up.Request (Mon 1) Write)) ((ToClient 1 (down.Grant (Mon 1) Write)) ∷ []) None
+    ∷ entry 21 (Client 1) (input.Act 1) ((ToServer (up.Request (Mon 1) Write)) ∷ []) None
+    ∷ entry 20 (Client 1) (input.TookDown (down.Ack 2)) [] None
+    ∷ entry 19 (Client 1) (input.Act 1) [] (Some (act (thread 1 1) (request.Look 1) (reply.Seen (class.Plain 0) 1) None))
+    ∷ entry 19 Server (input.TookUp 1 (up.Commit (txn 2 (thread 1 1) [] [] [] [] (ending.Exit (Name 0))))) ((ToClient 1 (down.Ack 2)) ∷ []) None
+    ∷ entry 18 (Client 1) (input.Act 1) ((ToServer (up.Commit (txn 2 (thread 1 1) [] [] [] [] (ending.Exit (Name 0))))) ∷ []) (Some (act (thread 1 1) (request.Exit (Name 0)) reply.Done None))
+    ∷ entry 17 (Client 1) (input.Act 1) [] (Some (act (thread 1 1) (request.Get 0 0) (reply.Val (value.Ref 1)) None))
+    ∷ entry 16 (Client 1) (input.TookDown (down.Ack 1)) [] None
+    ∷ entry 15 (Client 1) (input.Act 1) [] (Some (act (thread 1 1) (request.Enter (Name 0) Read) reply.Done None))
+    ∷ entry 15 Server (input.TookUp 1 (up.Commit (txn 1 (thread 1 1) ((body 1 (class.Plain 0) ((value.Long (pos 0)) ∷ [])) ∷ []) ((set 0 0 (value.Ref 1)) ∷ []) [] [] (ending.Exit (Name 0))))) ((ToClient 1 (down.Ack 1)) ∷ []) None
+    ∷ entry 14 (Client 1) (input.Act 1) ((ToServer (up.Commit (txn 1 (thread 1 1) ((body 1 (class.Plain 0) ((value.Long (pos 0)) ∷ [])) ∷ []) ((set 0 0 (value.Ref 1)) ∷ []) [] [] (ending.Exit (Name 0))))) ∷ []) (Some (act (thread 1 1) (request.Exit (Name 0)) reply.Done None))
+    ∷ entry 13 (Client 1) (input.Act 1) [] (Some (act (thread 1 1) (request.Put 0 0 (value.Ref 1)) reply.Done None))
+    ∷ entry 12 (Client 1) (input.Act 1) [] (Some (act (thread 1 1) (request.Get 0 0) (reply.Val value.Null) None))
+    ∷ entry 11 (Client 1) (input.TookDown (down.Object (body 0 class.Roots (value.Null ∷ [])))) [] None
+    ∷ entry 10 Server (input.TookUp 1 (up.Fault 0)) ((ToClient 1 (down.Object (body 0 class.Roots (value.Null ∷ [])))) ∷ []) None
+    ∷ entry 9 (Client 1) (input.Act 1) ((ToServer (up.Fault 0)) ∷ []) None
+    ∷ entry 8 (Client 1) (input.Act 1) [] (Some (act (thread 1 1) (request.Enter (Name 0) Write) reply.Done None))
+    ∷ entry 7 (Client 1) (input.TookDown (down.Grant (Name 0) Write)) [] None
+    ∷ entry 6 Server (input.TookUp 1 (up.Request (Name 0) Write)) ((ToClient 1 (down.Grant (Name 0) Write)) ∷ []) None
+    ∷ entry 5 (Client 1) (input.Act 1) ((ToServer (up.Request (Name 0) Write)) ∷ []) None
+    ∷ entry 4 (Client 1) (input.Act 1) [] (Some (act (thread 1 1) (request.New (class.Plain 0) 1) (reply.Made 1) None))
+    ∷ entry 3 (Client 1) (input.TookDown (down.Ids 1)) [] None
+    ∷ entry 2 Server (input.TookUp 1 up.IdAsk) ((ToClient 1 (down.Ids 1)) ∷ []) None
+    ∷ entry 1 (Client 1) (input.Act 1) ((ToServer up.IdAsk) ∷ []) None
+    ∷ []
 
 -- the slots that are open before each entry, the last entry first
 abbrev pub opens : List (List Slot)

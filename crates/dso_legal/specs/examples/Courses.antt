@@ -8,7 +8,7 @@ use Rattle.dso_base.specs.declared.request.Reply.TheVariants.{Done, Made, Seen, 
 use Rattle.dso_base.specs.declared.request.Request.{Request}
 use Rattle.dso_base.specs.declared.request.Request.TheVariants.{New, Look, Get}
 use Rattle.dso_base.specs.declared.value.ClassId.{ClassId}
-use Rattle.dso_base.specs.Program.{is_thread}
+use Rattle.dso_base.specs.Following.{is_thread}
 
 -- what a thread does: it asks no more, or it makes an object and goes on with it, looks at an object, reads a field, or asks what
 -- is to be done, and goes on

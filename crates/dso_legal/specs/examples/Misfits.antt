@@ -1,5 +1,5 @@
--- For each row that says how a message fits, a message that breaks it, after the entries of the counter's finished run or of
--- its first steps. In a lawful journal no such message is on the way, so the rows are shown by themselves.
+-- For each row that says how a message fits, a message that breaks it, after the entries of the counter's finished
+-- run or of its first steps. In a lawful journal no such message is in flight, so the rows are shown by themselves.
 use Rattle.std.specs.Prelude.{ℕ, pos, true, List, [], ◌∷◌}
 use Rattle.dso_base.specs.declared.journal.Entry.{Entry}
 use Rattle.dso_base.specs.declared.journal.Node.TheVariants.{Server, Client}
@@ -18,7 +18,7 @@ use Rattle.dso_base.specs.declared.value.Value.TheVariants as value
 use Rattle.dso_law.specs.Entries.{entries_of}
 use Rattle.dso_law.specs.FitsDown.{FitsDown}
 use Rattle.dso_law.specs.FitsUp.{FitsUp}
-use Rattle.dso_law.specs.Served.{counted}
+use Rattle.dso_law.specs.ServerReadings.{counted}
 use Rattle.dso_legal.specs.examples.Words.{thread, body, set, txn}
 use Rattle.dso_legal.specs.examples.Counter.{settings, entries}
 use Rattle.dso_legal.specs.examples.Refusals.{first}

@@ -11,9 +11,9 @@ use Rattle.dso_base.specs.declared.request.Request.TheVariants as request
 use Rattle.dso_base.specs.declared.value.ClassId.TheVariants.{Plain}
 use Rattle.dso_base.specs.declared.value.Value.TheVariants as value
 use Rattle.dso_law.specs.Settings.{Settings}
-use Rattle.dso_legal.specs.Calm.{WithoutWaits, WithoutLosses}
+use Rattle.dso_legal.specs.WaitsAndLosses.{WithoutWaits, WithoutLosses}
 use Rattle.dso_legal.specs.Lawful.{IsLawful}
-use Rattle.dso_legal.specs.Program.{IsSound}
+use Rattle.dso_legal.specs.SoundProgram.{IsSound}
 use Rattle.dso_legal.specs.examples.Courses.{Course, Stops, Makes, Looks, Reads, Does, program_of}
 use Rattle.dso_legal.specs.examples.Words.{thread}
 use Rattle.dso_legal.specs.examples.Counter as counter

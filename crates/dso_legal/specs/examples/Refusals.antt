@@ -29,6 +29,15 @@ use Rattle.dso_legal.specs.examples.Waiting as waiting
 abbrev pub first : ℕ → List Entry → List Entry
 first n es = drop (length es - n) es
 
+-- the newest of the entries; a break where there is none
+abbrev pub newest : List Entry → Entry
+newest [] = entry 0 Server (input.Break 0) [] None
+newest (e ∷ es) = e
+
+-- the entry of this number, counted from 1
+abbrev pub numbered : ℕ → List Entry → Entry
+numbered n es = newest (first n es)
+
 -- the entry may not follow the entries
 abbrev pub Refused : Settings → (ThreadId → List Event → Option Request) → Entry → List Entry → Type 0
 Refused p next e es = MayFollow p next e es → ⊥
@@ -47,11 +56,11 @@ acted clock index request event = entry clock (Client 1) (input.Act index) [] (S
 
 -- the refusals that are no matter of what is sent
 pub record Refusals : Type 0 where
-  pub clock_stands_still : Refused counter.settings counter.next (record counter.entry_2 { clock = 1 }) (first 1 counter.entries)
-  pub message_is_not_first : Refused counter.settings counter.next (record counter.entry_2 { input = input.TookUp 1 (up.Fault 0) }) (first 1 counter.entries)
+  pub clock_stands_still : Refused counter.settings counter.next (record (numbered 2 counter.entries) { clock = 1 }) (first 1 counter.entries)
+  pub message_is_not_first : Refused counter.settings counter.next (record (numbered 2 counter.entries) { input = input.TookUp 1 (up.Fault 0) }) (first 1 counter.entries)
   pub get_without_copy : Refused counter.settings counter.next (acted 9 1 (request.Get 0 0) (act (thread 1 1) (request.Get 0 0) (reply.Val value.Null) None)) (first 8 counter.entries)
   pub enter_without_lease : Refused counter.settings counter.next (acted 5 1 (request.Enter (Name 0) Write) (act (thread 1 1) (request.Enter (Name 0) Write) reply.Done None)) (first 4 counter.entries)
-  pub second_request : Refused counter.settings counter.next (record counter.entry_5 { clock = 6 }) (first 5 counter.entries)
+  pub second_request : Refused counter.settings counter.next (record (numbered 5 counter.entries) { clock = 6 }) (first 5 counter.entries)
   pub act_after_end : Refused counter.settings counter.next (entry 36 (Client 1) (input.Act 1) [] None) counter.entries
   pub closing_lease_admits : Refused two_threads (always (request.Enter (Name 0) Write)) (acted 12 2 (request.Enter (Name 0) Write) (act (thread 1 2) (request.Enter (Name 0) Write) reply.Done None)) (first 19 recall.entries)
   pub entered_beside_other_thread : Refused two_threads (always (request.Enter (Name 0) Write)) (acted 11 2 (request.Enter (Name 0) Write) (act (thread 1 2) (request.Enter (Name 0) Write) reply.Done None)) (first 18 recall.entries)
@@ -66,18 +75,18 @@ pub record Refusals : Type 0 where
 
 -- the refusals of what is sent
 pub record WrongSendings : Type 0 where
-  pub extra_return : Refused counter.settings counter.next (record counter.entry_14 { sent = ToServer (up.Return (Name 0) []) ∷ counter.entry_14.sent }) (first 13 counter.entries)
-  pub record_missing : Refused counter.settings counter.next (record counter.entry_14 { sent = [] }) (first 13 counter.entries)
-  pub ack_missing : Refused counter.settings counter.next (record counter.entry_15 { sent = [] }) (first 14 counter.entries)
-  pub output_missing : Refused counter.settings counter.next (record counter.entry_34 {
+  pub extra_return : Refused counter.settings counter.next (record (numbered 14 counter.entries) { sent = ToServer (up.Return (Name 0) []) ∷ (numbered 14 counter.entries).sent }) (first 13 counter.entries)
+  pub record_missing : Refused counter.settings counter.next (record (numbered 14 counter.entries) { sent = [] }) (first 13 counter.entries)
+  pub ack_missing : Refused counter.settings counter.next (record (numbered 15 counter.entries) { sent = [] }) (first 14 counter.entries)
+  pub output_missing : Refused counter.settings counter.next (record (numbered 34 counter.entries) {
     sent = ToServer (up.Commit (txn 3 (thread 1 1) [] (set 1 0 (value.Long (pos 1)) ∷ []) [] [] (ending.Exit (Mon 1)))) ∷ [];
   }) (first 33 counter.entries)
-  pub write_granted_beside_write : Refused recall.settings recall.next (record recall.entry_16 { sent = ToClient 2 (down.Grant (Name 0) Write) ∷ [] }) (first 15 recall.entries)
-  pub changes_miss_a_holder : Refused waiting.settings waiting.next (record waiting.entry_76 {
+  pub write_granted_beside_write : Refused recall.settings recall.next (record (numbered 16 recall.entries) { sent = ToClient 2 (down.Grant (Name 0) Write) ∷ [] }) (first 15 recall.entries)
+  pub changes_miss_a_holder : Refused waiting.settings waiting.next (record (numbered 76 waiting.entries) {
     sent = ToClient 2 (down.Ack 3) ∷ ToClient 1 (down.Wake (Mon 1) (thread 1 1)) ∷ [];
   }) (first 75 waiting.entries)
-  pub notify_wakes_nobody : Refused waiting.settings waiting.next (record waiting.entry_76 {
+  pub notify_wakes_nobody : Refused waiting.settings waiting.next (record (numbered 76 waiting.entries) {
     sent = ToClient 2 (down.Ack 3) ∷ ToClient 1 (down.Changes (set 1 0 (value.Bool true) ∷ [])) ∷ [];
   }) (first 75 waiting.entries)
-  pub lost_client_answered : Refused lost.settings lost.next (record lost.entry_28 { sent = ToClient 1 (down.Ack 1) ∷ [] }) (first 27 lost.entries)
-  pub loss_serves_nobody : Refused lost.settings lost.next (record lost.entry_18 { sent = [] }) (first 17 lost.entries)
+  pub lost_client_answered : Refused lost.settings lost.next (record (numbered 28 lost.entries) { sent = ToClient 1 (down.Ack 1) ∷ [] }) (first 27 lost.entries)
+  pub loss_serves_nobody : Refused lost.settings lost.next (record (numbered 18 lost.entries) { sent = [] }) (first 17 lost.entries)

@@ -21,7 +21,7 @@ use Rattle.dso_base.specs.declared.shape.ClassShape.{ClassShape}
 use Rattle.dso_base.specs.declared.shape.FieldShape.{FieldShape}
 use Rattle.dso_base.specs.declared.value.ClassId.{ClassId}
 use Rattle.dso_base.specs.declared.value.Value.{Value}
-use Rattle.dso_base.specs.Program.{is_thread}
+use Rattle.dso_base.specs.Following.{is_thread}
 
 -- the thread of this index of client c
 abbrev pub thread : ℕ → ℕ → ThreadId

@@ -1,13 +1,13 @@
 use Rattle.std.proofs.Common.{rules, ◌≡◌, ◌++◌, [], Ok, Err, length, map, reverse, refl, sym, subst, ap, ◌∙◌, append-nil}
 use Rattle.std.proofs.lemmas.List.{length-map}
-use Rattle.dso_class.specs.Judged.{behind}
-use Rattle.dso_class.specs.Lent.{words_of}
+use Rattle.dso_class.specs.FaultsAmong.{behind}
+use Rattle.dso_class.specs.BorrowedWords.{words_of}
 use Rattle.dso_class.specs.Mentions as mention
 use Rattle.dso_class.specs.Numbers.{MeansBlock}
-use Rattle.dso_class.specs.Walk.{Met, HasMet, IsWalked, known_in, met_in, owner_in}
-use Rattle.dso_class.proofs.Bodies.{param, begun, params_known, body_fails, body_right, variables_fit}
-use Rattle.dso_class.proofs.Knowing.{at_known}
-use Rattle.dso_class.proofs.Walking.{second_fails, both_made}
+use Rattle.dso_class.specs.BodyWalk.{Met, HasMet, IsWalked, known_in, met_in, owner_in}
+use Rattle.dso_class.proofs.walks.Bodies.{param, begun, params_known, body_fails, body_right, variables_fit}
+use Rattle.dso_class.proofs.walks.Knowing.{at_known}
+use Rattle.dso_class.proofs.walks.BodyParts.{second_fails, both_made}
 use Rattle.dso_class.proofs.body.body_of.Goals as goal
 
 pub returns-in_err-statements-clause-right : goal.returns-in_err-statements-clause-right

@@ -1,8 +1,8 @@
 use Rattle.std.proofs.Common.{rules, arith, ◌≡◌, ◌+◌, ◌<◌, Err, map, take, drop, refl, sym, ap, ◌∙◌}
 use Rattle.std.proofs.lemmas.List.{take_all}
-use Rattle.dso_class.specs.Judged.{behind}
-use Rattle.dso_class.proofs.Bodies.{param, param_more, params_part, judged_counted}
-use Rattle.dso_class.proofs.Walking.{within_fails, both_made, one_made}
+use Rattle.dso_class.specs.FaultsAmong.{behind}
+use Rattle.dso_class.proofs.walks.Bodies.{param, param_more, params_part, judged_counted}
+use Rattle.dso_class.proofs.walks.BodyParts.{within_fails, both_made, one_made}
 use Rattle.dso_class.proofs.body.judged.Goals as goal
 
 pub returns-in_err-parameter-clause-walked : goal.returns-in_err-parameter-clause-walked

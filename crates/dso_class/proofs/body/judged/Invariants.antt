@@ -1,11 +1,11 @@
 use Rattle.std.proofs.Common.{◌≡◌, ◌≤◌, List, [], map, take, Ok}
 use Rattle.std.specs.Borrow.{Bor}
 use Rattle.dso_class.specs.Words.{Word}
-use Rattle.dso_class.specs.Before.{in_body}
+use Rattle.dso_class.specs.PrecedingMentions.{in_body}
 use Rattle.dso_class.specs.Mentions.{Mention}
-use Rattle.dso_class.specs.Program.{Source}
-use Rattle.dso_class.specs.Walk.{HasMet, IsPlace, IsWalked, met_in, owner_in}
-use Rattle.dso_class.proofs.Bodies.{param}
+use Rattle.dso_class.specs.TextProgram.{Source}
+use Rattle.dso_class.specs.BodyWalk.{HasMet, IsPlace, IsWalked, met_in, owner_in}
+use Rattle.dso_class.proofs.walks.Bodies.{param}
 use Rattle.dso_class.proofs.body.judged.Given as goal
 
 -- the parameters so far are judged, there are few of them, and no name is known yet

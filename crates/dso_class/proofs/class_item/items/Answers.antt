@@ -4,9 +4,9 @@ use mir.Val.{SFits}
 use mir.Syntax.{w64}
 use Rattle.dso_syntax.specs.declared.tree.Item.TheVariants as item
 use Rattle.dso_class.specs.Mentions.{of_item}
-use Rattle.dso_class.specs.Walked.{WalksItems}
-use Rattle.dso_class.proofs.JudgingItems as judging
-use Rattle.dso_class.proofs.WalkingItems as laws
+use Rattle.dso_class.specs.TextWalk.{WalksItems}
+use Rattle.dso_class.proofs.rules.ComposingItems as judging
+use Rattle.dso_class.proofs.walks.Items as laws
 use Rattle.dso_class.proofs.class_item.items.Goals as goal
 use Rattle.dso_class.proofs.class_item.items.Goals.{in-Class+in_ok-whole_class-in-Class, in-Thread+in_ok-thread-in-Thread}
 

@@ -1,6 +1,6 @@
 use Rattle.std.proofs.Common.{flat_map, take, Ok}
 use Rattle.dso_class.specs.Mentions.{of_item}
-use Rattle.dso_class.specs.Walked.{WalksItems}
+use Rattle.dso_class.specs.TextWalk.{WalksItems}
 use Rattle.dso_class.proofs.class_item.items.Given as goal
 
 -- the items so far are there in numbers

@@ -1,7 +1,7 @@
 use Rattle.std.proofs.Common.{refl, ◌∷◌}
-use Rattle.dso_class.proofs.ClassItems as laws
-use Rattle.dso_class.proofs.ClassItems.{named_on}
-use Rattle.dso_class.proofs.JudgingItems as judging
+use Rattle.dso_class.proofs.walks.ClassItems as laws
+use Rattle.dso_class.proofs.walks.ClassItems.{named_on}
+use Rattle.dso_class.proofs.rules.ComposingItems as judging
 use Rattle.dso_class.proofs.class_item.whole_class.Goals as goal
 
 pub returns-in_err-number : goal.returns-in_err-number

@@ -1,5 +1,5 @@
 use Rattle.std.proofs.Common.{subst}
-use Rattle.dso_class.proofs.Last as laws
+use Rattle.dso_class.proofs.lists.Last as laws
 use Rattle.dso_class.proofs.entries.autolock.Goals as goal
 
 pub returns-in-Some-default : goal.returns-in-Some-default

@@ -1,6 +1,6 @@
 use Rattle.std.proofs.Common.{◌+◌, take, subst, sym, ◌∙◌}
 use Rattle.std.proofs.lemmas.Bool.{false≢true}
-use Rattle.dso_class.proofs.Last as laws
+use Rattle.dso_class.proofs.lists.Last as laws
 use Rattle.dso_class.proofs.entries.last_grade.Goals as goal
 use Rattle.dso_class.proofs.entries.last_grade.Goals.{then-matches_method, else-matches_method}
 

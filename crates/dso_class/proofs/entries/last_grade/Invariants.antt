@@ -1,6 +1,6 @@
 use Rattle.std.proofs.Common.{take}
-use Rattle.dso_class.specs.Entries.{Matches}
-use Rattle.dso_class.specs.Lists.{LastGives}
+use Rattle.dso_class.specs.ConfigEntries.{Matches}
+use Rattle.dso_class.specs.LastAndFirst.{LastGives}
 use Rattle.dso_class.proofs.entries.last_grade.Given as goal
 
 -- the level so far is that of the last entry so far

@@ -1,8 +1,8 @@
 use Rattle.std.proofs.Common.{◌+◌, take, subst, sym, ◌∙◌, option_copied}
 use Rattle.std.proofs.lemmas.Bool.{false≢true}
 use Rattle.std.proofs.lemmas.List.Elements.{All-nil}
-use Rattle.dso_class.specs.Lists.{nothing}
-use Rattle.dso_class.proofs.Last as laws
+use Rattle.dso_class.specs.LastAndFirst.{nothing}
+use Rattle.dso_class.proofs.lists.Last as laws
 use Rattle.dso_class.proofs.entries.last_guard.Goals as goal
 use Rattle.dso_class.proofs.entries.last_guard.Goals.{then-guards_field, else-guards_field}
 

@@ -1,5 +1,5 @@
 use Rattle.std.proofs.Common.{take, option_copied}
-use Rattle.dso_class.proofs.Last.{IsGuarded}
+use Rattle.dso_class.proofs.lists.Last.{IsGuarded}
 use Rattle.dso_class.proofs.entries.last_guard.Given as goal
 
 -- the last entry so far

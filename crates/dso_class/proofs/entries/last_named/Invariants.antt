@@ -1,5 +1,5 @@
 use Rattle.std.proofs.Common.{take, option_copied}
-use Rattle.dso_class.proofs.Last.{IsNamed}
+use Rattle.dso_class.proofs.lists.Last.{IsNamed}
 use Rattle.dso_class.proofs.entries.last_named.Given as goal
 
 -- the last entry so far

@@ -1,5 +1,5 @@
 use Rattle.std.proofs.Common.{take}
-use Rattle.dso_class.proofs.Roots as laws
+use Rattle.dso_class.proofs.locking.Roots as laws
 use Rattle.dso_class.proofs.entries.names_root.Given as goal
 
 -- none of the entries so far names the field

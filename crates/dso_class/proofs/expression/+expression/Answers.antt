@@ -6,15 +6,15 @@ use Rattle.dso_syntax.specs.declared.tree.ExprTree.{out-ExprTree}
 use Rattle.dso_syntax.specs.declared.tree.ExprForm.TheVariants as e
 use Rattle.dso_syntax.specs.Grammar as grammar
 use Rattle.dso_class.specs.declared.uses.Role.TheVariants as role
-use Rattle.dso_class.specs.Judged.{behind}
+use Rattle.dso_class.specs.FaultsAmong.{behind}
 use Rattle.dso_class.specs.Mentions as mention
 use Rattle.dso_class.specs.Mentions.{on, all_of}
 use Rattle.dso_class.specs.Numbers.{MeansExpr, MeansExprs, number, truth, null, parens, array, field, element, call, unary, binary, none}
-use Rattle.dso_class.specs.Walk.{owner_in, known_in, used}
-use Rattle.dso_class.proofs.Arguments.{one_more, first_of, means_more}
-use Rattle.dso_class.proofs.Forms.{of_form}
-use Rattle.dso_class.proofs.Reading.{tree_is, at_number, at_text, at_truth, at_null, at_this, at_new_object, at_paren, at_new_array, at_elem, at_unary, at_binary, at_field, in_role, bare_in_role, named_field, plain_field, call_parts}
-use Rattle.dso_class.proofs.Walking.{within_fails, first_fails, second_fails, both_made, only_fails, one_made, none_made, only_tail, second_tail}
+use Rattle.dso_class.specs.BodyWalk.{owner_in, known_in, used}
+use Rattle.dso_class.proofs.walks.Arguments.{one_more, first_of, means_more}
+use Rattle.dso_class.proofs.mentions.Meanings.{of_form}
+use Rattle.dso_class.proofs.mentions.OfExpressions.{tree_is, at_number, at_text, at_truth, at_null, at_this, at_new_object, at_paren, at_new_array, at_elem, at_unary, at_binary, at_field, in_role, bare_in_role, named_field, plain_field, call_parts}
+use Rattle.dso_class.proofs.walks.BodyParts.{within_fails, first_fails, second_fails, both_made, only_fails, one_made, none_made, only_tail, second_tail}
 use Rattle.dso_class.proofs.expression.+expression.Goals as goal
 
 pub expression-returns-in-Number : goal.expression-returns-in-Number

@@ -1,8 +1,8 @@
 use Rattle.std.proofs.Common.{List, map, take, Ok}
 use Rattle.dso_class.specs.Mentions.{Mention, all_of, expression}
 use Rattle.dso_class.specs.Numbers.{MeansExprs}
-use Rattle.dso_class.specs.Program.{Source}
-use Rattle.dso_class.specs.Walk.{HasMet, IsPlace, IsWalked, known_in, met_in, owner_in}
+use Rattle.dso_class.specs.TextProgram.{Source}
+use Rattle.dso_class.specs.BodyWalk.{HasMet, IsPlace, IsWalked, known_in, met_in, owner_in}
 use Rattle.dso_class.proofs.expression.+expression.Given as goal
 
 -- the expressions so far are walked

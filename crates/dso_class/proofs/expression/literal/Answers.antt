@@ -1,6 +1,6 @@
 use Rattle.std.proofs.Common.{refl}
 use Rattle.dso_class.specs.Numbers.{text}
-use Rattle.dso_class.proofs.Walking.{one_made}
+use Rattle.dso_class.proofs.walks.BodyParts.{one_made}
 use Rattle.dso_class.proofs.expression.literal.Goals as goal
 
 pub returns : goal.returns

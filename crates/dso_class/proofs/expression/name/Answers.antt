@@ -1,7 +1,7 @@
 use Rattle.std.proofs.Common.{refl, ap}
 use Rattle.dso_class.specs.Numbers.{variable}
-use Rattle.dso_class.specs.Walk.{bare_used, known_in}
-use Rattle.dso_class.proofs.Walking.{one_made}
+use Rattle.dso_class.specs.BodyWalk.{bare_used, known_in}
+use Rattle.dso_class.proofs.walks.BodyParts.{one_made}
 use Rattle.dso_class.proofs.expression.name.Goals as goal
 
 pub returns-in_ok-alone-in-Value : goal.returns-in_ok-alone-in-Value

@@ -1,6 +1,6 @@
 use Rattle.std.proofs.Common.{refl}
 use Rattle.dso_class.specs.Numbers.{object}
-use Rattle.dso_class.proofs.Walking.{one_made}
+use Rattle.dso_class.proofs.walks.BodyParts.{one_made}
 use Rattle.dso_class.proofs.expression.object.Goals as goal
 
 pub returns : goal.returns

@@ -3,8 +3,8 @@ use Rattle.dso_syntax.specs.declared.tree.ExprForm.TheVariants as e
 use Rattle.dso_syntax.specs.Grammar as grammar
 use Rattle.dso_class.specs.Mentions.{on, dotted}
 use Rattle.dso_class.specs.Numbers.{IsNumber, IsFieldRef, MeansExpr, root, field, variable}
-use Rattle.dso_class.specs.Walk.{known_in, HeadMeans}
-use Rattle.dso_class.proofs.Walking.{one_made, second_tail}
+use Rattle.dso_class.specs.BodyWalk.{known_in, HeadMeans}
+use Rattle.dso_class.proofs.walks.BodyParts.{one_made, second_tail}
 use Rattle.dso_class.proofs.expression.of_name.Goals as goal
 
 pub returns-in-Root : goal.returns-in-Root

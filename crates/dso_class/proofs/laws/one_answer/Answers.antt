@@ -1,5 +1,5 @@
-use Rattle.dso_class.proofs.OneFault as laws
-use Rattle.dso_class.proofs.OneProgram as program
+use Rattle.dso_class.proofs.rules.OneFault as laws
+use Rattle.dso_class.proofs.one_program.Program as program
 use Rattle.dso_class.proofs.laws.one_answer.Goals as goal
 
 pub returns-clause-one_fault : goal.returns-clause-one_fault

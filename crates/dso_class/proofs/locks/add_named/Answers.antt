@@ -1,4 +1,4 @@
-use Rattle.dso_class.proofs.Lent.{grown, none_yet, all_now}
+use Rattle.dso_class.proofs.mentions.BorrowedWords.{grown, none_yet, all_now}
 use Rattle.dso_class.proofs.locks.add_named.Goals as goal
 
 pub loop-entry-init : goal.loop-entry-init

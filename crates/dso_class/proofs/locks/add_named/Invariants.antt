@@ -1,6 +1,6 @@
 use Rattle.std.proofs.Common.{List, ◌++◌, map, take}
-use Rattle.dso_class.specs.Lent.{words_of}
-use Rattle.dso_class.specs.Lists.{AreFirsts}
+use Rattle.dso_class.specs.BorrowedWords.{words_of}
+use Rattle.dso_class.specs.LastAndFirst.{AreFirsts}
 use Rattle.dso_class.specs.Words.{Word}
 use Rattle.dso_class.proofs.locks.add_named.Given as goal
 

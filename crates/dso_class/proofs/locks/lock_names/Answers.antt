@@ -1,8 +1,8 @@
 use Rattle.std.proofs.Common.{subst, sym, []}
-use Rattle.dso_class.specs.Lent.{words_of}
-use Rattle.dso_class.specs.Lists.{AreFirsts, empty}
+use Rattle.dso_class.specs.BorrowedWords.{words_of}
+use Rattle.dso_class.specs.LastAndFirst.{AreFirsts, empty}
 use Rattle.dso_class.specs.Words.{Word}
-use Rattle.dso_class.proofs.LockNames.{named_words, named_there, named_absent, with_guards}
+use Rattle.dso_class.proofs.locking.LockNames.{named_words, named_there, named_absent, with_guards}
 use Rattle.dso_class.proofs.locks.lock_names.Goals as goal
 use Rattle.dso_class.proofs.locks.lock_names.Goals.{in-Some+in_ok-add_named-in-Some, in-None}
 

@@ -1,9 +1,9 @@
 use Rattle.std.proofs.Common.{subst, sym, [], ◌∷◌}
 use Rattle.dso_class.specs.Mentions.{of_member}
-use Rattle.dso_class.specs.Walked.{AreMembersRight, Gives, IsToldOf}
-use Rattle.dso_class.proofs.JudgingItems as judging
-use Rattle.dso_class.proofs.MethodItems as laws
-use Rattle.dso_class.proofs.MethodItems.{IsMade, IsWalked}
+use Rattle.dso_class.specs.TextWalk.{AreMembersRight, Gives, IsToldOf}
+use Rattle.dso_class.proofs.rules.ComposingItems as judging
+use Rattle.dso_class.proofs.walks.MethodItems as laws
+use Rattle.dso_class.proofs.walks.MethodItems.{IsMade, IsWalked}
 use Rattle.dso_class.proofs.member.class_member.Goals as goal
 
 pub returns-in-Field : goal.returns-in-Field

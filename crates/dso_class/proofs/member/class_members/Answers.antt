@@ -1,5 +1,5 @@
-use Rattle.dso_class.proofs.JudgingItems as judging
-use Rattle.dso_class.proofs.WalkingItems as laws
+use Rattle.dso_class.proofs.rules.ComposingItems as judging
+use Rattle.dso_class.proofs.walks.Items as laws
 use Rattle.dso_class.proofs.member.class_members.Goals as goal
 
 pub loop-member-init : goal.loop-member-init

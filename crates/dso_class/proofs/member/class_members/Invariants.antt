@@ -1,6 +1,6 @@
 use Rattle.std.proofs.Common.{flat_map, take, Ok}
 use Rattle.dso_class.specs.Mentions.{of_member}
-use Rattle.dso_class.specs.Walked.{WalksMembers}
+use Rattle.dso_class.specs.TextWalk.{WalksMembers}
 use Rattle.dso_class.proofs.member.class_members.Given as goal
 
 -- the members so far are there in numbers

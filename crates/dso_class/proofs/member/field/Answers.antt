@@ -1,6 +1,6 @@
-use Rattle.dso_class.proofs.JudgingItems as judging
-use Rattle.dso_class.proofs.MemberItems as laws
-use Rattle.dso_class.proofs.RuledItems.{field_ruled}
+use Rattle.dso_class.proofs.rules.ComposingItems as judging
+use Rattle.dso_class.proofs.walks.MemberItems as laws
+use Rattle.dso_class.proofs.rules.MetBefore.{field_ruled}
 use Rattle.dso_class.proofs.member.field.Goals as goal
 
 pub returns-in_err-declare : goal.returns-in_err-declare

@@ -1,6 +1,6 @@
 use Rattle.std.proofs.Common.{refl}
-use Rattle.dso_class.proofs.JudgingItems as judging
-use Rattle.dso_class.proofs.MethodItems as laws
+use Rattle.dso_class.proofs.rules.ComposingItems as judging
+use Rattle.dso_class.proofs.walks.MethodItems as laws
 use Rattle.dso_class.specs.Heads.{word_of}
 use Rattle.dso_class.specs.Mentions.{on, method}
 use Rattle.std.proofs.Common.{[], ◌∷◌}

@@ -1,4 +1,4 @@
-use Rattle.dso_class.proofs.MethodItems as laws
+use Rattle.dso_class.proofs.walks.MethodItems as laws
 use Rattle.dso_class.proofs.member.monitor.Goals as goal
 
 pub returns-in-Some : goal.returns-in-Some

@@ -1,7 +1,7 @@
 use Rattle.std.proofs.Common.{refl, sym, ◌∙◌}
 use Rattle.std.proofs.lemmas.Bool.{false≢true}
-use Rattle.dso_class.proofs.JudgingItems as judging
-use Rattle.dso_class.proofs.MemberItems as laws
+use Rattle.dso_class.proofs.rules.ComposingItems as judging
+use Rattle.dso_class.proofs.walks.MemberItems as laws
 use Rattle.dso_class.proofs.member.static_field.Goals as goal
 
 pub returns-then-not-is_root : goal.returns-then-not-is_root

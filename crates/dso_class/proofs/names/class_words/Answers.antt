@@ -1,7 +1,7 @@
 use Rattle.std.proofs.Common.{rules, ap, [], ◌∷◌}
 use Rattle.dso_class.specs.Declarations.{class_names}
-use Rattle.dso_class.proofs.Classes.{names_append}
-use Rattle.dso_class.proofs.NamesSoFar.{pushed, stays}
+use Rattle.dso_class.proofs.gathering.ClassNames.{names_append}
+use Rattle.dso_class.proofs.gathering.NamesSoFar.{pushed, stays}
 use Rattle.dso_class.proofs.names.class_words.Goals as goal
 use Rattle.dso_class.proofs.names.class_words.Goals.{in-Class+in_ok-clone-in-Class+in_ok-push-in-Class, in-Thread}
 

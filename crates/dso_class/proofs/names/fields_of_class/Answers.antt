@@ -1,7 +1,7 @@
 use Rattle.std.proofs.Common.{rules, ap, [], ◌∷◌}
 use Rattle.dso_class.specs.Gathered.{named_fields}
-use Rattle.dso_class.proofs.Gathering.{field_names_append}
-use Rattle.dso_class.proofs.NamesSoFar.{pushed, stays}
+use Rattle.dso_class.proofs.gathering.Items.{field_names_append}
+use Rattle.dso_class.proofs.gathering.NamesSoFar.{pushed, stays}
 use Rattle.dso_class.proofs.names.fields_of_class.Goals as goal
 use Rattle.dso_class.proofs.names.fields_of_class.Goals.{in-Field+in_ok-clone-in-Field+in_ok-push-in-Field, in-Static, in-Method}
 

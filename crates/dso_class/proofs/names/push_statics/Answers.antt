@@ -1,6 +1,6 @@
 use Rattle.std.proofs.Common.{rules, ap, [], ◌∷◌}
 use Rattle.dso_class.specs.Declarations.{statics_of}
-use Rattle.dso_class.proofs.NamesSoFar.{static_pushed, static_stays}
+use Rattle.dso_class.proofs.gathering.NamesSoFar.{static_pushed, static_stays}
 use Rattle.dso_class.proofs.names.push_statics.Goals as goal
 use Rattle.dso_class.proofs.names.push_statics.Goals.{in-Static+in_ok-clone-in-Static+in_ok-clone-in-Static-2+in_ok-push-in-Static, in-Field, in-Method}
 

@@ -1,6 +1,6 @@
 use Rattle.std.proofs.Common.{rules, ◌∙◌, ap, [], ◌∷◌, append-nil}
 use Rattle.dso_class.specs.Declarations.{all_statics, statics_of}
-use Rattle.dso_class.proofs.NamesSoFar.{all_statics_append, pushed, stays}
+use Rattle.dso_class.proofs.gathering.NamesSoFar.{all_statics_append, pushed, stays}
 use Rattle.dso_class.proofs.names.root_words.Goals as goal
 use Rattle.dso_class.proofs.names.root_words.Goals.{in-Class+in_ok-push_statics-in-Class, in-Thread}
 

@@ -1,7 +1,7 @@
 use Rattle.std.proofs.Common.{rules, ap, [], ◌∷◌}
-use Rattle.dso_class.specs.NamesOf.{field_words}
+use Rattle.dso_class.specs.Symbols.{field_words}
 use Rattle.dso_class.specs.Gathered.{named_fields}
-use Rattle.dso_class.proofs.NamesSoFar.{field_words_append, pushed, stays}
+use Rattle.dso_class.proofs.gathering.NamesSoFar.{field_words_append, pushed, stays}
 use Rattle.dso_class.proofs.names.rows_of_fields.Goals as goal
 use Rattle.dso_class.proofs.names.rows_of_fields.Goals.{in-Class+in_ok-fields_of_class-in-Class+in_ok-push-in-Class, in-Thread}
 

@@ -1,5 +1,5 @@
 use Rattle.std.proofs.Common.{◌≡◌, take}
-use Rattle.dso_class.specs.NamesOf.{field_words}
+use Rattle.dso_class.specs.Symbols.{field_words}
 use Rattle.dso_class.proofs.names.rows_of_fields.Given as goal
 
 -- what is there so far

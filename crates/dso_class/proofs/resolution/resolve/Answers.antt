@@ -1,12 +1,12 @@
 use Rattle.std.proofs.Common.{rules, refl, sym, subst, ◌∙◌, ◌≡◌, [], Err}
 use Rattle.dso_class.specs.Assignable.{ItemsAssign}
-use Rattle.dso_class.specs.Lent.{words_of}
-use Rattle.dso_class.specs.NamesOf.{AreWordsOf}
-use Rattle.dso_class.specs.Program.{IsProgramOf, Source}
-use Rattle.dso_class.proofs.GrammarAssigns.{given_assigns}
-use Rattle.dso_class.proofs.SettingOf.{gathered, setting_of, ready_of, few_names, few_literals}
-use Rattle.dso_class.proofs.Soundness.{sound_program}
-use Rattle.dso_class.proofs.WholeText.{program_of_whole, told_whole}
+use Rattle.dso_class.specs.BorrowedWords.{words_of}
+use Rattle.dso_class.specs.Symbols.{AreWordsOf}
+use Rattle.dso_class.specs.TextProgram.{IsProgramOf, Source}
+use Rattle.dso_class.proofs.grammar.Assignments.{given_assigns}
+use Rattle.dso_class.proofs.walks.SettingOf.{gathered, setting_of, ready_of, few_names, few_literals}
+use Rattle.dso_class.proofs.soundness.Program.{sound_program}
+use Rattle.dso_class.proofs.walks.WholeText.{program_of_whole, told_whole}
 use Rattle.dso_class.proofs.resolution.resolve.Goals as goal
 
 pub walk-requires : goal.walk-requires

@@ -1,6 +1,6 @@
 use Rattle.std.proofs.Common.{rules, ◌≡◌, refl, sym, subst, [], Err}
-use Rattle.dso_class.specs.Whole.{AnswersWhole}
-use Rattle.dso_class.proofs.WholeText.{IsNew, new_has_met, whole_of_items, refused_whole}
+use Rattle.dso_class.specs.WholeProgram.{AnswersWhole}
+use Rattle.dso_class.proofs.walks.WholeText.{IsNew, new_has_met, whole_of_items, refused_whole}
 use Rattle.dso_class.proofs.resolution.walk.Goals as goal
 
 pub returns : goal.returns

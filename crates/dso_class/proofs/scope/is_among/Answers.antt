@@ -1,5 +1,5 @@
 use Rattle.std.proofs.Common.{refl, ◌∙◌, sym}
-use Rattle.dso_class.proofs.Known.{among, more}
+use Rattle.dso_class.proofs.lists.Among.{among, more}
 use Rattle.dso_class.proofs.scope.is_among.Goals as goal
 
 pub returns-then-same : goal.returns-then-same

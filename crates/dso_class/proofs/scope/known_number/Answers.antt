@@ -1,6 +1,6 @@
 use Rattle.std.proofs.Common.{refl, ◌∙◌, sym, subst, Contains}
-use Rattle.dso_class.specs.Lent.{words_of}
-use Rattle.dso_class.proofs.Known.{in_reverse, of_reverse}
+use Rattle.dso_class.specs.BorrowedWords.{words_of}
+use Rattle.dso_class.proofs.lists.Among.{in_reverse, of_reverse}
 use Rattle.dso_class.proofs.scope.known_number.Goals as goal
 
 pub returns-then-is_among-clause-none : goal.returns-then-is_among-clause-none

@@ -5,16 +5,16 @@ use Rattle.dso_syntax.proofs.tree.StmtTree.TheLaws.{the_size}
 use Rattle.dso_machine.specs.declared.tree.Stmt.TheVariants as stmt
 use Rattle.dso_syntax.specs.declared.tree.StmtTree.{out-StmtTree}
 use Rattle.dso_syntax.specs.declared.tree.StmtForm.TheVariants as s
-use Rattle.dso_class.specs.Judged.{behind}
-use Rattle.dso_class.specs.Lent.{words_of}
+use Rattle.dso_class.specs.FaultsAmong.{behind}
+use Rattle.dso_class.specs.BorrowedWords.{words_of}
 use Rattle.dso_class.specs.Mentions as mention
 use Rattle.dso_class.specs.Numbers.{MeansBlock, evaluate, conditional, loop, locked, wait, notify, notify_all, print, done}
-use Rattle.dso_class.specs.Statements.{known_after}
-use Rattle.dso_class.specs.Walk.{owner_in, known_in, met_in}
-use Rattle.dso_class.proofs.Blocks.{one_more, known_more, first_of, means_more, each_assignable}
-use Rattle.dso_class.proofs.Knowing.{at_known, forgotten, stack_grows, stack_higher, stack_back}
-use Rattle.dso_class.proofs.Stepping.{of_stmt, at_var, at_assign, at_eval, at_if, at_while, at_sync, at_wait, at_notify, at_notify_all, at_print, at_return}
-use Rattle.dso_class.proofs.Walking.{second_of_three, third_of_three, three_made, within_fails, first_fails, second_fails, both_made, only_fails, one_made, none_made, only_tail}
+use Rattle.dso_class.specs.StatementWalk.{known_after}
+use Rattle.dso_class.specs.BodyWalk.{owner_in, known_in, met_in}
+use Rattle.dso_class.proofs.walks.Blocks.{one_more, known_more, first_of, means_more, each_assignable}
+use Rattle.dso_class.proofs.walks.Knowing.{at_known, forgotten, stack_grows, stack_higher, stack_back}
+use Rattle.dso_class.proofs.mentions.OfStatements.{of_stmt, at_var, at_assign, at_eval, at_if, at_while, at_sync, at_wait, at_notify, at_notify_all, at_print, at_return}
+use Rattle.dso_class.proofs.walks.BodyParts.{second_of_three, third_of_three, three_made, within_fails, first_fails, second_fails, both_made, only_fails, one_made, none_made, only_tail}
 use Rattle.dso_class.proofs.statement.+statement.Goals as goal
 
 pub statement-returns-in-Var-clause-walks : goal.statement-returns-in-Var-clause-walks

@@ -1,9 +1,9 @@
 use Rattle.std.proofs.Common.{◌≡◌, List, map, take, Ok}
 use Rattle.dso_class.specs.Mentions.{Mention, block, statement}
 use Rattle.dso_class.specs.Numbers.{MeansBlock}
-use Rattle.dso_class.specs.Program.{Source}
-use Rattle.dso_class.specs.Statements.{known_after}
-use Rattle.dso_class.specs.Walk.{HasMet, IsPlace, IsWalked, known_in, met_in, owner_in}
+use Rattle.dso_class.specs.TextProgram.{Source}
+use Rattle.dso_class.specs.StatementWalk.{known_after}
+use Rattle.dso_class.specs.BodyWalk.{HasMet, IsPlace, IsWalked, known_in, met_in, owner_in}
 use Rattle.dso_class.proofs.statement.+statement.Given as goal
 
 -- the statements so far are walked, and what they make known is known

@@ -2,13 +2,13 @@ use Rattle.std.proofs.Common.{◌≡◌, ◌++◌, None, sym, subst, ap, ◌∙�
 use Rattle.dso_syntax.specs.declared.tree.ExprTree.{out-ExprTree}
 use Rattle.dso_syntax.specs.declared.tree.ExprForm.TheVariants as e
 use Rattle.dso_syntax.specs.declared.tree.StmtForm.TheVariants as s
-use Rattle.dso_syntax.specs.Program as program
+use Rattle.dso_syntax.specs.ProgramGrammar as program
 use Rattle.dso_class.specs.declared.uses.Role.TheVariants as role
 use Rattle.dso_class.specs.Mentions as mention
 use Rattle.dso_class.specs.Numbers.{MeansStmt}
-use Rattle.dso_class.specs.Walk.{owner_in, known_in}
-use Rattle.dso_class.proofs.Reading.{tree_is, at_elem, object_field}
-use Rattle.dso_class.proofs.Walking.{only_tail}
+use Rattle.dso_class.specs.BodyWalk.{owner_in, known_in}
+use Rattle.dso_class.proofs.mentions.OfExpressions.{tree_is, at_elem, object_field}
+use Rattle.dso_class.proofs.walks.BodyParts.{only_tail}
 use Rattle.dso_class.proofs.statement.assigned.Goals as goal
 
 pub returns-in-None : goal.returns-in-None

@@ -1,12 +1,12 @@
 use Rattle.std.proofs.Common.{rules, ◌≡◌, Err, refl, ap}
 use Rattle.std.proofs.Common.{reverse, ◌∷◌}
 use Rattle.dso_machine.specs.declared.tree.Stmt.TheVariants as t
-use Rattle.dso_class.specs.Lent.{words_of}
+use Rattle.dso_class.specs.BorrowedWords.{words_of}
 use Rattle.dso_class.specs.Mentions as mention
 use Rattle.dso_class.specs.Numbers.{variable}
-use Rattle.dso_class.specs.Walk.{owner_in, known_in, met_in}
-use Rattle.dso_class.proofs.Knowing.{at_known, begins_contains, declared_there, learnt}
-use Rattle.dso_class.proofs.Walking.{first_fails, second_fails, both_made, no_memory}
+use Rattle.dso_class.specs.BodyWalk.{owner_in, known_in, met_in}
+use Rattle.dso_class.proofs.walks.Knowing.{at_known, begins_contains, declared_there, learnt}
+use Rattle.dso_class.proofs.walks.BodyParts.{first_fails, second_fails, both_made, no_memory}
 use Rattle.dso_class.proofs.statement.declared.Goals as goal
 
 pub returns-in_err-number-clause-walks : goal.returns-in_err-number-clause-walks

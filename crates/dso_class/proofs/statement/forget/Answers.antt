@@ -1,5 +1,5 @@
 use Rattle.std.proofs.Common.{◌<◌, ◌≤◌, length, refl, subst}
-use Rattle.dso_class.proofs.Knowing.{popped, all_popped}
+use Rattle.dso_class.proofs.walks.Knowing.{popped, all_popped}
 use Rattle.dso_class.proofs.statement.forget.Goals as goal
 
 pub loop-init : goal.loop-init

@@ -1,8 +1,8 @@
 use Rattle.std.proofs.Common.{refl, subst}
 use Rattle.dso_machine.specs.declared.tree.Stmt.TheVariants as t
-use Rattle.dso_class.specs.Statements.{to_root, to_field}
-use Rattle.dso_class.specs.Walk.{HeadMeans}
-use Rattle.dso_class.proofs.Walking.{none_made, only_tail}
+use Rattle.dso_class.specs.StatementWalk.{to_root, to_field}
+use Rattle.dso_class.specs.BodyWalk.{HeadMeans}
+use Rattle.dso_class.proofs.walks.BodyParts.{none_made, only_tail}
 use Rattle.dso_class.proofs.statement.named.Goals as goal
 
 pub returns-in-Root : goal.returns-in-Root

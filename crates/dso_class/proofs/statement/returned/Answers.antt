@@ -1,11 +1,11 @@
 use Rattle.std.proofs.Common.{None, Some, refl, sym, subst, ap}
 use Rattle.dso_machine.specs.declared.tree.Stmt.TheVariants as t
 use Rattle.dso_syntax.specs.declared.tree.StmtForm.TheVariants as s
-use Rattle.dso_syntax.specs.Program as program
+use Rattle.dso_syntax.specs.ProgramGrammar as program
 use Rattle.dso_class.specs.Mentions as mention
 use Rattle.dso_class.specs.Numbers.{MeansStmt, leave, answer}
-use Rattle.dso_class.specs.Walk.{owner_in, known_in}
-use Rattle.dso_class.proofs.Walking.{none_made, one_made}
+use Rattle.dso_class.specs.BodyWalk.{owner_in, known_in}
+use Rattle.dso_class.proofs.walks.BodyParts.{none_made, one_made}
 use Rattle.dso_class.proofs.statement.returned.Goals as goal
 
 pub returns-in-None : goal.returns-in-None

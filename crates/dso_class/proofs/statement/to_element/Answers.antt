@@ -1,10 +1,10 @@
 use Rattle.std.proofs.Common.{rules, ◌≡◌, Err, refl}
 use Rattle.dso_machine.specs.declared.tree.Stmt.TheVariants as t
-use Rattle.dso_class.specs.Judged.{behind}
+use Rattle.dso_class.specs.FaultsAmong.{behind}
 use Rattle.dso_class.specs.Mentions as mention
 use Rattle.dso_class.specs.Numbers.{put_element}
-use Rattle.dso_class.specs.Walk.{owner_in, known_in}
-use Rattle.dso_class.proofs.Walking.{second_of_three, third_of_three, three_made}
+use Rattle.dso_class.specs.BodyWalk.{owner_in, known_in}
+use Rattle.dso_class.proofs.walks.BodyParts.{second_of_three, third_of_three, three_made}
 use Rattle.dso_class.proofs.statement.to_element.Goals as goal
 
 pub returns-in_err-index : goal.returns-in_err-index

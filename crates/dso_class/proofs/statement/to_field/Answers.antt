@@ -2,12 +2,12 @@ use Rattle.std.proofs.Common.{rules, ◌≡◌, Err, refl, sym, subst}
 use Rattle.dso_syntax.specs.declared.tree.ExprForm.TheVariants as e
 use Rattle.dso_syntax.specs.declared.tree.StmtForm.TheVariants as s
 use Rattle.dso_syntax.specs.Grammar as grammar
-use Rattle.dso_syntax.specs.Program as program
-use Rattle.dso_class.specs.Judged.{behind}
+use Rattle.dso_syntax.specs.ProgramGrammar as program
+use Rattle.dso_class.specs.FaultsAmong.{behind}
 use Rattle.dso_class.specs.Mentions as mention
 use Rattle.dso_class.specs.Numbers.{MeansStmt, put_field}
-use Rattle.dso_class.specs.Walk.{owner_in, known_in}
-use Rattle.dso_class.proofs.Walking.{second_fails, third_tail}
+use Rattle.dso_class.specs.BodyWalk.{owner_in, known_in}
+use Rattle.dso_class.proofs.walks.BodyParts.{second_fails, third_tail}
 use Rattle.dso_class.proofs.statement.to_field.Goals as goal
 
 pub returns-in_err-value : goal.returns-in_err-value

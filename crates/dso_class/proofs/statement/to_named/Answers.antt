@@ -1,9 +1,9 @@
 use Rattle.std.proofs.Common.{rules, ◌≡◌, ◌∷◌, Err, refl}
-use Rattle.dso_class.specs.Judged.{behind}
+use Rattle.dso_class.specs.FaultsAmong.{behind}
 use Rattle.dso_class.specs.Mentions as mention
-use Rattle.dso_class.specs.Walk.{owner_in, known_in}
-use Rattle.dso_class.proofs.Stepping.{named_means}
-use Rattle.dso_class.proofs.Walking.{first_fails, second_fails, third_tail}
+use Rattle.dso_class.specs.BodyWalk.{owner_in, known_in}
+use Rattle.dso_class.proofs.mentions.OfStatements.{named_means}
+use Rattle.dso_class.proofs.walks.BodyParts.{first_fails, second_fails, third_tail}
 use Rattle.dso_class.proofs.statement.to_named.Goals as goal
 
 pub returns-in_err-head : goal.returns-in_err-head

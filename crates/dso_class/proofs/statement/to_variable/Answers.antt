@@ -2,8 +2,8 @@ use Rattle.std.proofs.Common.{rules, ◌≡◌, ◌∷◌, Err, refl}
 use Rattle.dso_machine.specs.declared.tree.Stmt.TheVariants as t
 use Rattle.dso_class.specs.Mentions as mention
 use Rattle.dso_class.specs.Numbers.{assign}
-use Rattle.dso_class.specs.Walk.{owner_in, known_in}
-use Rattle.dso_class.proofs.Walking.{first_fails, second_fails, both_made}
+use Rattle.dso_class.specs.BodyWalk.{owner_in, known_in}
+use Rattle.dso_class.proofs.walks.BodyParts.{first_fails, second_fails, both_made}
 use Rattle.dso_class.proofs.statement.to_variable.Goals as goal
 
 pub returns-in_err-number : goal.returns-in_err-number

@@ -1,7 +1,7 @@
 use Rattle.dso_class.specs.Declarations.{all_methods}
-use Rattle.dso_class.proofs.CleanText.{clean_text}
-use Rattle.dso_class.proofs.Callees.{callees_where, none_where, all_where}
-use Rattle.dso_class.proofs.Distinct.{few_methods, rise}
+use Rattle.dso_class.proofs.faultless.Text.{clean_text}
+use Rattle.dso_class.proofs.gathering.Callees.{callees_where, none_where, all_where}
+use Rattle.dso_class.proofs.gathering.Distinct.{few_methods, rise}
 use Rattle.dso_class.proofs.tables.callees.Goals as goal
 
 pub returns-clause-there : goal.returns-clause-there

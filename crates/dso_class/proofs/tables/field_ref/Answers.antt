@@ -1,8 +1,8 @@
 use Rattle.std.proofs.Common.{ap, ◌∙◌, map}
 use Rattle.dso_class.specs.Gathered.{all_fields, capped_pair}
-use Rattle.dso_class.proofs.CleanText.{clean_text}
-use Rattle.dso_class.proofs.Distinct.{few_fields, each_few_fields, fields_differ}
-use Rattle.dso_class.proofs.Found.{are_the_places, is_length}
+use Rattle.dso_class.proofs.faultless.Text.{clean_text}
+use Rattle.dso_class.proofs.gathering.Distinct.{few_fields, each_few_fields, fields_differ}
+use Rattle.dso_class.proofs.gathering.FieldsAndMethods.{are_the_places, is_length}
 use Rattle.dso_class.proofs.tables.field_ref.Goals as goal
 
 pub returns : goal.returns

@@ -1,4 +1,4 @@
-use Rattle.dso_class.proofs.Callees.{method_where}
+use Rattle.dso_class.proofs.gathering.Callees.{method_where}
 use Rattle.dso_class.proofs.tables.has_method.Goals as goal
 
 pub returns : goal.returns

@@ -1,9 +1,9 @@
 use Rattle.std.proofs.Common.{◌≤◌, ◌^◌, length, arith}
 use Rattle.dso_class.specs.Declarations.{all_statics}
 use Rattle.dso_class.specs.Gathered.{statics_named}
-use Rattle.dso_class.proofs.CleanText.{clean_text}
-use Rattle.dso_class.proofs.Distinct.{all_statics_differ}
-use Rattle.dso_class.proofs.Firsts.{missing, numbered}
+use Rattle.dso_class.proofs.faultless.Text.{clean_text}
+use Rattle.dso_class.proofs.gathering.Distinct.{all_statics_differ}
+use Rattle.dso_class.proofs.lists.FirstOnes.{missing, numbered}
 use Rattle.dso_class.proofs.tables.root_number.Goals as goal
 
 pub returns-in-Some-clause-there : goal.returns-in-Some-clause-there

@@ -1,6 +1,6 @@
 use Rattle.std.proofs.Common.{get_or, sym, [], ◌∷◌, ◌∙◌, append-nil}
 use Rattle.std.proofs.lemmas.List.{get_or_default}
-use Rattle.dso_class.proofs.Callees.{one_callee, takes, takes_not}
+use Rattle.dso_class.proofs.gathering.Callees.{one_callee, takes, takes_not}
 use Rattle.dso_class.proofs.tables.taking.Goals as goal
 use Rattle.dso_class.proofs.tables.taking.Goals.{then-declared-count+in_ok-push, else-declared-count}
 

@@ -2,10 +2,10 @@ use Rattle.std.proofs.Common.{◌∙◌, ap, subst}
 use Rattle.std.proofs.lemmas.Int.{to_z-of_z}
 use mir.Syntax.{w64}
 use Rattle.dso_class.specs.Heads.{IsThreadNamed, thread_head}
-use Rattle.dso_class.specs.Lent.{words_of}
-use Rattle.dso_class.specs.Walked.{IsToldOf, clients_in}
-use Rattle.dso_class.proofs.JudgingItems as judging
-use Rattle.dso_class.proofs.ThreadItems as laws
+use Rattle.dso_class.specs.BorrowedWords.{words_of}
+use Rattle.dso_class.specs.TextWalk.{IsToldOf, clients_in}
+use Rattle.dso_class.proofs.rules.ComposingItems as judging
+use Rattle.dso_class.proofs.walks.ThreadItems as laws
 use Rattle.dso_class.proofs.thread.thread.Goals as goal
 
 pub returns-in_err-thread : goal.returns-in_err-thread

@@ -5,8 +5,8 @@ use Rattle.dso_class.specs.declared.fault.NameFault.TheVariants as fault
 use Rattle.dso_class.specs.declared.fault.NameKind.TheVariants as kind
 use Rattle.dso_class.specs.declared.fault.What.TheVariants as what
 use Rattle.dso_class.specs.Heads.{IsThreadNamed, thread_head}
-use Rattle.dso_class.specs.Walked.{IsToldOf}
-use Rattle.dso_class.proofs.ThreadItems as laws
+use Rattle.dso_class.specs.TextWalk.{IsToldOf}
+use Rattle.dso_class.proofs.walks.ThreadItems as laws
 use Rattle.dso_class.proofs.thread.thread_name.Goals as goal
 
 pub returns-then-count-ge-MOST_THREADS : goal.returns-then-count-ge-MOST_THREADS

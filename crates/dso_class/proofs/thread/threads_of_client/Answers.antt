@@ -1,8 +1,8 @@
 use Rattle.std.proofs.Common.{subst, sym, arith, ◌+◌}
 use Rattle.std.proofs.lemmas.Int.{to_z-of_z}
 use mir.Syntax.{w64}
-use Rattle.dso_class.proofs.ClientCounts as laws
-use Rattle.dso_class.proofs.ClientCounts.{IsCountSoFar}
+use Rattle.dso_class.proofs.thread_ids.ClientCounts as laws
+use Rattle.dso_class.proofs.thread_ids.ClientCounts.{IsCountSoFar}
 use Rattle.dso_class.proofs.thread.threads_of_client.Goals as goal
 use Rattle.dso_class.proofs.thread.threads_of_client.Goals.{then-from-number, else-from-number}
 

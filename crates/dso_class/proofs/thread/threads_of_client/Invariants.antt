@@ -1,4 +1,4 @@
-use Rattle.dso_class.proofs.ClientCounts.{IsCountSoFar}
+use Rattle.dso_class.proofs.thread_ids.ClientCounts.{IsCountSoFar}
 use Rattle.dso_class.proofs.thread.threads_of_client.Given as goal
 
 -- the bodies so far are counted

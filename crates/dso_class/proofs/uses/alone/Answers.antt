@@ -1,7 +1,7 @@
 use Rattle.std.proofs.Common.{refl}
-use Rattle.dso_class.proofs.Known.{not_none}
-use Rattle.dso_class.proofs.Leaves.{alone_found, alone_unknown}
-use Rattle.dso_class.proofs.Narrowing.{variable_number}
+use Rattle.dso_class.proofs.lists.Among.{not_none}
+use Rattle.dso_class.proofs.mentions.Single.{alone_found, alone_unknown}
+use Rattle.dso_class.proofs.walks.Narrowing.{variable_number}
 use Rattle.dso_class.proofs.uses.alone.Goals as goal
 
 pub returns-in-Some : goal.returns-in-Some

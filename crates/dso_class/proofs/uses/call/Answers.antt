@@ -1,13 +1,13 @@
 use Rattle.std.proofs.Common.{rules, ◌≡◌, ◌↔◌, IsTrue, [], subst}
 use Rattle.dso_class.specs.Declarations.{all_methods}
-use Rattle.dso_class.specs.Faults.{HasMethod, TakesArguments}
+use Rattle.dso_class.specs.NameFaults.{HasMethod, TakesArguments}
 use Rattle.dso_class.specs.Mentions as mention
 use Rattle.dso_class.specs.Numbers as numbers
 use Rattle.dso_class.specs.Numbers.{IsNumber}
 use Rattle.dso_class.specs.declared.fault.NameKind.TheVariants as kind
-use Rattle.dso_class.proofs.Breaking.{call_no_method, call_wrong}
-use Rattle.dso_class.proofs.Leaves.{call_found}
-use Rattle.dso_class.proofs.Walking.{failed_alone}
+use Rattle.dso_class.proofs.rules.InBodies.{call_no_method, call_wrong}
+use Rattle.dso_class.proofs.mentions.Single.{call_found}
+use Rattle.dso_class.proofs.walks.BodyParts.{failed_alone}
 use Rattle.dso_class.proofs.uses.call.Goals as goal
 
 pub returns-then-not-has_method : goal.returns-then-not-has_method

@@ -1,14 +1,14 @@
 use Rattle.std.proofs.Common.{◌↔◌, IsNone, not, refl, subst, sym, ap, ◌∙◌}
-use Rattle.dso_class.specs.Faults.{IsClass}
+use Rattle.dso_class.specs.NameFaults.{IsClass}
 use Rattle.dso_class.specs.Mentions as mention
 use Rattle.dso_class.specs.Numbers.{IsNumber}
-use Rattle.dso_class.specs.Walk.{known_in}
+use Rattle.dso_class.specs.BodyWalk.{known_in}
 use Rattle.dso_class.specs.declared.fault.NameKind.TheVariants as kind
-use Rattle.dso_class.proofs.Breaking.{called_unknown, called_class}
-use Rattle.dso_class.proofs.Known.{not_none}
-use Rattle.dso_class.proofs.Leaves.{called_found}
-use Rattle.dso_class.proofs.Walking.{failed_alone}
-use Rattle.dso_class.proofs.Narrowing.{variable_number}
+use Rattle.dso_class.proofs.rules.InBodies.{called_unknown, called_class}
+use Rattle.dso_class.proofs.lists.Among.{not_none}
+use Rattle.dso_class.proofs.mentions.Single.{called_found}
+use Rattle.dso_class.proofs.walks.BodyParts.{failed_alone}
+use Rattle.dso_class.proofs.walks.Narrowing.{variable_number}
 use Rattle.dso_class.proofs.uses.called.Goals as goal
 
 pub returns-in-Some : goal.returns-in-Some

@@ -1,15 +1,15 @@
 use Rattle.std.proofs.Common.{rules, ◌↔◌, Contains, IsNone, Some, not, refl, subst, sym, ap, ◌∙◌}
 use Rattle.dso_class.specs.Declarations.{all_statics}
-use Rattle.dso_class.specs.Faults.{IsClass}
+use Rattle.dso_class.specs.NameFaults.{IsClass}
 use Rattle.dso_class.specs.Mentions as mention
 use Rattle.dso_class.specs.Numbers.{IsNumber}
-use Rattle.dso_class.specs.Walk.{known_in, HeadMeans}
+use Rattle.dso_class.specs.BodyWalk.{known_in, HeadMeans}
 use Rattle.dso_class.specs.declared.fault.NameKind.TheVariants as kind
-use Rattle.dso_class.proofs.Breaking.{dotted_unknown, dotted_no_static}
-use Rattle.dso_class.proofs.Known.{not_none}
-use Rattle.dso_class.proofs.Leaves.{dotted_found, dotted_at_root}
-use Rattle.dso_class.proofs.Walking.{failed_alone}
-use Rattle.dso_class.proofs.Narrowing.{variable_number}
+use Rattle.dso_class.proofs.rules.InBodies.{dotted_unknown, dotted_no_static}
+use Rattle.dso_class.proofs.lists.Among.{not_none}
+use Rattle.dso_class.proofs.mentions.Single.{dotted_found, dotted_at_root}
+use Rattle.dso_class.proofs.walks.BodyParts.{failed_alone}
+use Rattle.dso_class.proofs.walks.Narrowing.{variable_number}
 use Rattle.dso_class.proofs.uses.dotted.Goals as goal
 
 pub returns-in-Some : goal.returns-in-Some

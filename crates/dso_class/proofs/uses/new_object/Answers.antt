@@ -1,13 +1,13 @@
 use Rattle.std.proofs.Common.{refl, subst}
 use Rattle.dso_class.specs.Declarations.{class_names}
-use Rattle.dso_class.specs.Faults.{IsClass}
+use Rattle.dso_class.specs.NameFaults.{IsClass}
 use Rattle.dso_class.specs.Mentions.{new}
 use Rattle.dso_class.specs.Numbers.{IsNumber}
 use Rattle.dso_class.specs.declared.fault.NameKind.TheVariants as kind
-use Rattle.dso_class.proofs.Breaking.{new_fault}
-use Rattle.dso_class.proofs.Known.{not_none}
-use Rattle.dso_class.proofs.Leaves.{new_found}
-use Rattle.dso_class.proofs.Walking.{failed_alone}
+use Rattle.dso_class.proofs.rules.InBodies.{new_fault}
+use Rattle.dso_class.proofs.lists.Among.{not_none}
+use Rattle.dso_class.proofs.mentions.Single.{new_found}
+use Rattle.dso_class.proofs.walks.BodyParts.{failed_alone}
 use Rattle.dso_class.proofs.uses.new_object.Goals as goal
 
 pub returns-in-Some : goal.returns-in-Some

@@ -2,9 +2,9 @@ use Rattle.std.proofs.Common.{◌∷◌, [], if◌then◌else◌, Err, refl, ap}
 use Rattle.dso_class.specs.declared.fault.NameKind.TheVariants as kind
 use Rattle.dso_class.specs.declared.fault.NameFault.TheVariants as fault
 use Rattle.dso_class.specs.Mentions.{on, this}
-use Rattle.dso_class.specs.Walk.{IsWalked, met_in, owner_in}
-use Rattle.dso_class.proofs.Breaking.{this_fault}
-use Rattle.dso_class.proofs.Walking.{failed_alone, only_fails}
+use Rattle.dso_class.specs.BodyWalk.{IsWalked, met_in, owner_in}
+use Rattle.dso_class.proofs.rules.InBodies.{this_fault}
+use Rattle.dso_class.proofs.walks.BodyParts.{failed_alone, only_fails}
 use Rattle.dso_class.proofs.uses.this.Goals as goal
 
 pub returns-then-place : goal.returns-then-place

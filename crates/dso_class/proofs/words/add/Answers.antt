@@ -1,4 +1,4 @@
-use Rattle.dso_class.proofs.Lent.{firsts_where, fresh_where}
+use Rattle.dso_class.proofs.mentions.BorrowedWords.{firsts_where, fresh_where}
 use Rattle.dso_class.proofs.words.add.Goals as goal
 
 pub returns-clause-firsts : goal.returns-clause-firsts

@@ -1,4 +1,4 @@
-use Rattle.dso_class.proofs.Lent.{found_where, none_where}
+use Rattle.dso_class.proofs.mentions.BorrowedWords.{found_where, none_where}
 use Rattle.dso_class.proofs.words.number_of.Goals as goal
 
 pub returns-clause-found : goal.returns-clause-found

@@ -2,11 +2,11 @@ use Rattle.std.proofs.Common.{◌≡◌, take, reverse}
 use Rattle.dso_base.specs.declared.journal.Node.TheVariants.{Client}
 use Rattle.dso_law.specs.Entries.{entries_of}
 use Rattle.dso_law.specs.Threads.{locks_of, work_of}
-use Rattle.dso_law.specs.InHand.{in_hand}
+use Rattle.dso_law.specs.WorkInHand.{in_hand}
 use Rattle.dso_law.proofs.blocks.work_of.Given as goal
 
 abbrev pub invariant-loop-entry : goal.invariant-loop-entry
 invariant-loop-entry l = record {
-  locks : l.locks ≡ locks_of l.thread (entries_of (Client l.thread.client) (reverse (take l.entry-index l.entries)));
-  work : in_hand l.work ≡ work_of l.shape l.thread (entries_of (Client l.thread.client) (reverse (take l.entry-index l.entries)));
+  locks : l.locks ≡ locks_of l.thread (entries_of (Client l.thread.client) (reverse (take l.entry-index l.entry-items)));
+  work : in_hand l.work ≡ work_of l.shape l.thread (entries_of (Client l.thread.client) (reverse (take l.entry-index l.entry-items)));
 }

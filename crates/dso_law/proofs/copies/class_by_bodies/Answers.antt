@@ -1,6 +1,6 @@
 use Rattle.std.proofs.Common.{arith, ◌<◌, ◌∙◌, sym, ap, [], ◌∷◌, length}
 use Rattle.dso_law.specs.Copies.{class_by_bodies}
-use Rattle.dso_law.proofs.Classes.{class_next}
+use Rattle.dso_law.proofs.client.LastClass.{class_next}
 use Rattle.dso_law.proofs.copies.class_by_bodies.Goals as goal
 
 pub loop-body-preserved : goal.loop-body-preserved

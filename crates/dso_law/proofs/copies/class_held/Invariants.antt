@@ -5,4 +5,4 @@ use Rattle.dso_law.specs.Copies.{class_held}
 use Rattle.dso_law.proofs.copies.class_held.Given as goal
 
 abbrev pub invariant-loop-entry : goal.invariant-loop-entry
-invariant-loop-entry l = l.class ≡ class_held l.object (entries_of (Client l.client) (reverse (take l.entry-index l.entries)))
+invariant-loop-entry l = l.class ≡ class_held l.object (entries_of (Client l.client) (reverse (take l.entry-index l.entry-items)))

@@ -1,5 +1,5 @@
 use Rattle.std.proofs.Common.{◌∙◌}
-use Rattle.dso_law.proofs.Among.{found_among}
+use Rattle.dso_law.proofs.client.HasBody.{found_among}
 use Rattle.dso_law.proofs.copies.is_among.Goals as goal
 
 pub returns : goal.returns

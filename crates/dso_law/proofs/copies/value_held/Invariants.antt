@@ -5,4 +5,4 @@ use Rattle.dso_law.specs.Copies.{value_held}
 use Rattle.dso_law.proofs.copies.value_held.Given as goal
 
 abbrev pub invariant-loop-entry : goal.invariant-loop-entry
-invariant-loop-entry l = l.value ≡ value_held l.object l.field (entries_of (Client l.client) (reverse (take l.entry-index l.entries)))
+invariant-loop-entry l = l.value ≡ value_held l.object l.field (entries_of (Client l.client) (reverse (take l.entry-index l.entry-items)))

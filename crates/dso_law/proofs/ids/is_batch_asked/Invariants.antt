@@ -5,4 +5,4 @@ use Rattle.dso_law.specs.Records.{is_batch_asked}
 use Rattle.dso_law.proofs.ids.is_batch_asked.Given as goal
 
 abbrev pub invariant-loop-entry : goal.invariant-loop-entry
-invariant-loop-entry l = l.is_asked ≡ is_batch_asked (entries_of (Client l.client) (reverse (take l.entry-index l.entries)))
+invariant-loop-entry l = l.is_asked ≡ is_batch_asked (entries_of (Client l.client) (reverse (take l.entry-index l.entry-items)))

@@ -5,4 +5,4 @@ use Rattle.dso_law.specs.Records.{made}
 use Rattle.dso_law.proofs.ids.made.Given as goal
 
 abbrev pub invariant-loop-entry : goal.invariant-loop-entry
-invariant-loop-entry l = (l.count ≡ made (entries_of (Client l.client) (reverse (take l.entry-index l.entries)))) × (l.count ≤ l.entry-index)
+invariant-loop-entry l = (l.count ≡ made (entries_of (Client l.client) (reverse (take l.entry-index l.entry-items)))) × (l.count ≤ l.entry-index)

@@ -5,4 +5,4 @@ use Rattle.dso_law.specs.Leases.{is_entered}
 use Rattle.dso_law.proofs.leases.is_entered.Given as goal
 
 abbrev pub invariant-loop-entry : goal.invariant-loop-entry
-invariant-loop-entry l = l.entered ≡ is_entered l.lock (entries_of (Client l.client) (reverse (take l.entry-index l.entries)))
+invariant-loop-entry l = l.entered ≡ is_entered l.lock (entries_of (Client l.client) (reverse (take l.entry-index l.entry-items)))

@@ -5,4 +5,4 @@ use Rattle.dso_law.specs.Leases.{is_recalled}
 use Rattle.dso_law.proofs.leases.is_recalled.Given as goal
 
 abbrev pub invariant-loop-entry : goal.invariant-loop-entry
-invariant-loop-entry l = l.recalled ≡ is_recalled l.lock (entries_of (Client l.client) (reverse (take l.entry-index l.entries)))
+invariant-loop-entry l = l.recalled ≡ is_recalled l.lock (entries_of (Client l.client) (reverse (take l.entry-index l.entry-items)))

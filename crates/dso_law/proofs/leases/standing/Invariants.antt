@@ -5,4 +5,4 @@ use Rattle.dso_law.specs.Leases.{standing}
 use Rattle.dso_law.proofs.leases.standing.Given as goal
 
 abbrev pub invariant-loop-entry : goal.invariant-loop-entry
-invariant-loop-entry l = l.standing ≡ standing l.lock (entries_of (Client l.client) (reverse (take l.entry-index l.entries)))
+invariant-loop-entry l = l.standing ≡ standing l.lock (entries_of (Client l.client) (reverse (take l.entry-index l.entry-items)))

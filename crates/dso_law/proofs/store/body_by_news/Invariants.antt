@@ -1,5 +1,5 @@
 use Rattle.std.proofs.Common.{◌≡◌, take, fold}
-use Rattle.dso_law.proofs.StoreBodies.{news_step}
+use Rattle.dso_law.proofs.server.StoredBody.{news_step}
 use Rattle.dso_law.proofs.store.body_by_news.Given as goal
 
 abbrev pub invariant-loop-body : goal.invariant-loop-body

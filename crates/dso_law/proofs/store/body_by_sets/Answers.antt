@@ -1,6 +1,6 @@
 use Rattle.std.proofs.Common.{rules, arith, ◌≡◌, ◌≤◌, ◌∙◌, ap, take, length, fold}
 use Rattle.std.proofs.lemmas.List.{take_all}
-use Rattle.dso_law.proofs.StoreBodies.{sets_step, sets_folded}
+use Rattle.dso_law.proofs.server.StoredBody.{sets_step, sets_folded}
 use Rattle.dso_law.proofs.store.body_by_sets.Goals as goal
 
 pub returns : goal.returns

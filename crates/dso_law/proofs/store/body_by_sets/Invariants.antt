@@ -1,5 +1,5 @@
 use Rattle.std.proofs.Common.{◌≡◌, take, fold}
-use Rattle.dso_law.proofs.StoreBodies.{sets_step}
+use Rattle.dso_law.proofs.server.StoredBody.{sets_step}
 use Rattle.dso_law.proofs.store.body_by_sets.Given as goal
 
 abbrev pub invariant-loop-set : goal.invariant-loop-set

@@ -5,4 +5,4 @@ use Rattle.dso_law.specs.Threads.{locks_of}
 use Rattle.dso_law.proofs.threads.locks_of.Given as goal
 
 abbrev pub invariant-loop-entry : goal.invariant-loop-entry
-invariant-loop-entry l = l.locks ≡ locks_of l.thread (entries_of (Client l.thread.client) (reverse (take l.entry-index l.entries)))
+invariant-loop-entry l = l.locks ≡ locks_of l.thread (entries_of (Client l.thread.client) (reverse (take l.entry-index l.entry-items)))

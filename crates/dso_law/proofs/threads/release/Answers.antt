@@ -1,6 +1,6 @@
 use Rattle.std.proofs.Common.{rules, not}
 use Rattle.std.proofs.lemmas.Fn.{filter_same}
-use Rattle.dso_plain.specs.Keys.{is_lock}
+use Rattle.dso_plain.specs.KeyTests.{is_lock}
 use Rattle.dso_law.proofs.threads.release.Goals as goal
 
 pub returns : goal.returns

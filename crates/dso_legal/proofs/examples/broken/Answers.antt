@@ -1,5 +1,5 @@
 use Rattle.dso_legal.proofs.examples.broken.Goals as goal
-use Rattle.dso_legal.proofs.BrokenIsLawful.{is_run}
+use Rattle.dso_legal.proofs.journals.Runs.{broken_runs}
 
 pub returns : goal.returns
-returns c = is_run
+returns c = broken_runs

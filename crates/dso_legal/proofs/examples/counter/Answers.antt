@@ -1,5 +1,5 @@
 use Rattle.dso_legal.proofs.examples.counter.Goals as goal
-use Rattle.dso_legal.proofs.CounterIsLawful.{is_run}
+use Rattle.dso_legal.proofs.journals.Runs.{counter_runs}
 
 pub returns : goal.returns
-returns c = is_run
+returns c = counter_runs

@@ -1,5 +1,5 @@
 use Rattle.dso_legal.proofs.examples.flush.Goals as goal
-use Rattle.dso_legal.proofs.FlushIsLawful.{is_run}
+use Rattle.dso_legal.proofs.journals.Runs.{flush_runs}
 
 pub returns : goal.returns
-returns c = is_run
+returns c = flush_runs

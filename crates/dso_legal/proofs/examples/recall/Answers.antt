@@ -1,5 +1,5 @@
 use Rattle.dso_legal.proofs.examples.recall.Goals as goal
-use Rattle.dso_legal.proofs.RecallIsLawful.{is_run}
+use Rattle.dso_legal.proofs.journals.Runs.{recall_runs}
 
 pub returns : goal.returns
-returns c = is_run
+returns c = recall_runs

@@ -1,5 +1,5 @@
 use Rattle.dso_legal.proofs.examples.waiting.Goals as goal
-use Rattle.dso_legal.proofs.WaitingIsLawful.{is_run}
+use Rattle.dso_legal.proofs.journals.Runs.{waiting_runs}
 
 pub returns : goal.returns
-returns c = is_run
+returns c = waiting_runs

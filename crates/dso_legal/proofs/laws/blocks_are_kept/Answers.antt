@@ -1,5 +1,5 @@
 use Rattle.dso_legal.proofs.laws.blocks_are_kept.Goals as goal
-use Rattle.dso_legal.proofs.ClientRecords.{blocks_are_kept}
+use Rattle.dso_legal.proofs.records.ClientRecords.{blocks_are_kept}
 
 pub returns : goal.returns
 returns c = blocks_are_kept

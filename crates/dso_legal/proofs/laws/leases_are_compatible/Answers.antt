@@ -1,5 +1,5 @@
 use Rattle.dso_legal.proofs.laws.leases_are_compatible.Goals as goal
-use Rattle.dso_legal.proofs.Lent.{leases_are_compatible}
+use Rattle.dso_legal.proofs.leases.LeasesCompatible.{leases_are_compatible}
 
 pub returns : goal.returns
 returns c = leases_are_compatible

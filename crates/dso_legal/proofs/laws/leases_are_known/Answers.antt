@@ -1,5 +1,5 @@
 use Rattle.dso_legal.proofs.laws.leases_are_known.Goals as goal
-use Rattle.dso_legal.proofs.HoldsApart.{leases_are_known}
+use Rattle.dso_legal.proofs.leases.HoldsApart.{leases_are_known}
 
 pub returns : goal.returns
 returns c = leases_are_known

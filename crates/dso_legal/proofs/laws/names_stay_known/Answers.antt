@@ -1,6 +1,6 @@
 use Rattle.dso_legal.proofs.laws.names_stay_known.Goals as goal
-use Rattle.dso_legal.proofs.Names.{names_stay_known}
-use Rattle.dso_legal.proofs.ObjectsMade.{objects_are_made}
+use Rattle.dso_legal.proofs.acts.Names.{names_stay_known}
+use Rattle.dso_legal.proofs.objects.ObjectsMade.{objects_are_made}
 
 pub returns-clause-known : goal.returns-clause-known
 returns-clause-known c = names_stay_known

@@ -1,5 +1,5 @@
 use Rattle.dso_legal.proofs.laws.records_stay_in_order.Goals as goal
-use Rattle.dso_legal.proofs.Numbered.{records_stay_in_order}
+use Rattle.dso_legal.proofs.records.Numbered.{records_stay_in_order}
 
 pub returns : goal.returns
 returns c = records_stay_in_order

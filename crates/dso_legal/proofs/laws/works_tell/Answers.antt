@@ -1,5 +1,5 @@
 use Rattle.dso_legal.proofs.laws.works_tell.Goals as goal
-use Rattle.dso_legal.proofs.WorksTell.{works_tell}
+use Rattle.dso_legal.proofs.objects.WorksTell.{works_tell}
 
 pub returns : goal.returns
 returns c = works_tell

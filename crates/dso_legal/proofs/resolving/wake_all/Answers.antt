@@ -1,8 +1,8 @@
 use Rattle.std.proofs.Common.{◌≡◌, ◌∙◌, ap, [], drop, length}
 use Rattle.std.proofs.Math.Seq.{drop-length}
 use Rattle.dso_base.specs.declared.record.Choice.TheVariants.{All}
-use Rattle.dso_legal.specs.Keeping.{waiters_in}
-use Rattle.dso_legal.proofs.Choosing.{more_gone}
+use Rattle.dso_legal.specs.JournalPassTables.{waiters_in}
+use Rattle.dso_legal.proofs.blocks.WokenByBlocks.{more_gone}
 use Rattle.dso_legal.proofs.resolving.wake_all.Goals as goal
 
 pub returns : goal.returns

@@ -1,6 +1,6 @@
 use Rattle.std.proofs.Common.{rules, ◌≡◌, ◌++◌}
-use Rattle.dso_legal.specs.Keeping.{waiters_in}
-use Rattle.dso_legal.proofs.Waiting.{list_changed}
+use Rattle.dso_legal.specs.JournalPassTables.{waiters_in}
+use Rattle.dso_legal.proofs.journal_pass.WaiterTables.{list_changed}
 use Rattle.dso_legal.proofs.waiters.append.Goals as goal
 
 pub returns : goal.returns

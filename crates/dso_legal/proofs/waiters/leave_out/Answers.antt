@@ -1,6 +1,6 @@
 use Rattle.std.proofs.Common.{rules, not}
 use Rattle.std.proofs.lemmas.Fn.{filter_same}
-use Rattle.dso_base.specs.Program.{is_thread}
+use Rattle.dso_base.specs.Following.{is_thread}
 use Rattle.dso_legal.proofs.waiters.leave_out.Goals as goal
 
 pub returns : goal.returns

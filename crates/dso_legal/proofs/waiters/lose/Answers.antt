@@ -1,9 +1,9 @@
 use Rattle.std.proofs.Common.{rules, ◌≡◌, ◌∙◌, sym, ap, []}
-use Rattle.dso_law.specs.Waking.{without_client}
+use Rattle.dso_law.specs.ServerWaiters.{without_client}
 use Rattle.dso_plain.specs.Tables.{lock_order}
-use Rattle.dso_plain.proofs.Rows.{changed_by, emptied}
-use Rattle.dso_legal.specs.Keeping.{waiters_in}
-use Rattle.dso_legal.proofs.Waiting.{nothing_in, leaves_first, leaves_next, leaves_last}
+use Rattle.dso_lookup.proofs.MapChanges.{changed_by, emptied}
+use Rattle.dso_legal.specs.JournalPassTables.{waiters_in}
+use Rattle.dso_legal.proofs.journal_pass.WaiterTables.{nothing_in, leaves_first, leaves_next, leaves_last}
 use Rattle.dso_legal.proofs.waiters.lose.Goals as goal
 
 pub loop-lock-init : goal.loop-lock-init

@@ -1,8 +1,8 @@
 use Rattle.std.proofs.Common.{◌≡◌}
 use Rattle.std.specs.BTreeMap.{btree_map_len}
-use Rattle.dso_law.specs.Waking.{without_client}
-use Rattle.dso_legal.specs.Keeping.{waiters_in}
-use Rattle.dso_legal.proofs.Waiting.{leaving}
+use Rattle.dso_law.specs.ServerWaiters.{without_client}
+use Rattle.dso_legal.specs.JournalPassTables.{waiters_in}
+use Rattle.dso_legal.proofs.journal_pass.WaiterTables.{leaving}
 use Rattle.dso_legal.proofs.waiters.lose.Given as goal
 
 abbrev pub invariant-loop-lock : goal.invariant-loop-lock

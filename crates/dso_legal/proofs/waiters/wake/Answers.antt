@@ -1,7 +1,7 @@
 use Rattle.std.proofs.Common.{rules, ◌≡◌}
-use Rattle.dso_law.specs.Waits.{without}
-use Rattle.dso_legal.specs.Keeping.{waiters_in}
-use Rattle.dso_legal.proofs.Waiting.{list_changed}
+use Rattle.dso_law.specs.ClientWaiters.{without}
+use Rattle.dso_legal.specs.JournalPassTables.{waiters_in}
+use Rattle.dso_legal.proofs.journal_pass.WaiterTables.{list_changed}
 use Rattle.dso_legal.proofs.waiters.wake.Goals as goal
 
 pub returns : goal.returns

@@ -1,6 +1,6 @@
 use Rattle.std.proofs.Common.{ap₂, ◌∙◌, arith, w64, to_z-of_z}
 use Rattle.std.specs.Int.{int_wrapping_div}
-use Rattle.dso_machine.proofs.Arithmetic.{quotient_wraps}
+use Rattle.dso_machine.proofs.values.Arithmetic.{quotient_wraps}
 use Rattle.dso_machine.proofs.operators.quotient.Goals as goal
 
 pub returns : goal.returns

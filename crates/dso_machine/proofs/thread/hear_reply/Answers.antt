@@ -1,4 +1,4 @@
-use Rattle.dso_machine.proofs.Stands.{heard_followed}
+use Rattle.dso_machine.proofs.standing.AfterEvents.{heard_followed}
 use Rattle.dso_machine.proofs.thread.hear_reply.Goals as goal
 
 pub returns : goal.returns

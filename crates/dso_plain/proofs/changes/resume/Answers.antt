@@ -1,7 +1,7 @@
 use Rattle.std.proofs.Common.{ap, sym, ◌∙◌}
-use Rattle.dso_plain.specs.Maps.{look_in}
+use Rattle.dso_lookup.specs.Rows.{look_in}
 use Rattle.dso_plain.specs.Tables.{state_of, lock_order, thread_order}
-use Rattle.dso_plain.proofs.Monitoring.{went_on, woken}
+use Rattle.dso_plain.proofs.table_changes.TwoChanges.{went_on, woken}
 use Rattle.dso_plain.proofs.changes.resume.Goals as goal
 
 pub returns-in_ok-set_hold-in-Some-clause-state : goal.returns-in_ok-set_hold-in-Some-clause-state

@@ -1,4 +1,4 @@
-use Rattle.dso_plain.proofs.Clearing.{clear_state, clear_mirrors}
+use Rattle.dso_plain.proofs.table_changes.ThreadLeaves.{clear_state, clear_mirrors}
 use Rattle.dso_plain.proofs.clears.clear.Goals as goal
 
 pub returns-clause-state : goal.returns-clause-state

@@ -1,7 +1,7 @@
-use Rattle.dso_plain.specs.Maps.{look}
+use Rattle.dso_lookup.specs.Maps.{look}
 use Rattle.dso_plain.specs.Tables.{thread_order}
-use Rattle.dso_plain.proofs.Losing.{clears_first, clears_next, clears_last}
-use Rattle.dso_plain.proofs.Rows.{changed_by, emptied}
+use Rattle.dso_plain.proofs.table_changes.ClientLeaves.{clears_first, clears_next, clears_last}
+use Rattle.dso_lookup.proofs.MapChanges.{changed_by, emptied}
 use Rattle.dso_plain.proofs.clears.clear_all.Goals as goal
 
 pub loop-thread-init : goal.loop-thread-init

@@ -1,7 +1,8 @@
 use Rattle.std.proofs.Common.{◌≡◌}
 use Rattle.std.specs.BTreeMap.{btree_map_len}
 use Rattle.dso_plain.specs.Changes.{dropped}
-use Rattle.dso_plain.specs.Maps.{look, look_in}
+use Rattle.dso_lookup.specs.Maps.{look}
+use Rattle.dso_lookup.specs.Rows.{look_in}
 use Rattle.dso_plain.specs.Tables.{lock_order, thread_order}
 use Rattle.dso_plain.proofs.clears.drop_rows.Given as goal
 

@@ -1,6 +1,6 @@
 use Rattle.std.specs.Ordering.{nat_cmp}
-use Rattle.dso_plain.specs.Maps.{look}
-use Rattle.dso_plain.proofs.Losing.{lose_state, lose_agrees}
+use Rattle.dso_lookup.specs.Maps.{look}
+use Rattle.dso_plain.proofs.table_changes.ClientLeaves.{lose_state, lose_agrees}
 use Rattle.dso_plain.proofs.clears.lose.Goals as goal
 
 pub returns-clause-state : goal.returns-clause-state

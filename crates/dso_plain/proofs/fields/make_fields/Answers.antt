@@ -1,13 +1,12 @@
 use Rattle.std.proofs.Common.{◌≡◌, ◌∙◌, Some, ap, arith}
 use Rattle.dso_base.specs.Shape.{kind_of}
-use Rattle.dso_plain.specs.Keys.{is_field}
-use Rattle.dso_plain.specs.Maps.{look}
+use Rattle.dso_plain.specs.KeyTests.{is_field}
+use Rattle.dso_lookup.specs.Maps.{look, writes, written}
 use Rattle.std.specs.BTreeMap.{is_at}
 use Rattle.dso_plain.specs.After.{opening_value}
-use Rattle.dso_plain.specs.Keys.{writes, written}
 use Rattle.dso_plain.specs.Tables.{field_order}
-use Rattle.dso_plain.proofs.Orders.{field_at}
-use Rattle.dso_plain.proofs.Writing.{renamed, one_more}
+use Rattle.dso_plain.proofs.keys.TableOrders.{field_at}
+use Rattle.dso_plain.proofs.keys.Writes.{renamed, one_more}
 use Rattle.dso_plain.proofs.fields.make_fields.Goals as goal
 
 pub loop-field-preserved : goal.loop-field-preserved

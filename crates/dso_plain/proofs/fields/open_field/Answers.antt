@@ -1,11 +1,12 @@
 use Rattle.std.proofs.Common.{◌≡◌, ◌∙◌, Some, None, ap, reverse}
 use Rattle.std.specs.BTreeMap.{is_at}
-use Rattle.dso_plain.specs.Keys.{is_field, writes, written}
-use Rattle.dso_plain.specs.Maps.{look}
+use Rattle.dso_plain.specs.KeyTests.{is_field}
+use Rattle.dso_lookup.specs.Maps.{writes, written, look}
 use Rattle.dso_plain.specs.After.{present}
-use Rattle.dso_plain.specs.Tables.{field_order, newest_first, pasts_of}
-use Rattle.dso_plain.proofs.Orders.{field_at}
-use Rattle.dso_plain.proofs.Writing.{through}
+use Rattle.dso_plain.specs.Tables.{field_order, pasts_of}
+use Rattle.dso_lookup.specs.Lists.{newest_first}
+use Rattle.dso_plain.proofs.keys.TableOrders.{field_at}
+use Rattle.dso_plain.proofs.keys.Writes.{through}
 use Rattle.dso_plain.proofs.fields.open_field.Goals as goal
 
 pub returns-in-Some : goal.returns-in-Some

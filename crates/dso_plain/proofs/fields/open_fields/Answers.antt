@@ -1,8 +1,8 @@
 use Rattle.std.proofs.Common.{◌≡◌, arith}
-use Rattle.dso_plain.specs.Maps.{look}
+use Rattle.dso_lookup.specs.Maps.{look}
 use Rattle.dso_plain.specs.After.{present}
 use Rattle.dso_plain.specs.Tables.{field_order, pasts_of}
-use Rattle.dso_plain.proofs.Writing.{one_more}
+use Rattle.dso_plain.proofs.keys.Writes.{one_more}
 use Rattle.dso_plain.proofs.fields.open_fields.Goals as goal
 
 pub loop-field-preserved : goal.loop-field-preserved

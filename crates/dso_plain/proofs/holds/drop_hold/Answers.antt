@@ -1,4 +1,4 @@
-use Rattle.dso_plain.proofs.Holdings.{hold_drop_state, hold_drop_agrees}
+use Rattle.dso_plain.proofs.table_changes.HoldsAndWaits.{hold_drop_state, hold_drop_agrees}
 use Rattle.dso_plain.proofs.holds.drop_hold.Goals as goal
 
 pub returns-clause-state : goal.returns-clause-state

@@ -1,4 +1,4 @@
-use Rattle.dso_plain.proofs.Holdings.{wait_drop_state, wait_drop_agrees}
+use Rattle.dso_plain.proofs.table_changes.HoldsAndWaits.{wait_drop_state, wait_drop_agrees}
 use Rattle.dso_plain.proofs.holds.drop_wait.Goals as goal
 
 pub returns-clause-state : goal.returns-clause-state

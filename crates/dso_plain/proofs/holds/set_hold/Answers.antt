@@ -1,4 +1,4 @@
-use Rattle.dso_plain.proofs.Holdings.{hold_set_state, hold_set_agrees}
+use Rattle.dso_plain.proofs.table_changes.HoldsAndWaits.{hold_set_state, hold_set_agrees}
 use Rattle.dso_plain.proofs.holds.set_hold.Goals as goal
 
 pub returns-clause-state : goal.returns-clause-state

@@ -1,4 +1,4 @@
-use Rattle.dso_plain.proofs.Holdings.{wait_set_state, wait_set_agrees}
+use Rattle.dso_plain.proofs.table_changes.HoldsAndWaits.{wait_set_state, wait_set_agrees}
 use Rattle.dso_plain.proofs.holds.set_wait.Goals as goal
 
 pub returns-clause-state : goal.returns-clause-state

@@ -1,5 +1,5 @@
 use Rattle.dso_plain.proofs.laws.loss.Goals as goal
-use Rattle.dso_plain.proofs.Loss.{loss, waiters_left, choice_after_loss}
+use Rattle.dso_plain.proofs.loss.RunsSurvive.{loss, waiters_left, choice_after_loss}
 
 pub returns-clause-runs : goal.returns-clause-runs
 returns-clause-runs c = loss

@@ -1,5 +1,5 @@
 use Rattle.dso_plain.proofs.laws.monitors.Goals as goal
-use Rattle.dso_plain.proofs.Monitors.{monitors}
+use Rattle.dso_plain.proofs.invariants.MonitorsHold.{monitors}
 
 pub returns : goal.returns
 returns c = monitors

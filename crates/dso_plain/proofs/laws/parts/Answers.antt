@@ -1,5 +1,5 @@
 use Rattle.dso_plain.proofs.laws.parts.Goals as goal
-use Rattle.dso_plain.proofs.Diamond.{runs_in_parts, ends_in_parts}
+use Rattle.dso_plain.proofs.independence.RunsSwap.{runs_in_parts, ends_in_parts}
 
 pub returns-clause-runs : goal.returns-clause-runs
 returns-clause-runs c = runs_in_parts

@@ -1,5 +1,5 @@
 use Rattle.dso_plain.proofs.laws.past.Goals as goal
-use Rattle.dso_plain.proofs.Past.{past, pasts_grow}
+use Rattle.dso_plain.proofs.invariants.PastsHold.{past, pasts_grow}
 
 pub returns-clause-reached : goal.returns-clause-reached
 returns-clause-reached c = past

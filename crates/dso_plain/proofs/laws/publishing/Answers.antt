@@ -1,5 +1,6 @@
 use Rattle.dso_plain.proofs.laws.publishing.Goals as goal
-use Rattle.dso_plain.proofs.Published.{reach_tells, published_is_reached}
+use Rattle.dso_plain.proofs.publishing.PublishedIsReached.{published_is_reached}
+use Rattle.dso_lookup.proofs.Reaching.{reach_tells}
 
 pub returns-clause-reach : goal.returns-clause-reach
 returns-clause-reach c = reach_tells

@@ -1,5 +1,5 @@
 use Rattle.dso_plain.proofs.laws.untouched.Goals as goal
-use Rattle.dso_plain.proofs.Own.{leaves_own, leaves_field}
+use Rattle.dso_plain.proofs.independence.LeftAlone.{leaves_own, leaves_field}
 
 pub returns-clause-own : goal.returns-clause-own
 returns-clause-own c = leaves_own

@@ -1,7 +1,7 @@
 use Rattle.std.proofs.Common.{sym, ◌∙◌}
-use Rattle.dso_plain.specs.Maps.{look_in}
+use Rattle.dso_lookup.specs.Rows.{look_in}
 use Rattle.dso_plain.specs.Tables.{lock_order, thread_order}
-use Rattle.dso_plain.proofs.Marking.{mark_state, mark_agrees, not_marked}
+use Rattle.dso_plain.proofs.table_changes.Notifications.{mark_state, mark_agrees, not_marked}
 use Rattle.dso_plain.proofs.marks.mark.Goals as goal
 
 pub returns-in_ok-put_in-in-Some-clause-state : goal.returns-in_ok-put_in-in-Some-clause-state

@@ -1,4 +1,4 @@
-use Rattle.dso_plain.proofs.Marking.{mark_all_state, mark_all_agrees}
+use Rattle.dso_plain.proofs.table_changes.Notifications.{mark_all_state, mark_all_agrees}
 use Rattle.dso_plain.proofs.marks.mark_all.Goals as goal
 
 pub returns-clause-state : goal.returns-clause-state

@@ -1,9 +1,10 @@
 use Rattle.std.proofs.Common.{◌∙◌}
 use Rattle.std.proofs.Math.Path.{fun_ext}
-use Rattle.dso_plain.specs.Maps.{look, look_in}
+use Rattle.dso_lookup.specs.Maps.{look}
+use Rattle.dso_lookup.specs.Rows.{look_in}
 use Rattle.dso_plain.specs.Tables.{lock_order, thread_order}
-use Rattle.dso_plain.proofs.Marking.{one_moved, none_moved}
-use Rattle.dso_plain.proofs.Rows.{changed_by, emptied}
+use Rattle.dso_plain.proofs.table_changes.Notifications.{one_moved, none_moved}
+use Rattle.dso_lookup.proofs.MapChanges.{changed_by, emptied}
 use Rattle.dso_plain.proofs.marks.move_row.Goals as goal
 
 pub loop-thread-preserved : goal.loop-thread-preserved

@@ -1,7 +1,9 @@
-use Rattle.dso_plain.specs.Maps.{look}
-use Rattle.dso_plain.specs.Publishing.{Adds}
+use Rattle.std.proofs.Common.{ℕ, ◌≡◌, ◌||◌}
+use Rattle.dso_lookup.specs.Maps.{look}
+use Rattle.dso_lookup.specs.Search.{is_listed}
+use Rattle.dso_plain.specs.After.{names_below}
 use Rattle.dso_plain.specs.Tables.{field_order}
 use Rattle.dso_plain.proofs.publish.add_named.Given as goal
 
 abbrev pub invariant-loop-field : goal.invariant-loop-field
-invariant-loop-field l = Adds (look field_order l.heap) l.object l.field l.initial.found.items l.found.items
+invariant-loop-field l = (o : ℕ) → is_listed o l.named.items ≡ (is_listed o l.initial.named.items || names_below (look field_order l.heap) l.field l.object o)

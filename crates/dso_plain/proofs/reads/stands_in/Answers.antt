@@ -1,6 +1,6 @@
 use Rattle.std.proofs.Common.{◌-◌, ◌<◌, ◌≤◌, length, arith, refl}
 use Rattle.dso_base.specs.declared.value.Value.TheVariants.{Null}
-use Rattle.dso_plain.proofs.Standing.{stands_here, stands_nowhere}
+use Rattle.dso_plain.proofs.table_changes.PastPlaces.{stands_here, stands_nowhere}
 use Rattle.dso_plain.proofs.reads.stands_in.Goals as goal
 
 pub returns-then-same : goal.returns-then-same

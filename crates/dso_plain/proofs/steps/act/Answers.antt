@@ -1,6 +1,6 @@
 use Rattle.std.proofs.Common.{refl}
 use Rattle.dso_plain.specs.Tables.{state_of}
-use Rattle.dso_plain.proofs.Unchanged.{still_put, still_enter, still_wait, still_notify, still_notify_all}
+use Rattle.dso_plain.proofs.table_changes.Unchanged.{still_put, still_enter, still_wait, still_notify, still_notify_all}
 use Rattle.dso_plain.proofs.steps.act.Goals as goal
 
 pub returns-in-New-Made-clause-state : goal.returns-in-New-Made-clause-state

@@ -1,10 +1,10 @@
 use Rattle.std.proofs.Common.{Some}
 use Rattle.std.specs.BTreeMap.{is_at}
-use Rattle.dso_base.specs.Program.{is_thread}
-use Rattle.dso_plain.specs.Maps.{look}
+use Rattle.dso_base.specs.Following.{is_thread}
+use Rattle.dso_lookup.specs.Maps.{look}
 use Rattle.dso_plain.specs.Tables.{state_of, thread_order}
-use Rattle.dso_plain.proofs.Orders.{thread_at}
-use Rattle.dso_plain.proofs.Writing.{renamed}
+use Rattle.dso_plain.proofs.keys.TableOrders.{thread_at}
+use Rattle.dso_plain.proofs.keys.Writes.{renamed}
 use Rattle.dso_plain.proofs.writes.end.Goals as goal
 
 pub returns-clause-state : goal.returns-clause-state

@@ -1,6 +1,6 @@
-use Rattle.dso_plain.specs.Maps.{look}
+use Rattle.dso_lookup.specs.Maps.{look}
 use Rattle.dso_plain.specs.Tables.{field_order, view_order, pasts_of}
-use Rattle.dso_plain.proofs.Putting.{shared_put}
+use Rattle.dso_plain.proofs.table_changes.NewAndPut.{shared_put}
 use Rattle.dso_plain.proofs.writes.put_shared.Goals as goal
 
 pub returns-clause-state : goal.returns-clause-state

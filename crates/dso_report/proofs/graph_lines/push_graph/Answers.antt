@@ -5,7 +5,7 @@ use Rattle.dso_plain.specs.Tables.{state_of}
 use Rattle.dso_report.specs.Numbering.{fields_of}
 use Rattle.dso_report.specs.Report.{root_line, object_line}
 use Rattle.dso_report.specs.Texts.{each_below, each_of}
-use Rattle.dso_report.proofs.Appends.{first_lacks, second_lacks, below_lacks, below_more, each_lacks, each_more_behind}
+use Rattle.dso_report.proofs.texts.Appends.{first_lacks, second_lacks, below_lacks, below_more, each_lacks, each_more_behind}
 use Rattle.dso_report.proofs.graph_lines.push_graph.Goals as goal
 
 -- what a root's line lacks, the graph lacks

@@ -1,4 +1,4 @@
-use Rattle.dso_report.proofs.Closed.{orders_are_closed}
+use Rattle.dso_report.proofs.ordering.ClosedOrder.{orders_are_closed}
 use Rattle.dso_report.proofs.laws.orders_are_closed.Goals as goal
 
 pub returns : goal.returns

@@ -1,7 +1,7 @@
 use Rattle.std.proofs.Common.{Err, ap, ◌∙◌}
 use Rattle.dso_plain.specs.Tables.{state_of}
-use Rattle.dso_report.proofs.Complete.{lacks_nothing}
-use Rattle.dso_report.proofs.Whole.{whole}
+use Rattle.dso_report.proofs.texts.ReportTexts.{lacks_nothing}
+use Rattle.dso_report.proofs.histories.WholeState.{whole}
 use Rattle.dso_report.proofs.program_report.report.Goals as goal
 
 -- a state of the program lacks no text

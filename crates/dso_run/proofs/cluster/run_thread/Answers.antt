@@ -5,11 +5,11 @@ use Rattle.dso_legal.specs.Slots.{is_finished}
 use Rattle.dso_machine.specs.Next.{next_request}
 use Rattle.dso_run.specs.declared.cluster.Last.TheVariants.{Other}
 use Rattle.dso_run.specs.declared.cluster.Outcome.TheVariants as outcome
-use Rattle.dso_run.specs.Counter.{settings}
-use Rattle.dso_run.specs.Follows.{Follows, with_made}
-use Rattle.dso_run.specs.Room.{HasRoom}
-use Rattle.dso_run.specs.Steps.{tried_after}
-use Rattle.dso_run.proofs.Looping.{IsAt, at_start, room, goes_on, no_stop, ends_finished, ends_over, at_same, has_ended}
+use Rattle.dso_run.specs.first_path.Counter.{settings}
+use Rattle.dso_run.specs.first_path.Follows.{Follows, with_made}
+use Rattle.dso_run.specs.first_path.Room.{HasRoom}
+use Rattle.dso_run.specs.first_path.Steps.{tried_after}
+use Rattle.dso_run.proofs.first_path.Looping.{IsAt, at_start, room, goes_on, no_stop, ends_finished, ends_over, at_same, has_ended}
 use Rattle.dso_run.proofs.cluster.run_thread.Goals.{then-loop-weight-test+else-not-is_finished, else-loop-weight-test}
 use Rattle.dso_run.proofs.cluster.run_thread.Goals as goal
 

@@ -1,5 +1,5 @@
 use Rattle.std.proofs.Common.{◌-◌, reverse}
-use Rattle.dso_run.proofs.Looping.{IsAt}
+use Rattle.dso_run.proofs.first_path.Looping.{IsAt}
 use Rattle.dso_run.proofs.cluster.run_thread.Given as goal
 
 abbrev pub invariant-loop-weight : goal.invariant-loop-weight

@@ -1,5 +1,5 @@
 use Rattle.std.proofs.Common.{◌∙◌, refl, sym}
-use Rattle.dso_run.proofs.CallLists.{one_of, one_more}
+use Rattle.dso_run.proofs.first_path.CallLists.{one_of, one_more}
 use Rattle.dso_run.proofs.counter.are_calls.Goals as goal
 
 -- a list with another statement is none of calls

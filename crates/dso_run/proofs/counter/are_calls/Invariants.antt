@@ -1,5 +1,5 @@
 use Rattle.std.proofs.Common.{◌≡◌, ℤ, List, map, take}
-use Rattle.dso_run.specs.Counter.{calls_method}
+use Rattle.dso_run.specs.first_path.Counter.{calls_method}
 use Rattle.dso_run.proofs.counter.are_calls.Given as goal
 
 abbrev pub invariant-loop-statement : goal.invariant-loop-statement

@@ -1,13 +1,13 @@
-use Rattle.dso_run.specs.Spelling.{plain_item}
-use Rattle.dso_run.proofs.EachTrue.{each_stops, each_more}
+use Rattle.dso_run.specs.first_path.Spelling.{plain_item}
+use Rattle.dso_run.proofs.first_path.PlainLists.{not_all, one_more}
 use Rattle.dso_run.proofs.spelling.are_plain_items.Goals as goal
 
--- one that has some
+-- one has some parentheses
 pub returns-then-not-is_plain_item : goal.returns-then-not-is_plain_item
 returns-then-not-is_plain_item c =
-    each_stops plain_item c.args.items.now c.loop-item.item-index c.item-item.result c.loop-item-test.true c.item-item.is c.if-not-is_plain_item.ensures
+    not_all plain_item c.args.items.now c.loop-item.item-index c.item-item.result c.loop-item-test.true c.item-item.is c.if-not-is_plain_item.ensures
 
--- one more that has none
+-- one more has none
 pub loop-item-preserved : goal.loop-item-preserved
 loop-item-preserved c =
-    each_more plain_item c.args.items.now c.loop-item.item-index c.item-item.result c.loop-item-test.true c.item-item.is c.loop-item.invariant c.if-not-is_plain_item.ensures
+    one_more plain_item c.args.items.now c.loop-item.item-index c.item-item.result c.loop-item-test.true c.item-item.is c.loop-item.invariant c.if-not-is_plain_item.ensures

@@ -1,5 +1,5 @@
 use Rattle.std.proofs.Common.{arith}
-use Rattle.dso_run.proofs.Taken.{taken_after-more}
+use Rattle.dso_run.proofs.SinkPieces.{taken_after-more}
 use Rattle.dso_run.proofs.writing.write_text.Goals as goal
 
 pub loop-written-preserved : goal.loop-written-preserved

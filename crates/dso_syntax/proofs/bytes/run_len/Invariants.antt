@@ -1,6 +1,6 @@
 use Rattle.std.proofs.Common.{◌≡◌, ◌+◌, length}
 use Rattle.std.specs.List.{prefix_len}
-use Rattle.dso_syntax.specs.Classes.{is_in}
+use Rattle.dso_syntax.specs.ByteClasses.{is_in}
 use Rattle.dso_syntax.proofs.bytes.run_len.Given as goal
 
 -- what was counted and what still stands at the front is the whole run

@@ -1,11 +1,10 @@
 use Rattle.std.proofs.Common.{rules, ◌≡◌, ◌-◌, ◌+◌, true, sym, subst, ◌∙◌, arith, length}
-use Rattle.dso_syntax.specs.Reader as reader
-use Rattle.dso_syntax.specs.Parts.{is_asked}
-use Rattle.dso_syntax.specs.Levels as parser
+use Rattle.dso_syntax.specs.ExpressionReader as reader
+use Rattle.dso_syntax.specs.ExpressionLevels as parser
 use Rattle.dso_syntax.specs.declared.token.Mark.TheVariants as mark
 use Rattle.dso_syntax.specs.Gives.{input}
-use Rattle.dso_syntax.proofs.Levels.{operations_stops, operations_last, operations_goes, unary_last, unary_stops, unary_goes, asks_call_open, asks_call, asks_element_open, asks_element}
-use Rattle.dso_syntax.proofs.Listed.{with_front, goes_on}
+use Rattle.dso_syntax.proofs.parser.ExpressionReturns.{operations_stops, operations_last, operations_goes, unary_last, unary_stops, unary_goes, primary_closes, suffixed_field, suffixed_call, suffixed_element}
+use Rattle.dso_syntax.proofs.parser.ListLoops.{with_front, goes_on}
 use Rattle.dso_syntax.proofs.expression.+expression.Goals as goal
 
 pub operations-returns-in_err-right-clause-gives : goal.operations-returns-in_err-right-clause-gives
@@ -39,31 +38,24 @@ unary-returns-clause-gives t c =
     unary_goes c.args.levels c.args.more c.in-Some.op c.in_ok-sign.sign.now c.in_ok-operand.operand c.in_ok-a-2.a (input c.args.rest) (input c.in_ok-sign.inner) (input c.in_ok-operand.behind)
     (omega arith) (sym c.sign_at.ensures ∙ c.in-Some.is) c.in_ok-sign.ensures.gives c.in_ok-operand.ensures.gives c.in_ok-a-2.ensures
 
-pub asks-returns-in_err-a-in-Call-clause-gives : goal.asks-returns-in_err-a-in-Call-clause-gives
-asks-returns-in_err-a-in-Call-clause-gives t c =
-    let some : is_asked (reader.next_mark c.args.rest.tokens.now) ≡ true = search (rules, c.is_asked.ensures, c.if-not-is_asked.false) in
-    let fails = asks_call_open c.in_err-a-in-Call.field-0.0 c.args.levels c.args.more c.args.a c.in_ok-all-in-Call.all c.in_ok-ask.ask c.in-Call.name (input c.args.rest) (input c.in_ok-ask.inner) (input c.in_ok-all-in-Call.behind)
-    (omega arith) some c.in_ok-ask.ensures.gives c.in-Call.is c.in_ok-all-in-Call.ensures.gives c.in_err-a-in-Call.ensures.gives in
-    search (rules, fails, c.from_residual-in_err-a-in-Call.ensures)
+pub primary-returns-in_ok-a-in-Inside-clause-gives : goal.primary-returns-in_ok-a-in-Inside-clause-gives
+primary-returns-in_ok-a-in-Inside-clause-gives t c =
+    primary_closes c.closed.result c.args.levels (input c.args.rest) (input c.in_ok-part.inner) (input c.in_ok-a-in-Inside.behind) c.in_ok-a-in-Inside.a c.in_ok-part.part c.in-Inside.bracket
+    c.in_ok-part.ensures.gives c.in-Inside.is c.in_ok-a-in-Inside.ensures.gives c.closed.ensures.gives
 
-pub asks-returns-in_ok-a-in-Call-clause-gives : goal.asks-returns-in_ok-a-in-Call-clause-gives
-asks-returns-in_ok-a-in-Call-clause-gives t c =
-    let some : is_asked (reader.next_mark c.args.rest.tokens.now) ≡ true = search (rules, c.is_asked.ensures, c.if-not-is_asked.false) in
-    asks_call c.asks-in-Call.result c.args.levels c.args.more c.args.a c.in_ok-a-in-Call.a c.in_ok-all-in-Call.all c.in_ok-ask.ask c.in-Call.name (input c.args.rest) (input c.in_ok-ask.inner) (input c.in_ok-all-in-Call.behind) (input c.in_ok-a-in-Call.behind)
-    (omega arith) some c.in_ok-ask.ensures.gives c.in-Call.is c.in_ok-all-in-Call.ensures.gives c.in_ok-a-in-Call.ensures.gives c.asks-in-Call.ensures.gives
+pub suffixed-returns-in_ok-field-in-Field-clause-gives : goal.suffixed-returns-in_ok-field-in-Field-clause-gives
+suffixed-returns-in_ok-field-in-Field-clause-gives t c =
+    suffixed_field c.args.levels c.args.a c.in_ok-field-in-Field.field c.args.suffix c.in-Field.name (input c.args.rest) c.in-Field.is c.in_ok-field-in-Field.ensures
 
-pub asks-returns-in_err-a-in-Element-clause-gives : goal.asks-returns-in_err-a-in-Element-clause-gives
-asks-returns-in_err-a-in-Element-clause-gives t c =
-    let some : is_asked (reader.next_mark c.args.rest.tokens.now) ≡ true = search (rules, c.is_asked.ensures, c.if-not-is_asked.false) in
-    let fails = asks_element_open c.in_err-a-in-Element.field-0.0 c.args.levels c.args.more c.args.a c.in_ok-at-in-Element.at c.in_ok-ask.ask (input c.args.rest) (input c.in_ok-ask.inner) (input c.in_ok-at-in-Element.behind)
-    (omega arith) some c.in_ok-ask.ensures.gives c.in-Element.is c.in_ok-at-in-Element.ensures.gives c.in_err-a-in-Element.ensures.gives in
-    search (rules, fails, c.from_residual-in_err-a-in-Element.ensures)
+pub suffixed-returns-in_ok-all-in-Call-clause-gives : goal.suffixed-returns-in_ok-all-in-Call-clause-gives
+suffixed-returns-in_ok-all-in-Call-clause-gives t c =
+    suffixed_call c.called.result c.args.levels c.args.a c.in_ok-all-in-Call.all c.args.suffix c.in-Call.name (input c.args.rest) (input c.in_ok-all-in-Call.behind)
+    c.in-Call.is c.in_ok-all-in-Call.ensures.gives c.called.ensures.gives
 
-pub asks-returns-in_ok-a-in-Element-clause-gives : goal.asks-returns-in_ok-a-in-Element-clause-gives
-asks-returns-in_ok-a-in-Element-clause-gives t c =
-    let some : is_asked (reader.next_mark c.args.rest.tokens.now) ≡ true = search (rules, c.is_asked.ensures, c.if-not-is_asked.false) in
-    asks_element c.asks-in-Element.result c.args.levels c.args.more c.args.a c.in_ok-at-in-Element.at c.in_ok-a-in-Element.a c.in_ok-ask.ask (input c.args.rest) (input c.in_ok-ask.inner) (input c.in_ok-at-in-Element.behind) (input c.in_ok-a-in-Element.behind)
-    (omega arith) some c.in_ok-ask.ensures.gives c.in-Element.is c.in_ok-at-in-Element.ensures.gives c.in_ok-a-in-Element.ensures.gives c.asks-in-Element.ensures.gives
+pub suffixed-returns-in_ok-at-in-Element-clause-gives : goal.suffixed-returns-in_ok-at-in-Element-clause-gives
+suffixed-returns-in_ok-at-in-Element-clause-gives t c =
+    suffixed_element c.indexed.result c.args.levels c.args.a c.in_ok-at-in-Element.at c.args.suffix (input c.args.rest) (input c.in_ok-at-in-Element.behind)
+    c.in-Element.is c.in_ok-at-in-Element.ensures.gives c.indexed.ensures.gives
 
 pub listed-loop-preserved : goal.listed-loop-preserved
 listed-loop-preserved t c =

@@ -1,8 +1,8 @@
 use Rattle.std.proofs.Common.{◌≡◌, ◌+◌, ◌*◌, ◌-◌, length}
-use Rattle.dso_syntax.specs.Reader.{listed}
-use Rattle.dso_syntax.specs.Levels.{whole}
+use Rattle.dso_syntax.specs.ExpressionReader.{listed}
+use Rattle.dso_syntax.specs.ExpressionLevels.{whole}
 use Rattle.dso_syntax.specs.Gives.{input}
-use Rattle.dso_syntax.proofs.Listed.{with_front}
+use Rattle.dso_syntax.proofs.parser.ListLoops.{with_front}
 use Rattle.dso_syntax.proofs.expression.+expression.Given as goal
 
 -- The levels come first, then the rank, then what may still come: at most 65 levels, so that each part has room.
@@ -19,8 +19,11 @@ decreases-operations l = 1000 * l.levels + 151 + 100 * l.rank + l.more
 abbrev pub decreases-unary : goal.decreases-unary
 decreases-unary l = 1000 * l.levels + 80 + l.more
 
-abbrev pub decreases-asks : goal.decreases-asks
-decreases-asks l = 1000 * l.levels + 5 + l.more
+abbrev pub decreases-suffixes : goal.decreases-suffixes
+decreases-suffixes l = 1000 * l.levels + 5 + l.more
+
+abbrev pub decreases-suffixed : goal.decreases-suffixed
+decreases-suffixed l = 1000 * l.levels + 3
 
 abbrev pub decreases-arguments : goal.decreases-arguments
 decreases-arguments l = 1000 * l.levels + 2

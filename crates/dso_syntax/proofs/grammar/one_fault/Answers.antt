@@ -1,4 +1,4 @@
-use Rattle.dso_syntax.proofs.OneFault as laws
+use Rattle.dso_syntax.proofs.faults.OneFault as laws
 use Rattle.dso_syntax.proofs.grammar.one_fault.Goals as goal
 
 pub returns : goal.returns

@@ -1,4 +1,4 @@
-use Rattle.dso_syntax.proofs.WholeReads as laws
+use Rattle.dso_syntax.proofs.completeness.ReadPrograms as laws
 use Rattle.dso_syntax.proofs.grammar.one_tree.Goals as goal
 
 pub returns-clause-texts : goal.returns-clause-texts

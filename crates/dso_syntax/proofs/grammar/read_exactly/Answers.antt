@@ -1,4 +1,4 @@
-use Rattle.dso_syntax.proofs.SoundWhole as laws
+use Rattle.dso_syntax.proofs.soundness.SoundPrograms as laws
 use Rattle.dso_syntax.proofs.grammar.read_exactly.Goals as goal
 
 pub returns : goal.returns

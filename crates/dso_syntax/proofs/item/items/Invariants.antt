@@ -1,7 +1,7 @@
 use Rattle.std.proofs.Common.{◌≡◌, ◌-◌, length}
 use Rattle.dso_syntax.specs.ProgramReader.{items_from}
-use Rattle.dso_syntax.specs.Blocks.{body}
-use Rattle.dso_syntax.proofs.Listed.{with_front}
+use Rattle.dso_syntax.specs.StatementLevels.{body}
+use Rattle.dso_syntax.proofs.parser.ListLoops.{with_front}
 use Rattle.dso_syntax.proofs.item.items.Given as goal
 
 -- what was read, and what is read of the rest, is what is read of all

@@ -1,4 +1,4 @@
-use Rattle.dso_syntax.proofs.ReadingLaws as laws
+use Rattle.dso_syntax.proofs.tokens.ReadingLaws as laws
 use Rattle.dso_syntax.proofs.lex.one_reading.Goals as goal
 
 pub returns : goal.returns

@@ -1,5 +1,5 @@
 use Rattle.std.proofs.Common.{rules, ◌≤◌, length, ◌+◌, sym, subst, ◌∙◌}
-use Rattle.dso_syntax.proofs.Lexing.{Going, gap_goes, token_takes, part, part_shorter, going_gap, going_token, going_ends, going_bad_byte, going_bad_token}
+use Rattle.dso_syntax.proofs.tokens.Lexing.{Going, gap_goes, token_takes, part, part_shorter, going_gap, going_token, going_ends, going_bad_byte, going_bad_token}
 use Rattle.dso_syntax.proofs.lex.tokens_of.Goals as goal
 
 pub returns-in-End : goal.returns-in-End

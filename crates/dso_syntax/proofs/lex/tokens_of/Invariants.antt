@@ -1,5 +1,5 @@
 use Rattle.std.proofs.Common.{length}
-use Rattle.dso_syntax.proofs.Lexing.{Going}
+use Rattle.dso_syntax.proofs.tokens.Lexing.{Going}
 use Rattle.dso_syntax.proofs.lex.tokens_of.Given as goal
 
 -- the tokens so far, and those of the rest from its place and line on, are those of the text

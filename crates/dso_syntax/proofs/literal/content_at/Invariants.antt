@@ -1,6 +1,6 @@
 use Rattle.std.proofs.Common.{◌≡◌, ◌+◌, length, false}
 use Rattle.dso_syntax.specs.Scan.{content_at}
-use Rattle.dso_syntax.proofs.Content.{behind}
+use Rattle.dso_syntax.proofs.tokens.LiteralContent.{behind}
 use Rattle.dso_syntax.proofs.literal.content_at.Given as goal
 
 -- what was taken, and what is found behind it

@@ -1,7 +1,7 @@
 use Rattle.std.proofs.Common.{◌≡◌, ◌-◌, length}
 use Rattle.dso_syntax.specs.ProgramReader.{names}
 use Rattle.dso_syntax.specs.Gives.{input}
-use Rattle.dso_syntax.proofs.Listed.{with_front}
+use Rattle.dso_syntax.proofs.parser.ListLoops.{with_front}
 use Rattle.dso_syntax.proofs.member.names.Given as goal
 
 -- what was read, and what is read of the rest, is what is read of all

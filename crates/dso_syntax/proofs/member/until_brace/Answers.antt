@@ -1,10 +1,10 @@
 use Rattle.std.proofs.Common.{rules, ◌≡◌, ◌-◌, ◌+◌, true, false, sym, subst, arith, length}
-use Rattle.dso_syntax.specs.Reader.{is_mark, next_mark}
+use Rattle.dso_syntax.specs.ExpressionReader.{is_mark, next_mark}
 use Rattle.dso_syntax.specs.ProgramReader.{until_brace, one_member}
-use Rattle.dso_syntax.specs.Blocks.{body}
+use Rattle.dso_syntax.specs.StatementLevels.{body}
 use Rattle.dso_syntax.specs.declared.token.Mark.TheVariants as mark
 use Rattle.dso_syntax.specs.Gives.{input}
-use Rattle.dso_syntax.proofs.Listed.{with_front, braces_close, braces_stop, braces_go}
+use Rattle.dso_syntax.proofs.parser.ListLoops.{with_front, braces_close, braces_stop, braces_go}
 use Rattle.dso_syntax.proofs.member.until_brace.Goals as goal
 
 pub loop-preserved : goal.loop-preserved

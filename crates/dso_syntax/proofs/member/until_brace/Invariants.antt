@@ -1,8 +1,8 @@
 use Rattle.std.proofs.Common.{◌≡◌, ◌-◌, length}
 use Rattle.dso_syntax.specs.ProgramReader.{until_brace, one_member}
-use Rattle.dso_syntax.specs.Blocks.{body}
+use Rattle.dso_syntax.specs.StatementLevels.{body}
 use Rattle.dso_syntax.specs.Gives.{input}
-use Rattle.dso_syntax.proofs.Listed.{with_front}
+use Rattle.dso_syntax.proofs.parser.ListLoops.{with_front}
 use Rattle.dso_syntax.proofs.member.until_brace.Given as goal
 
 -- what was read, and what is read of the rest, is what is read of all

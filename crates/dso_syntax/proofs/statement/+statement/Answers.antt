@@ -1,11 +1,11 @@
 use Rattle.std.proofs.Common.{rules, ◌≡◌, ◌-◌, ◌+◌, false, sym, subst, arith, length}
-use Rattle.dso_syntax.specs.Reader.{is_mark, next_mark}
+use Rattle.dso_syntax.specs.ExpressionReader.{is_mark, next_mark}
 use Rattle.dso_syntax.specs.ProgramReader as reader
-use Rattle.dso_syntax.specs.Blocks as parser
+use Rattle.dso_syntax.specs.StatementLevels as parser
 use Rattle.dso_syntax.specs.declared.token.Mark.TheVariants as mark
 use Rattle.dso_syntax.specs.Gives.{input}
-use Rattle.dso_syntax.proofs.Blocks.{block_stops, block_close_stops, block_goes, chain_block_stops, chain_stops, chain_goes, guarded_stops, guarded_goes, otherwise_none, otherwise_goes}
-use Rattle.dso_syntax.proofs.Listed.{with_front, braces_go}
+use Rattle.dso_syntax.proofs.parser.StatementReturns.{block_stops, block_close_stops, block_goes, chain_block_stops, chain_stops, chain_goes, guarded_stops, guarded_goes, otherwise_none, otherwise_goes}
+use Rattle.dso_syntax.proofs.parser.ListLoops.{with_front, braces_go}
 use Rattle.dso_syntax.proofs.statement.+statement.Goals as goal
 
 pub block-returns-in_err-all-clause-gives : goal.block-returns-in_err-all-clause-gives

@@ -1,8 +1,8 @@
 use Rattle.std.proofs.Common.{◌≡◌, ◌+◌, ◌*◌, ◌-◌, length}
 use Rattle.dso_syntax.specs.ProgramReader.{until_brace}
-use Rattle.dso_syntax.specs.Blocks.{statement}
+use Rattle.dso_syntax.specs.StatementLevels.{statement}
 use Rattle.dso_syntax.specs.Gives.{input}
-use Rattle.dso_syntax.proofs.Listed.{with_front}
+use Rattle.dso_syntax.proofs.parser.ListLoops.{with_front}
 use Rattle.dso_syntax.proofs.statement.+statement.Given as goal
 
 -- The levels come first, then what may still be chained: at most 65 levels, so that each part has room.

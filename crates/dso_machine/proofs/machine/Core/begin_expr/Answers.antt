@@ -1,4 +1,4 @@
-use Rattle.dso_machine.proofs.Steps.{followed}
+use Rattle.dso_machine.proofs.steps.Steps.{followed}
 use Rattle.dso_machine.proofs.machine.Core.begin_expr.Goals as goal
 
 pub returns-clause-keeps : goal.returns-clause-keeps

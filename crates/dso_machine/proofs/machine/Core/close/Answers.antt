@@ -1,7 +1,7 @@
 use Rattle.std.proofs.Common.{◌≡◌, ◌∷◌, rules}
 use Rattle.dso_machine.specs.declared.machine.Core.{Core}
-use Rattle.dso_machine.specs.declared.task.Task.TheVariants as task
-use Rattle.dso_machine.proofs.Steps.{put_back}
+use Rattle.dso_machine.specs.declared.continuation.Task.TheVariants as task
+use Rattle.dso_machine.proofs.steps.Steps.{put_back}
 use Rattle.dso_machine.proofs.machine.Core.close.Goals as goal
 
 pub returns-in-Some-Then-clause-keeps : goal.returns-in-Some-Then-clause-keeps

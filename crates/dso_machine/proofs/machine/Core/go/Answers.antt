@@ -1,7 +1,7 @@
 use Rattle.std.proofs.Common.{refl}
-use Rattle.dso_machine.specs.Running.{Leads}
-use Rattle.dso_machine.specs.declared.task.Now.TheVariants as now
-use Rattle.dso_machine.proofs.Standing.{leads_on, leads_moved, leads_then, pauses}
+use Rattle.dso_machine.specs.Continuation.{Leads}
+use Rattle.dso_machine.specs.declared.continuation.Now.TheVariants as now
+use Rattle.dso_machine.proofs.standing.AfterReplies.{leads_on, leads_moved, leads_then, pauses}
 use Rattle.dso_machine.proofs.machine.Core.go.Goals as goal
 
 pub returns-then-self-ge-MOST_MOVES-clause-leads : goal.returns-then-self-ge-MOST_MOVES-clause-leads

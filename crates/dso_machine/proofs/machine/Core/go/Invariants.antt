@@ -1,5 +1,5 @@
 use Rattle.std.proofs.Common.{◌-◌}
-use Rattle.dso_machine.specs.Running.{Leads}
+use Rattle.dso_machine.specs.Continuation.{Leads}
 use Rattle.dso_machine.proofs.machine.Core.go.Given as goal
 
 abbrev pub invariant-going : goal.invariant-going

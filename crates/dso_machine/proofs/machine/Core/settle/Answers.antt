@@ -1,5 +1,5 @@
 use Rattle.std.proofs.Common.{◌∙◌}
-use Rattle.dso_machine.proofs.Steps.{keeps_then}
+use Rattle.dso_machine.proofs.steps.Steps.{keeps_then}
 use Rattle.dso_machine.proofs.machine.Core.settle.Goals as goal
 
 pub going-preserved : goal.going-preserved

@@ -1,5 +1,5 @@
 use Rattle.std.proofs.Common.{◌≡◌}
-use Rattle.dso_machine.specs.Running.{Keeps}
+use Rattle.dso_machine.specs.Continuation.{Keeps}
 use Rattle.dso_machine.specs.Weight.{weigh}
 use Rattle.dso_machine.proofs.machine.Core.settle.Given as goal
 

@@ -1,5 +1,5 @@
 use Rattle.dso_machine.specs.Standing.{IsAnswered}
-use Rattle.dso_machine.proofs.Stands.{one_more, listed_out}
+use Rattle.dso_machine.proofs.standing.AfterEvents.{one_more, listed_out}
 use Rattle.dso_machine.proofs.thread.Thread.answer.Goals as goal
 
 pub returns : goal.returns

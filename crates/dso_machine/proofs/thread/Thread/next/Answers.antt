@@ -1,6 +1,6 @@
 use Rattle.dso_machine.specs.Next.{replies_in}
 use Rattle.dso_machine.specs.Standing.{StandsFor}
-use Rattle.dso_machine.proofs.Stands.{asks_next}
+use Rattle.dso_machine.proofs.standing.AfterEvents.{asks_next}
 use Rattle.dso_machine.proofs.thread.Thread.next.Goals as goal
 
 pub returns-clause-asks : goal.returns-clause-asks

@@ -1,6 +1,6 @@
 use Rattle.std.proofs.Common.{sym, subst, rules}
 use Rattle.dso_machine.specs.Standing.{IsOver, is_over}
-use Rattle.dso_machine.proofs.Ended.{over_asks, asks_over, over_is}
+use Rattle.dso_machine.proofs.standing.Ends.{over_asks, asks_over, over_is}
 use Rattle.dso_machine.proofs.thread.Thread.over.Goals as goal
 
 pub returns-in-Over : goal.returns-in-Over

@@ -1,7 +1,7 @@
 use Rattle.std.proofs.Common.{◌≡◌, ℕ, Bool, true, false, List, [], ◌∷◌, refl, cond, sym, ◌∙◌}
 use Rattle.std.specs.Str.{bytes_eq}
 use Rattle.std.proofs.lemmas.Slice.Eq.{bytes_eq-Decides}
-use Rattle.dso_run.specs.Outside.{Told, Holds, replaced}
+use Rattle.dso_run.specs.Environment.{Told, Holds, replaced}
 use Rattle.dso_run.specs.Memory.{file_of}
 use Rattle.dso_run.proofs.mem_files.MemFilesFiles.write.Goals as goal
 

@@ -1,0 +1,3 @@
+pub mod TextInput
+pub mod Sections
+pub mod Talking

@@ -1,0 +1,145 @@
+//! What the first thread of a text asks, each request with the reply that it is given.
+
+ghost use Rattle.std.specs.Prelude.{◌↔◌, IfOk, IsTrue};
+ghost use Rattle.dso_base.specs.declared.request.Reply.TheVariants as reply;
+ghost use Rattle.dso_base.specs.Following.{IsListed};
+ghost use Rattle.dso_config.specs.InRange.{IsInRange};
+ghost use Rattle.dso_machine.specs.Sound as machine;
+ghost use Rattle.class_cases.specs.Talks.{Talks};
+
+use crate::names::program_of;
+use crate::reply::reply_of;
+use dso_base::{Fault, NoMemory, Reply, Request};
+use dso_config::Config;
+use dso_machine::{Code, Thread};
+use std::alloc::{AllocError, Global};
+
+/// What the first thread of a text asks, by these replies.
+pub(crate) fn exchanges(
+    alloc: Global,
+    config: &Config,
+    text: &str,
+    replies: &str,
+) -> Result<String, NoMemory>
+    requires { IsInRange config.now }
+{
+    match program_of(alloc, config, text) {
+        Ok(program) => exchanges_of(alloc, &program.code, replies),
+        Err(refusal) => Ok(format!(in alloc; "{refusal:?}\n")?),
+    }
+}
+
+/// Why a thread goes no further along its replies.
+#[derive(Clone, Copy)]
+enum Stop {
+    /// It has ended.
+    Ended,
+    /// The reply can't be read.
+    Unread,
+    /// The reply isn't listed for the request.
+    Unlisted(Request),
+    NoMemory,
+}
+
+impl From<AllocError> for Stop {
+    fn from(_: AllocError) -> Self {
+        Stop::NoMemory
+    }
+}
+
+impl From<NoMemory> for Stop {
+    fn from(_: NoMemory) -> Self {
+        Stop::NoMemory
+    }
+}
+
+/// What the first thread of the code asks, and whether it ended behind the last reply.
+#[tactic(auto, using(crate::proofs::Talking::first_there))]
+fn exchanges_of(alloc: Global, code: &Code, replies: &str) -> Result<String, NoMemory>
+    requires { machine.IsSound code.now }
+{
+    let Some(body) = code.bodies.get(0) else {
+        return Ok(String::from_str(alloc, "no thread\n")?);
+    };
+    let mut thread = Thread::new(alloc, code, body.thread)?;
+    let mut asked = String::new(alloc);
+    for words in replies.split("; ") {
+        match exchange(alloc, code, &mut thread, words) {
+            Ok(line) => asked.push_str(line.as_str())?,
+            Err(stop) => {
+                let line = stop_line(alloc, stop, words)?;
+                asked.push_str(line.as_str())?;
+                return Ok(asked);
+            }
+        }
+    }
+    asked.push_str(if thread.over() {
+        "ended\n"
+    } else {
+        "goes on\n"
+    })?;
+    Ok(asked)
+}
+
+/// The line that says why a thread goes no further at a reply in these words.
+fn stop_line(alloc: Global, stop: Stop, words: &str) -> Result<String, NoMemory> {
+    match stop {
+        Stop::Ended => Ok(format!(in alloc; "ended before {words}\n")?),
+        Stop::Unread => Ok(format!(in alloc; "no reply: {words}\n")?),
+        Stop::Unlisted(request) => Ok(format!(in alloc; "{request:?} is not answered {words}\n")?),
+        Stop::NoMemory => Err(NoMemory),
+    }
+}
+
+/// What the thread asks next, with its reply.
+fn exchange(alloc: Global, code: &Code, thread: &mut Thread, words: &str) -> Result<String, Stop>
+    requires sound { machine.IsSound code.now }
+    requires talks { Talks code.now thread.old }
+    ensures { IfOk result (λ line. Talks code.now thread.new) }
+{
+    if thread.over() {
+        return Err(Stop::Ended);
+    }
+    let request = thread.next(alloc, code)?;
+    let reply = reply_of(words).ok_or(Stop::Unread)?;
+    if !is_listed(request, reply) {
+        return Err(Stop::Unlisted(request));
+    }
+    let line = format!(in alloc; "{request:?} -> {reply:?}\n")?;
+    thread.answer(reply);
+    Ok(line)
+}
+
+/// Whether the reply is one of those that are listed for the request.
+fn is_listed(request: Request, reply: Reply) -> bool
+    ensures { IsTrue result ↔ IsListed request reply }
+{
+    match reply {
+        Reply::Done => !matches!(
+            request,
+            Request::New(..) | Request::Look(_) | Request::Get(..)
+        ),
+        Reply::Made(_) => matches!(request, Request::New(..)),
+        Reply::Seen(..) => matches!(request, Request::Look(_)),
+        Reply::Val(_) => matches!(request, Request::Get(..)),
+        Reply::Local => matches!(request, Request::Enter(..)),
+        Reply::Refused(fault) => may_refuse(request, fault),
+    }
+}
+
+/// Whether the request may be refused so.
+fn may_refuse(request: Request, fault: Fault) -> bool
+    ensures { IsTrue result ↔ IsListed request (reply.Refused fault) }
+{
+    match request {
+        Request::Put(..) => matches!(
+            fault,
+            Fault::UnlockedSharedObject | Fault::WrongLock | Fault::ReadOnly
+        ),
+        Request::Enter(..) => matches!(fault, Fault::LockUpgrade),
+        Request::Wait(_) | Request::Notify(_) | Request::NotifyAll(_) => {
+            matches!(fault, Fault::IllegalMonitor)
+        }
+        _ => false,
+    }
+}

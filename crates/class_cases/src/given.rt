@@ -1,0 +1,60 @@
+//! What the lines so far give, and what each line answers.
+
+use crate::{configuration, edge, exchange, names, program};
+use dso_base::NoMemory;
+use std::alloc::Global;
+
+/// The configuration's entries, the classes in front of a thread's statements, and the text of the case at hand.
+#[derive(Drop)]
+pub(crate) struct Given {
+    configuration: String,
+    classes: String,
+    text: String,
+}
+
+impl Given {
+    /// Nothing was given yet.
+    pub(crate) fn new(alloc: Global) -> Given {
+        Given {
+            configuration: String::new(alloc),
+            classes: String::new(alloc),
+            text: String::new(alloc),
+        }
+    }
+
+    /// Takes a line, and answers what is to be printed for it.
+    pub(crate) fn take(&mut self, alloc: Global, line: &str) -> Result<String, NoMemory> {
+        let (word, rest) = line.split_once(": ").unwrap_or((line, ""));
+        match word {
+            "" => {}
+            "configuration" => self.configuration = String::from_str(alloc, rest)?,
+            "classes" => self.classes = String::from_str(alloc, rest)?,
+            "text" => self.text = String::from_str(alloc, rest)?,
+            "thread" => self.text = thread_of(alloc, self.classes.as_str(), rest)?,
+            "case" => return Ok(format!(in alloc; "\n{rest}\n")?),
+            _ => return self.asked(alloc, word, rest),
+        }
+        Ok(String::new(alloc))
+    }
+
+    /// What a question answers.
+    fn asked(&self, alloc: Global, word: &str, rest: &str) -> Result<String, NoMemory> {
+        let Some(config) = configuration::of_entries(alloc, self.configuration.as_str())? else {
+            return Ok(format!(in alloc; "no configuration: {}\n", self.configuration)?);
+        };
+        match word {
+            "names" => names::answer(alloc, &config, rest),
+            "program" => program::described(alloc, &config, rest),
+            "edge" => edge::answers(alloc, &config, rest),
+            "replies" => exchange::exchanges(alloc, &config, self.text.as_str(), rest),
+            "words" => configuration::words(alloc, &config),
+            "laws" => names::laws(alloc),
+            _ => Ok(format!(in alloc; "no question: {word}\n")?),
+        }
+    }
+}
+
+/// The text of a thread of these statements behind the classes.
+fn thread_of(alloc: Global, classes: &str, statements: &str) -> Result<String, NoMemory> {
+    Ok(format!(in alloc; "{classes} thread 1 {{ {statements} }}")?)
+}

@@ -1,9 +1,0 @@
-use Rattle.std.proofs.Common.{take}
-use Rattle.dso_class.specs.Declarations.{class_names}
-use Rattle.dso_class.specs.Lent.{words_of}
-use Rattle.dso_class.specs.Lists.{AreFirsts}
-use Rattle.dso_class.proofs.declared.class_names.Given as goal
-
--- the names of the classes so far
-abbrev pub invariant-loop-item : goal.invariant-loop-item
-invariant-loop-item l = AreFirsts (class_names (take l.item-index l.items)) (words_of l.names)

@@ -1,8 +1,0 @@
-use Rattle.dso_class.specs.Gathered.{static_named}
-use Rattle.dso_class.proofs.Keyed.{firsts}
-use Rattle.dso_class.proofs.Named.{by_static, same_static, tied_static}
-use Rattle.dso_class.proofs.statics.add_static.Goals as goal
-
-pub returns : goal.returns
-returns c all before =
-    firsts by_static static_named same_static tied_static all c.args.statics.now c.add.new.self (c.args.class, c.args.field) c.in_ok-add.field-0 before c.in_ok-add.ensures.fresh c.in_ok-add.ensures.added

@@ -1,8 +1,0 @@
-use Rattle.std.proofs.Common.{take, reverse}
-use Rattle.dso_law.specs.Channels.{way_up}
-use Rattle.dso_law.specs.Letters.{posted_up}
-use Rattle.dso_law.proofs.Ways.{Counts}
-use Rattle.dso_law.proofs.channels.taken_up.Given as goal
-
-abbrev pub invariant-loop-entry : goal.invariant-loop-entry
-invariant-loop-entry l = Counts l.entry-index (posted_up l.client (take l.entry-index l.entries)) (way_up l.client (reverse (take l.entry-index l.entries))) l.way

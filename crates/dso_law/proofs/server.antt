@@ -1,0 +1,3 @@
+-- What the entries of the server tell, read one after the other.
+pub mod BatchesGiven
+pub mod StoredBody

@@ -1,0 +1,84 @@
+-- What each kind of entry does to a client's blocks, and to the state that the client stands at.
+use Rattle.std.specs.List.{list_any, AllByRecursion}
+use Rattle.std.proofs.Common.{ℕ, zero, suc, ◌≡◌, refl, sym, ◌∙◌, ap, false, ◌||◌, Option, List, [], ◌∷◌, ◌++◌}
+use Rattle.std.specs.Prelude.{drop}
+use Rattle.std.proofs.lemmas.List.{append-nil}
+use Rattle.dso_base.specs.declared.journal.Entry.{Entry}
+use Rattle.dso_base.specs.declared.journal.Input.{Input}
+use Rattle.dso_base.specs.declared.journal.Input.TheVariants as input
+use Rattle.dso_base.specs.declared.journal.Node.{Node}
+use Rattle.dso_base.specs.declared.journal.Node.TheVariants.{Server, Client}
+use Rattle.dso_base.specs.declared.lock.ThreadId.{ThreadId}
+use Rattle.dso_base.specs.declared.record.Txn.{Txn}
+use Rattle.dso_base.specs.declared.request.Event.{Event}
+use Rattle.dso_base.specs.declared.request.Request.{Request}
+use Rattle.dso_plain.specs.State.{opening}
+use Rattle.dso_plain.specs.History.{end_of, last_state}
+use Rattle.dso_plain.proofs.independence.RunsSwap.{ends_in_parts}
+use Rattle.dso_law.specs.Settings.{Settings}
+use Rattle.dso_law.specs.Entries.{entries_of}
+use Rattle.dso_law.specs.ServerReadings.{loses, is_lost}
+use Rattle.dso_legal.specs.WaitsAndLosses.{HasNoWait, WithoutWaits, is_loss, WithoutLosses}
+use Rattle.dso_legal.specs.Committed.{ended_blocks, committed_at, committed}
+use Rattle.dso_legal.specs.CopiesStand.{state_at}
+use Rattle.dso_legal.specs.Lawful.{MayFollow, AllFollow}
+use Rattle.dso_legal.specs.PendingBlocks.{joined, handed_in, pending}
+use Rattle.dso_legal.proofs.blocks.ClientBlocks.{joined_more}
+use Rattle.dso_legal.proofs.records.ClientRecords.{EndsNone, EndsBlock, block_ended}
+use Rattle.dso_legal.proofs.records.Handing.{says_its_own}
+use Rattle.dso_legal.proofs.records.HandedIn.{TakesBlock, KeepsBoth, ends_none, pending_ended}
+use Rattle.dso_legal.proofs.blocks.Histories.{history_takes}
+use Rattle.dso_legal.proofs.blocks.BlocksWithoutWaits.{IsCalm, each_of_node, ended_are_calm}
+
+module _ (p : Settings) (next : ThreadId → List Event → Option Request) (c : ℕ) (es : List Entry) (follow : AllFollow p next es) (alive : is_lost c (entries_of Server es) ≡ false) (e : Entry) (follows : MayFollow p next e es) where
+  -- An entry of the client that ends no block leaves them.
+  pub own_keeps : e.node ≡ Client c → EndsNone e (entries_of (Client c) es) → KeepsBoth c e es
+  own_keeps at none = ends_none p next c es follow alive e (says_its_own p next c e es at) none
+
+  -- A block that ends is pending, behind the others.
+  pub own_ends : e.node ≡ Client c → (ends : EndsBlock p e (entries_of (Client c) es)) → pending c (e ∷ es) ≡ pending c es ++ block_ended ends ∷ []
+  own_ends at ends = pending_ended p next c es follow alive e (says_its_own p next c e es at) ends
+
+  -- Where the server takes the record of the client's block, the client stands where it stood.
+  pub state_taken : WithoutWaits es → (txn : Txn) → TakesBlock p c txn e es → state_at p c (e ∷ es) ≡ state_at p c es
+  state_taken calm txn takes = ap (λ h. end_of p.shape (joined (pending c (e ∷ es))) (last_state p.shape h)) (history_takes p next e es follows follow calm c txn alive takes)
+      ∙ ap (end_of p.shape (joined (pending c (e ∷ es)))) (ends_in_parts p.shape (committed es) takes.block (opening p.shape))
+      ∙ sym (ends_in_parts p.shape takes.block (joined (pending c (e ∷ es))) (last_state p.shape (committed es)))
+      ∙ sym (ap (λ blocks. end_of p.shape (joined blocks) (last_state p.shape (committed es))) takes.first)
+
+  -- Where a block of the client ends, it stands where the block leaves it.
+  pub state_ended : e.node ≡ Client c → (ends : EndsBlock p e (entries_of (Client c) es)) → state_at p c (e ∷ es) ≡ end_of p.shape (block_ended ends) (state_at p c es)
+  state_ended at ends =
+      let blocks : List (List Event) = pending c (e ∷ es) in
+      ap (λ given. end_of p.shape (joined blocks) (last_state p.shape given)) (stays e.node at)
+      ∙ ap (λ blocks. end_of p.shape (joined blocks) (last_state p.shape (committed es))) (own_ends at ends)
+      ∙ ap (λ events. end_of p.shape events (last_state p.shape (committed es))) (joined_more (pending c es) (block_ended ends))
+      ∙ ends_in_parts p.shape (joined (pending c es)) (block_ended ends) (last_state p.shape (committed es))
+    where
+      stays : (node : Node) → node ≡ Client c → committed es ++ committed_at node e.input es ≡ committed es
+      stays node at = ap (λ node. committed es ++ committed_at node e.input es) at ∙ append-nil (committed es)
+
+-- what holds of each holds of those that are left when the first are dropped
+pub each_dropped : {X : Type 0} (P : X → Type 0) (n : ℕ) (xs : List X) → AllByRecursion P xs → AllByRecursion P (drop n xs)
+each_dropped P zero xs each = each
+each_dropped P (suc n) [] each = tt
+each_dropped P (suc n) (x ∷ xs) each = each_dropped P n xs each.1
+
+-- In a journal without waits no pending block has one.
+pub pending_are_calm : (c : ℕ) (es : List Entry) → WithoutWaits es → AllByRecursion IsCalm (pending c es)
+pending_are_calm c es calm = each_dropped IsCalm (handed_in c es) (ended_blocks (entries_of (Client c) es))
+    (ended_are_calm (entries_of (Client c) es) (each_of_node (λ e. HasNoWait e.event) (Client c) es calm))
+
+-- who loses nobody doesn't lose the client
+loses_not : (c : ℕ) (i : Input) → is_loss i ≡ false → loses c i ≡ false
+loses_not c (input.Lose d) none = absurd (cc none)
+loses_not c other none = refl
+
+-- by all of these entries
+lost_by_none : (c : ℕ) (es : List Entry) → WithoutLosses es → is_lost c es ≡ false
+lost_by_none c [] none = refl
+lost_by_none c (e ∷ es) none = ap (λ b. b || list_any (λ e. loses c e.input) es) (loses_not c e.input none.0) ∙ lost_by_none c es none.1
+
+-- In a journal without losses no client is lost.
+pub none_is_lost : (c : ℕ) (es : List Entry) → WithoutLosses es → is_lost c (entries_of Server es) ≡ false
+none_is_lost c es none = lost_by_none c (entries_of Server es) (each_of_node (λ e. is_loss e.input ≡ false) Server es none)

@@ -1,0 +1,11 @@
+-- The example journals: that they are those of runs, that three of them meet the premises of the central law, and that wrong entries
+-- are refused.
+pub mod Facts
+pub mod Checks
+pub mod Replay
+pub mod Runs
+pub mod CourseKeeps
+pub mod SoundCourses
+pub mod Meets
+pub mod Refused
+pub mod Misfits

@@ -1,0 +1,27 @@
+-- That the example journals are those of runs: each is lawful, since it is replayed, and the rest is computed.
+use Rattle.std.proofs.Common.{refl}
+use Rattle.dso_legal.specs.examples.Broken as broken
+use Rattle.dso_legal.specs.examples.Counter as counter
+use Rattle.dso_legal.specs.examples.Flush as flush
+use Rattle.dso_legal.specs.examples.LostClient as lost
+use Rattle.dso_legal.specs.examples.Recall as recall
+use Rattle.dso_legal.specs.examples.Waiting as waiting
+use Rattle.dso_legal.proofs.journals.Replay.{lawful_by_replay}
+
+pub counter_runs : counter.CounterJournal
+counter_runs = record { lawful = lawful_by_replay counter.settings counter.next counter.entries refl refl; finished = refl; opens = refl; commits = refl; weighs = refl }
+
+pub recall_runs : recall.RecallJournal
+recall_runs = record { lawful = lawful_by_replay recall.settings recall.next recall.entries refl refl; finished = refl; opens = refl; commits = refl; weighs = refl }
+
+pub flush_runs : flush.FlushJournal
+flush_runs = record { lawful = lawful_by_replay flush.settings flush.next flush.entries refl refl; finished = refl; opens = refl; commits = refl; weighs = refl }
+
+pub waiting_runs : waiting.WaitingJournal
+waiting_runs = record { lawful = lawful_by_replay waiting.settings waiting.next waiting.entries refl refl; finished = refl; opens = refl; commits = refl; weighs = refl }
+
+pub broken_runs : broken.BrokenJournal
+broken_runs = record { lawful = lawful_by_replay broken.settings broken.next broken.entries refl refl; finished = refl; opens = refl; commits = refl; weighs = refl }
+
+pub lost_client_runs : lost.LostClientJournal
+lost_client_runs = record { lawful = lawful_by_replay lost.settings lost.next lost.entries refl refl; finished = refl; opens = refl; commits = refl; weighs = refl }

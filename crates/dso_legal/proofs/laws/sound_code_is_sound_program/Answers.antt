@@ -1,0 +1,8 @@
+use Rattle.dso_legal.proofs.laws.sound_code_is_sound_program.Goals as goal
+use Rattle.dso_legal.proofs.programs.SoundCode.{sound_program, known_texts}
+
+pub returns-clause-sound : goal.returns-clause-sound
+returns-clause-sound c = sound_program
+
+pub returns-clause-texts : goal.returns-clause-texts
+returns-clause-texts c = known_texts

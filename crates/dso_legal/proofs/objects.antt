@@ -1,0 +1,26 @@
+-- Which objects there are: made once, in hand, resident, in the store; and what bodies and sets tell of a state.
+pub mod BodyCounts
+pub mod Makers
+pub mod MakesApart
+pub mod ObjectsMade
+pub mod OwnObjects
+pub mod ResidentClient
+pub mod ResidentServer
+pub mod Residency
+pub mod ObjectsInFlight
+pub mod AsksForAbsent
+pub mod SetsResident
+pub mod SetsFound
+pub mod SetsOfFields
+pub mod SetsTouched
+pub mod StoredBodies
+pub mod StoreIsHeap
+pub mod SharedStays
+pub mod SamePublished
+pub mod TellsState
+pub mod TellsPublished
+pub mod BodiesHeld
+pub mod FoundBodies
+pub mod PrivatesKept
+pub mod PrivatesTaken
+pub mod WorksTell

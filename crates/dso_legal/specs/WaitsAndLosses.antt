@@ -1,0 +1,40 @@
+-- Journals without waits, without broken connections, without lost clients.
+use Rattle.std.specs.List.{AllByRecursion}
+use Rattle.std.specs.Prelude.{Bool, true, false, ◌≡◌, Option, Some, None, List}
+use Rattle.dso_base.specs.declared.journal.Entry.{Entry}
+use Rattle.dso_base.specs.declared.journal.Input.{Input}
+use Rattle.dso_base.specs.declared.journal.Input.TheVariants as input
+use Rattle.dso_base.specs.declared.request.Event.{Event}
+use Rattle.dso_base.specs.declared.request.Event.TheVariants.{Act, Lost}
+use Rattle.dso_base.specs.declared.request.Request.{Request}
+use Rattle.dso_base.specs.declared.request.Request.TheVariants.{Wait, Notify, NotifyAll}
+
+-- the request waits or notifies
+abbrev pub waits_or_notifies : Request → Bool
+waits_or_notifies (Wait l) = true
+waits_or_notifies (Notify l) = true
+waits_or_notifies (NotifyAll l) = true
+waits_or_notifies request = false
+
+-- the event is an act with such a request
+abbrev pub is_wait : Event → Bool
+is_wait (Act thread request reply woken) = waits_or_notifies request
+is_wait (Lost client) = false
+
+-- there is no event, or it neither waits nor notifies
+abbrev pub HasNoWait : Option Event → Type 0
+HasNoWait None = Unit {0}
+HasNoWait (Some event) = is_wait event ≡ false
+
+-- No event of the journal is a Wait, Notify or NotifyAll.
+abbrev pub WithoutWaits : List Entry → Type 0
+WithoutWaits es = AllByRecursion (λ e. HasNoWait e.event) es
+
+-- the input loses a client
+abbrev pub is_loss : Input → Bool
+is_loss (input.Lose c) = true
+is_loss other = false
+
+-- No entry of the journal loses a client.
+abbrev pub WithoutLosses : List Entry → Type 0
+WithoutLosses es = AllByRecursion (λ e. is_loss e.input ≡ false) es

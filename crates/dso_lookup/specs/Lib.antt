@@ -1,0 +1,5 @@
+pub mod Maps
+pub mod Rows
+pub mod Lists
+pub mod Reaching
+pub mod Search

@@ -1,0 +1,4 @@
+-- Each form of expression and statement: what it means, how it is begun, how much it weighs.
+pub mod Equations
+pub mod Beginnings
+pub mod Weights

@@ -1,0 +1,122 @@
+-- Calls keep to what may be asked.
+use Rattle.std.proofs.Common.{refl, ℕ, zero, suc, ◌-◌, List, [], ◌∷◌, ◌++◌, length, Option, None, Some}
+use Rattle.std.specs.Prelude.{nat_lt, replicate, slice_get}
+use Rattle.dso_base.specs.declared.lock.Grade.{Grade}
+use Rattle.dso_base.specs.declared.lock.LockName.TheVariants.{Mon, Name}
+use Rattle.dso_base.specs.declared.request.Fault.TheVariants.{NoSuchField, StackOverflow}
+use Rattle.dso_base.specs.declared.shape.Shape.{Shape}
+use Rattle.dso_base.specs.declared.value.Value.{Value}
+use Rattle.dso_base.specs.declared.value.Value.TheVariants as value
+use Rattle.dso_machine.specs.declared.code.Code.{Code}
+use Rattle.dso_machine.specs.declared.code.Method.{Method}
+use Rattle.dso_machine.specs.Calls.{lookup_class, variables, back_in, begin, invoke, under_name, under_monitor, run_method, call_method, call_number, call_in, call_on, arguments, MethodMeanings}
+use Rattle.dso_machine.specs.Outcome.{Environment, Outcome, Wants, Gives, Leaves, Fails, Hears, Over, Stopped, Meaning, look, level_of}
+use Rattle.dso_machine.proofs.protocol.Protocol.{KnowsValue, Keeper}
+use Rattle.dso_machine.proofs.protocol.Parts.{refilled, Obeys, keeps_on, KnowsAll, KnowsEnvironment, Fine, More, Part, all_later, environment_later, more_then, more_itself, part_later, part_fails, part_value, part_choose}
+use Rattle.dso_machine.proofs.protocol.Requests.{part_look, part_object, part_moving}
+use Rattle.dso_machine.proofs.protocol.Locks.{part_under}
+
+-- ---- lists of values
+
+-- so many nulls are known
+known_nulls : (has_text knows : ℕ → Type 0) (n : ℕ) → KnowsAll has_text knows (replicate n value.Null)
+known_nulls has_text knows zero = tt
+known_nulls has_text knows (suc n) = (tt, known_nulls has_text knows n)
+
+-- values that are known, and others behind them
+known_append : (has_text knows : ℕ → Type 0) (vs ws : List Value) → KnowsAll has_text knows vs → KnowsAll has_text knows ws → KnowsAll has_text knows (vs ++ ws)
+known_append has_text knows [] ws known rest = rest
+known_append has_text knows (v ∷ vs) ws known rest = (known.0, known_append has_text knows vs ws known.1 rest)
+
+-- the variables of an environment that begins with values that are known
+pub known_variables : (has_text knows : ℕ → Type 0) (count : ℕ) (vs : List Value) → KnowsAll has_text knows vs → KnowsAll has_text knows (variables count vs)
+known_variables has_text knows count vs known = known_append has_text knows vs (replicate (count - length vs) value.Null) known (known_nulls has_text knows (count - length vs))
+
+-- ---- calls
+
+module _ {shape : Shape} (k : Keeper shape) where
+  -- the methods' bodies keep to what may be asked, from every point
+  pub record Bodies (ways : MethodMeanings) : Type 0 where
+    pub body : (m : ℕ) (g : k.Point) → Part k g (ways m)
+
+module _ {shape : Shape} (k : Keeper shape) where
+  -- at the end of a body the environment of the caller is the thread's again
+  back_at_end : (g : k.Point) (caller : Environment) → KnowsEnvironment k g caller → (e : Outcome) (h : k.Point) → Fine k g e h → Obeys k (Fine k g) h (λ rs. back_in caller (refilled rs e))
+  back_at_end g caller environment (Gives v u) h fine = Obeys.ends (Gives value.Null (record u { environment = caller })) (λ rs. refl)
+      (record { same = fine.same; value = tt; environment = environment_later k g h (k.same_knows g h fine.same) caller environment })
+  back_at_end g caller environment (Leaves v u) h fine = Obeys.ends (Gives v (record u { environment = caller })) (λ rs. refl)
+      (record { same = fine.same; value = fine.value; environment = environment_later k g h (k.same_knows g h fine.same) caller environment })
+  back_at_end g caller environment (Fails fault u) h fine = Obeys.ends (Fails fault u) (λ rs. refl) fine
+  back_at_end g caller environment Stopped h fine = Obeys.ends Stopped (λ rs. refl) tt
+  back_at_end g caller environment (Wants q) h fine = absurd fine
+  back_at_end g caller environment (Hears r u) h fine = absurd fine
+  back_at_end g caller environment Over h fine = absurd fine
+
+  module _ (ways : MethodMeanings) (bodies : Bodies k ways) where
+    -- a body in an environment of its own
+    part_begin : (g : k.Point) (m : ℕ) (this : Value) (vars : List Value) → KnowsValue k.HasText (k.Knows g) this → KnowsAll k.HasText (k.Knows g) vars → Part k g (begin ways m this vars)
+    part_begin g m this vars this_known vars_known = record {
+      from = λ h u more environment. keeps_on k (Fine k h) (Fine k h) (back_in u.environment) (λ q. refl)
+          ((bodies.body m g).from h (record u { environment = record { this = this; vars = vars; depth_left = u.environment.depth_left - 1 } }) more
+          (environment_later k g h more.knows (record { this = this; vars = vars; depth_left = u.environment.depth_left - 1 }) (record { this = this_known; vars = vars_known })))
+          (back_at_end h u.environment environment);
+    }
+
+    -- so, as a move
+    part_invoke : (g : k.Point) (m : ℕ) (this : Value) (vars : List Value) → KnowsValue k.HasText (k.Knows g) this → KnowsAll k.HasText (k.Knows g) vars → Part k g (invoke ways m this vars)
+    part_invoke g m this vars this_known vars_known = part_moving k g (begin ways m this vars) (part_begin g m this vars this_known vars_known)
+
+    -- a part under a method's named lock, if it has one,
+    part_under_name : (g : k.Point) (named : Option (ℕ × Grade)) (m : Meaning) → Part k g m → Part k g (under_name named m)
+    part_under_name g None m part = part
+    part_under_name g (Some lock) m part = part_under k g (Name lock.0) (level_of lock.1) m tt part
+
+    -- and under its object's monitor, if it takes it
+    part_under_monitor : (g : k.Point) (synced : Option Grade) (object : ℕ) (m : Meaning) → k.Knows g object → Part k g m → Part k g (under_monitor synced object m)
+    part_under_monitor g None object m known part = part
+    part_under_monitor g (Some grade) object m known part = part_under k g (Mon object) (level_of grade) m known part
+
+    -- a method of an object
+    part_run : (g : k.Point) (m : ℕ) (method : Method) (object : ℕ) (args : List Value) → k.Knows g object → KnowsAll k.HasText (k.Knows g) args → Part k g (run_method ways m method object args)
+    part_run g m method object args known args_known = part_under_name g method.named _ (part_under_monitor g method.synced object _ known
+        (part_invoke g m (value.Ref object) (variables method.vars args) known (known_variables k.HasText (k.Knows g) method.vars args args_known)))
+
+    -- a method that was found, if one more call may nest
+    part_method : (g : k.Point) (m object : ℕ) (args : List Value) (method : Option Method) → k.Knows g object → KnowsAll k.HasText (k.Knows g) args → Part k g (call_method ways m object args method)
+    part_method g m object args None known args_known = part_fails k g NoSuchField
+    part_method g m object args (Some method) known args_known = record {
+      from = λ h u more environment. (part_choose k g (nat_lt 0 u.environment.depth_left) (run_method ways m method object args) (Fails StackOverflow)
+          (λ may_nest. part_run g m method object args known args_known) (part_fails k g StackOverflow)).from h u more environment;
+    }
+
+    -- the method of this number
+    part_number : (code : Code) (g : k.Point) (object : ℕ) (args : List Value) (number : Option ℕ) → k.Knows g object → KnowsAll k.HasText (k.Knows g) args → Part k g (call_number code ways object args number)
+    part_number code g object args None known args_known = part_fails k g NoSuchField
+    part_number code g object args (Some m) known args_known = part_method g m object args (slice_get code.methods m) known args_known
+
+    -- a call with its operands
+    pub part_call : (code : Code) (g : k.Point) (callees : List (ℕ × ℕ)) (x : Value) (args : List Value) → KnowsValue k.HasText (k.Knows g) x → KnowsAll k.HasText (k.Knows g) args → Part k g (call_on code ways callees x args)
+    part_call code g callees x args known args_known = part_object k g (λ object. look (call_in code ways callees args object) object) x known
+        (λ object object_known. part_look k g (call_in code ways callees args object) object object_known
+        (λ class size. part_number code g object args (lookup_class callees class) object_known args_known))
+
+  -- ---- arguments
+
+  -- each of the parts keeps to what may be asked
+  abbrev pub Parts : k.Point → List Meaning → Type 0
+  Parts g [] = Unit {0}
+  Parts g (m ∷ ms) = Part k g m × Parts g ms
+
+  -- so from a later point
+  parts_later : (g h : k.Point) (ms : List Meaning) → More k g h → Parts g ms → Parts h ms
+  parts_later g h [] more parts = tt
+  parts_later g h (m ∷ ms) more parts = (part_later k g h m more parts.0, parts_later g h ms more parts.1)
+
+  -- the arguments, and then what is made of their values
+  pub part_arguments : (f : List Value → Meaning) (ms : List Meaning) (g : k.Point) (before : List Value) → Parts g ms → KnowsAll k.HasText (k.Knows g) before
+      → ((vs : List Value) (h : k.Point) → More k g h → KnowsAll k.HasText (k.Knows h) vs → Part k h (f vs)) → Part k g (arguments f ms before)
+  part_arguments f [] g before parts known then = record { from = λ h u more environment. (then before h more (all_later k g h more.knows before known)).from h u (more_itself k h more.awake) environment }
+  part_arguments f (m ∷ rest) g before parts known then = part_value k g (λ v. arguments f rest (before ++ v ∷ [])) m parts.0
+      (λ v h more v_known. part_arguments f rest h (before ++ v ∷ []) (parts_later g h rest more parts.1)
+      (known_append k.HasText (k.Knows h) before (v ∷ []) (all_later k g h more.knows before known) (v_known, tt))
+      (λ vs i further all. then vs i (more_then k g h i more further) all))

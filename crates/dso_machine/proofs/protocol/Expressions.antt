@@ -1,0 +1,195 @@
+-- Sound expressions keep to what may be asked.
+use Rattle.std.proofs.Common.{◌≡◌, refl, ℕ, zero, suc, ◌<◌, Bool, true, false, List, [], ◌∷◌, length, map, Option, None, Some, subst, sym}
+use Rattle.std.specs.Prelude.{ℤ, pos, negsuc, nat_le, cond, slice_index_or, slice_set, Ok, Err}
+use Rattle.std.specs.Ordering.{int_eq}
+use Rattle.std.proofs.lemmas.Bool.{leb-true}
+use Rattle.dso_base.specs.declared.lock.Level.TheVariants.{Read}
+use Rattle.dso_base.specs.declared.lock.LockName.TheVariants.{Name}
+use Rattle.dso_base.specs.declared.op.Op.{Op}
+use Rattle.dso_base.specs.declared.op.Op.TheVariants as op
+use Rattle.dso_base.specs.declared.request.Fault.TheVariants.{NoSuchField, BadValue, BadIndex, BadSize, ZeroDivide}
+use Rattle.dso_base.specs.declared.shape.Shape.{Shape}
+use Rattle.dso_base.specs.declared.value.ClassId.{ClassId}
+use Rattle.dso_base.specs.declared.value.ClassId.TheVariants.{Plain, Array, Roots}
+use Rattle.dso_base.specs.declared.value.Kind.{Kind}
+use Rattle.dso_base.specs.declared.value.Value.{Value}
+use Rattle.dso_base.specs.declared.value.Value.TheVariants as value
+use Rattle.dso_base.specs.Shape.{fields_at}
+use Rattle.dso_machine.specs.declared.code.Code.{Code}
+use Rattle.dso_machine.specs.declared.tree.Expr.{Expr}
+use Rattle.dso_machine.specs.declared.tree.FieldRef.{FieldRef}
+use Rattle.dso_machine.specs.Calls.{lookup, call_on, MethodMeanings}
+use Rattle.dso_machine.specs.Expressions.{field_at, field_in, field_of, within, element_at, element_in, element_of, root, make, new_array, a_boolean, second, expr}
+use Rattle.dso_machine.specs.Limits.{most_elements}
+use Rattle.dso_machine.specs.Outcome.{Gives, Fails, Meaning, on_next, result_of, get, look}
+use Rattle.dso_machine.specs.Sound.{Scope, IsLiteral, SoundExpr, SoundExprs}
+use Rattle.dso_machine.specs.Values.{binary_longs, binary, unary}
+use Rattle.dso_machine.proofs.forms.Equations.{expr_Const, expr_Var, expr_This, expr_Root, expr_Field, expr_Elem, expr_Call, expr_NewObject, expr_NewArray, expr_Unary, expr_Binary}
+use Rattle.dso_machine.proofs.protocol.Protocol.{KnowsValue, Keeper}
+use Rattle.dso_machine.proofs.protocol.Parts.{Obeys, KnowsAll, Part, value_later, part_gives, part_fails, part_value, part_choose}
+use Rattle.dso_machine.proofs.protocol.Requests.{KnowsResult, part_result, part_get, part_make, part_look, part_object}
+use Rattle.dso_machine.proofs.protocol.Locks.{part_under}
+use Rattle.dso_machine.proofs.protocol.Calls.{Bodies, Parts, part_call, part_arguments}
+
+-- ---- values
+
+-- a literal is known, where the texts of the shape may be named: it is no object
+known_literal : (shape : Shape) (has_text knows : ℕ → Type 0) → ((t : ℕ) → t < shape.texts → has_text t) → (v : Value) → IsLiteral shape v → KnowsValue has_text knows v
+known_literal shape has_text knows own (value.Ref object) literal = absurd literal
+known_literal shape has_text knows own value.Null literal = tt
+known_literal shape has_text knows own (value.Long n) literal = tt
+known_literal shape has_text knows own (value.Bool b) literal = tt
+known_literal shape has_text knows own (value.Text t) literal = own t literal
+
+-- a division gives neither an object nor a text
+known_unless : (has_text knows : ℕ → Type 0) (b : Bool) (v : Value) → KnowsValue has_text knows v → KnowsResult has_text knows (cond b (Err ZeroDivide) (Ok v))
+known_unless has_text knows true v known = tt
+known_unless has_text knows false v known = known
+
+-- nor do the other operators between longs,
+known_longs : (has_text knows : ℕ → Type 0) (o : Op) (m n : ℤ) → KnowsResult has_text knows (binary_longs o m n)
+known_longs has_text knows op.Div m n = known_unless has_text knows (int_eq n (pos 0)) _ tt
+known_longs has_text knows op.Rem m n = known_unless has_text knows (int_eq n (pos 0)) _ tt
+known_longs has_text knows o m n = tt
+
+-- between any two values,
+known_binary : (has_text knows : ℕ → Type 0) (o : Op) (a b : Value) → KnowsResult has_text knows (binary o a b)
+known_binary has_text knows op.Eq a b = tt
+known_binary has_text knows op.Ne a b = tt
+known_binary has_text knows o (value.Long m) (value.Long n) = known_longs has_text knows o m n
+known_binary has_text knows o a b = tt
+
+-- or before one
+known_unary : (has_text knows : ℕ → Type 0) (o : Op) (v : Value) → KnowsResult has_text knows (unary o v)
+known_unary has_text knows op.Not (value.Bool b) = tt
+known_unary has_text knows op.Neg (value.Long n) = tt
+known_unary has_text knows o v = tt
+
+-- each of the values is known
+pub known_at : (has_text knows : ℕ → Type 0) (vs : List Value) (i : ℕ) → KnowsAll has_text knows vs → KnowsValue has_text knows (slice_index_or vs i value.Null)
+known_at has_text knows [] i known = tt
+known_at has_text knows (v ∷ vs) zero known = known.0
+known_at has_text knows (v ∷ vs) (suc i) known = known_at has_text knows vs i known.1
+
+-- so with another one set
+pub known_set : (has_text knows : ℕ → Type 0) (vs : List Value) (i : ℕ) (v : Value) → KnowsAll has_text knows vs → KnowsValue has_text knows v → KnowsAll has_text knows (slice_set vs i v)
+known_set has_text knows [] i v known here = tt
+known_set has_text knows (x ∷ vs) zero v known here = (here, known.1)
+known_set has_text knows (x ∷ vs) (suc i) v known here = (known.0, known_set has_text knows vs i v known.1 here)
+
+module _ {shape : Shape} (k : Keeper shape) where
+  -- ---- fields and elements
+
+  -- a field of an object that is known, if it was found,
+  part_field_at : (g : k.Point) (object : ℕ) (place : Option ℕ) → k.Knows g object → Part k g (field_at object place)
+  part_field_at g object None known = part_fails k g NoSuchField
+  part_field_at g object (Some place) known = part_get k g object place (λ h more. k.get_asked h object place more.awake (more.knows object known))
+
+  -- in an object of this class,
+  part_field_in : (g : k.Point) (f : FieldRef) (object : ℕ) (class : ClassId) (size : ℕ) → k.Knows g object → Part k g (field_in f object class size)
+  part_field_in g f object (Plain class) size known = part_field_at g object (lookup f.places class) known
+  part_field_in g f object (Array kind) size known = part_choose k g f.length (Gives (value.Long (pos size))) (Fails NoSuchField) (λ is. part_gives k g (value.Long (pos size)) tt) (part_fails k g NoSuchField)
+  part_field_in g f object Roots size known = part_fails k g NoSuchField
+
+  -- or of a value
+  part_field : (g : k.Point) (f : FieldRef) (x : Value) → KnowsValue k.HasText (k.Knows g) x → Part k g (field_of f x)
+  part_field g f x known = part_object k g (λ object. look (field_in f object) object) x known
+      (λ object object_known. part_look k g (field_in f object) object object_known (λ class size. part_field_in g f object class size object_known))
+
+  -- an element of an object that is known, if it was found,
+  part_element_at : (g : k.Point) (object : ℕ) (place : Option ℕ) → k.Knows g object → Part k g (element_at object place)
+  part_element_at g object None known = part_fails k g BadIndex
+  part_element_at g object (Some place) known = part_get k g object place (λ h more. k.get_asked h object place more.awake (more.knows object known))
+
+  -- in an object of this class,
+  part_element_in : (g : k.Point) (i : ℤ) (object : ℕ) (class : ClassId) (size : ℕ) → k.Knows g object → Part k g (element_in i object class size)
+  part_element_in g i object (Array kind) size known = part_element_at g object (within i size) known
+  part_element_in g i object class size known = part_fails k g BadValue
+
+  -- or of a value
+  part_element : (g : k.Point) (x i : Value) → KnowsValue k.HasText (k.Knows g) x → Part k g (element_of x i)
+  part_element g x (value.Long i) known = part_object k g (λ object. look (element_in i object) object) x known
+      (λ object object_known. part_look k g (element_in i object) object object_known (λ class size. part_element_in g i object class size object_known))
+  part_element g x i known = part_object k g (λ object. Fails BadValue) x known (λ object object_known. part_fails k g BadValue)
+
+  -- ---- roots and new objects
+
+  -- a root is read
+  part_root : (g : k.Point) (r : ℕ) → Part k g (root r)
+  part_root g r = part_under k g (Name r) Read (get 0 r) tt (part_get k g 0 r (λ h more. k.get_root_asked h r more.awake))
+
+  -- a new array has no more elements than there may be
+  part_array : (g : k.Point) (kind : Kind) (v : Value) → Part k g (new_array kind v)
+  part_array g kind (value.Long (pos n)) = part_choose k g (nat_le n most_elements) (make (Array kind) n) (Fails BadSize)
+      (λ few. part_make k g (Array kind) n (λ h more. k.array_asked h kind n more.awake (leb-true n most_elements few))) (part_fails k g BadSize)
+  part_array g kind (value.Long (negsuc n)) = part_fails k g BadSize
+  part_array g kind v = part_fails k g BadValue
+
+  -- ---- operators
+
+  -- the value is to be a boolean
+  part_boolean : (g : k.Point) (v : Value) → Part k g (a_boolean v)
+  part_boolean g (value.Bool b) = part_gives k g (value.Bool b) tt
+  part_boolean g v = part_fails k g BadValue
+
+  -- the second operand, after the value of the first
+  part_second : (g : k.Point) (o : Op) (m : Meaning) (v : Value) → Part k g m → Part k g (second o m v)
+  part_second g op.And m (value.Bool true) part = part_value k g a_boolean m part (λ v h more known. part_boolean h v)
+  part_second g op.And m (value.Bool false) part = part_gives k g (value.Bool false) tt
+  part_second g op.And m v part = part_fails k g BadValue
+  part_second g op.Or m (value.Bool true) part = part_gives k g (value.Bool true) tt
+  part_second g op.Or m (value.Bool false) part = part_value k g a_boolean m part (λ v h more known. part_boolean h v)
+  part_second g op.Or m v part = part_fails k g BadValue
+  part_second g o m x part = part_value k g (λ y. result_of (binary o x y)) m part (λ y h more known. part_result k h (binary o x y) (known_binary k.HasText (k.Knows h) o x y))
+
+-- a part that is another one
+pub part_as : {shape : Shape} (k : Keeper shape) (g : k.Point) (m n : Meaning) → m ≡ n → Part k g n → Part k g m
+part_as k g m n is part = subst (Part k g) (sym is) part
+
+-- ---- all forms
+
+module _ (c : Code) (k : Keeper c.shape) (ways : MethodMeanings) (bodies : Bodies k ways) (count : ℕ) (in_method : Bool) where
+  -- what the expressions may name
+  abbrev scope : Scope
+  scope = record { code = c; vars = count; in_method = in_method }
+
+  -- the value of a variable
+  part_variable : (g : k.Point) (i : ℕ) → Part k g (λ at. Gives (slice_index_or at.environment.vars i value.Null) at)
+  part_variable g i = record {
+    from = λ h u more environment. Obeys.ends (Gives (slice_index_or u.environment.vars i value.Null) u) (λ rs. refl)
+        (record { same = k.same_itself h; value = known_at k.HasText (k.Knows h) u.environment.vars i environment.vars; environment = environment });
+  }
+
+  -- the object that a method is called on
+  part_this : (g : k.Point) → Part k g (λ at. Gives at.environment.this at)
+  part_this g = record { from = λ h u more environment. Obeys.ends (Gives u.environment.this u) (λ rs. refl) (record { same = k.same_itself h; value = environment.this; environment = environment }) }
+
+  mutual
+    -- a sound expression
+    pub part_expr : {a : Expr} → SoundExpr scope a → (g : k.Point) → Part k g (expr c ways a)
+    part_expr (SoundExpr.constant {v = v} literal) g = part_as k g _ _ (expr_Const c ways v) (part_gives k g v (known_literal c.shape k.HasText (k.Knows g) k.literal_text v literal))
+    part_expr (SoundExpr.variable {i = i} there) g = part_as k g _ _ (expr_Var c ways i) (part_variable g i)
+    part_expr (SoundExpr.this there) g = part_as k g _ _ (expr_This c ways) (part_this g)
+    part_expr (SoundExpr.root {r = r} there) g = part_as k g _ _ (expr_Root c ways r) (part_root k g r)
+    part_expr (SoundExpr.field {a = a} {f = f} inner places) g = part_as k g _ _ (expr_Field c ways a f)
+        (part_value k g (field_of f) (expr c ways a) (part_expr inner g) (λ x h more known. part_field k h f x known))
+    part_expr (SoundExpr.element {a = a} {b = b} inner index) g = part_as k g _ _ (expr_Elem c ways a b)
+        (part_value k g (on_next element_of (expr c ways b)) (expr c ways a) (part_expr inner g)
+        (λ x h more known. part_value k h (element_of x) (expr c ways b) (part_expr index h) (λ i j further i_known. part_element k j x i (value_later k h j further.knows x known))))
+    part_expr (SoundExpr.call {a = a} {callees = callees} {args = args} inner are rest) g = part_as k g _ _ (expr_Call c ways a callees args)
+        (part_value k g _ (expr c ways a) (part_expr inner g)
+        (λ x h more known. part_arguments k (call_on c ways callees x) (map (expr c ways) args) h [] (part_exprs rest h) tt
+        (λ vs i further all. part_call k ways bodies c i callees x vs (value_later k h i further.knows x known) all)))
+    part_expr (SoundExpr.object {c = class} there) g = part_as k g _ _ (expr_NewObject c ways class)
+        (part_make k g (Plain class) (length (fields_at c.shape class)) (λ h more. k.class_asked h class more.awake there))
+    part_expr (SoundExpr.array {k = kind} {a = a} inner) g = part_as k g _ _ (expr_NewArray c ways kind a)
+        (part_value k g (new_array kind) (expr c ways a) (part_expr inner g) (λ v h more known. part_array k h kind v))
+    part_expr (SoundExpr.unary {o = o} {a = a} is inner) g = part_as k g _ _ (expr_Unary c ways o a)
+        (part_value k g (λ v. result_of (unary o v)) (expr c ways a) (part_expr inner g) (λ v h more known. part_result k h (unary o v) (known_unary k.HasText (k.Knows h) o v)))
+    part_expr (SoundExpr.binary {o = o} {a = a} {b = b} is inner other) g = part_as k g _ _ (expr_Binary c ways o a b)
+        (part_value k g (second o (expr c ways b)) (expr c ways a) (part_expr inner g) (λ v h more known. part_second k h o (expr c ways b) v (part_expr other h)))
+
+    -- so each of a list
+    part_exprs : {all : List Expr} → SoundExprs scope all → (g : k.Point) → Parts k g (map (expr c ways) all)
+    part_exprs SoundExprs.none g = tt
+    part_exprs (SoundExprs.more one rest) g = (part_expr one g, part_exprs rest g)

@@ -1,0 +1,182 @@
+-- Parts that keep to what may be asked: requests, values, moves, locks.
+use Rattle.std.proofs.Common.{◌≡◌, refl, ℕ, Bool, true, false, List, [], ◌∷◌, subst, sym, ap, ◌∙◌}
+use Rattle.dso_base.specs.declared.lock.LockName.{LockName}
+use Rattle.dso_base.specs.declared.lock.LockName.TheVariants.{Mon, Name}
+use Rattle.dso_base.specs.declared.request.Fault.{Fault}
+use Rattle.dso_base.specs.declared.request.Reply.{Reply}
+use Rattle.dso_base.specs.declared.request.Request.{Request}
+use Rattle.dso_base.specs.declared.shape.Shape.{Shape}
+use Rattle.dso_base.specs.declared.value.Value.{Value}
+use Rattle.dso_base.specs.declared.value.Value.TheVariants as value
+use Rattle.dso_machine.specs.Outcome.{Environment, State, Outcome, Wants, Gives, Leaves, Fails, Hears, Over, Stopped, Meaning, choose, on_value}
+use Rattle.dso_machine.specs.Unwinding.{with_replies}
+use Rattle.dso_machine.proofs.protocol.Protocol.{KnowsValue, KnowsLock, Keeper}
+
+-- ---- outcomes by the replies that are left
+
+-- the outcome with these replies left
+abbrev pub refilled : List Reply → Outcome → Outcome
+refilled rs (Wants q) = Wants q
+refilled rs (Gives v u) = Gives v (with_replies rs u)
+refilled rs (Leaves v u) = Leaves v (with_replies rs u)
+refilled rs (Fails f u) = Fails f (with_replies rs u)
+refilled rs (Hears r u) = Hears r (with_replies rs u)
+refilled rs Over = Over
+refilled rs Stopped = Stopped
+
+-- What comes of the replies keeps to what may be asked: it wants a request that may be asked at the point, and goes on so after
+-- each reply that may come; or it ends there, hears no more replies, and its end is as said.
+pub data Obeys {shape : Shape} (k : Keeper shape) (P : Outcome → k.Point → Type 0) : k.Point → (List Reply → Outcome) → Type 0 where
+  asks : {g : k.Point} {o : List Reply → Outcome} (q : Request) → o [] ≡ Wants q → k.Asks g q
+      → ((r : Reply) → k.IsReply g q r → Obeys k P (k.after q r g) (λ rs. o (r ∷ rs))) → Obeys k P g o
+  ends : {g : k.Point} {o : List Reply → Outcome} (e : Outcome) → ((rs : List Reply) → o rs ≡ refilled rs e) → P e g → Obeys k P g o
+
+-- functions that agree are one function
+pub one_function : {A B : Type 0} (f g : A → B) → ((x : A) → f x ≡ g x) → f ≡ g
+one_function f g same = λ i x. same x i
+
+module _ {shape : Shape} (k : Keeper shape) where
+  -- with another end
+  pub keeps_so : (P Q : Outcome → k.Point → Type 0) {g : k.Point} {o : List Reply → Outcome} → Obeys k P g o → ((e : Outcome) (h : k.Point) → P e h → Q e h) → Obeys k Q g o
+  keeps_so P Q (Obeys.asks q is may go) so = Obeys.asks q is may (λ r comes. keeps_so P Q (go r comes) so)
+  keeps_so P Q (Obeys.ends e is end) so = Obeys.ends e is (so e _ end)
+
+  -- what is made of an outcome goes on from its end, if it makes nothing of a request
+  pub keeps_on : (P Q : Outcome → k.Point → Type 0) (f : Outcome → Outcome) → ((q : Request) → f (Wants q) ≡ Wants q) → {g : k.Point} {o : List Reply → Outcome} → Obeys k P g o
+      → ((e : Outcome) (h : k.Point) → P e h → Obeys k Q h (λ rs. f (refilled rs e))) → Obeys k Q g (λ rs. f (o rs))
+  keeps_on P Q f leaves (Obeys.asks q is may go) then = Obeys.asks q (ap f is ∙ leaves q) may (λ r comes. keeps_on P Q f leaves (go r comes) then)
+  keeps_on P Q f leaves (Obeys.ends e is end) then = subst (Obeys k Q _) (one_function _ _ (λ rs. ap f (sym (is rs)))) (then e _ end)
+
+-- ---- what is known
+
+-- every value of the list is known
+abbrev pub KnowsAll : (ℕ → Type 0) → (ℕ → Type 0) → List Value → Type 0
+KnowsAll has_text knows [] = Unit {0}
+KnowsAll has_text knows (v ∷ vs) = KnowsValue has_text knows v × KnowsAll has_text knows vs
+
+module _ {shape : Shape} (k : Keeper shape) where
+  -- at the second point the thread is awake, and knows no less than at the first
+  pub record More (g h : k.Point) : Type 0 where
+    pub awake : k.Awake h
+    pub knows : (object : ℕ) → k.Knows g object → k.Knows h object
+
+  -- the thread knows all that the environment holds
+  pub record KnowsEnvironment (g : k.Point) (environment : Environment) : Type 0 where
+    pub this : KnowsValue k.HasText (k.Knows g) environment.this
+    pub vars : KnowsAll k.HasText (k.Knows g) environment.vars
+
+  -- from the first point to the second: the same locks, a value and an environment that are known
+  pub record Kept (g h : k.Point) (v : Value) (held : Environment) : Type 0 where
+    pub same : k.Same g h
+    pub value : KnowsValue k.HasText (k.Knows h) v
+    pub environment : KnowsEnvironment h held
+
+  -- so of the end of a part that began at the first point
+  abbrev pub Fine : k.Point → Outcome → k.Point → Type 0
+  Fine g (Gives v u) h = Kept g h v u.environment
+  Fine g (Leaves v u) h = Kept g h v u.environment
+  Fine g (Fails fault u) h = k.Same g h
+  Fine g Stopped h = Unit {0}
+  Fine g o h = ⊥
+
+  -- A part that keeps to what may be asked, from each point that knows no less than this one.
+  pub record Part (g : k.Point) (m : Meaning) : Type 0 where
+    pub from : (h : k.Point) (u : State) → More g h → KnowsEnvironment h u.environment → Obeys k (Fine h) h (λ rs. m (with_replies rs u))
+
+module _ {shape : Shape} (k : Keeper shape) where
+  -- a value that is known stays known,
+  pub value_later : (g h : k.Point) → ((object : ℕ) → k.Knows g object → k.Knows h object) → (v : Value) → KnowsValue k.HasText (k.Knows g) v → KnowsValue k.HasText (k.Knows h) v
+  value_later g h knows (value.Ref object) known = knows object known
+  value_later g h knows value.Null known = tt
+  value_later g h knows (value.Long n) known = tt
+  value_later g h knows (value.Bool b) known = tt
+  value_later g h knows (value.Text t) known = known
+
+  -- and so all of a list,
+  pub all_later : (g h : k.Point) → ((object : ℕ) → k.Knows g object → k.Knows h object) → (vs : List Value) → KnowsAll k.HasText (k.Knows g) vs → KnowsAll k.HasText (k.Knows h) vs
+  all_later g h knows [] known = tt
+  all_later g h knows (v ∷ vs) known = (value_later g h knows v known.0, all_later g h knows vs known.1)
+
+  -- a lock,
+  pub lock_later : (g h : k.Point) → ((object : ℕ) → k.Knows g object → k.Knows h object) → (l : LockName) → KnowsLock (k.Knows g) l → KnowsLock (k.Knows h) l
+  lock_later g h knows (Mon object) known = knows object known
+  lock_later g h knows (Name name) known = tt
+
+  -- and an environment.
+  pub environment_later : (g h : k.Point) → ((object : ℕ) → k.Knows g object → k.Knows h object) → (environment : Environment) → KnowsEnvironment k g environment → KnowsEnvironment k h environment
+  environment_later g h knows environment known = record { this = value_later g h knows environment.this known.this; vars = all_later g h knows environment.vars known.vars }
+
+  -- a point after another, and a third one after it
+  pub more_then : (g h i : k.Point) → More k g h → More k h i → More k g i
+  more_then g h i some others = record { awake = others.awake; knows = λ object known. others.knows object (some.knows object known) }
+
+  -- a point and itself
+  pub more_itself : (g : k.Point) → k.Awake g → More k g g
+  more_itself g awake = record { awake = awake; knows = λ object known. known }
+
+  -- a point with the same locks
+  pub more_same : (g h : k.Point) → k.Awake g → k.Same g h → More k g h
+  more_same g h awake same = record { awake = k.same_awake g h same awake; knows = k.same_knows g h same }
+
+  -- an end that is fine from a point is so from an earlier one with the same locks
+  pub fine_from : (g h : k.Point) → k.Same g h → (e : Outcome) (i : k.Point) → Fine k h e i → Fine k g e i
+  fine_from g h same (Gives v u) i fine = record { same = k.same_then g h i same fine.same; value = fine.value; environment = fine.environment }
+  fine_from g h same (Leaves v u) i fine = record { same = k.same_then g h i same fine.same; value = fine.value; environment = fine.environment }
+  fine_from g h same (Fails fault u) i fine = k.same_then g h i same fine
+  fine_from g h same Stopped i fine = tt
+  fine_from g h same (Wants q) i fine = absurd fine
+  fine_from g h same (Hears r u) i fine = absurd fine
+  fine_from g h same Over i fine = absurd fine
+
+  -- so of what keeps to what may be asked
+  pub keeps_from : (g h i : k.Point) → k.Same g h → (o : List Reply → Outcome) → Obeys k (Fine k h) i o → Obeys k (Fine k g) i o
+  keeps_from g h i same o keeps = keeps_so k (Fine k h) (Fine k g) keeps (fine_from g h same)
+
+  -- a part from a later point
+  pub part_later : (g h : k.Point) (m : Meaning) → More k g h → Part k g m → Part k h m
+  part_later g h m more part = record { from = λ i u further environment. part.from i u (more_then g h i more further) environment }
+
+  -- a part at a point with the same locks, in a part that began before
+  pub part_at : (g h : k.Point) (m : Meaning) (u : State) → k.Awake h → k.Same g h → Part k h m → KnowsEnvironment k h u.environment → Obeys k (Fine k g) h (λ rs. m (with_replies rs u))
+  part_at g h m u awake same part environment = keeps_from g h h same _ (part.from h u (more_itself h awake) environment)
+
+  -- ---- ends and what follows
+
+  -- a value that is known,
+  pub part_gives : (g : k.Point) (v : Value) → KnowsValue k.HasText (k.Knows g) v → Part k g (Gives v)
+  part_gives g v known = record { from = λ h u more environment. Obeys.ends (Gives v u) (λ rs. refl) (record { same = k.same_itself h; value = value_later g h more.knows v known; environment = environment }) }
+
+  -- one that the body is left with,
+  pub part_leaves : (g : k.Point) (v : Value) → KnowsValue k.HasText (k.Knows g) v → Part k g (Leaves v)
+  part_leaves g v known = record { from = λ h u more environment. Obeys.ends (Leaves v u) (λ rs. refl) (record { same = k.same_itself h; value = value_later g h more.knows v known; environment = environment }) }
+
+  -- a fault,
+  pub part_fails : (g : k.Point) (fault : Fault) → Part k g (Fails fault)
+  part_fails g fault = record { from = λ h u more environment. Obeys.ends (Fails fault u) (λ rs. refl) (k.same_itself h) }
+
+  -- and where no more moves are counted.
+  pub part_stopped : (g : k.Point) → Part k g (λ at. Stopped)
+  part_stopped g = record { from = λ h u more environment. Obeys.ends Stopped (λ rs. refl) tt }
+
+  -- what goes on from a value goes on from an end
+  on_end : (g h : k.Point) (f : Value → Meaning) → More k g h → ((v : Value) (i : k.Point) → More k g i → KnowsValue k.HasText (k.Knows i) v → Part k i (f v))
+      → (e : Outcome) (i : k.Point) → Fine k h e i → Obeys k (Fine k h) i (λ rs. on_value f (refilled rs e))
+  on_end g h f more then (Gives v u) i fine =
+      let further : More k h i = more_same h i more.awake fine.same in
+      part_at h i (f v) u further.awake fine.same (then v i (more_then g h i more further) fine.value) fine.environment
+  on_end g h f more then (Leaves v u) i fine = Obeys.ends (Leaves v u) (λ rs. refl) fine
+  on_end g h f more then (Fails fault u) i fine = Obeys.ends (Fails fault u) (λ rs. refl) fine
+  on_end g h f more then Stopped i fine = Obeys.ends Stopped (λ rs. refl) tt
+  on_end g h f more then (Wants q) i fine = absurd fine
+  on_end g h f more then (Hears r u) i fine = absurd fine
+  on_end g h f more then Over i fine = absurd fine
+
+  -- a part, and then what is made of its value
+  pub part_value : (g : k.Point) (f : Value → Meaning) (m : Meaning) → Part k g m → ((v : Value) (h : k.Point) → More k g h → KnowsValue k.HasText (k.Knows h) v → Part k h (f v))
+      → Part k g (λ at. on_value f (m at))
+  part_value g f m part then = record { from = λ h u more environment. keeps_on k (Fine k h) (Fine k h) (on_value f) (λ q. refl) (part.from h u more environment) (on_end g h f more then) }
+
+  -- one or the other
+  pub part_choose : (g : k.Point) (b : Bool) (m other : Meaning) → (b ≡ true → Part k g m) → Part k g other → Part k g (choose b m other)
+  part_choose g true m other part rest = record { from = λ h u more environment. (part refl).from h u more environment }
+  part_choose g false m other part rest = record { from = λ h u more environment. rest.from h u more environment }

@@ -1,0 +1,116 @@
+-- What may be asked of a program, in abstract form: points of a thread's run, what may be asked there, what is known there;
+-- and which texts may be named.
+use Rattle.std.proofs.Common.{◌≡◌, ℕ, ◌<◌, ◌≤◌, Bool, true, false, List, [], ◌∷◌, ◌++◌, length, Option, Some}
+use Rattle.dso_base.specs.declared.lock.Level.{Level}
+use Rattle.dso_base.specs.declared.lock.LockName.{LockName}
+use Rattle.dso_base.specs.declared.lock.LockName.TheVariants.{Mon, Name}
+use Rattle.dso_base.specs.declared.lock.ThreadId.{ThreadId}
+use Rattle.dso_base.specs.declared.request.Event.{Event}
+use Rattle.dso_base.specs.declared.request.Event.TheVariants.{Act, Lost}
+use Rattle.dso_base.specs.declared.request.Fault.{Fault}
+use Rattle.dso_base.specs.declared.request.Reply.{Reply}
+use Rattle.dso_base.specs.declared.request.Reply.TheVariants.{Done, Made, Val}
+use Rattle.dso_base.specs.declared.request.Request.{Request}
+use Rattle.dso_base.specs.declared.request.Request.TheVariants.{New, Look, Get, Put, Enter, Exit, Wait, Resume, Notify, NotifyAll, Print, End, Pause}
+use Rattle.dso_base.specs.declared.shape.Shape.{Shape}
+use Rattle.dso_base.specs.declared.value.ClassId.TheVariants.{Plain, Array}
+use Rattle.dso_base.specs.declared.value.Kind.{Kind}
+use Rattle.dso_base.specs.declared.value.Value.{Value}
+use Rattle.dso_base.specs.declared.value.Value.TheVariants as value
+use Rattle.dso_base.specs.Following.{IsListed}
+use Rattle.dso_base.specs.Shape.{fields_at}
+use Rattle.dso_machine.specs.declared.code.Code.{Code}
+use Rattle.dso_machine.specs.Limits.{most_elements}
+use Rattle.dso_machine.specs.Next.{next_request}
+
+-- the object or the text that the value names, if it names one, is known
+abbrev pub KnowsValue : (ℕ → Type 0) → (ℕ → Type 0) → Value → Type 0
+KnowsValue has_text knows (value.Ref object) = knows object
+KnowsValue has_text knows (value.Text t) = has_text t
+KnowsValue has_text knows v = Unit {0}
+
+-- the object whose monitor it is, if it is a monitor, is known
+abbrev pub KnowsLock : (ℕ → Type 0) → LockName → Type 0
+KnowsLock knows (Mon object) = knows object
+KnowsLock knows (Name name) = Unit {0}
+
+-- the requests that leave the locks as they are, whatever the reply, and end nothing
+abbrev pub is_plain : Request → Bool
+is_plain (Enter l level) = false
+is_plain (Exit l) = false
+is_plain (Wait l) = false
+is_plain (Resume l) = false
+is_plain (End fault) = false
+is_plain request = true
+
+-- Points of a thread's run: which replies may come there, what the thread may ask there, which objects it knows there, and
+-- what a request with its reply makes of a point; and, the same at all points, which texts may be named.
+pub record Keeper (shape : Shape) : Type 1 where
+  pub Point : Type 0
+  pub start : Point
+  pub after : Request → Reply → Point → Point
+  pub Asks : Point → Request → Type 0
+  pub IsReply : Point → Request → Reply → Type 0
+  pub Knows : Point → ℕ → Type 0
+  pub HasText : ℕ → Type 0  -- the text of this number is one that may be named
+  pub Awake : Point → Type 0  -- it neither waits nor has ended (with all else that is always so where a thread goes on)
+  pub Same : Point → Point → Type 0  -- at the second one it holds the same locks as at the first, is as awake, and knows no less
+  -- replies are listed ones
+  pub listed : (g : Point) (q : Request) (r : Reply) → IsReply g q r → IsListed q r
+  pub start_awake : Awake start
+  -- what is known stays known, and an object that is made or read is known
+  pub still_known : (g : Point) (q : Request) (r : Reply) (object : ℕ) → Knows g object → Knows (after q r g) object
+  pub made_known : (g : Point) (q : Request) (object : ℕ) → IsReply g q (Made object) → Knows (after q (Made object) g) object
+  pub read_known : (g : Point) (q : Request) (object : ℕ) → IsReply g q (Val (value.Ref object)) → Knows (after q (Val (value.Ref object)) g) object
+  -- a text of the program's own may be named, and so a text that is read
+  pub literal_text : (t : ℕ) → t < shape.texts → HasText t
+  pub read_text : (g : Point) (q : Request) (t : ℕ) → IsReply g q (Val (value.Text t)) → HasText t
+  -- the same locks
+  pub same_itself : (g : Point) → Same g g
+  pub same_then : (g h i : Point) → Same g h → Same h i → Same g i
+  pub same_awake : (g h : Point) → Same g h → Awake g → Awake h
+  pub same_knows : (g h : Point) → Same g h → (object : ℕ) → Knows g object → Knows h object
+  -- what leaves them as they are: plain requests, and an entry or a wait that is not answered Done
+  pub plain_same : (g : Point) (q : Request) (r : Reply) → Awake g → is_plain q ≡ true → IsReply g q r → Same g (after q r g)
+  pub enter_same : (g : Point) (l : LockName) (level : Level) (r : Reply) → Awake g → IsReply g (Enter l level) r → (r ≡ Done → ⊥) → Same g (after (Enter l level) r g)
+  pub wait_same : (g : Point) (l : LockName) (r : Reply) → Awake g → IsReply g (Wait l) r → (r ≡ Done → ⊥) → Same g (after (Wait l) r g)
+  -- an entry answered Done: the thread is awake, may leave the lock wherever it holds the same again, and holds then what it held before
+  pub enter_awake : (g : Point) (l : LockName) (level : Level) → Awake g → IsReply g (Enter l level) Done → Awake (after (Enter l level) Done g)
+  pub exit_asked : (g h : Point) (l : LockName) (level : Level) → Awake g → IsReply g (Enter l level) Done → Same (after (Enter l level) Done g) h → Asks h (Exit l)
+  pub exit_same : (g h : Point) (l : LockName) (level : Level) → Awake g → IsReply g (Enter l level) Done → Same (after (Enter l level) Done g) h → Same g (after (Exit l) Done h)
+  -- a wait answered Done: the thread may go on, and holds then what it held before
+  pub resume_asked : (g : Point) (l : LockName) → Awake g → IsReply g (Wait l) Done → Asks (after (Wait l) Done g) (Resume l)
+  pub resume_same : (g : Point) (l : LockName) → Awake g → IsReply g (Wait l) Done → Same g (after (Resume l) Done (after (Wait l) Done g))
+  -- the end, where the thread holds what it held at its start
+  pub end_asked : (g : Point) (fault : Option Fault) → Same start g → Asks g (End fault)
+  -- all else that may be asked of values that are known, and of object 0
+  pub class_asked : (g : Point) (class : ℕ) → Awake g → class < length shape.classes → Asks g (New (Plain class) (length (fields_at shape class)))
+  pub array_asked : (g : Point) (kind : Kind) (size : ℕ) → Awake g → size ≤ most_elements → Asks g (New (Array kind) size)
+  pub look_asked : (g : Point) (object : ℕ) → Awake g → Knows g object → Asks g (Look object)
+  pub get_asked : (g : Point) (object place : ℕ) → Awake g → Knows g object → Asks g (Get object place)
+  pub put_asked : (g : Point) (object place : ℕ) (v : Value) → Awake g → Knows g object → KnowsValue HasText (Knows g) v → Asks g (Put object place v)
+  pub get_root_asked : (g : Point) (r : ℕ) → Awake g → Asks g (Get 0 r)
+  pub put_root_asked : (g : Point) (r : ℕ) (v : Value) → Awake g → KnowsValue HasText (Knows g) v → Asks g (Put 0 r v)
+  pub enter_asked : (g : Point) (l : LockName) (level : Level) → Awake g → KnowsLock (Knows g) l → Asks g (Enter l level)
+  pub wait_asked : (g : Point) (object : ℕ) → Awake g → Knows g object → Asks g (Wait (Mon object))
+  pub notify_asked : (g : Point) (object : ℕ) → Awake g → Knows g object → Asks g (Notify (Mon object))
+  pub notify_all_asked : (g : Point) (object : ℕ) → Awake g → Knows g object → Asks g (NotifyAll (Mon object))
+  pub print_asked : (g : Point) (v : Value) → Awake g → KnowsValue HasText (Knows g) v → Asks g (Print v)
+  pub pause_asked : (g : Point) → Awake g → Asks g Pause
+
+module _ {shape : Shape} (k : Keeper shape) where
+  -- the point after events, by the one before them
+  abbrev pub through : k.Point → List Event → k.Point
+  through g [] = g
+  through g (Act thread q r woken ∷ events) = through (k.after q r g) events
+  through g (Lost client ∷ events) = through g events
+
+  -- each event is an act with the thread's next request after the events before it, and a reply that may come there
+  abbrev pub FollowsAt : (List Event → Option Request) → List Event → k.Point → List Event → Type 0
+  FollowsAt next before g [] = Unit {0}
+  FollowsAt next before g (Act thread q r woken ∷ events) = (next before ≡ Some q) × k.IsReply g q r × FollowsAt next (before ++ Act thread q r woken ∷ []) (k.after q r g) events
+  FollowsAt next before g (Lost client ∷ events) = ⊥
+
+-- the thread keeps to what may be asked: wherever its events follow its code, its next request may be asked
+abbrev pub KeepsTo : (code : Code) → Keeper code.shape → ThreadId → Type 0
+KeepsTo code k t = (events : List Event) (q : Request) → FollowsAt k (next_request code t) [] k.start events → next_request code t events ≡ Some q → k.Asks (through k k.start events) q

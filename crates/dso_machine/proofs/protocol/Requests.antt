@@ -1,0 +1,122 @@
+-- Requests, moves, locks and waits keep to what may be asked.
+use Rattle.std.proofs.Common.{◌≡◌, refl, ℕ, ◌+◌, Bool, true, false, []}
+use Rattle.std.specs.Prelude.{nat_lt, Result, Ok, Err}
+use Rattle.dso_base.specs.declared.request.Fault.{Fault}
+use Rattle.dso_base.specs.declared.request.Fault.TheVariants.{BadValue, NullPointer}
+use Rattle.dso_base.specs.declared.request.Reply.{Reply}
+use Rattle.dso_base.specs.declared.request.Reply.TheVariants.{Done, Made, Seen, Val, Refused}
+use Rattle.dso_base.specs.declared.request.Request.{Request}
+use Rattle.dso_base.specs.declared.request.Request.TheVariants as request
+use Rattle.dso_base.specs.declared.shape.Shape.{Shape}
+use Rattle.dso_base.specs.declared.value.ClassId.{ClassId}
+use Rattle.dso_base.specs.declared.value.Value.{Value}
+use Rattle.dso_base.specs.declared.value.Value.TheVariants as value
+use Rattle.dso_machine.specs.Expressions.{make}
+use Rattle.dso_machine.specs.Limits.{most_moves}
+use Rattle.dso_machine.specs.Outcome.{Meaning, on_reply, result_of, ask, unwanted, done, made, got, seen, tell, get, look, on_object, moved, paced, moving}
+use Rattle.dso_machine.proofs.protocol.Protocol.{KnowsValue, is_plain, Keeper}
+use Rattle.dso_machine.proofs.protocol.Parts.{Obeys, More, Part, environment_later, more_then, part_later, part_at, part_gives, part_fails, part_value}
+
+-- the value, if there is one, is known
+abbrev pub KnowsResult : (ℕ → Type 0) → (ℕ → Type 0) → Result Value Fault → Type 0
+KnowsResult has_text knows (Ok v) = KnowsValue has_text knows v
+KnowsResult has_text knows (Err fault) = Unit {0}
+
+module _ {shape : Shape} (k : Keeper shape) where
+  -- ---- replies
+
+  -- a reply that isn't wanted
+  pub part_unwanted : (g : k.Point) (r : Reply) → Part k g (unwanted r)
+  part_unwanted g (Refused fault) = record { from = λ h u more environment. (part_fails k g fault).from h u more environment }
+  part_unwanted g r = record { from = λ h u more environment. (part_fails k g BadValue).from h u more environment }
+
+  -- the reply Done, or another
+  pub part_done : (g : k.Point) (r : Reply) → Part k g (done r)
+  part_done g Done = record { from = λ h u more environment. (part_gives k g value.Null tt).from h u more environment }
+  part_done g r = record { from = λ h u more environment. (part_unwanted g r).from h u more environment }
+
+  -- the object that was made, or another reply
+  part_made : (g : k.Point) (q : Request) (r : Reply) → k.IsReply g q r → Part k (k.after q r g) (made r)
+  part_made g q (Made object) comes = record { from = λ h u more environment. (part_gives k (k.after q (Made object) g) (value.Ref object) (k.made_known g q object comes)).from h u more environment }
+  part_made g q r comes = record { from = λ h u more environment. (part_unwanted (k.after q r g) r).from h u more environment }
+
+  -- a value that was read is known
+  read_value : (g : k.Point) (q : Request) (v : Value) → k.IsReply g q (Val v) → KnowsValue k.HasText (k.Knows (k.after q (Val v) g)) v
+  read_value g q (value.Ref object) comes = k.read_known g q object comes
+  read_value g q value.Null comes = tt
+  read_value g q (value.Long n) comes = tt
+  read_value g q (value.Bool b) comes = tt
+  read_value g q (value.Text t) comes = k.read_text g q t comes
+
+  -- the value that was read, or another reply
+  part_got : (g : k.Point) (q : Request) (r : Reply) → k.IsReply g q r → Part k (k.after q r g) (got r)
+  part_got g q (Val v) comes = record { from = λ h u more environment. (part_gives k (k.after q (Val v) g) v (read_value g q v comes)).from h u more environment }
+  part_got g q r comes = record { from = λ h u more environment. (part_unwanted (k.after q r g) r).from h u more environment }
+
+  -- what was seen, or another reply
+  part_seen : (g : k.Point) (f : ClassId → ℕ → Meaning) (r : Reply) → ((class : ClassId) (size : ℕ) → Part k g (f class size)) → Part k g (seen f r)
+  part_seen g f (Seen class size) part = record { from = λ h u more environment. (part class size).from h u more environment }
+  part_seen g f r part = record { from = λ h u more environment. (part_unwanted g r).from h u more environment }
+
+  -- a value that is known, or the fault in its place
+  pub part_result : (g : k.Point) (r : Result Value Fault) → KnowsResult k.HasText (k.Knows g) r → Part k g (result_of r)
+  part_result g (Ok v) known = part_gives k g v known
+  part_result g (Err fault) known = part_fails k g fault
+
+  -- ---- requests
+
+  -- after any reply no less is known
+  more_after : (g : k.Point) (q : Request) (r : Reply) → k.Awake (k.after q r g) → More k g (k.after q r g)
+  more_after g q r awake = record { awake = awake; knows = k.still_known g q r }
+
+  -- a plain request that may be asked, and what is made of its reply
+  part_plain : (g : k.Point) (q : Request) (f : Reply → Meaning) → is_plain q ≡ true → ((h : k.Point) → More k g h → k.Asks h q)
+      → ((h : k.Point) (r : Reply) → More k g h → More k g (k.after q r h) → k.IsReply h q r → Part k (k.after q r h) (f r)) → Part k g (λ at. on_reply f (ask q at))
+  part_plain g q f plain may then = record {
+    from = λ h u more environment. Obeys.asks q refl (may h more) (λ r comes.
+        let same : k.Same h (k.after q r h) = k.plain_same h q r more.awake plain comes in
+        let awake : k.Awake (k.after q r h) = k.same_awake h (k.after q r h) same more.awake in
+        part_at k h (k.after q r h) (f r) (record { environment = u.environment; moves = 0; replies = [] }) awake same
+        (then h r more (more_then k g h (k.after q r h) more (more_after h q r awake)) comes) (environment_later k h (k.after q r h) (k.still_known h q r) u.environment environment));
+  }
+
+  -- a plain request that is answered Done
+  pub part_tell : (g : k.Point) (q : Request) → is_plain q ≡ true → ((h : k.Point) → More k g h → k.Asks h q) → Part k g (tell q)
+  part_tell g q plain may = part_plain g q done plain may (λ h r more later comes. part_done (k.after q r h) r)
+
+  -- a field or an element is read,
+  pub part_get : (g : k.Point) (object place : ℕ) → ((h : k.Point) → More k g h → k.Asks h (request.Get object place)) → Part k g (get object place)
+  part_get g object place may = part_plain g (request.Get object place) got refl may (λ h r more later comes. part_got h (request.Get object place) r comes)
+
+  -- an object is made,
+  pub part_make : (g : k.Point) (class : ClassId) (size : ℕ) → ((h : k.Point) → More k g h → k.Asks h (request.New class size)) → Part k g (make class size)
+  part_make g class size may = part_plain g (request.New class size) made refl may (λ h r more later comes. part_made h (request.New class size) r comes)
+
+  -- an object that is known is looked at
+  pub part_look : (g : k.Point) (f : ClassId → ℕ → Meaning) (object : ℕ) → k.Knows g object → ((class : ClassId) (size : ℕ) → Part k g (f class size)) → Part k g (look f object)
+  part_look g f object known part = part_plain g (request.Look object) (seen f) refl (λ h more. k.look_asked h object more.awake (more.knows object known))
+      (λ h r more later comes. part_seen (k.after (request.Look object) r h) f r (λ class size. part_later k g (k.after (request.Look object) r h) (f class size) later (part class size)))
+
+  -- the value is to be an object
+  pub part_object : (g : k.Point) (f : ℕ → Meaning) (v : Value) → KnowsValue k.HasText (k.Knows g) v → ((object : ℕ) → k.Knows g object → Part k g (f object)) → Part k g (on_object f v)
+  part_object g f (value.Ref object) known part = record { from = λ h u more environment. (part object known).from h u more environment }
+  part_object g f value.Null known part = record { from = λ h u more environment. (part_fails k g NullPointer).from h u more environment }
+  part_object g f v known part = record { from = λ h u more environment. (part_fails k g BadValue).from h u more environment }
+
+  -- ---- moves
+
+  -- a move is made
+  part_moved : (g : k.Point) (m : Meaning) → Part k g m → Part k g (moved m)
+  part_moved g m part = record { from = λ h u more environment. part.from h (record { environment = u.environment; moves = u.moves + 1; replies = u.replies }) more environment }
+
+  -- a move, after a pause where one is due
+  part_paced : (g : k.Point) (b : Bool) (m : Meaning) → Part k g m → Part k g (paced b m)
+  part_paced g true m part = record { from = λ h u more environment. (part_moved g m part).from h u more environment }
+  part_paced g false m part = record {
+    from = λ h u more environment. (part_value k g (λ v. moved m) (tell request.Pause) (part_tell g request.Pause refl (λ h more. k.pause_asked h more.awake))
+        (λ v h more known. part_moved h m (part_later k g h m more part))).from h u more environment;
+  }
+
+  -- so by how many moves were made
+  pub part_moving : (g : k.Point) (m : Meaning) → Part k g m → Part k g (moving m)
+  part_moving g m part = record { from = λ h u more environment. (part_paced g (nat_lt u.moves most_moves) m part).from h u more environment }

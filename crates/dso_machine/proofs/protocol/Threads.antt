@@ -1,0 +1,168 @@
+-- A thread of sound code keeps to what may be asked, from its first request to its end.
+use Rattle.std.proofs.Common.{◌≡◌, refl, ℕ, zero, suc, ◌+◌, ◌≤◌, Bool, true, false, cond, List, [], ◌∷◌, ◌++◌, length, All, Option, None, Some, subst, sym, ap, ◌∙◌, arith}
+use Rattle.std.specs.Prelude.{slice_get}
+use Rattle.std.proofs.lemmas.List.{append-nil, length-append}
+use Rattle.std.proofs.lemmas.List.Elements.{All-head, All-tail}
+use Rattle.std.proofs.lemmas.Option.{slice_get_within, get_or_from_slice_get}
+use Rattle.dso_base.specs.declared.lock.ThreadId.{ThreadId}
+use Rattle.dso_base.specs.declared.request.Event.{Event}
+use Rattle.dso_base.specs.declared.request.Event.TheVariants.{Act, Lost}
+use Rattle.dso_base.specs.declared.request.Reply.{Reply}
+use Rattle.dso_base.specs.declared.request.Request.{Request}
+use Rattle.dso_base.specs.declared.request.Request.TheVariants as request
+use Rattle.dso_base.specs.declared.value.Value.TheVariants as value
+use Rattle.dso_base.specs.Following.{is_thread}
+use Rattle.dso_machine.specs.declared.code.Code.{Code}
+use Rattle.dso_machine.specs.declared.code.Method.{Method}
+use Rattle.dso_machine.specs.declared.code.ThreadBody.{ThreadBody}
+use Rattle.dso_machine.specs.Next.{finish, opening, whole, enough_for, request_of, replies_in, body_of, next_of, next_request}
+use Rattle.dso_machine.specs.Outcome.{Outcome, Wants, Gives, Leaves, Fails, Hears, Over, Stopped}
+use Rattle.dso_machine.specs.Sound.{IsSoundMethod, IsSoundBody, IsSound}
+use Rattle.dso_machine.specs.Statements.{block, statements_of, methods}
+use Rattle.dso_machine.proofs.protocol.Protocol.{Keeper, through, FollowsAt, KeepsTo}
+use Rattle.dso_machine.proofs.protocol.Parts.{refilled, Obeys, keeps_on, one_function, Fine, Part, part_stopped, part_gives}
+use Rattle.dso_machine.proofs.protocol.Calls.{Bodies, known_variables}
+use Rattle.dso_machine.proofs.protocol.Statements.{part_block}
+use Rattle.dso_machine.proofs.moves.MoreRepliesInTrees.{moves_enough}
+
+-- ---- methods and bodies
+
+-- what holds of all holds of the one that was found
+all_of : {X : Type 0} (P : X → Type 0) (xs : List X) (i : ℕ) (x : X) → slice_get xs i ≡ Some x → All P xs → P x
+all_of P xs i x is all = subst P (get_or_from_slice_get xs i x x is) (all i x (slice_get_within xs i x is))
+
+-- so of one of two
+one_of : {X : Type 0} (P : X → Type 0) (b : Bool) (first : X) (others : Option X) (x : X) → P first → (others ≡ Some x → P x) → cond b (Some first) others ≡ Some x → P x
+one_of P true first others x here rest is =
+    let same : first ≡ x = cc is in
+    subst P same here
+one_of P false first others x here rest is = rest is
+
+-- so of what a thread runs
+body_sound : (P : ThreadBody → Type 0) (t : ThreadId) (body : ThreadBody) (bodies : List ThreadBody) → All P bodies → body_of t bodies ≡ Some body → P body
+body_sound P t body [] all is = absurd (cc is)
+body_sound P t body (first ∷ rest) all is = one_of P (is_thread t first.thread) first (body_of t rest) body (All-head P first rest all) (body_sound P t body rest (All-tail P first rest all)) is
+
+module _ (c : Code) (k : Keeper c.shape) (sound : IsSound c) where
+  -- the statements of a method that may be there
+  part_statements : (n : ℕ) → Bodies k (methods c n) → (m : ℕ) (method : Option Method) → slice_get c.methods m ≡ method → (g : k.Point) → Part k g (block c (methods c n) n (statements_of method))
+  part_statements n bodies m None is g = part_gives k g value.Null tt
+  part_statements n bodies m (Some method) is g =
+      let fine : IsSoundMethod c method = all_of (IsSoundMethod c) c.methods m method is sound.methods in
+      part_block c k (methods c n) bodies n method.vars true fine.statements g
+
+  -- the methods' bodies keep to what may be asked, for any number of moves
+  part_methods : (n : ℕ) → Bodies k (methods c n)
+  part_methods zero = record { body = λ m g. part_stopped k g }
+  part_methods (suc n) = record { body = λ m g. part_statements n (part_methods n) m (slice_get c.methods m) refl g }
+
+  -- ---- the whole of a thread
+
+  -- the thread is over, or was stopped
+  abbrev Ended : Outcome → k.Point → Type 0
+  Ended Over g = Unit {0}
+  Ended Stopped g = Unit {0}
+  Ended o g = ⊥
+
+  -- where its statements end, it asks for its end
+  ends_thread : (e : Outcome) (h : k.Point) → Fine k k.start e h → Obeys k Ended h (λ rs. finish (refilled rs e))
+  ends_thread (Gives v u) h fine = Obeys.asks (request.End None) refl (k.end_asked h None fine.same) (λ r comes. Obeys.ends Over (λ rs. refl) tt)
+  ends_thread (Leaves v u) h fine = Obeys.asks (request.End None) refl (k.end_asked h None fine.same) (λ r comes. Obeys.ends Over (λ rs. refl) tt)
+  ends_thread (Fails fault u) h fine = Obeys.asks (request.End (Some fault)) refl (k.end_asked h (Some fault) fine) (λ r comes. Obeys.ends Over (λ rs. refl) tt)
+  ends_thread Stopped h fine = Obeys.ends Stopped (λ rs. refl) tt
+  ends_thread (Wants q) h fine = absurd fine
+  ends_thread (Hears r u) h fine = absurd fine
+  ends_thread Over h fine = absurd fine
+
+  -- a thread with a sound body keeps to what may be asked
+  keeps_whole : (body : ThreadBody) → IsSoundBody c body → (n : ℕ) → Obeys k Ended k.start (λ rs. whole c body n rs)
+  keeps_whole body fine n = keeps_on k (Fine k k.start) Ended finish (λ q. refl)
+      ((part_block c k (methods c n) (part_methods n) n body.vars false fine.statements k.start).from k.start (opening body.vars [])
+      (record { awake = k.start_awake; knows = λ object known. known }) (record { this = tt; vars = known_variables k.HasText (k.Knows k.start) body.vars [] tt })) ends_thread
+
+  -- ---- events
+
+  -- an end wants nothing
+  nothing_wanted : (e : Outcome) (g : k.Point) (q : Request) → Ended e g → request_of (refilled [] e) ≡ Some q → ⊥
+  nothing_wanted Over g q end wanted = cc wanted
+  nothing_wanted Stopped g q end wanted = cc wanted
+  nothing_wanted (Wants p) g q end wanted = end
+  nothing_wanted (Gives v u) g q end wanted = end
+  nothing_wanted (Leaves v u) g q end wanted = end
+  nothing_wanted (Fails fault u) g q end wanted = end
+  nothing_wanted (Hears r u) g q end wanted = end
+
+  -- what is wanted is the request
+  the_request : (o : Outcome) (p q : Request) → o ≡ Wants p → request_of o ≡ Some q → p ≡ q
+  the_request o p q is wanted =
+      let same : Some p ≡ Some q = sym (ap request_of is) ∙ wanted in
+      cc same
+
+  -- The request that is wanted may be asked,
+  asks_next : (g : k.Point) (o : List Reply → Outcome) (q : Request) → Obeys k Ended g o → request_of (o []) ≡ Some q → k.Asks g q
+  asks_next g o q (Obeys.asks p is may go) wanted = subst (k.Asks g) (the_request (o []) p q is wanted) may
+  asks_next g o q (Obeys.ends e is end) wanted = absurd (nothing_wanted e g q end (ap request_of (sym (is [])) ∙ wanted))
+
+  -- and what comes after its reply keeps to what may be asked.
+  goes_on : (g : k.Point) (o : List Reply → Outcome) (q : Request) → Obeys k Ended g o → request_of (o []) ≡ Some q → (r : Reply) → k.IsReply g q r → Obeys k Ended (k.after q r g) (λ rs. o (r ∷ rs))
+  goes_on g o q (Obeys.asks p is may go) wanted r comes =
+      let same : p ≡ q = the_request (o []) p q is wanted in
+      subst (λ x. Obeys k Ended (k.after x r g) (λ rs. o (r ∷ rs))) same (go r (subst (λ x. k.IsReply g x r) (sym same) comes))
+  goes_on g o q (Obeys.ends e is end) wanted r comes = absurd (nothing_wanted e g q end (ap request_of (sym (is [])) ∙ wanted))
+
+  -- each event is an act with what is wanted after the replies before it, and a reply that may come
+  abbrev FollowsOf : (List Reply → Outcome) → k.Point → List Event → Type 0
+  FollowsOf o g [] = Unit {0}
+  FollowsOf o g (Act t q r woken ∷ events) = (request_of (o []) ≡ Some q) × k.IsReply g q r × FollowsOf (λ rs. o (r ∷ rs)) (k.after q r g) events
+  FollowsOf o g (Lost client ∷ events) = ⊥
+
+  -- so what is wanted after such events may be asked
+  asks_after : (events : List Event) (g : k.Point) (o : List Reply → Outcome) (q : Request) → Obeys k Ended g o → FollowsOf o g events → request_of (o (replies_in events)) ≡ Some q
+      → k.Asks (through k g events) q
+  asks_after [] g o q keeps follows wanted = asks_next g o q keeps wanted
+  asks_after (Act t p r woken ∷ events) g o q keeps follows wanted =
+      asks_after events (k.after p r g) (λ rs. o (r ∷ rs)) q (goes_on g o p keeps follows.0 r follows.1) follows.2 wanted
+  asks_after (Lost client ∷ events) g o q keeps follows wanted = absurd follows
+
+-- ---- by the events of a thread
+
+-- one more event behind others, and what follows its reply
+replies_more : (before : List Event) (t : ThreadId) (q : Request) (r : Reply) (woken : Option ThreadId) (rs : List Reply) → replies_in (before ++ Act t q r woken ∷ []) ++ rs ≡ replies_in before ++ r ∷ rs
+replies_more [] t q r woken rs = refl
+replies_more (Act u p s by ∷ before) t q r woken rs = ap (λ all. s ∷ all) (replies_more before t q r woken rs)
+replies_more (Lost client ∷ before) t q r woken rs = replies_more before t q r woken rs
+
+module _ (c : Code) (k : Keeper c.shape) (sound : IsSound c) (t : ThreadId) (body : ThreadBody) (found : body_of t c.bodies ≡ Some body) where
+  -- the next request is what is wanted, for any number of moves that is enough
+  next_is : (before : List Event) (n : ℕ) → enough_for (replies_in before) ≤ n → next_request c t before ≡ request_of (whole c body n (replies_in before))
+  next_is before n le = ap (next_of c (replies_in before)) found ∙ sym (moves_enough c body n (replies_in before) le)
+
+  -- so the thread's events are acts with what is wanted after the replies before them
+  follows_of : (n : ℕ) (events before : List Event) (g : k.Point) → enough_for (replies_in before ++ replies_in events) ≤ n → FollowsAt k (next_request c t) before g events
+      → FollowsOf c k sound (λ rs. whole c body n (replies_in before ++ rs)) g events
+  follows_of n [] before g le follows = tt
+  follows_of n (Act u q r woken ∷ events) before g le follows =
+      let further : List Event = before ++ Act u q r woken ∷ [] in
+      let longer : length (replies_in before ++ r ∷ replies_in events) ≡ length (replies_in before) + suc (length (replies_in events)) = length-append (replies_in before) (r ∷ replies_in events) in
+      let wanted : request_of (whole c body n (replies_in before ++ [])) ≡ Some q =
+      subst (λ rs. request_of (whole c body n rs) ≡ Some q) (sym (append-nil (replies_in before))) (sym (next_is before n (omega arith)) ∙ follows.0) in
+      let rest : FollowsOf c k sound (λ rs. whole c body n (replies_in further ++ rs)) (k.after q r g) events =
+      follows_of n events further (k.after q r g) (subst (λ rs. enough_for rs ≤ n) (sym (replies_more before u q r woken (replies_in events))) le) follows.2 in
+      (wanted, follows.1, subst (λ o. FollowsOf c k sound o (k.after q r g) events) (one_function _ _ (λ rs. ap (whole c body n) (replies_more before u q r woken rs))) rest)
+  follows_of n (Lost client ∷ events) before g le follows = absurd follows
+
+  -- a thread that is there
+  keeps_there : KeepsTo c k t
+  keeps_there events q follows wanted =
+      let n : ℕ = enough_for (replies_in events) in
+      asks_after c k sound events k.start (λ rs. whole c body n rs) q (keeps_whole c k sound body (body_sound (IsSoundBody c) t body c.bodies sound.bodies found) n)
+      (follows_of n events [] k.start (omega arith) follows) (sym (next_is events n (omega arith)) ∙ wanted)
+
+-- so of what was found, where it asks something
+keeps_found : (c : Code) (k : Keeper c.shape) → IsSound c → (t : ThreadId) (body : Option ThreadBody) → body_of t c.bodies ≡ body → KeepsTo c k t
+keeps_found c k sound t (Some body) found = keeps_there c k sound t body found
+keeps_found c k sound t None found = λ events q follows wanted. absurd (cc (sym (ap (next_of c (replies_in events)) found) ∙ wanted))
+
+-- Each thread of sound code keeps to what may be asked.
+pub keeps_to : (c : Code) (k : Keeper c.shape) → IsSound c → (t : ThreadId) → KeepsTo c k t
+keeps_to c k sound t = keeps_found c k sound t (body_of t c.bodies) refl

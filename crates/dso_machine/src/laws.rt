@@ -1,0 +1,51 @@
+//! What the machine's definitions say of every thread's run: how it leaves its locks.
+
+ghost use Rattle.std.specs.Prelude.{◌≡◌, [], ◌∷◌, ◌++◌, List, Option, Some};
+ghost use Rattle.dso_base.specs.declared.lock.LockName.{LockName};
+ghost use Rattle.dso_base.specs.declared.lock.ThreadId.{ThreadId};
+ghost use Rattle.dso_base.specs.declared.request.Event.TheVariants as event;
+ghost use Rattle.dso_base.specs.declared.request.Event.{Event};
+ghost use Rattle.dso_base.specs.declared.request.Fault.{Fault};
+ghost use Rattle.dso_base.specs.declared.request.Reply.TheVariants as reply;
+ghost use Rattle.dso_base.specs.declared.request.Request.TheVariants as request;
+ghost use Rattle.dso_base.specs.declared.request.Request.{Request};
+ghost use Rattle.dso_machine.specs.declared.code.Code.{Code};
+ghost use Rattle.dso_machine.specs.declared.code.ThreadBody.{ThreadBody};
+ghost use Rattle.dso_machine.specs.Next.{body_of, next_request, replies_in};
+ghost use Rattle.dso_machine.specs.Unwinding.{FailsAfter, FollowsCode, Unwinds, locks_after, outer};
+
+/// A fault of a thread is followed by an Exit of each lock that it has, the innermost first, then by End with that fault, and then by
+/// nothing.
+///
+/// `refused` says it of a request that is refused, `failed` of a fault that the code itself makes; by `ended` a thread ends with a fault
+/// only where its code is at it. All hold for every code.
+pub fn faults_unwind()
+    ensures refused { (code : Code) (t : ThreadId) (events : List Event) (q : Request) (fault : Fault) (woken : Option ThreadId)
+        → FollowsCode code t (events ++ event.Act t q (reply.Refused fault) woken ∷ [])
+        → Unwinds code t (events ++ event.Act t q (reply.Refused fault) woken ∷ []) fault }
+    ensures failed { (code : Code) (t : ThreadId) (body : ThreadBody) (events : List Event) (fault : Fault)
+        → body_of t code.bodies ≡ Some body
+        → FailsAfter code body (replies_in events) fault
+        → Unwinds code t events fault }
+    ensures ended { (code : Code) (t : ThreadId) (body : ThreadBody) (events : List Event) (fault : Fault)
+        → body_of t code.bodies ≡ Some body
+        → FollowsCode code t events
+        → next_request code t events ≡ Some (request.End (Some fault))
+        → FailsAfter code body (replies_in events) fault }
+{}
+
+/// A thread leaves its locks in the opposite order of their entries, and ends when it has left all; after a wait it asks for its lock
+/// again before all else. This holds for every code.
+pub fn locks_nest()
+    ensures exits { (code : Code) (t : ThreadId) (events : List Event) (l : LockName)
+        → FollowsCode code t events
+        → next_request code t events ≡ Some (request.Exit l)
+        → locks_after [] events ≡ l ∷ outer (locks_after [] events) }
+    ensures ends { (code : Code) (t : ThreadId) (events : List Event) (fault : Option Fault)
+        → FollowsCode code t events
+        → next_request code t events ≡ Some (request.End fault)
+        → locks_after [] events ≡ [] }
+    ensures resumes { (code : Code) (t : ThreadId) (events : List Event) (l : LockName) (woken : Option ThreadId)
+        → FollowsCode code t (events ++ event.Act t (request.Wait l) reply.Done woken ∷ [])
+        → next_request code t (events ++ event.Act t (request.Wait l) reply.Done woken ∷ []) ≡ Some (request.Resume l) }
+{}

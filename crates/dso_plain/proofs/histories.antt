@@ -1,0 +1,2 @@
+-- Legal histories that go on.
+pub mod LegalGoesOn

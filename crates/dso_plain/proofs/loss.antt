@@ -1,0 +1,3 @@
+-- Runs of other clients' threads after the loss of a client.
+pub mod RunsSurvive
+pub mod RunsRechosen

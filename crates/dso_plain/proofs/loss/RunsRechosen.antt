@@ -1,0 +1,170 @@
+-- Runs with other choices after the loss of a client.
+use Rattle.std.proofs.Common.{ℕ, ◌≡◌, ◌≢◌, inl, inr, refl, sym, ◌∙◌, ap, subst, Bool, true, false, Option, Some, None, List, [], ◌∷◌}
+use Rattle.dso_base.specs.declared.lock.Level.{Level}
+use Rattle.dso_base.specs.declared.lock.LockName.{LockName}
+use Rattle.dso_base.specs.declared.lock.LockName.TheVariants.{Mon, Name}
+use Rattle.dso_base.specs.declared.lock.ThreadId.{ThreadId}
+use Rattle.dso_base.specs.declared.request.Event.{Event}
+use Rattle.dso_base.specs.declared.request.Event.TheVariants.{Act, Lost}
+use Rattle.dso_base.specs.declared.request.Fault.TheVariants.{UnlockedSharedObject, WrongLock, ReadOnly, LockUpgrade, IllegalMonitor}
+use Rattle.dso_base.specs.declared.request.Reply.{Reply}
+use Rattle.dso_base.specs.declared.request.Reply.TheVariants.{Done, Made, Seen, Val, Local, Refused}
+use Rattle.dso_base.specs.declared.request.Request.{Request}
+use Rattle.dso_base.specs.declared.request.Request.TheVariants.{New, Look, Get, Put, Enter, Exit, Wait, Resume, Notify, NotifyAll, Print, End, Pause}
+use Rattle.dso_base.specs.declared.shape.Shape.{Shape}
+use Rattle.dso_base.specs.declared.value.Value.{Value}
+use Rattle.dso_plain.specs.State.{Hold, PlainState, is_shared, level_of, hold_on_guard}
+use Rattle.dso_plain.specs.Possible.{IsPossible, May, Answers, IsPrivateMonitor, IsClusterLock, Wakes, IsAwakeFor}
+use Rattle.dso_plain.specs.After.{change_of, apply, after, put, read, read_shared, notifies}
+use Rattle.dso_plain.specs.History.{Runs, end_of}
+use Rattle.dso_plain.specs.Touches.{ActTouches, Touches, TouchesIn}
+use Rattle.dso_plain.specs.Rechoice.{with_marks, FindsMark, IsOfOtherClient, AreOfOtherClients, IsSameAct, AreSameActs, FitsMarks, ChoicesFit, IsRechosen, RunsRechosen}
+use Rattle.dso_plain.proofs.loss.RunsSurvive.{left, same_hold, not_cleared, still_answers, still_awake, swap}
+
+module _ (shape : Shape) (t : ThreadId) (s : PlainState) (marks : LockName × ThreadId → Bool) where
+  -- with other marks a private monitor is one, and a cluster's lock
+  private_monitor_marked : (l : LockName) → IsPrivateMonitor t l s → IsPrivateMonitor t l (with_marks marks s)
+  private_monitor_marked (Mon o) a = a
+  private_monitor_marked (Name n) a = absurd a
+
+  -- and a lock of the cluster
+  cluster_lock_marked : (l : LockName) → IsClusterLock l s → IsClusterLock l (with_marks marks s)
+  cluster_lock_marked (Mon o) a = a
+  cluster_lock_marked (Name n) a = tt
+
+  -- no reply depends on marks, but that Resume needs one
+  answers_marked : (request : Request) (reply : Reply) → FindsMark request t (with_marks marks s) → Answers shape t request reply s → Answers shape t request reply (with_marks marks s)
+  answers_marked (Resume l) Done n a = (a.0, n, a.2)
+  answers_marked (New class k) (Made o) n a = a
+  answers_marked (Look o) (Seen class k) n a = a
+  answers_marked (Get o f) (Val v) n a = a
+  answers_marked (Put o f v) Done n a = a
+  answers_marked (Put o f v) (Refused UnlockedSharedObject) n a = a
+  answers_marked (Put o f v) (Refused ReadOnly) n a = a
+  answers_marked (Put o f v) (Refused WrongLock) n a = a
+  answers_marked (Put o f v) reply n a = absurd a.1
+  answers_marked (Enter l level) Local n a = private_monitor_marked l a
+  answers_marked (Enter l level) (Refused LockUpgrade) n a = a
+  answers_marked (Enter l level) Done n a = (cluster_lock_marked l a.0, a.1, a.2)
+  answers_marked (Exit l) Done n a = a
+  answers_marked (Wait l) Done n a = a
+  answers_marked (Wait l) (Refused IllegalMonitor) n a = a
+  answers_marked (Notify l) Done n a = a
+  answers_marked (Notify l) (Refused IllegalMonitor) n a = a
+  answers_marked (NotifyAll l) Done n a = a
+  answers_marked (NotifyAll l) (Refused IllegalMonitor) n a = a
+  answers_marked (Print v) reply n a = a
+  answers_marked (End fault) Done n a = a
+  answers_marked Pause reply n a = a
+  answers_marked request reply n a = absurd a
+
+  -- who is awake does not depend on marks
+  awake_marked : (request : Request) → IsAwakeFor request t s → IsAwakeFor request t (with_marks marks s)
+  awake_marked (Resume l) a = tt
+  awake_marked request a = a
+
+  -- a put does not read marks
+  put_marked : (o f : ℕ) (v : Value) (b : Bool) (k : LockName × ThreadId → Bool) → with_marks k (apply (put t o f v b (with_marks marks s)) (with_marks marks s)) ≡ with_marks k (apply (put t o f v b s) s)
+  put_marked o f v true k = refl
+  put_marked o f v false k = refl
+
+  -- nor does a read of a shared object
+  read_shared_marked : (o f : ℕ) (hold : Option Hold) (k : LockName × ThreadId → Bool) → with_marks k (apply (read_shared t o f hold (with_marks marks s)) (with_marks marks s)) ≡ with_marks k (apply (read_shared t o f hold s) s)
+  read_shared_marked o f None k = refl
+  read_shared_marked o f (Some hold) k = refl
+
+  -- nor any read
+  read_marked : (o f : ℕ) (b : Bool) (k : LockName × ThreadId → Bool) → with_marks k (apply (read shape t o f b (with_marks marks s)) (with_marks marks s)) ≡ with_marks k (apply (read shape t o f b s) s)
+  read_marked o f true k = read_shared_marked o f (hold_on_guard shape t o f s) k
+  read_marked o f false k = refl
+
+  -- notifications differ in marks alone
+  notify_marked : (l : LockName) (woken woken' : Option ThreadId) (k : LockName × ThreadId → Bool) → with_marks k (apply (notifies l woken') (with_marks marks s)) ≡ with_marks k (apply (notifies l woken) s)
+  notify_marked l None None k = refl
+  notify_marked l None (Some w) k = refl
+  notify_marked l (Some w) None k = refl
+  notify_marked l (Some w) (Some v) k = refl
+
+  -- marks, and whom an act wakes, bear on marks alone
+  writes_marked : (request : Request) (reply : Reply) (woken woken' : Option ThreadId) (k : LockName × ThreadId → Bool) → with_marks k (apply (change_of shape t request reply woken' (with_marks marks s)) (with_marks marks s)) ≡ with_marks k (apply (change_of shape t request reply woken s) s)
+  writes_marked (New class n) (Made o) woken woken' k = refl
+  writes_marked (Get o f) (Val v) woken woken' k = read_marked o f (is_shared (s.objects o)) k
+  writes_marked (Put o f v) Done woken woken' k = put_marked o f v (is_shared (s.objects o)) k
+  writes_marked (Enter l level) Done woken woken' k = refl
+  writes_marked (Exit l) Done woken woken' k = refl
+  writes_marked (Wait l) Done woken woken' k = refl
+  writes_marked (Resume l) Done woken woken' k = refl
+  writes_marked (Notify l) Done woken woken' k = notify_marked l woken woken' k
+  writes_marked (NotifyAll l) Done woken woken' k = refl
+  writes_marked (Print v) Done woken woken' k = refl
+  writes_marked (End fault) Done woken woken' k = refl
+  writes_marked request reply woken woken' k = refl
+
+-- what is so of one act with another choice
+record OneRechosen (shape : Shape) (client : ℕ) (marks : LockName × ThreadId → Bool) (e chosen : Event) (s : PlainState) : Type 0 where
+  may : May shape chosen (with_marks marks (left client s))
+  same_end : after shape chosen (with_marks marks (left client s)) ≡ with_marks (after shape chosen (with_marks marks (left client s))).marked (left client (after shape e s))
+  touches : (l : LockName) (x : Level) → Touches chosen (with_marks marks (left client s)) l x → Touches e s l x
+
+-- an act and the same with another choice
+act_rechosen : (shape : Shape) (client : ℕ) (marks : LockName × ThreadId → Bool) (t : ThreadId) (request : Request) (reply : Reply) (woken woken' : Option ThreadId) (s : PlainState) → t.client ≢ client → IsPossible shape t request reply woken s → FindsMark request t (with_marks marks (left client s)) → Wakes request reply woken' (with_marks marks (left client s)) → OneRechosen shape client marks (Act t request reply woken) (Act t request reply woken') s
+act_rechosen shape client marks t request reply woken woken' s other p n wakes = record {
+  may = record {
+    connected = not_cleared t.client client true (s.lost t.client) other ∙ p.connected;
+    going = p.going;
+    awake = awake_marked shape t (left client s) marks request (still_awake shape client s t other request p.awake);
+    answers = answers_marked shape t (left client s) marks request reply n (still_answers shape client s t other request reply p.answers);
+    wakes = wakes;
+  };
+  same_end = by (apply (change_of shape t request reply woken' (with_marks marks (left client s))) (with_marks marks (left client s))).marked;
+  touches = λ l x. touched l x;
+}
+  where
+    by : (k : LockName × ThreadId → Bool) → with_marks k (apply (change_of shape t request reply woken' (with_marks marks (left client s))) (with_marks marks (left client s))) ≡ with_marks k (left client (apply (change_of shape t request reply woken s) s))
+    by k = writes_marked shape t (left client s) marks request reply None woken' k
+        ∙ (ap (λ z. with_marks k z) (swap shape client s t other request reply None p.answers tt)
+        ∙ ap (λ z. with_marks k (left client z)) (writes_marked shape t s s.marked request reply woken None s.marked))
+
+    touched : (l : LockName) (x : Level) → ActTouches t request reply (with_marks marks (left client s)) l x → ActTouches t request reply s l x
+    touched l x (inl e) = inl (sym (ap level_of (same_hold shape client s t other l)) ∙ e)
+    touched l x (inr e) = inr e
+
+-- an event and the same with another choice
+event_rechosen : (shape : Shape) (client : ℕ) (marks : LockName × ThreadId → Bool) (e chosen : Event) (s : PlainState) → IsOfOtherClient client e → IsSameAct e chosen → May shape e s → FitsMarks chosen (with_marks marks (left client s)) → OneRechosen shape client marks e chosen s
+event_rechosen shape client marks (Act t request reply woken) (Act t' request' reply' woken') s other same m fits =
+    let same_event : Act t request reply woken' ≡ Act t' request' reply' woken' = λ i. Act (sym same.0 i) (sym same.1 i) (sym same.2 i) woken' in
+    let fit : FitsMarks (Act t request reply woken') (with_marks marks (left client s)) = subst (λ e. FitsMarks e (with_marks marks (left client s))) (sym same_event) fits in
+    subst (λ z. OneRechosen shape client marks (Act t request reply woken) z s) same_event (act_rechosen shape client marks t request reply woken woken' s other m fit.0 fit.1)
+event_rechosen shape client marks (Act t request reply woken) (Lost lost) s other same m fits = absurd same
+event_rechosen shape client marks (Lost lost) chosen s other same m fits = absurd other
+
+-- a run and the same acts with other choices, from a state with other marks
+record Chosen (shape : Shape) (client : ℕ) (marks : LockName × ThreadId → Bool) (es chosen : List Event) (s : PlainState) : Type 0 where
+  runs : Runs shape chosen (with_marks marks (left client s))
+  same_end : end_of shape chosen (with_marks marks (left client s)) ≡ with_marks (end_of shape chosen (with_marks marks (left client s))).marked (left client (end_of shape es s))
+  touches : (l : LockName) (x : Level) → TouchesIn shape chosen (with_marks marks (left client s)) l x → TouchesIn shape es s l x
+
+-- a run is so
+run_rechosen : (shape : Shape) (client : ℕ) (marks : LockName × ThreadId → Bool) (es chosen : List Event) (s : PlainState) → Runs shape es s → AreOfOtherClients client es → AreSameActs es chosen → ChoicesFit shape chosen (with_marks marks (left client s)) → Chosen shape client marks es chosen s
+run_rechosen shape client marks [] [] s m others same fits = record { runs = tt; same_end = refl; touches = λ l x k. k }
+run_rechosen shape client marks (e ∷ es) [] s m others same fits = absurd same
+run_rechosen shape client marks [] (c ∷ cs) s m others same fits = absurd same
+run_rechosen shape client marks (e ∷ es) (c ∷ cs) s m others same fits =
+    let one = event_rechosen shape client marks e c s others.0 same.0 m.0 fits.0 in
+    let marks' = (after shape c (with_marks marks (left client s))).marked in
+    let rest = run_rechosen shape client marks' es cs (after shape e s) m.1 others.1 same.1 (subst (λ z. ChoicesFit shape cs z) one.same_end fits.1) in
+    record {
+      runs = (one.may, subst (λ z. Runs shape cs z) (sym one.same_end) rest.runs);
+      same_end = subst (λ z. end_of shape cs z ≡ with_marks (end_of shape cs z).marked (left client (end_of shape es (after shape e s)))) (sym one.same_end) rest.same_end;
+      touches = λ l x. touched l x one rest;
+    }
+  where
+    touched : (l : LockName) (x : Level) → OneRechosen shape client marks e c s → Chosen shape client (after shape c (with_marks marks (left client s))).marked es cs (after shape e s) → TouchesIn shape (c ∷ cs) (with_marks marks (left client s)) l x → TouchesIn shape (e ∷ es) s l x
+    touched l x one rest (inl k) = inl (one.touches l x k)
+    touched l x one rest (inr k) = inr (rest.touches l x (subst (λ z. TouchesIn shape cs z l x) one.same_end k))
+
+-- a run goes through again with other choices
+pub rechoice : (shape : Shape) (client : ℕ) (es chosen : List Event) (s : PlainState) → IsRechosen shape client es chosen s → RunsRechosen shape client es chosen s
+rechoice shape client es chosen s h =
+    let d = run_rechosen shape client (left client s).marked es chosen s h.runs h.others h.same h.fit in
+    record { runs = d.runs; same_end = d.same_end; touches = d.touches }

@@ -1,0 +1,181 @@
+-- The program's theorem: what each status of a call means, from the bytes that were read to those that were written.
+-- `StatusMeans`, at the end, is the clause `answer` of `dso_main`. What it is made of stands above it, in the order of
+-- the work.
+use Rattle.std.specs.Prelude.{◌≡◌, ◌≢◌, ℕ, suc, ◌⊎◌, List, [], Option, reverse}
+use Rattle.dso_base.specs.declared.journal.Entry.{Entry}
+use Rattle.dso_base.specs.declared.lock.ThreadId.{ThreadId}
+use Rattle.dso_base.specs.declared.request.Event.{Event}
+use Rattle.dso_base.specs.declared.request.Request.{Request}
+use Rattle.dso_class.specs.declared.program.Program.{Program}
+use Rattle.dso_law.specs.Settings.{Settings}
+use Rattle.dso_legal.specs.Central.{CommitsLegally}
+use Rattle.dso_legal.specs.Committed.{committed}
+use Rattle.dso_machine.specs.Next.{next_request}
+use Rattle.dso_plain.specs.History.{last_state}
+use Rattle.dso_report.specs.Report.{IsReport}
+use Rattle.dso_run.specs.declared.cluster.Outcome.{Outcome}
+use Rattle.dso_run.specs.declared.cluster.Outcome.TheVariants as outcome
+use Rattle.dso_run.specs.declared.status.ConfigFault.TheVariants as config
+use Rattle.dso_run.specs.declared.status.ProgramFault.{ProgramFault}
+use Rattle.dso_run.specs.declared.status.Refusal.{Refusal}
+use Rattle.dso_run.specs.declared.status.Refusal.TheVariants as refusal
+use Rattle.dso_run.specs.declared.status.Status.{Status}
+use Rattle.dso_run.specs.declared.status.Status.TheVariants.{Finished, Usage, BadConfig, BadProgram}
+use Rattle.dso_run.specs.declared.status.Status.TheVariants.{ReadFault, WriteFault, Stuck, Budget, NoMemory}
+use Rattle.dso_syntax.specs.TextLimits.{longest_text}
+use Rattle.dso_run.specs.Accepted.{settings_of, IsTextFault, IsTakenText}
+use Rattle.dso_run.specs.Environment.{Told, MayGive, Rose, taken_after, TookPrefix}
+use Rattle.dso_run.specs.RoundRobin.{EndsFinished, EndsStuck, EndsOverBudget}
+use Rattle.dso_run.specs.Status.{line_of}
+use Rattle.dso_run.specs.Words.{AreSim, AreUnlawful}
+
+-- how much the journal of a run may weigh before the run is cut off
+abbrev pub run_budget : ℕ
+run_budget = 1000000
+
+-- how many bytes are read of a file at most: one more than a program's text may have
+abbrev pub most_read : ℕ
+most_read = suc longest_text
+
+-- What a call reads: the words behind the program's name; what is told of each file before the call; how many reads had
+-- failed before the call, and how many have after it.
+pub record CallInput : Type 0 where
+  pub words : List (List ℕ)
+  pub content : List ℕ → Told
+  pub failed_before : ℕ
+  pub failed_after : ℕ
+
+-- What a call leaves: what its sink had taken before the call, and has after it; how many calls of the sink had failed
+-- before, and how many have after it; and the journal of the run, its first entry first.
+pub record CallOutput : Type 0 where
+  pub sink_before : Option (List ℕ)
+  pub sink_after : Option (List ℕ)
+  pub failed_before : ℕ
+  pub failed_after : ℕ
+  pub journal : List Entry
+
+-- WHAT WAS READ, AND WHICH PROGRAM IT IS
+module _ (input : CallInput) where
+  -- The words are `sim` and the names of two files, and these are bytes that the two files gave: all that a file has, or
+  -- the first `most_read` bytes of a longer one.
+  pub record WereRead (config program : List ℕ) : Type 0 where
+    pub config_name : List ℕ
+    pub program_name : List ℕ
+    pub words : AreSim input.words config_name program_name
+    pub config_given : MayGive (input.content config_name) most_read config
+    pub program_given : MayGive (input.content program_name) most_read program
+
+  -- Both files were read, the configuration is empty, and the program's text is taken as this program.
+  pub record IsAccepted (p : Program) : Type 0 where
+    pub text : List ℕ
+    pub read : WereRead [] text
+    pub taken : IsTakenText text p
+
+  -- The words are lawful, and a read failed.
+  pub record IsUnread : Type 0 where
+    pub config_name : List ℕ
+    pub program_name : List ℕ
+    pub words : AreSim input.words config_name program_name
+    pub failed : Rose input.failed_before input.failed_after
+
+  -- Both files were read, and the configuration has a byte.
+  pub record IsConfigRefused : Type 0 where
+    pub config : List ℕ
+    pub program : List ℕ
+    pub read : WereRead config program
+    pub not_empty : config ≢ []
+
+  -- Both files were read, the configuration is empty, and this is the fault of the program's text.
+  pub record IsProgramRefused (fault : ProgramFault) : Type 0 where
+    pub text : List ℕ
+    pub read : WereRead [] text
+    pub refused : IsTextFault text fault
+
+  -- why nothing is run
+  abbrev pub HasCause : Refusal → Type 0
+  HasCause refusal.Words = AreUnlawful input.words
+  HasCause refusal.Reading = IsUnread
+  HasCause (refusal.Config config.NotBuilt) = IsConfigRefused
+  HasCause (refusal.Program fault) = IsProgramRefused fault
+
+-- THE RUN, for the settings of a program, what each of its threads asks next after its events, and a budget. Entries
+-- stand with the newest first.
+module _ (p : Settings) (next : ThreadId → List Event → Option Request) (budget : ℕ) where
+  -- The entries are a lawful journal that was made by round robin within the budget, and the run ended so: finished, or
+  -- stuck, or out of its budget.
+  abbrev pub EndsAs : Outcome → List Entry → Type 0
+  EndsAs outcome.Finished es = EndsFinished p next budget es
+  EndsAs outcome.Stuck es = EndsStuck p next budget es
+  EndsAs outcome.Budget es = EndsOverBudget p next budget es
+
+  -- A run that ended so. What its journal commits is a legal history of one heap with plain monitors, in which each
+  -- thread follows the program. The history has a prefix of each thread's events, each once and in order, and all of them
+  -- where the run is finished.
+  pub record HasRun (outcome : Outcome) (es : List Entry) : Type 0 where
+    pub ended : EndsAs outcome es
+    pub commits : CommitsLegally p next es
+
+-- the journal, its first entry first, is that of a run of this program within this budget that ended so
+abbrev pub IsRunOf : Program → ℕ → Outcome → List Entry → Type 0
+IsRunOf p budget outcome journal = HasRun (settings_of p) (next_request p.code) budget outcome (reverse journal)
+
+-- the text is the report of the history that the journal commits, with the program's names
+abbrev pub IsRunReport : Program → List Entry → List ℕ → Type 0
+IsRunReport p journal text =
+    IsReport p.names p.threads (last_state p.code.shape (committed (reverse journal))) text
+
+-- WHAT WAS WRITTEN
+module _ (budget : ℕ) (input : CallInput) (output : CallOutput) where
+  -- A program was accepted, the journal is that of a run of it that ended so, and the text is the report of what the
+  -- journal commits.
+  pub record IsReportDue (outcome : Outcome) (text : List ℕ) : Type 0 where
+    pub program : Program
+    pub accepted : IsAccepted input program
+    pub ran : IsRunOf program budget outcome output.journal
+    pub is_report : IsRunReport program output.journal text
+
+  -- The refusal has its cause, the text is its line, and nothing was run.
+  pub record IsLineDue (refusal : Refusal) (text : List ℕ) : Type 0 where
+    pub cause : HasCause input refusal
+    pub is_line : text ≡ line_of refusal
+    pub nothing_ran : output.journal ≡ []
+
+  -- what was to be written: the line of a refusal, or the report of a run
+  abbrev pub IsDue : List ℕ → Type 0
+  IsDue text = ((refusal : Refusal) × IsLineDue refusal text) ⊎ ((outcome : Outcome) × IsReportDue outcome text)
+
+  -- What was to be written was written whole.
+  pub record WroteWhole (Due : List ℕ → Type 0) : Type 0 where
+    pub text : List ℕ
+    pub due : Due text
+    pub took : output.sink_after ≡ taken_after output.sink_before text
+
+  -- The sink failed, and took a prefix of what was to be written.
+  pub record WrotePrefix (Due : List ℕ → Type 0) : Type 0 where
+    pub text : List ℕ
+    pub due : Due text
+    pub took : TookPrefix output.sink_before text output.sink_after
+    pub failed : Rose output.failed_before output.failed_after
+
+  -- An allocation was refused: the sink was given nothing, and no journal is kept.
+  pub record WroteNothing : Type 0 where
+    pub untouched : output.sink_after ≡ output.sink_before
+    pub nothing_kept : output.journal ≡ []
+
+  -- WHAT EACH STATUS MEANS
+  abbrev pub StatusMeans : Status → Type 0
+  StatusMeans Finished = WroteWhole (IsReportDue outcome.Finished)
+  StatusMeans Stuck = WroteWhole (IsReportDue outcome.Stuck)
+  StatusMeans Budget = WroteWhole (IsReportDue outcome.Budget)
+  StatusMeans Usage = WroteWhole (IsLineDue refusal.Words)
+  StatusMeans ReadFault = WroteWhole (IsLineDue refusal.Reading)
+  StatusMeans (BadConfig fault) = WroteWhole (IsLineDue (refusal.Config fault))
+  StatusMeans (BadProgram fault) = WroteWhole (IsLineDue (refusal.Program fault))
+  StatusMeans WriteFault = WrotePrefix IsDue
+  StatusMeans NoMemory = WroteNothing
+
+-- other words alone decide: the status is Usage, or WriteFault in its place
+abbrev pub IsUsage : Status → Type 0
+IsUsage Usage = Unit {0}
+IsUsage WriteFault = Unit {0}
+IsUsage status = ⊥

@@ -1,0 +1,185 @@
+//! Entries of a journal in short words.
+//!
+//! | Words | Entry |
+//! |---|---|
+//! | `1.2 does enter m5 write -> done` | the thread acts, with this event |
+//! | `1.2 acts` | the thread acts, without an event |
+//! | `1 takes grant m5 read` | the client takes a message of the server |
+//! | `1 flushes 7` | the client drops its copy of the object |
+//! | `server takes 1 id-ask` | the server takes a message of the client |
+//!
+//! Behind ` sends ` stand the messages that it sends, joined by ` and `: to the server as they are, to a client as `to 1 ids 257`.
+
+use crate::events::event_by;
+use crate::words::{class_id, field, first_of, level, lock, number, small, thread, value};
+use dso_base::{
+    Body, Down, Ending, Entry, Event, Input, Items, NoMemory, Node, Sent, Set, ThreadId, Txn, Up,
+};
+use std::alloc::Global;
+
+/// The entry of the text, if it is one.
+pub fn entry_of(alloc: Global, clock: u64, text: &str) -> Result<Option<Entry>, NoMemory> {
+    let (taken, sends) = text.split_once(" sends ").unwrap_or((text, ""));
+    let Some((node, input, event)) = input_of(alloc, taken)? else {
+        return Ok(None);
+    };
+    let mut sent = Items::new(alloc);
+    for message in sends.split(" and ") {
+        if let Some(message) = sent_of(alloc, message)? {
+            sent.push(message)?;
+        }
+    }
+    Ok(Some(Entry {
+        clock,
+        node,
+        input,
+        sent,
+        event,
+    }))
+}
+
+/// The node, what it takes in, and the event.
+fn input_of(alloc: Global, text: &str) -> Result<Option<(Node, Input, Option<Event>)>, NoMemory> {
+    let (who, rest) = first_of(text);
+    let (verb, what) = first_of(rest);
+    match (verb, thread(who), small(who)) {
+        ("does" | "acts", Some(thread), _) => Ok(Some(acting(thread, what))),
+        ("flushes", _, Some(client)) => Ok(number(what).map(|object| (
+            Node::Client(client),
+            Input::Flush(object),
+            None,
+        ))),
+        ("takes", _, Some(client)) => {
+            let message = down_of(alloc, what)?;
+            Ok(message.map(|message| (Node::Client(client), Input::TookDown(message), None)))
+        }
+        ("takes", _, None) => server_takes(alloc, what),
+        _ => Ok(None),
+    }
+}
+
+/// An act of the thread; its event is None where no words are there.
+fn acting(thread: ThreadId, text: &str) -> (Node, Input, Option<Event>) {
+    (
+        Node::Client(thread.client),
+        Input::Act(thread.index),
+        event_by(thread, text),
+    )
+}
+
+/// The server takes a message of a client.
+fn server_takes(
+    alloc: Global,
+    text: &str,
+) -> Result<Option<(Node, Input, Option<Event>)>, NoMemory> {
+    let (who, what) = first_of(text);
+    let Some(client) = small(who) else {
+        return Ok(None);
+    };
+    let message = up_of(alloc, what)?;
+    Ok(message.map(|message| (Node::Server, Input::TookUp(client, message), None)))
+}
+
+/// A message that is sent.
+fn sent_of(alloc: Global, text: &str) -> Result<Option<Sent>, NoMemory> {
+    let Some(rest) = text.strip_prefix("to ") else {
+        let message = up_of(alloc, text)?;
+        return Ok(message.map(Sent::ToServer));
+    };
+    let (who, what) = first_of(rest);
+    let Some(client) = small(who) else {
+        return Ok(None);
+    };
+    let message = down_of(alloc, what)?;
+    Ok(message.map(|message| Sent::ToClient(client, message)))
+}
+
+/// A list of one.
+fn single<T: Drop>(alloc: Global, item: T) -> Result<Items<T>, NoMemory> {
+    let mut items = Items::new(alloc);
+    items.push(item)?;
+    Ok(items)
+}
+
+/// A set as `7 0 l2`: object, field and value.
+fn set_of(text: &str) -> Option<Set> {
+    let (first, rest) = first_of(text);
+    let (second, third) = first_of(rest);
+    Some(Set {
+        object: number(first)?,
+        field: field(second)?,
+        value: value(third)?,
+    })
+}
+
+/// A message of the server that has no list.
+fn plain_down_of(verb: &str, rest: &str) -> Option<Down> {
+    let (first, second) = first_of(rest);
+    match verb {
+        "ids" => Some(Down::Ids(number(first)?)),
+        "ack" => Some(Down::Ack(number(first)?)),
+        "grant" => Some(Down::Grant(lock(first)?, level(second)?)),
+        "recall" => Some(Down::Recall(lock(first)?)),
+        "wake" => Some(Down::Wake(lock(first)?, thread(second)?)),
+        _ => None,
+    }
+}
+
+/// A message of the server.
+fn down_of(alloc: Global, text: &str) -> Result<Option<Down>, NoMemory> {
+    let (verb, rest) = first_of(text);
+    match verb {
+        "object" => object_of(alloc, rest),
+        "changes" => match set_of(rest) {
+            Some(set) => Ok(Some(Down::Changes(single(alloc, set)?))),
+            None => Ok(None),
+        },
+        _ => Ok(plain_down_of(verb, rest)),
+    }
+}
+
+/// An object with one field, as `7 c0 l1`.
+fn object_of(alloc: Global, text: &str) -> Result<Option<Down>, NoMemory> {
+    let (first, rest) = first_of(text);
+    let (second, third) = first_of(rest);
+    let (Some(object), Some(class), Some(value)) = (number(first), class_id(second), value(third))
+    else {
+        return Ok(None);
+    };
+    Ok(Some(Down::Object(Body {
+        object,
+        class,
+        values: single(alloc, value)?,
+    })))
+}
+
+/// A message of a client; a lock goes back without waiters.
+fn up_of(alloc: Global, text: &str) -> Result<Option<Up>, NoMemory> {
+    let (verb, rest) = first_of(text);
+    let (first, second) = first_of(rest);
+    match (verb, number(first), lock(first), level(second)) {
+        ("id-ask", ..) => Ok(Some(Up::IdAsk)),
+        ("fault", Some(object), ..) => Ok(Some(Up::Fault(object))),
+        ("flushed", Some(object), ..) => Ok(Some(Up::Flushed(object))),
+        ("request", _, Some(lock), Some(level)) => Ok(Some(Up::Request(lock, level))),
+        ("return", _, Some(lock), _) => Ok(Some(Up::Return(lock, Items::new(alloc)))),
+        ("commit", ..) => record_of(alloc, first, second),
+        _ => Ok(None),
+    }
+}
+
+/// The first record of a thread, with one set and its end: `1.2 0 1 r7`.
+fn record_of(alloc: Global, who: &str, text: &str) -> Result<Option<Up>, NoMemory> {
+    let (Some(thread), Some(set)) = (thread(who), set_of(text)) else {
+        return Ok(None);
+    };
+    Ok(Some(Up::Commit(Txn {
+        seq: 1,
+        thread,
+        news: Items::new(alloc),
+        sets: single(alloc, set)?,
+        outs: Items::new(alloc),
+        notes: Items::new(alloc),
+        ending: Ending::End(None),
+    })))
+}

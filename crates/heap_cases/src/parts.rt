@@ -1,0 +1,108 @@
+//! What the base types tell: kinds and guards of fields, lists and boxes.
+ghost use Rattle.std.specs.Prelude.{IsTrue};
+ghost use Rattle.dso_base.specs.Shape.{HasField};
+
+use crate::words::{class_id, debugged, field, first_of, kind, number, shown, value};
+use dso_base::{Boxed, ClassId, Items, NoMemory, Shape, fits};
+use std::alloc::Global;
+
+/// The answer to a question about the base types.
+pub fn told(alloc: Global, shape: &Shape, text: &str) -> Result<String, NoMemory> {
+    let (word, rest) = first_of(text);
+    match word {
+        "guard" => of_guard(alloc, shape, rest),
+        "kind" => of_kind(alloc, shape, rest),
+        "fits" => whether_fits(alloc, rest),
+        "list" => of_list(alloc, rest),
+        "box" => of_box(alloc, rest),
+        _ => shown(alloc, "no such question"),
+    }
+}
+
+/// Whether the class has the field.
+fn has_field(shape: &Shape, class: ClassId, field: u32) -> bool
+    ensures { IsTrue result → HasField shape.now class field }
+{
+    match class {
+        ClassId::Plain(number) => match shape.classes.get(number as usize) {
+            Some(class) => (field as usize) < class.fields.len(),
+            None => false,
+        },
+        ClassId::Array(_) => true,
+        ClassId::Roots => field < shape.roots,
+    }
+}
+
+/// The guard of a field: `guard c0 7 1` of object 7.
+fn of_guard(alloc: Global, shape: &Shape, rest: &str) -> Result<String, NoMemory> {
+    let (first, numbers) = first_of(rest);
+    let (second, third) = first_of(numbers);
+    let (Some(class), Some(object), Some(field)) = (class_id(first), number(second), field(third))
+    else {
+        return shown(alloc, "no such guard");
+    };
+    if has_field(shape, class, field) {
+        debugged(alloc, shape.guard(class, object, field))
+    } else {
+        shown(alloc, "no such field")
+    }
+}
+
+/// The kind of a field: `kind c0 1`.
+fn of_kind(alloc: Global, shape: &Shape, rest: &str) -> Result<String, NoMemory> {
+    let (first, second) = first_of(rest);
+    let (Some(class), Some(field)) = (class_id(first), field(second)) else {
+        return shown(alloc, "no such kind");
+    };
+    if has_field(shape, class, field) {
+        debugged(alloc, shape.kind(class, field))
+    } else {
+        shown(alloc, "no such field")
+    }
+}
+
+/// Whether a field of the kind takes the value.
+fn whether_fits(alloc: Global, rest: &str) -> Result<String, NoMemory> {
+    let (first, second) = first_of(rest);
+    match (kind(first), value(second)) {
+        (Some(kind), Some(value)) => shown(alloc, fits(kind, value)),
+        _ => shown(alloc, "no such value"),
+    }
+}
+
+/// A list of the numbers, of which the last is pushed behind the others.
+fn list_of(alloc: Global, text: &str) -> Result<Items<u64>, NoMemory> {
+    let mut items = Items::from_vec(Vec::new(alloc));
+    for word in text.split(' ') {
+        if let Some(number) = number(word) {
+            items.push(number)?;
+        }
+    }
+    Ok(items)
+}
+
+/// What a list tells: `list 2 of 1 2 3` the item at place 2, `list pop of 1 2 3` the last one and those left.
+fn of_list(alloc: Global, rest: &str) -> Result<String, NoMemory> {
+    let Some((what, numbers)) = rest.split_once(" of ") else {
+        return shown(alloc, "no such list");
+    };
+    let mut items = list_of(alloc, numbers)?;
+    match number(what) {
+        Some(at) => debugged(alloc, items.get(at as usize)),
+        None => {
+            let last = items.pop();
+            let empty = items.is_empty();
+            debugged(alloc, (last, empty, items.into_vec()))
+        }
+    }
+}
+
+/// What a box gives back, borrowed and whole.
+fn of_box(alloc: Global, rest: &str) -> Result<String, NoMemory> {
+    let Some(number) = number(rest) else {
+        return shown(alloc, "no such box");
+    };
+    let boxed = Boxed::new(alloc, number)?;
+    let lent = *boxed.get();
+    debugged(alloc, (lent, boxed.into_inner()))
+}

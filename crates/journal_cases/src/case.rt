@@ -1,0 +1,126 @@
+//! A case: the entries so far, and what is answered to each line.
+
+use crate::words::entry_of;
+use dso_base::{
+    ClassShape, Entry, Event, FieldShape, Guard, Items, Journal, Kind, NoMemory, Shape,
+};
+use dso_legal::committed;
+use dso_plain::Plain;
+use std::alloc::{AllocError, Global};
+use std::fmt::Write;
+
+/// The entries of the case that is being read.
+#[derive(Drop)]
+pub struct Case {
+    entries: Items<Entry>,
+    clock: u64,
+}
+
+impl Case {
+    /// No entry was read yet.
+    pub fn new(alloc: Global) -> Case {
+        Case {
+            entries: Items::new(alloc),
+            clock: 0,
+        }
+    }
+
+    /// What is printed for the line: nothing for an entry, the history for `commits`, and any other line as it stands.
+    pub fn answered(&mut self, alloc: Global, line: &str) -> Result<String, AllocError> {
+        if line == "commits" {
+            return self.history(alloc);
+        }
+        let clock = self.clock.saturating_add(1);
+        match entry_of(alloc, clock, line)? {
+            Some(entry) => self.added(alloc, clock, entry),
+            None => format!(in alloc; "{line}\n"),
+        }
+    }
+
+    /// Adds the entry to the case.
+    fn added(&mut self, alloc: Global, clock: u64, entry: Entry) -> Result<String, AllocError> {
+        self.entries.push(entry)?;
+        self.clock = clock;
+        Ok(String::new(alloc))
+    }
+
+    /// The history that the entries commit, and the next case begins.
+    fn history(&mut self, alloc: Global) -> Result<String, AllocError> {
+        let journal = Journal {
+            entries: std::mem::replace(&mut self.entries, Items::new(alloc)),
+        };
+        self.clock = 0;
+        match told(alloc, &journal) {
+            Ok(text) => Ok(text),
+            Err(NoMemory) => Err(AllocError),
+        }
+    }
+}
+
+/// The history of the journal as text.
+fn told(alloc: Global, journal: &Journal) -> Result<String, NoMemory> {
+    let history = committed(alloc, journal)?;
+    let mut text = String::new(alloc);
+    for event in &history {
+        add_line(&mut text, event)?;
+    }
+    let taken = taken_by_plain(alloc, history.as_slice())?;
+    write!(text, "one heap takes {taken} of them\n\n")?;
+    Ok(text)
+}
+
+/// Adds a line for the event.
+fn add_line(text: &mut String, event: &Event) -> Result<(), AllocError> {
+    match event {
+        Event::Lost(client) => writeln!(text, "client {client} is lost"),
+        Event::Act {
+            thread,
+            request,
+            reply,
+            woken: None,
+        } => writeln!(
+            text,
+            "{}.{} {request:?} {reply:?}",
+            thread.client, thread.index
+        ),
+        Event::Act {
+            thread,
+            request,
+            woken: Some(woken),
+            ..
+        } => writeln!(
+            text,
+            "{}.{} {request:?} wakes {}.{}",
+            thread.client, thread.index, woken.client, woken.index
+        ),
+    }
+}
+
+/// How many events of the history one heap with plain monitors takes, up to the first that it refuses.
+fn taken_by_plain(alloc: Global, history: &[Event]) -> Result<usize, NoMemory> {
+    let shape = shape(alloc)?;
+    let mut plain = Plain::new(alloc, &shape)?;
+    for (at, event) in history.iter().enumerate() {
+        if !plain.apply(alloc, &shape, event)? {
+            return Ok(at);
+        }
+    }
+    Ok(history.len())
+}
+
+/// One class with a number under its own monitor, and one root.
+fn shape(alloc: Global) -> Result<Shape, NoMemory> {
+    let mut fields = Items::new(alloc);
+    fields.push(FieldShape {
+        kind: Kind::Long,
+        guard: Guard::Own,
+    })?;
+    let mut classes = Items::new(alloc);
+    classes.push(ClassShape { fields })?;
+    Ok(Shape {
+        classes,
+        roots: 1,
+        names: 1,
+        texts: 0,
+    })
+}

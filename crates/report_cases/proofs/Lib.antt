@@ -1,0 +1,3 @@
+pub mod LegalRuns
+pub mod Replays
+pub mod TextInput

@@ -1,0 +1,34 @@
+//! The cases of the top call: reads settings and trials from standard input, and prints what each trial comes to.
+//!
+//! A line is a word, a space and the rest. `try NAME` calls the program with what the lines before it set, and prints the
+//! name, the status, the exit number and the bytes that the sink took; `journal NAME` prints the journal too. Then all but
+//! the program is set back. The other words are those of `Trial::set`. In texts `\n`, `\t`, `\r` and `\1` stand for bytes.
+#![tactic(auto)]
+
+mod memory;
+mod torn;
+mod trial;
+
+use std::io;
+use trial::{Trial, show_journal, show_trial};
+
+fn main(rt: HostRuntime) -> io::Result<()> {
+    let text = io::read_to_string(rt.alloc(), rt.reader())?;
+    let mut trial = Trial::of_program("");
+    for line in text.as_str().lines() {
+        match line.split_once(' ') {
+            Some(("try", name)) => {
+                show_trial(&rt, name, &trial)?;
+                trial = Trial::of_program(trial.program);
+            }
+            Some(("journal", name)) => {
+                show_journal(&rt, name, &trial)?;
+                trial = Trial::of_program(trial.program);
+            }
+            Some((word, rest)) => trial = trial.set(word, rest),
+            None => {}
+        }
+    }
+    memory::show_files(&rt)?;
+    torn::show_reads(&rt)
+}

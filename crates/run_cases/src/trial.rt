@@ -1,0 +1,180 @@
+//! A call of the program over files and a sink in memory.
+use dso_base::NoMemory;
+use dso_run::{Done, MemFiles, MemSink, dso_main, dso_main_with_budget};
+use std::alloc::{AllocError, Global};
+use std::io;
+
+/// How many bytes the sink has room for.
+const ROOM: usize = 4096;
+
+/// The most that a journal may weigh.
+const MOST_WEIGHT: u64 = 1_000_000;
+
+/// What a call is tried on. The configuration is the file `c`, the program the file `p`. A call of number 0 is none.
+#[derive(Clone, Copy)]
+pub struct Trial<'a> {
+    /// The command line, with the program's name first and a space between two words.
+    line: &'a str,
+    config: &'a str,
+    pub program: &'a str,
+    /// What is replaced in the program, and by what.
+    old: &'a str,
+    new: &'a str,
+    /// How many spaces stand in the program's place, where that isn't 0.
+    spaces: usize,
+    failing_read: u64,
+    failing_put: u64,
+    /// How many bytes the sink takes at a time.
+    piece: usize,
+    budget: Option<u64>,
+}
+
+/// What a call leaves, and what its sink took.
+#[derive(Drop)]
+struct Answer {
+    done: Done,
+    taken: Vec<u8>,
+}
+
+impl<'a> Trial<'a> {
+    /// `sim` over an empty configuration and this program, with nothing that fails.
+    pub fn of_program(program: &'a str) -> Trial<'a> {
+        Trial {
+            line: "dsorun sim c p",
+            config: "",
+            program,
+            old: "",
+            new: "",
+            spaces: 0,
+            failing_read: 0,
+            failing_put: 0,
+            piece: ROOM,
+            budget: None,
+        }
+    }
+
+    /// The trial with what a line sets.
+    pub fn set(self, word: &str, rest: &'a str) -> Trial<'a> {
+        match word {
+            "program" => Trial::of_program(rest),
+            "change" => self.changed(rest),
+            "line" => Trial { line: rest, ..self },
+            "config" => Trial {
+                config: rest,
+                ..self
+            },
+            "spaces" => Trial {
+                spaces: number_of(rest) as usize,
+                ..self
+            },
+            "failing_read" => Trial {
+                failing_read: number_of(rest),
+                ..self
+            },
+            "failing_put" => Trial {
+                failing_put: number_of(rest),
+                ..self
+            },
+            "piece" => Trial {
+                piece: number_of(rest) as usize,
+                ..self
+            },
+            "budget" => Trial {
+                budget: Some(number_of(rest)),
+                ..self
+            },
+            _ => self,
+        }
+    }
+
+    /// The trial where one text of the program is replaced by another: `OLD -> NEW`.
+    fn changed(self, rest: &'a str) -> Trial<'a> {
+        match rest.split_once(" -> ") {
+            Some((old, new)) => Trial { old, new, ..self },
+            None => self,
+        }
+    }
+
+    /// The program's text.
+    fn text(&self, alloc: Global) -> Result<String, AllocError> {
+        if self.spaces > 0 {
+            return " ".repeat(alloc, self.spaces.min(1 << 21));
+        }
+        if self.old.is_empty() {
+            return unescaped(alloc, self.program);
+        }
+        let text = self.program.replace(alloc, self.old, self.new)?;
+        unescaped(alloc, text.as_str())
+    }
+
+    /// Calls the program.
+    fn answer(&self, alloc: Global) -> Result<Answer, NoMemory> {
+        let mut words = Vec::new(alloc);
+        for word in self.line.split(' ').skip(1) {
+            words.push(String::from_str(alloc, word)?)?;
+        }
+        let config = unescaped(alloc, self.config)?;
+        let program = self.text(alloc)?;
+        let mut files = MemFiles::new(alloc, &[self.failing_read])?;
+        files.add(alloc, "c", config.as_bytes())?;
+        files.add(alloc, "p", program.as_bytes())?;
+        let mut out = MemSink::new(alloc, self.piece.max(1), ROOM, &[self.failing_put])?;
+        let done = match self.budget {
+            None => dso_main(alloc, words.as_slice(), &mut files, &mut out),
+            Some(budget) => {
+                let budget = budget.min(MOST_WEIGHT);
+                dso_main_with_budget(alloc, words.as_slice(), &mut files, &mut out, budget)
+            }
+        };
+        let taken = Vec::from_slice(alloc, out.taken())?;
+        Ok(Answer { done, taken })
+    }
+}
+
+/// The number of a text, 0 where it is none.
+fn number_of(text: &str) -> u64 {
+    text.parse().unwrap_or(0)
+}
+
+/// The text with the bytes that `\n`, `\t`, `\r` and `\1` stand for.
+fn unescaped(alloc: Global, text: &str) -> Result<String, AllocError> {
+    let text = text.replace(alloc, "\\n", "\n")?;
+    let text = text.replace(alloc, "\\t", "\t")?;
+    let text = text.replace(alloc, "\\r", "\r")?;
+    text.replace(alloc, "\\1", "\x01")
+}
+
+/// Tries the call, and prints its name, how it ended and what its sink took.
+pub fn show_trial(rt: &HostRuntime, name: &str, trial: &Trial<'_>) -> io::Result<()> {
+    match trial.answer(rt.alloc()) {
+        Ok(answer) => show_answer(rt, name, &answer),
+        Err(NoMemory) => println!(rt; "{name}: no memory"),
+    }
+}
+
+/// Tries the call as `show_trial`, and prints the journal that it leaves, an entry a line.
+pub fn show_journal(rt: &HostRuntime, name: &str, trial: &Trial<'_>) -> io::Result<()> {
+    match trial.answer(rt.alloc()) {
+        Ok(answer) => {
+            show_answer(rt, name, &answer)?;
+            show_entries(rt, &answer.done)
+        }
+        Err(NoMemory) => println!(rt; "{name}: no memory"),
+    }
+}
+
+/// Prints how a call ended, and what its sink took.
+fn show_answer(rt: &HostRuntime, name: &str, answer: &Answer) -> io::Result<()> {
+    let status = answer.done.status;
+    println!(rt; "{name}: {status:?}, exit {}", status.exit_number())?;
+    rt.write_all(answer.taken.as_slice())?;
+    println!(rt; "")
+}
+
+/// Prints the entries of a journal.
+fn show_entries(rt: &HostRuntime, done: &Done) -> io::Result<()> {
+    for entry in done.journal.entries.as_slice() {
+        println!(rt; "{entry:?}")?;
+    }
+    Ok(())
+}
