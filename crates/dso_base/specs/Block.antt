@@ -14,7 +14,7 @@ use Rattle.dso_base.specs.declared.request.Event.TheVariants.{Act, Lost}
 use Rattle.dso_base.specs.declared.request.Reply.{Reply}
 use Rattle.dso_base.specs.declared.request.Reply.TheVariants.{Done, Made}
 use Rattle.dso_base.specs.declared.request.Request.{Request}
-use Rattle.dso_base.specs.declared.request.Request.TheVariants.{New, Put, Notify, NotifyAll, Print}
+use Rattle.dso_base.specs.declared.request.Request.TheVariants.{New, Look, Get, Put, Enter, Exit, Wait, Tick, Timeout, Resume, Notify, NotifyAll, Print, End, Pause, Settle}
 use Rattle.dso_base.specs.declared.shape.Shape.{Shape}
 use Rattle.dso_base.specs.declared.value.ClassId.{ClassId}
 use Rattle.dso_base.specs.declared.value.Kind.{Kind}
@@ -129,14 +129,30 @@ choice_of (Some woken) = Here woken
 abbrev pub noted : LockName → Choice → Work → Work
 noted l choice work = record work { notes = work.notes ++ record { lock = l; choice = choice } ∷ [] }
 
--- what an act makes of the work in hand, by its request and reply; what no line names stays as it is
+-- What an act makes of the work in hand, by its request and reply. Refusals leave it as it is, and so do the requests that
+-- read, that enter or leave a lock, that wait or go on, and the thread's end.
 abbrev pub work_by : Shape → Request → Reply → Option ThreadId → Work → Work
 work_by shape (New class n) (Made o) woken work = record work { privates = opening_body shape class n o ∷ work.privates }
+work_by shape (New class n) reply woken work = work
+work_by shape (Look o) reply woken work = work
+work_by shape (Get o f) reply woken work = work
 work_by shape (Put o f v) Done woken work = put o f v work
-work_by shape (Print v) Done woken work = record work { outs = work.outs ++ v ∷ [] }
+work_by shape (Put o f v) reply woken work = work
+work_by shape (Enter l level) reply woken work = work
+work_by shape (Exit l) reply woken work = work
+work_by shape (Wait l) reply woken work = work
+work_by shape (Tick l) reply woken work = work
+work_by shape (Timeout l) reply woken work = work
+work_by shape (Resume l) reply woken work = work
 work_by shape (Notify l) Done woken work = noted l (choice_of woken) work
+work_by shape (Notify l) reply woken work = work
 work_by shape (NotifyAll l) Done woken work = noted l All work
-work_by shape request reply woken work = work
+work_by shape (NotifyAll l) reply woken work = work
+work_by shape (Print v) Done woken work = record work { outs = work.outs ++ v ∷ [] }
+work_by shape (Print v) reply woken work = work
+work_by shape (End fault) reply woken work = work
+work_by shape Pause reply woken work = work
+work_by shape Settle reply woken work = work
 
 -- what an event makes of the work in hand
 abbrev pub work_after : Shape → Event → Work → Work

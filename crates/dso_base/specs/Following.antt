@@ -1,5 +1,5 @@
 -- What it is to follow a program: which replies are listed for a request, and that each event of a thread is its next one.
-use Rattle.std.specs.Prelude.{◌≡◌, Bool, eqb, ◌&&◌, Option, Some, None, List, [], ◌∷◌, ◌++◌}
+use Rattle.std.specs.Prelude.{◌≡◌, Bool, true, eqb, ◌&&◌, Option, Some, None, List, [], ◌∷◌, ◌++◌}
 use Rattle.dso_base.specs.declared.lock.ThreadId.{ThreadId}
 use Rattle.dso_base.specs.declared.request.Event.{Event}
 use Rattle.dso_base.specs.declared.request.Event.TheVariants.{Act, Lost}
@@ -7,14 +7,15 @@ use Rattle.dso_base.specs.declared.request.Fault.TheVariants.{UnlockedSharedObje
 use Rattle.dso_base.specs.declared.request.Reply.{Reply}
 use Rattle.dso_base.specs.declared.request.Reply.TheVariants.{Done, Made, Seen, Val, Local, Refused}
 use Rattle.dso_base.specs.declared.request.Request.{Request}
-use Rattle.dso_base.specs.declared.request.Request.TheVariants.{New, Look, Get, Put, Enter, Exit, Wait, Resume, Notify, NotifyAll, Print, End, Pause}
+use Rattle.dso_base.specs.declared.request.Request.TheVariants.{New, Look, Get, Put, Enter, Exit, Wait, Tick, Timeout, Resume, Notify, NotifyAll, Print, End, Pause, Settle}
+use Rattle.dso_base.specs.declared.value.Value.TheVariants as value
 
 -- the key is this thread
 abbrev pub is_thread : ThreadId → ThreadId → Bool
 is_thread t key = eqb key.client t.client && eqb key.index t.index
 
--- The replies that are listed for a request: a new object, its class, a value; of a put, an entry and the monitor requests
--- also the refusals; to all else Done.
+-- The replies that are listed for a request: a new object, its class, a value; to a tick whether the thread was woken, and
+-- true to a timeout that comes too late; of a put, an entry and the monitor requests also the refusals; to all else Done.
 abbrev pub IsListed : Request → Reply → Type 0
 IsListed (New class n) (Made o) = Unit {0}
 IsListed (Look o) (Seen class n) = Unit {0}
@@ -29,6 +30,9 @@ IsListed (Enter l level) (Refused LockUpgrade) = Unit {0}
 IsListed (Exit l) Done = Unit {0}
 IsListed (Wait l) Done = Unit {0}
 IsListed (Wait l) (Refused IllegalMonitor) = Unit {0}
+IsListed (Tick l) (Val (value.Bool woken)) = Unit {0}
+IsListed (Timeout l) Done = Unit {0}
+IsListed (Timeout l) (Val (value.Bool true)) = Unit {0}
 IsListed (Resume l) Done = Unit {0}
 IsListed (Notify l) Done = Unit {0}
 IsListed (Notify l) (Refused IllegalMonitor) = Unit {0}
@@ -37,6 +41,7 @@ IsListed (NotifyAll l) (Refused IllegalMonitor) = Unit {0}
 IsListed (Print v) Done = Unit {0}
 IsListed (End fault) Done = Unit {0}
 IsListed Pause Done = Unit {0}
+IsListed Settle Done = Unit {0}
 IsListed request reply = ⊥
 
 -- so for a next request, if there is one

@@ -34,12 +34,13 @@ pub struct Note {
     pub choice: Choice,
 }
 
-/// How a block of a thread's events ends: a full release of a lock, a wait, or the thread's end.
+/// How a block of a thread's events ends: a full release of a lock, a wait, the thread's end, or a timeout.
 #[derive(Clone, Copy, Debug, PartialEq, Eq)]
 pub enum Ending {
     Exit(LockName),
     Wait(LockName),
     End(Option<Fault>),
+    Timeout(LockName),
 }
 
 /// The record of all that a thread did since its previous ending.

@@ -31,6 +31,10 @@ pub enum Request {
     Enter(LockName, Level),
     Exit(LockName),
     Wait(LockName),
+    /// While it waits: whether it was woken. One turn of a timed wait.
+    Tick(LockName),
+    /// While it waits: to wait no longer, after the last turn of a timed wait.
+    Timeout(LockName),
     /// To go on after a wait.
     Resume(LockName),
     Notify(LockName),
@@ -40,6 +44,8 @@ pub enum Request {
     End(Option<Fault>),
     /// A turn for others, after many moves without a request.
     Pause,
+    /// To go on once the record of what it did last is acknowledged, after an exit at synchronous write.
+    Settle,
 }
 
 /// The answer to a request.
