@@ -37,8 +37,8 @@ abbrev pub without_woken : Option ThreadId → List ThreadId → List ThreadId
 without_woken None list = list
 without_woken (Some woken) list = without woken list
 
--- a wait on the lock stands at the end, a timeout takes its thread out, a notification takes out whom it woke, one of all
--- empties the list
+-- a wait on the lock stands at the end, a timeout takes its thread out, a notification takes out whom it woke, one of
+-- all empties the list
 abbrev pub list_by_act : LockName → ThreadId → Request → Reply → Option ThreadId → List ThreadId → List ThreadId
 list_by_act l t (New class n) reply woken list = list
 list_by_act l t (Look o) reply woken list = list
@@ -67,8 +67,8 @@ list_by_event l (Act t request reply woken) list = list_by_act l t request reply
 list_by_event l (Lost client) list = list
 
 -- The client's list of a lock: the threads whose latest Wait of it was answered Done since the latest of the client's
--- grants, returns and done NotifyAlls of it, in the order of these Waits, without those that a Notify woke since that Wait
--- and those whose Timeout was answered Done since that Wait.
+-- grants, returns and done NotifyAlls of it, in the order of these Waits, without those that a Notify woke since that
+-- Wait and those whose Timeout was answered Done since that Wait.
 abbrev pub client_list : LockName → List Entry → List ThreadId
 client_list l [] = []
 client_list l (e ∷ es) = by_sent_up (list_by_sent l) e.sent

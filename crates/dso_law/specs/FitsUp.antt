@@ -109,8 +109,8 @@ FitsChoice p c choice = Unit {0}
 abbrev pub FitsNote : Settings → ℕ → List Entry → Note → Type 0
 FitsNote p c es note = (leased_to c note.lock es ≡ Some Write) × FitsChoice p c note.choice
 
--- an ending of thread t: the lock of an exit is leased to the client, that of a wait at Write; a timeout needs no lease, and
--- the thread's last record ended by a wait on that lock
+-- an ending of thread t: the lock of an exit is leased to the client, that of a wait at Write; a timeout needs no
+-- lease, and the thread's last record ended by a wait on that lock
 abbrev pub FitsEnding : ℕ → ThreadId → Ending → List Entry → Type 0
 FitsEnding c t (ending.Exit l) es = leased_to c l es ≢ None
 FitsEnding c t (ending.Wait l) es = leased_to c l es ≡ Some Write

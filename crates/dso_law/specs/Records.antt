@@ -91,7 +91,7 @@ abbrev pub unacked : List Entry → List Txn
 unacked [] = []
 unacked (e ∷ es) = by_sent_up unacked_by_sent e.sent (by_taken_down unacked_by_taken e.input (unacked es))
 
--- Settled: the thread's last record, where it has one, is acknowledged. Records are acknowledged in their order, so this is
--- where none of the thread's records waits to be.
+-- Settled: the thread's last record, where it has one, is acknowledged. Records are acknowledged in their order, so
+-- this is where none of the thread's records waits to be.
 abbrev pub is_settled : ThreadId → List Entry → Bool
 is_settled t es = not (list_any (λ txn. is_thread t txn.thread) (unacked es))

@@ -99,8 +99,8 @@ module _ (p : Settings) where
 
   -- Replies: an id in order; the class and size, and a field's value, as the thread knows them; what the thread's own
   -- locks and private objects allow of Put, Enter, Wait, Notify and NotifyAll; to Tick whether the thread is marked; to
-  -- Timeout true where it is marked, else Done; Done to Exit, Resume, Print, End, Pause and Settle. None where there is no
-  -- such id, object or field, as no request whose needs are met finds it.
+  -- Timeout true where it is marked, else Done; Done to Exit, Resume, Print, End, Pause and Settle. None where there is
+  -- no such id, object or field, as no request whose needs are met finds it.
   abbrev pub reply_of : ThreadId → Request → List Entry → Option Reply
   reply_of t (New class n) es = option_map Made (next_id es)
   reply_of t (Look o) es = option_map (λ class. Seen class.0 class.1) (class_known t o es)

@@ -109,8 +109,8 @@ module _ (p : Settings) (c : ℕ) (next : ThreadId → Option Request) where
       (NeedsClass o))
 
   -- Needs: the first need of a thread's next request that isn't met, None where all are. New needs an id; Look, Get and
-  -- Put the object; Enter the lock, but nothing where it is Local, an upgrade or a re-entry; Resume its mark and the lock
-  -- at Write; Settle the acknowledgement of the thread's last record. All others need nothing.
+  -- Put the object; Enter the lock, but nothing where it is Local, an upgrade or a re-entry; Resume its mark and the
+  -- lock at Write; Settle the acknowledgement of the thread's last record. All others need nothing.
   abbrev pub unmet : ThreadId → Request → List Entry → Option Need
   unmet t (New class n) es = unless (is_some (next_id es)) NeedsId
   unmet t (Look o) es = look_need t o es
@@ -136,8 +136,8 @@ unless_asked false m = Some m
 
 -- Asks: what a client sends for a need that isn't met. An id: a batch, where none is asked for. An object: a fault,
 -- where it wasn't asked for since it was last absent. A lease: a request of the wanted level, where the lock has no
--- lease and isn't asked for. A class, a mark, other threads' leaving and an acknowledgement come unasked. Where nothing is
--- asked there is no act of that thread.
+-- lease and isn't asked for. A class, a mark, other threads' leaving and an acknowledgement come unasked. Where nothing
+-- is asked there is no act of that thread.
 abbrev pub ask_for : Need → List Entry → Option Up
 ask_for NeedsId es = unless_asked (is_batch_asked es) up.IdAsk
 ask_for (NeedsObject o) es = unless_asked (is_object_asked o es) (up.Fault o)

@@ -44,7 +44,8 @@ waiters_by_sent l c (down.Wake k t) waiters = cond (is_lock l k) (without t wait
 waiters_by_sent l c m waiters = waiters
 
 -- Waiters: the server's list of a lock, the threads of the returns of the lock in order, without those woken since and
--- those of lost clients. A thread in the list whose timeout is taken is woken by the same entry, and so leaves the list.
+-- those of lost clients. A thread in the list whose timeout is taken is woken by the same entry, and so leaves the
+-- list.
 abbrev pub waiters_of : LockName → List Entry → List ThreadId
 waiters_of l [] = []
 waiters_of l (e ∷ es) = by_sent_down (waiters_by_sent l) e.sent (waiters_by l e.input (waiters_of l es))
@@ -92,7 +93,7 @@ wakes_timed_out t (ending.Wait l) lists = []
 wakes_timed_out t (ending.End fault) lists = []
 wakes_timed_out t (ending.Timeout l) lists = cond (list_any (is_thread t) (lists l)) (wake_each l (t ∷ [])) []
 
--- Waking: the messages to those whom a record's notifications wake, in their order; then, where it ended by a timeout and
--- its thread still stands in the list of that lock, the message to the thread.
+-- Waking: the messages to those whom a record's notifications wake, in their order; then, where it ended by a timeout
+-- and its thread still stands in the list of that lock, the message to the thread.
 abbrev pub wakes_of : Txn → (LockName → List ThreadId) → List Sent
 wakes_of txn lists = wakes txn.notes lists ++ wakes_timed_out txn.thread txn.ending (lists_noted txn.notes lists)

@@ -70,8 +70,8 @@ resumed l (Some waiting) locks = record {
   waiting = None;
 }
 
--- what an act makes of its thread's locks: an Enter answered Done, an Exit, a Wait answered Done, a Resume. While it waits
--- a thread takes no hold: its ticks and its timeout leave its locks as they are.
+-- what an act makes of its thread's locks: an Enter answered Done, an Exit, a Wait answered Done, a Resume. While it
+-- waits a thread takes no hold: its ticks and its timeout leave its locks as they are.
 abbrev pub locks_by : Request → Reply → Locks → Locks
 locks_by (New class n) reply locks = locks
 locks_by (Look o) reply locks = locks
