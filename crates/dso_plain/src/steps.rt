@@ -114,6 +114,7 @@ fn act(
         (Request::Enter(lock, level), Reply::Done) => enter(alloc, tables, thread, lock, level),
         (Request::Exit(lock), Reply::Done) => exit(alloc, tables, thread, lock),
         (Request::Wait(lock), Reply::Done) => wait(alloc, tables, thread, lock),
+        (Request::Timeout(lock), Reply::Done) => mark(alloc, tables, lock, thread),
         (Request::Resume(lock), Reply::Done) => resume(alloc, tables, thread, lock),
         (Request::Notify(lock), Reply::Done) => notify(alloc, tables, lock, woken),
         (Request::NotifyAll(lock), Reply::Done) => mark_all(alloc, tables, lock),
