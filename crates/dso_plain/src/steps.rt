@@ -121,7 +121,9 @@ fn act(
         (Request::Print(value), Reply::Done) => print(alloc, tables, thread, value),
         (Request::End(fault), Reply::Done) => end(tables, thread, fault),
         (Request::Look(_), _) => Ok(()),
+        (Request::Tick(_), _) => Ok(()),
         (Request::Pause, _) => Ok(()),
+        (Request::Settle, _) => Ok(()),
         _ => Ok(()),
     }
 }
