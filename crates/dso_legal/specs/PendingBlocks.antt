@@ -106,10 +106,30 @@ AreRecordsOf shape before txns blocks = ⊥
 abbrev pub WaiterLists : Type 0
 WaiterLists = LockName → List ThreadId
 
--- the lists after the notifications of a block
+-- the lists after the record of a thread's act that is an ending: a Timeout answered Done takes its thread out
+abbrev pub lists_timed_out : ThreadId → Request → Reply → WaiterLists → WaiterLists
+lists_timed_out t (New class n) reply lists = lists
+lists_timed_out t (Look o) reply lists = lists
+lists_timed_out t (Get o f) reply lists = lists
+lists_timed_out t (Put o f v) reply lists = lists
+lists_timed_out t (Enter l level) reply lists = lists
+lists_timed_out t (Exit l) reply lists = lists
+lists_timed_out t (Wait l) reply lists = lists
+lists_timed_out t (Tick l) reply lists = lists
+lists_timed_out t (Timeout l) Done lists k = cond (is_lock l k) (without t (lists k)) (lists k)
+lists_timed_out t (Timeout l) reply lists k = lists k
+lists_timed_out t (Resume l) reply lists = lists
+lists_timed_out t (Notify l) reply lists = lists
+lists_timed_out t (NotifyAll l) reply lists = lists
+lists_timed_out t (Print v) reply lists = lists
+lists_timed_out t (End fault) reply lists = lists
+lists_timed_out t Pause reply lists = lists
+lists_timed_out t Settle reply lists = lists
+
+-- the lists after a block: after its notifications, and the timeout in which it ends
 abbrev pub lists_through : List Event → WaiterLists → WaiterLists
 lists_through [] lists = lists
-lists_through (Act thread request reply woken ∷ events) lists = lists_through events (lists_after_act request reply woken lists)
+lists_through (Act thread request reply woken ∷ events) lists = lists_through events (lists_timed_out thread request reply (lists_after_act request reply woken lists))
 lists_through (Lost client ∷ events) lists = lists_through events lists
 
 -- the lists after another message of a client: the threads of a return stand at the end
