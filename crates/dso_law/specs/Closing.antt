@@ -7,7 +7,7 @@ use Rattle.dso_base.specs.declared.lock.Level.TheVariants.{Read, Write}
 use Rattle.dso_base.specs.declared.lock.LockName.{LockName}
 use Rattle.dso_base.specs.declared.lock.ThreadId.{ThreadId}
 use Rattle.dso_base.specs.declared.request.Request.{Request}
-use Rattle.dso_base.specs.declared.request.Request.TheVariants.{Enter, Resume}
+use Rattle.dso_base.specs.declared.request.Request.TheVariants.{New, Look, Get, Put, Enter, Exit, Wait, Tick, Timeout, Resume, Notify, NotifyAll, Print, End, Pause, Settle}
 use Rattle.dso_plain.specs.KeyTests.{is_lock}
 use Rattle.dso_law.specs.Settings.{Settings, threads_of}
 use Rattle.dso_law.specs.Threads.{hold_of}
@@ -16,9 +16,24 @@ use Rattle.dso_law.specs.ClientWaiters.{is_marked}
 
 -- the request is for the lock at Write: an Enter at Write, or a Resume of a thread that is marked
 abbrev pub wants_write : LockName → Bool → Option Request → Bool
+wants_write l is_marked None = false
+wants_write l is_marked (Some (New class n)) = false
+wants_write l is_marked (Some (Look o)) = false
+wants_write l is_marked (Some (Get o f)) = false
+wants_write l is_marked (Some (Put o f v)) = false
+wants_write l is_marked (Some (Enter k Read)) = false
 wants_write l is_marked (Some (Enter k Write)) = is_lock l k
+wants_write l is_marked (Some (Exit k)) = false
+wants_write l is_marked (Some (Wait k)) = false
+wants_write l is_marked (Some (Tick k)) = false
+wants_write l is_marked (Some (Timeout k)) = false
 wants_write l is_marked (Some (Resume k)) = is_lock l k && is_marked
-wants_write l is_marked request = false
+wants_write l is_marked (Some (Notify k)) = false
+wants_write l is_marked (Some (NotifyAll k)) = false
+wants_write l is_marked (Some (Print v)) = false
+wants_write l is_marked (Some (End fault)) = false
+wants_write l is_marked (Some Pause) = false
+wants_write l is_marked (Some Settle) = false
 
 -- whether the level is Read
 abbrev pub is_read : Option Level → Bool

@@ -26,7 +26,7 @@ use Rattle.dso_base.specs.Following.{is_thread}
 use Rattle.dso_law.specs.Settings.{Settings, threads_of}
 use Rattle.dso_law.specs.Copies.{is_among}
 use Rattle.dso_law.specs.FitsDown.{FitsShape}
-use Rattle.dso_law.specs.ServerReadings.{is_given, is_given_to, last_number, is_ended}
+use Rattle.dso_law.specs.ServerReadings.{is_given, is_given_to, last_number, is_ended, last_ending}
 use Rattle.dso_law.specs.Store.{stored, holds_object}
 use Rattle.dso_law.specs.Granting.{leased_to, queue_of}
 use Rattle.dso_law.specs.ServerWaiters.{waiters_of}
@@ -109,11 +109,13 @@ FitsChoice p c choice = Unit {0}
 abbrev pub FitsNote : Settings → ℕ → List Entry → Note → Type 0
 FitsNote p c es note = (leased_to c note.lock es ≡ Some Write) × FitsChoice p c note.choice
 
--- an ending: its lock is leased to the client, at Write for a wait
-abbrev pub FitsEnding : ℕ → Ending → List Entry → Type 0
-FitsEnding c (ending.Exit l) es = leased_to c l es ≢ None
-FitsEnding c (ending.Wait l) es = leased_to c l es ≡ Some Write
-FitsEnding c (ending.End fault) es = Unit {0}
+-- an ending of thread t: the lock of an exit is leased to the client, that of a wait at Write; a timeout needs no
+-- lease, and the thread's last record ended by a wait on that lock
+abbrev pub FitsEnding : ℕ → ThreadId → Ending → List Entry → Type 0
+FitsEnding c t (ending.Exit l) es = leased_to c l es ≢ None
+FitsEnding c t (ending.Wait l) es = leased_to c l es ≡ Some Write
+FitsEnding c t (ending.End fault) es = Unit {0}
+FitsEnding c t (ending.Timeout l) es = last_ending t es ≡ Some (ending.Wait l)
 
 -- the values that the record would put in the graph
 abbrev pub stored_values : Txn → List Value
@@ -133,7 +135,7 @@ pub record FitsRecord (p : Settings) (c : ℕ) (txn : Txn) (es : List Entry) : T
   pub printed : AllByRecursion (IsPrinted es) txn.outs
   pub texts : AllByRecursion (IsLiteral p) (stored_values txn ++ txn.outs)
   pub notes : AllByRecursion (FitsNote p c es) txn.notes
-  pub ending : FitsEnding c txn.ending es
+  pub ending : FitsEnding c txn.thread txn.ending es
 
 -- Fits, at the server: the row of each message of client c. An ask for ids fits always; a fault of an object that is in
 -- the graph and that the client doesn't hold; a flush of one that it holds.

@@ -14,7 +14,7 @@ use Rattle.dso_base.specs.declared.request.Event.TheVariants.{Act, Lost}
 use Rattle.dso_base.specs.declared.request.Reply.{Reply}
 use Rattle.dso_base.specs.declared.request.Reply.TheVariants.{Done}
 use Rattle.dso_base.specs.declared.request.Request.{Request}
-use Rattle.dso_base.specs.declared.request.Request.TheVariants.{Enter, Resume}
+use Rattle.dso_base.specs.declared.request.Request.TheVariants.{New, Look, Get, Put, Enter, Exit, Wait, Tick, Timeout, Resume, Notify, NotifyAll, Print, End, Pause, Settle}
 use Rattle.dso_plain.specs.KeyTests.{is_lock}
 use Rattle.dso_law.specs.declared.readings.Standing.{Standing}
 use Rattle.dso_law.specs.Entries.{by_taken_down, by_sent_up, by_event}
@@ -58,9 +58,24 @@ since_grant l m before = before
 
 -- the act enters the lock: an Enter answered Done, or a Resume
 abbrev pub enters : LockName → Request → Reply → Bool
+enters l (New class n) reply = false
+enters l (Look o) reply = false
+enters l (Get o f) reply = false
+enters l (Put o f v) reply = false
 enters l (Enter k level) Done = is_lock l k
+enters l (Enter k level) reply = false
+enters l (Exit k) reply = false
+enters l (Wait k) reply = false
+enters l (Tick k) reply = false
+enters l (Timeout k) reply = false
 enters l (Resume k) Done = is_lock l k
-enters l request reply = false
+enters l (Resume k) reply = false
+enters l (Notify k) reply = false
+enters l (NotifyAll k) reply = false
+enters l (Print v) reply = false
+enters l (End fault) reply = false
+enters l Pause reply = false
+enters l Settle reply = false
 
 -- whether the event enters the lock, or it was entered before
 abbrev pub entered_by : LockName → Event → Bool → Bool

@@ -1,6 +1,8 @@
 -- A client's ids and records.
-use Rattle.std.specs.Prelude.{ℕ, suc, ◌+◌, ◌-◌, Bool, true, false, cond, ltb, Option, Some, None, List, [], ◌∷◌, ◌++◌, drop}
+use Rattle.std.specs.List.{list_any}
+use Rattle.std.specs.Prelude.{ℕ, suc, ◌+◌, ◌-◌, Bool, true, false, cond, not, ltb, Option, Some, None, List, [], ◌∷◌, ◌++◌, drop}
 use Rattle.dso_base.specs.declared.journal.Entry.{Entry}
+use Rattle.dso_base.specs.declared.lock.ThreadId.{ThreadId}
 use Rattle.dso_base.specs.declared.message.Down.{Down}
 use Rattle.dso_base.specs.declared.message.Down.TheVariants as down
 use Rattle.dso_base.specs.declared.message.Up.{Up}
@@ -10,6 +12,7 @@ use Rattle.dso_base.specs.declared.request.Event.{Event}
 use Rattle.dso_base.specs.declared.request.Event.TheVariants.{Act, Lost}
 use Rattle.dso_base.specs.declared.request.Reply.{Reply}
 use Rattle.dso_base.specs.declared.request.Reply.TheVariants.{Made}
+use Rattle.dso_base.specs.Following.{is_thread}
 use Rattle.dso_law.specs.Settings.{batch_size}
 use Rattle.dso_law.specs.Entries.{by_taken_down, by_sent_up, by_event}
 
@@ -87,3 +90,8 @@ unacked_by_sent m txns = txns
 abbrev pub unacked : List Entry → List Txn
 unacked [] = []
 unacked (e ∷ es) = by_sent_up unacked_by_sent e.sent (by_taken_down unacked_by_taken e.input (unacked es))
+
+-- Settled: the thread's last record, where it has one, is acknowledged. Records are acknowledged in their order, so
+-- this is where none of the thread's records waits to be.
+abbrev pub is_settled : ThreadId → List Entry → Bool
+is_settled t es = not (list_any (λ txn. is_thread t txn.thread) (unacked es))

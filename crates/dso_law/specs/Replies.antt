@@ -1,5 +1,5 @@
 -- How a client answers a request whose needs are met.
-use Rattle.std.specs.Prelude.{ℕ, cond, ltb, Option, Some, None, List, [], ◌∷◌, option_map, length, slice_get}
+use Rattle.std.specs.Prelude.{ℕ, Bool, true, false, cond, ltb, Option, Some, None, List, [], ◌∷◌, option_map, length, slice_get}
 use Rattle.dso_base.specs.declared.journal.Entry.{Entry}
 use Rattle.dso_base.specs.declared.lock.Level.{Level}
 use Rattle.dso_base.specs.declared.lock.Level.TheVariants.{Read, Write}
@@ -9,14 +9,15 @@ use Rattle.dso_base.specs.declared.request.Fault.TheVariants.{UnlockedSharedObje
 use Rattle.dso_base.specs.declared.request.Reply.{Reply}
 use Rattle.dso_base.specs.declared.request.Reply.TheVariants.{Done, Made, Seen, Val, Local, Refused}
 use Rattle.dso_base.specs.declared.request.Request.{Request}
-use Rattle.dso_base.specs.declared.request.Request.TheVariants.{New, Look, Get, Put, Enter, Wait, Notify, NotifyAll}
+use Rattle.dso_base.specs.declared.request.Request.TheVariants.{New, Look, Get, Put, Enter, Exit, Wait, Tick, Timeout, Resume, Notify, NotifyAll, Print, End, Pause, Settle}
 use Rattle.dso_base.specs.declared.value.ClassId.{ClassId}
 use Rattle.dso_base.specs.declared.value.Value.{Value}
+use Rattle.dso_base.specs.declared.value.Value.TheVariants as value
 use Rattle.dso_base.specs.Shape.{guard_of}
 use Rattle.dso_law.specs.Settings.{Settings}
 use Rattle.dso_law.specs.Threads.{Held, or_else, own, work_of, is_private, is_local, locks_of, hold_of}
 use Rattle.dso_law.specs.Copies.{copy_of, class_held, value_by_sets}
-use Rattle.dso_law.specs.ClientWaiters.{client_list}
+use Rattle.dso_law.specs.ClientWaiters.{client_list, is_marked}
 use Rattle.dso_law.specs.Records.{next_id}
 use Rattle.dso_law.specs.RequestNeeds.{hold_level}
 
@@ -42,6 +43,11 @@ abbrev pub monitor_reply : Option Level → Reply
 monitor_reply (Some Write) = Done
 monitor_reply level = Refused IllegalMonitor
 
+-- a Timeout: true where it comes too late, since the thread is marked, else done
+abbrev pub timeout_reply : Bool → Reply
+timeout_reply true = Val (value.Bool true)
+timeout_reply false = Done
+
 -- the first of a list
 abbrev pub first_of_list : {X : Type 0} → List X → Option X
 first_of_list [] = None
@@ -49,8 +55,23 @@ first_of_list (x ∷ xs) = Some x
 
 -- whom an act wakes: a done Notify the first of the client's list, None where it is empty; every other act nobody
 abbrev pub woken_by : Request → Reply → List Entry → Option ThreadId
+woken_by (New class n) reply es = None
+woken_by (Look o) reply es = None
+woken_by (Get o f) reply es = None
+woken_by (Put o f v) reply es = None
+woken_by (Enter l level) reply es = None
+woken_by (Exit l) reply es = None
+woken_by (Wait l) reply es = None
+woken_by (Tick l) reply es = None
+woken_by (Timeout l) reply es = None
+woken_by (Resume l) reply es = None
 woken_by (Notify l) Done es = first_of_list (client_list l es)
-woken_by request reply es = None
+woken_by (Notify l) reply es = None
+woken_by (NotifyAll l) reply es = None
+woken_by (Print v) reply es = None
+woken_by (End fault) reply es = None
+woken_by Pause reply es = None
+woken_by Settle reply es = None
 
 module _ (p : Settings) where
   -- the class and size of an object: of the thread's own, else of the copy
@@ -77,8 +98,9 @@ module _ (p : Settings) where
   answer_put t o f (Some class) es = cond (ltb f class.1) (Some (put_answer t o f class.0 es)) None
 
   -- Replies: an id in order; the class and size, and a field's value, as the thread knows them; what the thread's own
-  -- locks and private objects allow of Put, Enter, Wait, Notify and NotifyAll; Done to every other request. None where
-  -- there is no such id, object or field, as no request whose needs are met finds it.
+  -- locks and private objects allow of Put, Enter, Wait, Notify and NotifyAll; to Tick whether the thread is marked; to
+  -- Timeout true where it is marked, else Done; Done to Exit, Resume, Print, End, Pause and Settle. None where there is
+  -- no such id, object or field, as no request whose needs are met finds it.
   abbrev pub reply_of : ThreadId → Request → List Entry → Option Reply
   reply_of t (New class n) es = option_map Made (next_id es)
   reply_of t (Look o) es = option_map (λ class. Seen class.0 class.1) (class_known t o es)
@@ -86,7 +108,14 @@ module _ (p : Settings) where
   reply_of t (Put o f v) es = answer_put t o f (class_known t o es) es
   reply_of t (Enter l level) es = Some (cond (is_local p.shape t l es) Local
       (enter_reply level (hold_level (hold_of t l es))))
+  reply_of t (Exit l) es = Some Done
   reply_of t (Wait l) es = Some (monitor_reply (hold_level (hold_of t l es)))
+  reply_of t (Tick l) es = Some (Val (value.Bool (is_marked t es)))
+  reply_of t (Timeout l) es = Some (timeout_reply (is_marked t es))
+  reply_of t (Resume l) es = Some Done
   reply_of t (Notify l) es = Some (monitor_reply (hold_level (hold_of t l es)))
   reply_of t (NotifyAll l) es = Some (monitor_reply (hold_level (hold_of t l es)))
-  reply_of t request es = Some Done
+  reply_of t (Print v) es = Some Done
+  reply_of t (End fault) es = Some Done
+  reply_of t Pause es = Some Done
+  reply_of t Settle es = Some Done

@@ -9,7 +9,7 @@ use Rattle.dso_base.specs.declared.lock.ThreadId.{ThreadId}
 use Rattle.dso_base.specs.declared.message.Up.{Up}
 use Rattle.dso_base.specs.declared.message.Up.TheVariants as up
 use Rattle.dso_base.specs.declared.request.Request.{Request}
-use Rattle.dso_base.specs.declared.request.Request.TheVariants.{New, Look, Get, Put, Enter, Resume}
+use Rattle.dso_base.specs.declared.request.Request.TheVariants.{New, Look, Get, Put, Enter, Exit, Wait, Tick, Timeout, Resume, Notify, NotifyAll, Print, End, Pause, Settle}
 use Rattle.dso_base.specs.declared.value.ClassId.{ClassId}
 use Rattle.dso_base.specs.declared.value.ClassId.TheVariants as class
 use Rattle.dso_base.specs.declared.value.Kind.{Kind}
@@ -21,11 +21,12 @@ use Rattle.dso_law.specs.Threads.{own, is_local, hold_of, last_seen}
 use Rattle.dso_law.specs.Copies.{is_resident, class_held, is_object_asked}
 use Rattle.dso_law.specs.Leases.{leased, is_asked_for}
 use Rattle.dso_law.specs.ClientWaiters.{is_marked}
-use Rattle.dso_law.specs.Records.{next_id, is_batch_asked}
+use Rattle.dso_law.specs.Records.{next_id, is_batch_asked, is_settled}
 use Rattle.dso_law.specs.Closing.{admits}
 
 -- what a request can lack: an id; that the object is resident; that it has the class and size that the thread saw; the
--- thread's mark; a lease of this level that admits; that other threads leave the lock
+-- thread's mark; a lease of this level that admits; that other threads leave the lock; the acknowledgement of the
+-- thread's last record
 pub data Need : Type 0 where
   NeedsId : Need
   NeedsObject : ℕ → Need
@@ -33,6 +34,7 @@ pub data Need : Type 0 where
   NeedsMark : LockName → Need
   NeedsLease : LockName → Level → Need
   NeedsOthersOut : LockName → Need
+  NeedsAck : Need
 
 -- whether the two kinds are one
 abbrev pub is_kind : Kind → Kind → Bool
@@ -106,16 +108,26 @@ module _ (p : Settings) (c : ℕ) (next : ThreadId → Option Request) where
       (unless (is_some (own p.shape t o es) || (eqb o 0 || is_seen_class (class_held o es) (last_seen t es)))
       (NeedsClass o))
 
-  -- Needs: the first need of a thread's next request that isn't met, None where all are. An Enter that is Local, an
-  -- upgrade or a re-entry needs nothing, nor does any request that isn't named.
+  -- Needs: the first need of a thread's next request that isn't met, None where all are. New needs an id; Look, Get and
+  -- Put the object; Enter the lock, but nothing where it is Local, an upgrade or a re-entry; Resume its mark and the
+  -- lock at Write; Settle the acknowledgement of the thread's last record. All others need nothing.
   abbrev pub unmet : ThreadId → Request → List Entry → Option Need
   unmet t (New class n) es = unless (is_some (next_id es)) NeedsId
   unmet t (Look o) es = look_need t o es
   unmet t (Get o f) es = access_need t o es
   unmet t (Put o f v) es = access_need t o es
   unmet t (Enter l level) es = cond (is_local p.shape t l es || is_some (hold_of t l es)) None (entry_need t l level es)
+  unmet t (Exit l) es = None
+  unmet t (Wait l) es = None
+  unmet t (Tick l) es = None
+  unmet t (Timeout l) es = None
   unmet t (Resume l) es = first_unmet (unless (is_marked t es) (NeedsMark l)) (entry_need t l Write es)
-  unmet t request es = None
+  unmet t (Notify l) es = None
+  unmet t (NotifyAll l) es = None
+  unmet t (Print v) es = None
+  unmet t (End fault) es = None
+  unmet t Pause es = None
+  unmet t Settle es = unless (is_settled t es) NeedsAck
 
 -- the message, where the test doesn't hold
 abbrev pub unless_asked : Bool → Up → Option Up
@@ -124,9 +136,13 @@ unless_asked false m = Some m
 
 -- Asks: what a client sends for a need that isn't met. An id: a batch, where none is asked for. An object: a fault,
 -- where it wasn't asked for since it was last absent. A lease: a request of the wanted level, where the lock has no
--- lease and isn't asked for. In all other cases nothing: there is no act of that thread.
+-- lease and isn't asked for. A class, a mark, other threads' leaving and an acknowledgement come unasked. Where nothing
+-- is asked there is no act of that thread.
 abbrev pub ask_for : Need → List Entry → Option Up
 ask_for NeedsId es = unless_asked (is_batch_asked es) up.IdAsk
 ask_for (NeedsObject o) es = unless_asked (is_object_asked o es) (up.Fault o)
+ask_for (NeedsClass o) es = None
+ask_for (NeedsMark l) es = None
 ask_for (NeedsLease l level) es = unless_asked (is_some (leased l es) || is_asked_for l es) (up.Request l level)
-ask_for need es = None
+ask_for (NeedsOthersOut l) es = None
+ask_for NeedsAck es = None

@@ -1,6 +1,6 @@
 -- Which entries of the server count, and what it knows of clients, ids and threads.
 use Rattle.std.specs.List.{list_any}
-use Rattle.std.specs.Prelude.{ℕ, ◌+◌, ◌*◌, Bool, true, false, cond, not, eqb, leb, ltb, ◌&&◌, ◌||◌, List, [], ◌∷◌, filter, length}
+use Rattle.std.specs.Prelude.{ℕ, ◌+◌, ◌*◌, Bool, true, false, cond, not, eqb, leb, ltb, ◌&&◌, ◌||◌, Option, Some, None, List, [], ◌∷◌, filter, length}
 use Rattle.dso_base.specs.declared.journal.Entry.{Entry}
 use Rattle.dso_base.specs.declared.journal.Input.{Input}
 use Rattle.dso_base.specs.declared.journal.Input.TheVariants.{TookUp, Lose}
@@ -97,8 +97,10 @@ last_number c (e ∷ es) = by_taken_up (number_by c) e.input (last_number c es)
 
 -- whether the ending is the thread's end
 abbrev pub is_end : Ending → Bool
+is_end (ending.Exit l) = false
+is_end (ending.Wait l) = false
 is_end (ending.End fault) = true
-is_end other = false
+is_end (ending.Timeout l) = false
 
 -- a record that is the end of the thread
 abbrev pub ended_by : ThreadId → ℕ → Up → Bool → Bool
@@ -109,3 +111,13 @@ ended_by t c m before = before
 abbrev pub is_ended : ThreadId → List Entry → Bool
 is_ended t [] = false
 is_ended t (e ∷ es) = by_taken_up (ended_by t) e.input (is_ended t es)
+
+-- how a record of the thread that is taken ended
+abbrev pub last_ending_by : ThreadId → ℕ → Up → Option Ending → Option Ending
+last_ending_by t c (up.Commit txn) before = cond (is_thread t txn.thread) (Some txn.ending) before
+last_ending_by t c m before = before
+
+-- how the thread's last record taken ended, None before its first
+abbrev pub last_ending : ThreadId → List Entry → Option Ending
+last_ending t [] = None
+last_ending t (e ∷ es) = by_taken_up (last_ending_by t) e.input (last_ending t es)

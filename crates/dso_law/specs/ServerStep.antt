@@ -17,7 +17,7 @@ use Rattle.dso_law.specs.Entries.{unsent}
 use Rattle.dso_law.specs.ServerReadings.{is_lost, counted, is_loss_due, is_break_due, next_batch}
 use Rattle.dso_law.specs.Store.{stored, holds_object}
 use Rattle.dso_law.specs.Granting.{serves, serves_all}
-use Rattle.dso_law.specs.ServerWaiters.{waiters_of, wakes}
+use Rattle.dso_law.specs.ServerWaiters.{waiters_of, wakes_of}
 use Rattle.dso_law.specs.FitsUp.{FitsUp}
 
 -- the object to the client that asked for it
@@ -49,7 +49,7 @@ answers p c (up.Flushed o) es = []
 answers p c (up.Request l level) es = serves p l es
 answers p c (up.Return l threads) es = serves p l es
 answers p c (up.Commit txn) es = ToClient c (down.Ack txn.seq) ∷ changes_of p c txn es
-    ++ wakes txn.notes (λ l. waiters_of l es)
+    ++ wakes_of txn (λ l. waiters_of l es)
 
 -- a message of client c that isn't lost: it fits, and is answered by its row
 pub record HeardStep (p : Settings) (c : ℕ) (m : Up) (e : Entry) (es : List Entry) : Type 0 where

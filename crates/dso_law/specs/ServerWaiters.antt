@@ -1,4 +1,5 @@
--- The server's lists of waiters, and whom the notifications of a record wake. The entries are those that count.
+-- The server's lists of waiters, and whom a record wakes. The entries are those that count.
+use Rattle.std.specs.List.{list_any}
 use Rattle.std.specs.Prelude.{ℕ, cond, not, eqb, List, [], ◌∷◌, ◌++◌, map, filter, drop}
 use Rattle.dso_base.specs.declared.journal.Entry.{Entry}
 use Rattle.dso_base.specs.declared.journal.Input.{Input}
@@ -13,7 +14,11 @@ use Rattle.dso_base.specs.declared.message.Up.{Up}
 use Rattle.dso_base.specs.declared.message.Up.TheVariants as up
 use Rattle.dso_base.specs.declared.record.Choice.{Choice}
 use Rattle.dso_base.specs.declared.record.Choice.TheVariants.{Here, There, All}
+use Rattle.dso_base.specs.declared.record.Ending.{Ending}
+use Rattle.dso_base.specs.declared.record.Ending.TheVariants as ending
 use Rattle.dso_base.specs.declared.record.Note.{Note}
+use Rattle.dso_base.specs.declared.record.Txn.{Txn}
+use Rattle.dso_base.specs.Following.{is_thread}
 use Rattle.dso_plain.specs.KeyTests.{is_lock}
 use Rattle.dso_law.specs.Entries.{by_sent_down}
 use Rattle.dso_law.specs.ClientWaiters.{without}
@@ -39,7 +44,8 @@ waiters_by_sent l c (down.Wake k t) waiters = cond (is_lock l k) (without t wait
 waiters_by_sent l c m waiters = waiters
 
 -- Waiters: the server's list of a lock, the threads of the returns of the lock in order, without those woken since and
--- those of lost clients.
+-- those of lost clients. A thread in the list whose timeout is taken is woken by the same entry, and so leaves the
+-- list.
 abbrev pub waiters_of : LockName → List Entry → List ThreadId
 waiters_of l [] = []
 waiters_of l (e ∷ es) = by_sent_down (waiters_by_sent l) e.sent (waiters_by l e.input (waiters_of l es))
@@ -69,8 +75,25 @@ lists_after l choice lists k = cond (is_lock l k) (waiters_left choice (lists k)
 abbrev pub wake_each : LockName → List ThreadId → List Sent
 wake_each l threads = map (λ t. ToClient t.client (down.Wake l t)) threads
 
--- Waking: for each notification in order the messages to those it wakes.
+-- for each notification in order the messages to those it wakes
 abbrev pub wakes : List Note → (LockName → List ThreadId) → List Sent
 wakes [] lists = []
 wakes (note ∷ notes) lists = wake_each note.lock (waiters_woken note.choice (lists note.lock))
     ++ wakes notes (lists_after note.lock note.choice lists)
+
+-- the lists after all the notifications
+abbrev pub lists_noted : List Note → (LockName → List ThreadId) → LockName → List ThreadId
+lists_noted [] lists = lists
+lists_noted (note ∷ notes) lists = lists_noted notes (lists_after note.lock note.choice lists)
+
+-- the message to the thread of a timeout, where it stands in the list of that lock
+abbrev pub wakes_timed_out : ThreadId → Ending → (LockName → List ThreadId) → List Sent
+wakes_timed_out t (ending.Exit l) lists = []
+wakes_timed_out t (ending.Wait l) lists = []
+wakes_timed_out t (ending.End fault) lists = []
+wakes_timed_out t (ending.Timeout l) lists = cond (list_any (is_thread t) (lists l)) (wake_each l (t ∷ [])) []
+
+-- Waking: the messages to those whom a record's notifications wake, in their order; then, where it ended by a timeout
+-- and its thread still stands in the list of that lock, the message to the thread.
+abbrev pub wakes_of : Txn → (LockName → List ThreadId) → List Sent
+wakes_of txn lists = wakes txn.notes lists ++ wakes_timed_out txn.thread txn.ending (lists_noted txn.notes lists)

@@ -14,7 +14,7 @@ use Rattle.dso_base.specs.declared.request.Event.TheVariants.{Act, Lost}
 use Rattle.dso_base.specs.declared.request.Reply.{Reply}
 use Rattle.dso_base.specs.declared.request.Reply.TheVariants.{Done, Seen}
 use Rattle.dso_base.specs.declared.request.Request.{Request}
-use Rattle.dso_base.specs.declared.request.Request.TheVariants.{Look, Enter, Exit, Wait, Resume, End}
+use Rattle.dso_base.specs.declared.request.Request.TheVariants.{New, Look, Get, Put, Enter, Exit, Wait, Tick, Timeout, Resume, Notify, NotifyAll, Print, End, Pause, Settle}
 use Rattle.dso_base.specs.declared.shape.Shape.{Shape}
 use Rattle.dso_base.specs.declared.value.ClassId.{ClassId}
 use Rattle.dso_base.specs.Block.{Work, start, body_in, worked}
@@ -70,15 +70,31 @@ resumed l (Some waiting) locks = record {
   waiting = None;
 }
 
--- what an act makes of its thread's locks: an Enter answered Done, an Exit, a Wait answered Done, a Resume
+-- what an act makes of its thread's locks: an Enter answered Done, an Exit, a Wait answered Done, a Resume. While it
+-- waits a thread takes no hold: its ticks and its timeout leave its locks as they are.
 abbrev pub locks_by : Request → Reply → Locks → Locks
+locks_by (New class n) reply locks = locks
+locks_by (Look o) reply locks = locks
+locks_by (Get o f) reply locks = locks
+locks_by (Put o f v) reply locks = locks
 locks_by (Enter l level) Done locks = record locks {
   holds = with_hold l (entered level (hold_in l locks.holds)) locks.holds;
 }
+locks_by (Enter l level) reply locks = locks
 locks_by (Exit l) Done locks = record locks { holds = with_hold l (exited (hold_in l locks.holds)) locks.holds }
+locks_by (Exit l) reply locks = locks
 locks_by (Wait l) Done locks = waiting_on l locks
+locks_by (Wait l) reply locks = locks
+locks_by (Tick l) reply locks = locks
+locks_by (Timeout l) reply locks = locks
 locks_by (Resume l) Done locks = resumed l locks.waiting locks
-locks_by request reply locks = locks
+locks_by (Resume l) reply locks = locks
+locks_by (Notify l) reply locks = locks
+locks_by (NotifyAll l) reply locks = locks
+locks_by (Print v) reply locks = locks
+locks_by (End fault) reply locks = locks
+locks_by Pause reply locks = locks
+locks_by Settle reply locks = locks
 
 -- what an event makes of the locks of thread t
 abbrev pub locks_after : ThreadId → Event → Locks → Locks
@@ -100,12 +116,29 @@ abbrev pub exit_ending : LockName → Option Hold → Option Ending
 exit_ending l None = Some (ending.Exit l)
 exit_ending l (Some hold) = None
 
--- An ending: an Exit after which the thread doesn't hold the lock, a Wait answered Done, or an End.
+-- An ending: an Exit after which the thread doesn't hold the lock, a Wait answered Done, a Timeout answered Done, or an
+-- End.
 abbrev pub ending_by : Request → Reply → Locks → Option Ending
+ending_by (New class n) reply locks = None
+ending_by (Look o) reply locks = None
+ending_by (Get o f) reply locks = None
+ending_by (Put o f v) reply locks = None
+ending_by (Enter l level) reply locks = None
 ending_by (Exit l) Done locks = exit_ending l (exited (hold_in l locks.holds))
+ending_by (Exit l) reply locks = None
 ending_by (Wait l) Done locks = Some (ending.Wait l)
+ending_by (Wait l) reply locks = None
+ending_by (Tick l) reply locks = None
+ending_by (Timeout l) Done locks = Some (ending.Timeout l)
+ending_by (Timeout l) reply locks = None
+ending_by (Resume l) reply locks = None
+ending_by (Notify l) reply locks = None
+ending_by (NotifyAll l) reply locks = None
+ending_by (Print v) reply locks = None
 ending_by (End fault) Done locks = Some (ending.End fault)
-ending_by request reply locks = None
+ending_by (End fault) reply locks = None
+ending_by Pause reply locks = None
+ending_by Settle reply locks = None
 
 -- the ending that the event is, where it is one; the locks are its thread's before it
 abbrev pub ending_of : Event → Locks → Option Ending
@@ -159,8 +192,23 @@ own shape t o es = or_else (body_in o (work_of shape t es).privates) (body_in o 
 
 -- what a Look answered
 abbrev pub seen_by : Request → Reply → Option (ClassId × ℕ) → Option (ClassId × ℕ)
+seen_by (New class n) reply before = before
 seen_by (Look o) (Seen class n) before = Some (class, n)
-seen_by request reply before = before
+seen_by (Look o) reply before = before
+seen_by (Get o f) reply before = before
+seen_by (Put o f v) reply before = before
+seen_by (Enter l level) reply before = before
+seen_by (Exit l) reply before = before
+seen_by (Wait l) reply before = before
+seen_by (Tick l) reply before = before
+seen_by (Timeout l) reply before = before
+seen_by (Resume l) reply before = before
+seen_by (Notify l) reply before = before
+seen_by (NotifyAll l) reply before = before
+seen_by (Print v) reply before = before
+seen_by (End fault) reply before = before
+seen_by Pause reply before = before
+seen_by Settle reply before = before
 
 -- what an event of thread t makes of its latest Look
 abbrev pub seen_after : ThreadId → Event → Option (ClassId × ℕ) → Option (ClassId × ℕ)
