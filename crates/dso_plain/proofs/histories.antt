@@ -1,2 +1,3 @@
--- Legal histories that go on.
+-- The two kinds of runs, and legal histories that go on.
+pub mod RunKinds
 pub mod LegalGoesOn

@@ -5,4 +5,5 @@ pub mod WritesGuarded
 pub mod StaysPossible
 pub mod WritesSame
 pub mod RunsSwap
+pub mod ChoicesSwap
 pub mod LeftAlone

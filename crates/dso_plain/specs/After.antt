@@ -10,7 +10,7 @@ use Rattle.dso_base.specs.declared.request.Fault.{Fault}
 use Rattle.dso_base.specs.declared.request.Reply.{Reply}
 use Rattle.dso_base.specs.declared.request.Reply.TheVariants.{Done, Made, Val}
 use Rattle.dso_base.specs.declared.request.Request.{Request}
-use Rattle.dso_base.specs.declared.request.Request.TheVariants.{New, Get, Put, Enter, Exit, Wait, Resume, Notify, NotifyAll, Print, End}
+use Rattle.dso_base.specs.declared.request.Request.TheVariants.{New, Look, Get, Put, Enter, Exit, Wait, Tick, Timeout, Resume, Notify, NotifyAll, Print, End, Pause, Settle}
 use Rattle.dso_base.specs.declared.shape.Shape.{Shape}
 use Rattle.dso_base.specs.declared.value.ClassId.{ClassId}
 use Rattle.dso_base.specs.declared.value.Kind.{Kind}
@@ -158,6 +158,10 @@ waits t l s = record nothing {
   marked = writes (is_place l t) (λ key. false);
 }
 
+-- Timeout: the thread is marked in the waits of the lock.
+abbrev pub times_out : ThreadId → LockName → Change
+times_out t l = record nothing { marked = writes (is_place l t) (λ key. true) }
+
 -- Resume: the thread holds the lock at Write with that count, and leaves the waits.
 abbrev pub resumes : ThreadId → LockName → PlainState → Change
 resumes t l s = record nothing {
@@ -175,20 +179,36 @@ notifies l (Some w) = record nothing { marked = writes (is_place l w) (λ key. t
 abbrev pub notifies_all : LockName → PlainState → Change
 notifies_all l s = record nothing { marked = writes (λ key. is_lock l key.0 && is_some (s.asleep key)) (λ key. true) }
 
--- what an act writes, by its request and reply; what no line names stays as it is
+-- what an act writes, by its request and reply; what no line writes stays as it is
 abbrev pub change_of : Shape → ThreadId → Request → Reply → Option ThreadId → PlainState → Change
 change_of shape t (New class n) (Made o) woken s = made_new shape t class n o s
+change_of shape t (New class n) reply woken s = nothing
+change_of shape t (Look o) reply woken s = nothing
 change_of shape t (Get o f) (Val v) woken s = read shape t o f (is_shared (s.objects o)) s
+change_of shape t (Get o f) reply woken s = nothing
 change_of shape t (Put o f v) Done woken s = put t o f v (is_shared (s.objects o)) s
+change_of shape t (Put o f v) reply woken s = nothing
 change_of shape t (Enter l level) Done woken s = record nothing { monitors = writes (is_place l t) (λ key. entered level (s.monitors (l, t))) }
+change_of shape t (Enter l level) reply woken s = nothing
 change_of shape t (Exit l) Done woken s = record nothing { monitors = writes (is_place l t) (λ key. exited (s.monitors (l, t))) }
+change_of shape t (Exit l) reply woken s = nothing
 change_of shape t (Wait l) Done woken s = waits t l s
+change_of shape t (Wait l) reply woken s = nothing
+change_of shape t (Tick l) reply woken s = nothing
+change_of shape t (Timeout l) Done woken s = times_out t l
+change_of shape t (Timeout l) reply woken s = nothing
 change_of shape t (Resume l) Done woken s = resumes t l s
+change_of shape t (Resume l) reply woken s = nothing
 change_of shape t (Notify l) Done woken s = notifies l woken
+change_of shape t (Notify l) reply woken s = nothing
 change_of shape t (NotifyAll l) Done woken s = notifies_all l s
+change_of shape t (NotifyAll l) reply woken s = nothing
 change_of shape t (Print v) Done woken s = record nothing { output = writes (is_thread t) (λ key. v ∷ s.output t) }
+change_of shape t (Print v) reply woken s = nothing
 change_of shape t (End fault) Done woken s = record nothing { ended = writes (is_thread t) (λ key. Some fault) }
-change_of shape t request reply woken s = nothing
+change_of shape t (End fault) reply woken s = nothing
+change_of shape t Pause reply woken s = nothing
+change_of shape t Settle reply woken s = nothing
 
 -- The loss of a client: its threads leave the monitors and the waits.
 abbrev pub loses : ℕ → Change

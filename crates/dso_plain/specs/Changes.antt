@@ -21,7 +21,7 @@ with_wait l t wait mark s = record s {
   marked = written (writes (is_place l t) (λ _. mark)) s.marked;
 }
 
--- the waits on a lock of those that were notified, with those of a row before them
+-- the waits on a lock of those that are marked, with those of a row before them
 abbrev pub moved : LockName → (ThreadId → Option ℕ) → (LockName × ThreadId → Option ℕ) → LockName × ThreadId → Option ℕ
 moved l row marked key = cond (is_lock l key.0) (either (row key.1) (marked key)) (marked key)
 
@@ -38,7 +38,7 @@ without test s = record s {
 }
 
 -- The tables by thread list exactly the locks that the thread holds, and those on which it waits, and no wait is both
--- notified and not.
+-- marked and not.
 pub record Mirrors (tables : Tables) : Type 0 where
   pub held : (l : LockName) (t : ThreadId) → is_some (look_in thread_order lock_order tables.held (t, l)) ≡ is_some ((state_of tables).monitors (l, t))
   pub waiting : (l : LockName) (t : ThreadId) → is_some (look_in thread_order lock_order tables.waiting (t, l)) ≡ is_some ((state_of tables).asleep (l, t))

@@ -8,13 +8,23 @@ use Rattle.dso_base.specs.declared.request.Request.{Request}
 use Rattle.dso_base.specs.declared.shape.Shape.{Shape}
 use Rattle.dso_base.specs.Following.{is_thread, FollowsProgram}
 use Rattle.dso_plain.specs.State.{PlainState, opening}
-use Rattle.dso_plain.specs.Possible.{May}
+use Rattle.dso_plain.specs.Possible.{May, MayButMarks, FitsMarks}
 use Rattle.dso_plain.specs.After.{after}
 
 -- the events, the first of them first, are possible one after the other from this state
 abbrev pub Runs : Shape → List Event → PlainState → Type 0
 Runs shape [] s = Unit {0}
 Runs shape (e ∷ es) s = May shape e s × Runs shape es (after shape e s)
+
+-- so whatever is marked
+abbrev pub RunsButMarks : Shape → List Event → PlainState → Type 0
+RunsButMarks shape [] s = Unit {0}
+RunsButMarks shape (e ∷ es) s = MayButMarks shape e s × RunsButMarks shape es (after shape e s)
+
+-- each of the events finds the marks that it asks for, one after the other
+abbrev pub ChoicesFit : Shape → List Event → PlainState → Type 0
+ChoicesFit shape [] s = Unit {0}
+ChoicesFit shape (e ∷ es) s = FitsMarks e s × ChoicesFit shape es (after shape e s)
 
 -- the state at the end of the events
 abbrev pub end_of : Shape → List Event → PlainState → PlainState

@@ -7,7 +7,7 @@ use Rattle.dso_base.specs.declared.lock.ThreadId.{ThreadId}
 use Rattle.dso_base.specs.declared.request.Event.{Event}
 use Rattle.dso_base.specs.declared.shape.Shape.{Shape}
 use Rattle.dso_plain.specs.State.{PlainState, IsPrivate, IsShared, is_mine, guard_in}
-use Rattle.dso_plain.specs.History.{Runs, end_of}
+use Rattle.dso_plain.specs.History.{RunsButMarks, end_of}
 use Rattle.dso_plain.specs.Touches.{TouchesIn, AreActsOfOthers}
 
 -- the thread's own parts are the same in r as in s
@@ -23,9 +23,9 @@ pub record LeavesOwn (t : ThreadId) (s r : PlainState) : Type 0 where
   pub objects : (o : ℕ) → IsPrivate t o s → r.objects o ≡ s.objects o
   pub heap : (o f : ℕ) → IsPrivate t o s → r.heap (o, f) ≡ s.heap (o, f)
 
--- Own: acts of other threads leave a thread's own parts as they were.
+-- Own: acts of other threads, whatever is marked, leave a thread's own parts as they were.
 abbrev pub Own : Type 0
-Own = (shape : Shape) (t : ThreadId) (es : List Event) (s : PlainState) → Runs shape es s → AreActsOfOthers t es → LeavesOwn t s (end_of shape es s)
+Own = (shape : Shape) (t : ThreadId) (es : List Event) (s : PlainState) → RunsButMarks shape es s → AreActsOfOthers t es → LeavesOwn t s (end_of shape es s)
 
 -- a shared object is as it was, and so are the value and the past of its field
 pub record LeavesField (o f : ℕ) (s r : PlainState) : Type 0 where
@@ -33,6 +33,7 @@ pub record LeavesField (o f : ℕ) (s r : PlainState) : Type 0 where
   pub heap : r.heap (o, f) ≡ s.heap (o, f)
   pub past : r.past (o, f) ≡ s.past (o, f)
 
--- Guarded: a run that does not touch the guard of a shared object's field at Write leaves the field as it was.
+-- Guarded: a run, whatever is marked, that does not touch the guard of a shared object's field at Write leaves the field
+-- as it was.
 abbrev pub Guarded : Type 0
-Guarded = (shape : Shape) (es : List Event) (s : PlainState) (o f : ℕ) → Runs shape es s → IsShared o s → (TouchesIn shape es s (guard_in shape s o f) Write → ⊥) → LeavesField o f s (end_of shape es s)
+Guarded = (shape : Shape) (es : List Event) (s : PlainState) (o f : ℕ) → RunsButMarks shape es s → IsShared o s → (TouchesIn shape es s (guard_in shape s o f) Write → ⊥) → LeavesField o f s (end_of shape es s)

@@ -11,12 +11,13 @@ use Rattle.dso_base.specs.declared.request.Fault.TheVariants.{UnlockedSharedObje
 use Rattle.dso_base.specs.declared.request.Reply.{Reply}
 use Rattle.dso_base.specs.declared.request.Reply.TheVariants.{Done, Made, Seen, Val, Local, Refused}
 use Rattle.dso_base.specs.declared.request.Request.{Request}
-use Rattle.dso_base.specs.declared.request.Request.TheVariants.{New, Look, Get, Put, Enter, Exit, Wait, Resume, Notify, NotifyAll, Print, End, Pause}
+use Rattle.dso_base.specs.declared.request.Request.TheVariants.{New, Look, Get, Put, Enter, Exit, Wait, Tick, Timeout, Resume, Notify, NotifyAll, Print, End, Pause, Settle}
 use Rattle.dso_base.specs.declared.shape.ClassShape.{ClassShape}
 use Rattle.dso_base.specs.declared.shape.Shape.{Shape}
 use Rattle.dso_base.specs.declared.value.ClassId.{ClassId}
 use Rattle.dso_base.specs.declared.value.ClassId.TheVariants as class
 use Rattle.dso_base.specs.declared.value.Value.{Value}
+use Rattle.dso_base.specs.declared.value.Value.TheVariants as value
 use Rattle.dso_plain.specs.State.{Object, Hold, PlainState, IsPrivate, IsShared, HasField, HoldsGuard, HoldsNothing, hold_on_guard, level_of}
 
 -- the number of fields of a class that is there
@@ -133,9 +134,20 @@ AnswersMonitor t l Done s = HoldsWrite t l s
 AnswersMonitor t l (Refused IllegalMonitor) s = HoldsWrite t l s → ⊥
 AnswersMonitor t l reply s = ⊥
 
--- Resume: the thread waits on the lock, is marked there, and nobody holds it.
+-- Tick: the thread waits on the lock; the reply tells whether it is marked there.
+abbrev pub AnswersTick : ThreadId → LockName → Reply → PlainState → Type 0
+AnswersTick t l (Val (value.Bool woken)) s = s.asleep (l, t) ≢ None
+AnswersTick t l reply s = ⊥
+
+-- Timeout: the thread waits on the lock. Done, or true where it is marked there already.
+abbrev pub AnswersTimeout : ThreadId → LockName → Reply → PlainState → Type 0
+AnswersTimeout t l Done s = s.asleep (l, t) ≢ None
+AnswersTimeout t l (Val (value.Bool true)) s = s.asleep (l, t) ≢ None
+AnswersTimeout t l reply s = ⊥
+
+-- Resume: the thread waits on the lock, and nobody holds it.
 abbrev pub AnswersResume : ThreadId → LockName → Reply → PlainState → Type 0
-AnswersResume t l Done s = (s.asleep (l, t) ≢ None) × (s.marked (l, t) ≡ true) × ((other : ThreadId) → s.monitors (l, other) ≡ None)
+AnswersResume t l Done s = (s.asleep (l, t) ≢ None) × ((other : ThreadId) → s.monitors (l, other) ≡ None)
 AnswersResume t l reply s = ⊥
 
 -- done, and always possible
@@ -148,7 +160,7 @@ abbrev pub AnswersEnd : ThreadId → Reply → PlainState → Type 0
 AnswersEnd t Done s = HoldsNothing t s
 AnswersEnd t reply s = ⊥
 
--- the reply is possible for the request: the lines above, one for each kind of request
+-- the reply is possible for the request, whatever is marked: the lines above, one for each kind of request
 abbrev pub Answers : Shape → ThreadId → Request → Reply → PlainState → Type 0
 Answers shape t (New class n) reply s = AnswersNew shape class n reply s
 Answers shape t (Look o) reply s = AnswersLook t o reply s
@@ -157,14 +169,17 @@ Answers shape t (Put o f v) reply s = AnswersPut shape t o f reply s
 Answers shape t (Enter l level) reply s = AnswersEnter t l level reply s
 Answers shape t (Exit l) reply s = AnswersExit t l reply s
 Answers shape t (Wait l) reply s = AnswersMonitor t l reply s
+Answers shape t (Tick l) reply s = AnswersTick t l reply s
+Answers shape t (Timeout l) reply s = AnswersTimeout t l reply s
 Answers shape t (Resume l) reply s = AnswersResume t l reply s
 Answers shape t (Notify l) reply s = AnswersMonitor t l reply s
 Answers shape t (NotifyAll l) reply s = AnswersMonitor t l reply s
 Answers shape t (Print v) reply s = AnswersDone reply
 Answers shape t (End fault) reply s = AnswersEnd t reply s
 Answers shape t Pause reply s = AnswersDone reply
+Answers shape t Settle reply s = AnswersDone reply
 
--- the thread waits on the lock and was not notified
+-- the thread waits on the lock and is not marked there: it was not notified and has not timed out
 abbrev pub IsUnmarkedWaiter : LockName → ThreadId → PlainState → Type 0
 IsUnmarkedWaiter l w s = (s.asleep (l, w) ≢ None) × (s.marked (l, w) ≡ false)
 
@@ -173,23 +188,96 @@ IsUnmarkedWaiter l w s = (s.asleep (l, w) ≢ None) × (s.marked (l, w) ≡ fals
 abbrev pub Wakes : Request → Reply → Option ThreadId → PlainState → Type 0
 Wakes (Notify l) Done None s = (w : ThreadId) → IsUnmarkedWaiter l w s → ⊥
 Wakes (Notify l) Done (Some w) s = IsUnmarkedWaiter l w s
-Wakes request reply woken s = woken ≡ None
+Wakes (Notify l) reply woken s = woken ≡ None
+Wakes (New class n) reply woken s = woken ≡ None
+Wakes (Look o) reply woken s = woken ≡ None
+Wakes (Get o f) reply woken s = woken ≡ None
+Wakes (Put o f v) reply woken s = woken ≡ None
+Wakes (Enter l level) reply woken s = woken ≡ None
+Wakes (Exit l) reply woken s = woken ≡ None
+Wakes (Wait l) reply woken s = woken ≡ None
+Wakes (Tick l) reply woken s = woken ≡ None
+Wakes (Timeout l) reply woken s = woken ≡ None
+Wakes (Resume l) reply woken s = woken ≡ None
+Wakes (NotifyAll l) reply woken s = woken ≡ None
+Wakes (Print v) reply woken s = woken ≡ None
+Wakes (End fault) reply woken s = woken ≡ None
+Wakes Pause reply woken s = woken ≡ None
+Wakes Settle reply woken s = woken ≡ None
 
--- a thread that waits does nothing but resume
+-- What an act asks of its thread's mark: a Resume, and a Tick or Timeout that tells that the thread was woken, find it
+-- marked on the lock. No other act asks for a mark.
+abbrev pub FindsMark : Request → Reply → ThreadId → PlainState → Type 0
+FindsMark (Tick l) (Val (value.Bool true)) t s = s.marked (l, t) ≡ true
+FindsMark (Tick l) reply t s = Unit {0}
+FindsMark (Timeout l) (Val (value.Bool true)) t s = s.marked (l, t) ≡ true
+FindsMark (Timeout l) reply t s = Unit {0}
+FindsMark (Resume l) reply t s = s.marked (l, t) ≡ true
+FindsMark (New class n) reply t s = Unit {0}
+FindsMark (Look o) reply t s = Unit {0}
+FindsMark (Get o f) reply t s = Unit {0}
+FindsMark (Put o f v) reply t s = Unit {0}
+FindsMark (Enter l level) reply t s = Unit {0}
+FindsMark (Exit l) reply t s = Unit {0}
+FindsMark (Wait l) reply t s = Unit {0}
+FindsMark (Notify l) reply t s = Unit {0}
+FindsMark (NotifyAll l) reply t s = Unit {0}
+FindsMark (Print v) reply t s = Unit {0}
+FindsMark (End fault) reply t s = Unit {0}
+FindsMark Pause reply t s = Unit {0}
+FindsMark Settle reply t s = Unit {0}
+
+-- the thread waits on no lock
+abbrev pub IsAwake : ThreadId → PlainState → Type 0
+IsAwake t s = (l : LockName) → s.asleep (l, t) ≡ None
+
+-- A thread that waits does nothing but tick, time out and resume.
 abbrev pub IsAwakeFor : Request → ThreadId → PlainState → Type 0
+IsAwakeFor (Tick l) t s = Unit {0}
+IsAwakeFor (Timeout l) t s = Unit {0}
 IsAwakeFor (Resume l) t s = Unit {0}
-IsAwakeFor request t s = (l : LockName) → s.asleep (l, t) ≡ None
+IsAwakeFor (New class n) t s = IsAwake t s
+IsAwakeFor (Look o) t s = IsAwake t s
+IsAwakeFor (Get o f) t s = IsAwake t s
+IsAwakeFor (Put o f v) t s = IsAwake t s
+IsAwakeFor (Enter l level) t s = IsAwake t s
+IsAwakeFor (Exit l) t s = IsAwake t s
+IsAwakeFor (Wait l) t s = IsAwake t s
+IsAwakeFor (Notify l) t s = IsAwake t s
+IsAwakeFor (NotifyAll l) t s = IsAwake t s
+IsAwakeFor (Print v) t s = IsAwake t s
+IsAwakeFor (End fault) t s = IsAwake t s
+IsAwakeFor Pause t s = IsAwake t s
+IsAwakeFor Settle t s = IsAwake t s
 
--- What an act needs: its client is not lost, the thread has not ended and does not wait (but to resume), the reply
--- is possible for the request, and it wakes whom it says.
+-- What an act needs, whatever is marked: its client is not lost, the thread has not ended and does not wait (but to
+-- tick, time out or resume), and the reply is possible for the request.
+pub record IsPossibleButMarks (shape : Shape) (t : ThreadId) (request : Request) (reply : Reply) (s : PlainState) : Type 0 where
+  pub connected : s.lost t.client ≡ false
+  pub going : s.ended t ≡ None
+  pub awake : IsAwakeFor request t s
+  pub answers : Answers shape t request reply s
+
+-- What an act needs: all this, its thread's mark where it asks for one, and that it wakes whom it says.
 pub record IsPossible (shape : Shape) (t : ThreadId) (request : Request) (reply : Reply) (woken : Option ThreadId) (s : PlainState) : Type 0 where
   pub connected : s.lost t.client ≡ false
   pub going : s.ended t ≡ None
   pub awake : IsAwakeFor request t s
   pub answers : Answers shape t request reply s
+  pub finds : FindsMark request reply t s
   pub wakes : Wakes request reply woken s
 
 -- the event is possible; the loss of a client where it is not lost yet
 abbrev pub May : Shape → Event → PlainState → Type 0
 May shape (Act t request reply woken) s = IsPossible shape t request reply woken s
 May shape (Lost client) s = s.lost client ≡ false
+
+-- the event is possible, whatever is marked
+abbrev pub MayButMarks : Shape → Event → PlainState → Type 0
+MayButMarks shape (Act t request reply woken) s = IsPossibleButMarks shape t request reply s
+MayButMarks shape (Lost client) s = s.lost client ≡ false
+
+-- what an event asks of marks: its thread's mark where it asks for one, and that it wakes whom it may
+abbrev pub FitsMarks : Event → PlainState → Type 0
+FitsMarks (Act t request reply woken) s = FindsMark request reply t s × Wakes request reply woken s
+FitsMarks (Lost client) s = Unit {0}

@@ -1,17 +1,14 @@
 -- What the loss of a client leaves to runs that notified its threads: the same acts, with other waiters chosen.
-use Rattle.std.specs.Prelude.{ℕ, ◌≡◌, ◌≢◌, Bool, true, List, [], ◌∷◌}
+use Rattle.std.specs.Prelude.{ℕ, ◌≡◌, ◌≢◌, Bool, List, [], ◌∷◌}
 use Rattle.dso_base.specs.declared.lock.Level.{Level}
 use Rattle.dso_base.specs.declared.lock.LockName.{LockName}
 use Rattle.dso_base.specs.declared.lock.ThreadId.{ThreadId}
 use Rattle.dso_base.specs.declared.request.Event.{Event}
 use Rattle.dso_base.specs.declared.request.Event.TheVariants.{Act, Lost}
-use Rattle.dso_base.specs.declared.request.Request.{Request}
-use Rattle.dso_base.specs.declared.request.Request.TheVariants.{Resume}
 use Rattle.dso_base.specs.declared.shape.Shape.{Shape}
 use Rattle.dso_plain.specs.State.{PlainState}
-use Rattle.dso_plain.specs.Possible.{Wakes}
 use Rattle.dso_plain.specs.After.{after}
-use Rattle.dso_plain.specs.History.{Runs, end_of}
+use Rattle.dso_plain.specs.History.{Runs, ChoicesFit, end_of}
 use Rattle.dso_plain.specs.Touches.{TouchesIn}
 
 -- the state with other marks
@@ -39,21 +36,6 @@ AreSameActs [] [] = Unit {0}
 AreSameActs (e ∷ es) (e' ∷ es') = IsSameAct e e' × AreSameActs es es'
 AreSameActs es es' = ⊥
 
--- a Resume finds its thread marked
-abbrev pub FindsMark : Request → ThreadId → PlainState → Type 0
-FindsMark (Resume l) t s = s.marked (l, t) ≡ true
-FindsMark request t s = Unit {0}
-
--- what an event asks of marks: a Resume finds one, and a notification wakes whom it may
-abbrev pub FitsMarks : Event → PlainState → Type 0
-FitsMarks (Act t request reply woken) s = FindsMark request t s × Wakes request reply woken s
-FitsMarks (Lost client) s = Unit {0}
-
--- each of the events finds the marks that it asks, one after the other
-abbrev pub ChoicesFit : Shape → List Event → PlainState → Type 0
-ChoicesFit shape [] s = Unit {0}
-ChoicesFit shape (e ∷ es) s = FitsMarks e s × ChoicesFit shape es (after shape e s)
-
 -- a run of threads of other clients, and the same acts with choices that fit after the loss
 pub record IsRechosen (shape : Shape) (client : ℕ) (es chosen : List Event) (s : PlainState) : Type 0 where
   pub runs : Runs shape es s
@@ -69,6 +51,6 @@ pub record RunsRechosen (shape : Shape) (client : ℕ) (es chosen : List Event) 
   pub touches : (l : LockName) (x : Level) → TouchesIn shape chosen (after shape (Lost client) s) l x → TouchesIn shape es s l x
 
 -- Rechoice: where a client is lost, a run of other clients' threads runs again with whatever choices fit among the
--- waiters left, where each thread that resumes is still marked.
+-- waiters left, where each thread that resumes, or is told that it was woken, is still marked.
 abbrev pub Rechoice : Type 0
 Rechoice = (shape : Shape) (client : ℕ) (es chosen : List Event) (s : PlainState) → IsRechosen shape client es chosen s → RunsRechosen shape client es chosen s

@@ -34,7 +34,7 @@ pub record PlainState : Type 0 where
   pub seen : ThreadId × ℕ × ℕ → ℕ  -- the place in the past that the thread has seen, counted from the oldest, 0
   pub monitors : LockName × ThreadId → Option Hold  -- None where the thread does not hold the lock
   pub asleep : LockName × ThreadId → Option ℕ  -- the count of the hold that a waiting thread is to have again
-  pub marked : LockName × ThreadId → Bool  -- whether the waiting thread was notified
+  pub marked : LockName × ThreadId → Bool  -- whether the waiting thread was notified or has timed out
   pub output : ThreadId → List Value  -- what the thread printed, the newest first
   pub ended : ThreadId → Option (Option Fault)  -- None where it has not ended; else its fault, if any
   pub lost : ℕ → Bool  -- the lost clients

@@ -9,7 +9,7 @@ use Rattle.dso_plain.specs.StepInvariants.{PastInvariant, MonitorInvariant}
 use Rattle.dso_plain.specs.Tables.{lock_order, thread_order, state_of}
 
 -- The tables by thread list exactly the locks that the thread holds, and those on which it waits; no wait is both
--- notified and not; and each client's threads that hold or wait are listed by client.
+-- marked and not; and each client's threads that hold or wait are listed by client.
 pub record IndexesAgree (tables : Tables) : Type 0 where
   pub held : (l : LockName) (t : ThreadId) → is_some (look_in thread_order lock_order tables.held (t, l)) ≡ is_some ((state_of tables).monitors (l, t))
   pub waiting : (l : LockName) (t : ThreadId) → is_some (look_in thread_order lock_order tables.waiting (t, l)) ≡ is_some ((state_of tables).asleep (l, t))

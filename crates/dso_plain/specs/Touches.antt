@@ -1,4 +1,5 @@
 -- What an event has to do with the locks, with ids and with threads: what decides whether two runs get on together.
+use Rattle.std.specs.List.{AllByRecursion}
 use Rattle.std.specs.Prelude.{ℕ, ◌≡◌, ◌≢◌, ◌⊎◌, Some, List, [], ◌∷◌}
 use Rattle.dso_base.specs.declared.lock.Level.{Level}
 use Rattle.dso_base.specs.declared.lock.Level.TheVariants.{Read, Write}
@@ -9,7 +10,7 @@ use Rattle.dso_base.specs.declared.request.Event.TheVariants.{Act, Lost}
 use Rattle.dso_base.specs.declared.request.Reply.{Reply}
 use Rattle.dso_base.specs.declared.request.Reply.TheVariants.{Done, Made}
 use Rattle.dso_base.specs.declared.request.Request.{Request}
-use Rattle.dso_base.specs.declared.request.Request.TheVariants.{New, Enter, Resume}
+use Rattle.dso_base.specs.declared.request.Request.TheVariants.{New, Look, Get, Put, Enter, Exit, Wait, Tick, Timeout, Resume, Notify, NotifyAll, Print, End, Pause, Settle}
 use Rattle.dso_base.specs.declared.shape.Shape.{Shape}
 use Rattle.dso_plain.specs.State.{PlainState, level_of}
 use Rattle.dso_plain.specs.After.{after}
@@ -17,8 +18,23 @@ use Rattle.dso_plain.specs.After.{after}
 -- the act takes the lock at this level: a done Enter, or a Resume, which takes it at Write
 abbrev pub Takes : Request → Reply → LockName → Level → Type 0
 Takes (Enter l level) Done key x = (key ≡ l) × (x ≡ level)
+Takes (Enter l level) reply key x = ⊥
 Takes (Resume l) Done key x = (key ≡ l) × (x ≡ Write)
-Takes request reply key x = ⊥
+Takes (Resume l) reply key x = ⊥
+Takes (New class n) reply key x = ⊥
+Takes (Look o) reply key x = ⊥
+Takes (Get o f) reply key x = ⊥
+Takes (Put o f v) reply key x = ⊥
+Takes (Exit l) reply key x = ⊥
+Takes (Wait l) reply key x = ⊥
+Takes (Tick l) reply key x = ⊥
+Takes (Timeout l) reply key x = ⊥
+Takes (Notify l) reply key x = ⊥
+Takes (NotifyAll l) reply key x = ⊥
+Takes (Print v) reply key x = ⊥
+Takes (End fault) reply key x = ⊥
+Takes Pause reply key x = ⊥
+Takes Settle reply key x = ⊥
 
 -- the act touches the lock at this level: its thread holds it so before, or takes it so
 abbrev pub ActTouches : ThreadId → Request → Reply → PlainState → LockName → Level → Type 0
@@ -68,6 +84,15 @@ AreActsOf t (e ∷ es) = IsActOf t e × AreActsOf t es
 abbrev pub AreActsOfOthers : ThreadId → List Event → Type 0
 AreActsOfOthers t [] = Unit {0}
 AreActsOfOthers t (e ∷ es) = IsActOfOther t e × AreActsOfOthers t es
+
+-- the event is a timeout that comes in time: it marks its thread under no lock
+abbrev pub TimesOut : Event → Type 0
+TimesOut (Act t (Timeout l) Done woken) = Unit {0}
+TimesOut e = ⊥
+
+-- no event is a timeout that comes in time
+abbrev pub NobodyTimesOut : List Event → Type 0
+NobodyTimesOut es = AllByRecursion (λ e. TimesOut e → ⊥) es
 
 -- two ways to touch locks do not conflict: where both touch a lock, both do at Read
 abbrev pub NoClash : (LockName → Level → Type 0) → (LockName → Level → Type 0) → Type 0

@@ -1,6 +1,6 @@
 //! When a reply is possible for a request, of monitors and waits, and when an event is possible.
 ghost use Rattle.std.specs.Prelude.{◌≡◌, ◌≢◌, ◌↔◌, ◌⊎◌, IsTrue, None};
-ghost use Rattle.dso_plain.specs.Possible.{IsPrivateMonitor, IsClusterLock, IsUpgrade, NoConflict, AnswersEnter, AnswersExit, AnswersMonitor, AnswersResume, AnswersDone, AnswersEnd, Answers, Wakes, IsAwakeFor, IsPossible, May};
+ghost use Rattle.dso_plain.specs.Possible.{IsPrivateMonitor, IsClusterLock, IsUpgrade, NoConflict, AnswersEnter, AnswersExit, AnswersMonitor, AnswersTick, AnswersTimeout, AnswersResume, AnswersDone, AnswersEnd, Answers, FindsMark, Wakes, IsAwakeFor, IsPossible, May};
 ghost use Rattle.dso_plain.specs.TableInvariants.{IndexesAgree, TablesInvariant};
 ghost use Rattle.dso_plain.specs.StepInvariants.{MonitorInvariant};
 ghost use Rattle.dso_plain.specs.State.{level_of};
@@ -10,10 +10,10 @@ use crate::possible::{answers_get, answers_look, answers_new, answers_put};
 use crate::publish::is_owner;
 use crate::reads::{
     first_level, has_no_unmarked, holds_nothing, is_awake, is_free, is_going, is_lost, is_marked,
-    is_unmarked, level, object,
+    is_unmarked, is_waiting, level, object,
 };
 use crate::tables::Tables;
-use dso_base::{Event, Fault, Level, LockName, Reply, Request, Shape, ThreadId};
+use dso_base::{Event, Fault, Level, LockName, Reply, Request, Shape, ThreadId, Value};
 
 /// Whether the lock is the monitor of a private object of the thread.
 fn is_private_monitor(tables: &Tables, thread: ThreadId, lock: LockName) -> bool
@@ -117,12 +117,35 @@ fn answers_monitor(tables: &Tables, thread: ThreadId, lock: LockName, reply: Rep
     }
 }
 
-/// Whether the reply is possible for Resume.
+/// Whether the reply is possible for Tick, whatever is marked.
+fn answers_tick(tables: &Tables, thread: ThreadId, lock: LockName, reply: Reply) -> bool
+    requires { IndexesAgree tables.now }
+    ensures { IsTrue result ↔ AnswersTick thread lock reply (state_of tables.now) }
+{
+    match reply {
+        Reply::Val(Value::Bool(_)) => is_waiting(tables, lock, thread),
+        _ => false,
+    }
+}
+
+/// Whether the reply is possible for Timeout, whatever is marked.
+fn answers_timeout(tables: &Tables, thread: ThreadId, lock: LockName, reply: Reply) -> bool
+    requires { IndexesAgree tables.now }
+    ensures { IsTrue result ↔ AnswersTimeout thread lock reply (state_of tables.now) }
+{
+    match reply {
+        Reply::Done | Reply::Val(Value::Bool(true)) => is_waiting(tables, lock, thread),
+        _ => false,
+    }
+}
+
+/// Whether the reply is possible for Resume, whatever is marked.
 fn answers_resume(tables: &Tables, thread: ThreadId, lock: LockName, reply: Reply) -> bool
+    requires { IndexesAgree tables.now }
     ensures { IsTrue result ↔ AnswersResume thread lock reply (state_of tables.now) }
 {
     match reply {
-        Reply::Done => is_marked(tables, lock, thread) && is_free(tables, lock),
+        Reply::Done => is_waiting(tables, lock, thread) && is_free(tables, lock),
         _ => false,
     }
 }
@@ -148,7 +171,7 @@ fn answers_end(tables: &Tables, thread: ThreadId, reply: Reply) -> bool
     }
 }
 
-/// Whether the reply is possible for the request.
+/// Whether the reply is possible for the request, whatever is marked.
 fn answers(tables: &Tables, shape: &Shape, thread: ThreadId, request: Request, reply: Reply) -> bool
     requires { TablesInvariant tables.now }
     ensures { IsTrue result ↔ Answers shape.now thread request reply (state_of tables.now) }
@@ -163,9 +186,25 @@ fn answers(tables: &Tables, shape: &Shape, thread: ThreadId, request: Request, r
         Request::Wait(lock) | Request::Notify(lock) | Request::NotifyAll(lock) => answers_monitor(
             tables, thread, lock, reply,
         ),
+        Request::Tick(lock) => answers_tick(tables, thread, lock, reply),
+        Request::Timeout(lock) => answers_timeout(tables, thread, lock, reply),
         Request::Resume(lock) => answers_resume(tables, thread, lock, reply),
-        Request::Print(_) | Request::Pause => is_done(reply),
+        Request::Print(_) | Request::Pause | Request::Settle => is_done(reply),
         Request::End(_) => answers_end(tables, thread, reply),
+    }
+}
+
+/// Whether the thread's mark is there, where the act asks for it.
+fn finds_mark(tables: &Tables, request: Request, reply: Reply, thread: ThreadId) -> bool
+    ensures { IsTrue result ↔ FindsMark request reply thread (state_of tables.now) }
+{
+    match (request, reply) {
+        (
+            Request::Tick(lock) | Request::Timeout(lock),
+            Reply::Val(Value::Bool(true)),
+        )
+        | (Request::Resume(lock), _) => is_marked(tables, lock, thread),
+        _ => true,
     }
 }
 
@@ -187,7 +226,7 @@ fn is_awake_for(tables: &Tables, request: Request, thread: ThreadId) -> bool
     ensures { IsTrue result ↔ IsAwakeFor request thread (state_of tables.now) }
 {
     match request {
-        Request::Resume(_) => true,
+        Request::Tick(_) | Request::Timeout(_) | Request::Resume(_) => true,
         _ => is_awake(tables, thread),
     }
 }
@@ -208,6 +247,7 @@ fn is_possible(
         && is_going(tables, thread)
         && is_awake_for(tables, request, thread)
         && answers(tables, shape, thread, request, reply)
+        && finds_mark(tables, request, reply, thread)
         && wakes(tables, request, reply, woken)
 }
 

@@ -46,7 +46,7 @@ pub(crate) fn drop_hold(
     Ok(hold)
 }
 
-/// Lets the thread wait on the lock, not notified.
+/// Lets the thread wait on the lock, not marked.
 pub(crate) fn set_wait(
     alloc: Global,
     tables: &mut Tables,
@@ -65,7 +65,7 @@ pub(crate) fn set_wait(
     Ok(())
 }
 
-/// Ends a wait of the thread on the lock, be it notified or not. None where it does not wait.
+/// Ends a wait of the thread on the lock, be it marked or not. None where it is not marked there.
 pub(crate) fn drop_wait(
     alloc: Global,
     tables: &mut Tables,

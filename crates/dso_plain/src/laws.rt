@@ -4,23 +4,32 @@ ghost use Rattle.dso_lookup.specs.Reaching.{ReachTells};
 ghost use Rattle.dso_plain.specs.Publishing.{PublishedIsReached};
 ghost use Rattle.dso_plain.specs.Rechoice.{Rechoice};
 ghost use Rattle.dso_plain.specs.Own.{Own, Guarded};
-ghost use Rattle.dso_plain.specs.Laws.{Diamond, RunsInParts, EndsInParts, Past, Growth, LegalGoesOn, Monitors};
+ghost use Rattle.dso_plain.specs.Laws.{RunsAreChoices, Diamond, ChoicesSwap, RunsInParts, RunsButMarksInParts, EndsInParts, Past, Growth, LegalGoesOn, Monitors};
 
-/// Two runs from one state, one of a thread and one of other threads, can swap where their locks do not clash and
-/// they make no common id: each can follow the other, both orders end in the same state, and neither touches a lock
-/// at a level at which it did not before.
-pub fn diamond()
-    ensures { Diamond }
+/// A run is a run whatever is marked, in which each event finds the marks that it asks for.
+pub fn kinds()
+    ensures { RunsAreChoices }
 {}
 
-/// A run of two lists of events in order is a run of the first and, from where that ends, of the second.
+/// Two runs from one state, one of a thread and one of other threads, can swap where their locks do not clash and
+/// they make no common id: each can follow the other whatever is marked, both orders end in the same state, and
+/// neither touches a lock at a level at which it did not before. Where nobody times out in them, each finds behind
+/// the other the marks that it asks for, too.
+pub fn diamond()
+    ensures swaps { Diamond }
+    ensures choices { ChoicesSwap }
+{}
+
+/// A run of two lists of events in order is a run of the first and, from where that ends, of the second; so it is of
+/// a run whatever is marked.
 pub fn parts()
     ensures runs { RunsInParts }
+    ensures runs_but_marks { RunsButMarksInParts }
     ensures ends { EndsInParts }
 {}
 
 /// The newest of a shared field's past is the heap's value, and what a thread has seen is a place in the past, never
-/// beyond the newest; pasts only grow.
+/// beyond the newest; pasts only grow. All this whatever is marked.
 pub fn past()
     ensures reached { Past }
     ensures grows { Growth }
@@ -53,13 +62,14 @@ pub fn monitors()
 {}
 
 /// Where a client is lost, a run of other clients' threads runs again with whatever choices fit among the waiters
-/// left, where each thread that resumes is still marked; it ends in the same state but for the marks.
+/// left, where each thread that resumes, or is told that it was woken, is still marked; it ends in the same state but
+/// for the marks.
 pub fn rechoice()
     ensures { Rechoice }
 {}
 
 /// Acts of other threads leave a thread's own parts as they were, and a run that does not touch a guard at Write leaves
-/// what it guards as it was.
+/// what it guards as it was. Both whatever is marked.
 pub fn untouched()
     ensures own { Own }
     ensures guarded { Guarded }

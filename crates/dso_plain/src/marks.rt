@@ -1,8 +1,7 @@
-//! Notifications in the tables.
-ghost use Rattle.std.specs.Prelude.{◌≡◌, Some, OnOk};
+//! Marks of waiting threads in the tables.
+ghost use Rattle.std.specs.Prelude.{◌≡◌, ◌≢◌, None, OnOk};
 ghost use Rattle.dso_plain.specs.After as After;
 ghost use Rattle.dso_plain.specs.TableInvariants.{IndexesAgree};
-ghost use Rattle.dso_plain.specs.Possible.{IsUnmarkedWaiter};
 ghost use Rattle.dso_plain.specs.Changes.{moved};
 ghost use Rattle.dso_lookup.specs.Maps.{look};
 ghost use Rattle.dso_lookup.specs.Rows.{look_in};
@@ -15,7 +14,7 @@ use dso_lookup::{put_in, take_in, take_row};
 use std::alloc::Global;
 use std::collections::BTreeMap;
 
-/// Notifies a waiter.
+/// Marks a waiter: it was notified, or it times out. One that is marked stays so.
 pub(crate) fn mark(
     alloc: Global,
     tables: &mut Tables,
@@ -23,8 +22,8 @@ pub(crate) fn mark(
     thread: ThreadId,
 ) -> Result<(), NoMemory>
     requires agrees { IndexesAgree tables.old }
-    requires waits { IsUnmarkedWaiter lock thread (state_of tables.old) }
-    ensures state { OnOk result (state_of tables.new ≡ After.apply (After.notifies lock (Some thread)) (state_of tables.old)) }
+    requires waits { (state_of tables.old).asleep (lock, thread) ≢ None }
+    ensures state { OnOk result (state_of tables.new ≡ After.apply (After.times_out thread lock) (state_of tables.old)) }
     ensures agrees { OnOk result (IndexesAgree tables.new) }
 {
     match take_in(alloc, &mut tables.waits, lock, &thread)? {
@@ -36,7 +35,7 @@ pub(crate) fn mark(
     }
 }
 
-/// Moves the waits of a row to those that were notified.
+/// Moves the waits of a row to those that are marked.
 fn move_row(
     alloc: Global,
     mut row: BTreeMap<ThreadId, Count>,

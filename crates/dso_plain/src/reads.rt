@@ -83,7 +83,15 @@ pub(crate) fn is_free(tables: &Tables, lock: LockName) -> bool
     is_row_empty(&tables.holds, &lock)
 }
 
-/// Whether the thread waits on the lock and was not notified.
+/// Whether the thread waits on the lock.
+pub(crate) fn is_waiting(tables: &Tables, lock: LockName, thread: ThreadId) -> bool
+    requires { IndexesAgree tables.now }
+    ensures { IsTrue result ↔ ((state_of tables.now).asleep (lock, thread) ≢ None) }
+{
+    find_in(&tables.waiting, &thread, &lock).is_some()
+}
+
+/// Whether the thread waits on the lock and is not marked there.
 pub(crate) fn is_unmarked(tables: &Tables, lock: LockName, thread: ThreadId) -> bool
     requires { IndexesAgree tables.now }
     ensures { IsTrue result ↔ IsUnmarkedWaiter lock thread (state_of tables.now) }
@@ -91,14 +99,14 @@ pub(crate) fn is_unmarked(tables: &Tables, lock: LockName, thread: ThreadId) -> 
     find_in(&tables.waits, &lock, &thread).is_some()
 }
 
-/// Whether the thread waits on the lock and was notified.
+/// Whether the thread waits on the lock and is marked there: it was notified or has timed out.
 pub(crate) fn is_marked(tables: &Tables, lock: LockName, thread: ThreadId) -> bool
     ensures { result ≡ (state_of tables.now).marked (lock, thread) }
 {
     find_in(&tables.marked, &lock, &thread).is_some()
 }
 
-/// Whether no thread waits on the lock that was not notified.
+/// Whether no thread waits on the lock that is not marked there.
 pub(crate) fn has_no_unmarked(tables: &Tables, lock: LockName) -> bool
     requires { IndexesAgree tables.now }
     ensures { IsTrue result ↔ ((w : ThreadId) → IsUnmarkedWaiter lock w (state_of tables.now) → ⊥) }

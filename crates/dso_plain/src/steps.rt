@@ -114,13 +114,16 @@ fn act(
         (Request::Enter(lock, level), Reply::Done) => enter(alloc, tables, thread, lock, level),
         (Request::Exit(lock), Reply::Done) => exit(alloc, tables, thread, lock),
         (Request::Wait(lock), Reply::Done) => wait(alloc, tables, thread, lock),
+        (Request::Timeout(lock), Reply::Done) => mark(alloc, tables, lock, thread),
         (Request::Resume(lock), Reply::Done) => resume(alloc, tables, thread, lock),
         (Request::Notify(lock), Reply::Done) => notify(alloc, tables, lock, woken),
         (Request::NotifyAll(lock), Reply::Done) => mark_all(alloc, tables, lock),
         (Request::Print(value), Reply::Done) => print(alloc, tables, thread, value),
         (Request::End(fault), Reply::Done) => end(tables, thread, fault),
         (Request::Look(_), _) => Ok(()),
+        (Request::Tick(_), _) => Ok(()),
         (Request::Pause, _) => Ok(()),
+        (Request::Settle, _) => Ok(()),
         _ => Ok(()),
     }
 }

@@ -23,8 +23,8 @@ pub struct Hold {
 
 /// What is known of one heap, its monitors and its threads. Lists have the newest last.
 ///
-/// Holds and waits stand by lock and then by thread, the waits of those that were notified for themselves, each with
-/// the count of the hold that the thread is to have again. `held` and `waiting` tell the locks by thread, so that no
+/// Holds and waits stand by lock and then by thread, the waits of those that are marked for themselves, each with the
+/// count of the hold that the thread is to have again. `held` and `waiting` tell the locks by thread, so that no
 /// question about a thread looks through the locks, nor one about a lock through the threads; `threads` tells, by client,
 /// the threads that have entered a lock.
 #[derive(Drop)]

@@ -1,10 +1,10 @@
--- Two changes that write at different keys come to the same state in either order.
+-- Two changes that write at different keys, or the same mark, come to the same state in either order.
 use Rattle.std.proofs.Common.{ℕ, ◌≡◌, Bool, true, false, refl}
 use Rattle.dso_plain.specs.State.{PlainState}
 use Rattle.dso_plain.specs.After.{Change, apply, counted}
-use Rattle.dso_plain.proofs.keys.SameKeys.{Apart, written_swap}
+use Rattle.dso_plain.proofs.keys.SameKeys.{Apart, Agreeing, written_swap, written_agree}
 
--- no part is written at one key by both
+-- no part is written at one key by both, but for marks that agree
 pub record AreDisjoint (c d : Change) : Type 0 where
   pub objects : Apart c.objects d.objects
   pub made : Apart c.made d.made
@@ -13,7 +13,7 @@ pub record AreDisjoint (c d : Change) : Type 0 where
   pub seen : Apart c.seen d.seen
   pub monitors : Apart c.monitors d.monitors
   pub asleep : Apart c.asleep d.asleep
-  pub marked : Apart c.marked d.marked
+  pub marked : Agreeing c.marked d.marked
   pub output : Apart c.output d.output
   pub ended : Apart c.ended d.ended
   pub lost : Apart c.lost d.lost
@@ -34,7 +34,7 @@ apply_swap c d s h = λ i. record {
   seen = written_swap c.seen d.seen s.seen h.seen i;
   monitors = written_swap c.monitors d.monitors s.monitors h.monitors i;
   asleep = written_swap c.asleep d.asleep s.asleep h.asleep i;
-  marked = written_swap c.marked d.marked s.marked h.marked i;
+  marked = written_agree c.marked d.marked s.marked h.marked i;
   output = written_swap c.output d.output s.output h.output i;
   ended = written_swap c.ended d.ended s.ended h.ended i;
   lost = written_swap c.lost d.lost s.lost h.lost i;

@@ -12,7 +12,7 @@ use Rattle.dso_plain.specs.After.{Change, apply}
 use Rattle.dso_plain.specs.Touches.{NoClash, NoCommonId}
 use Rattle.dso_plain.proofs.keys.SameKeys.{written_is, unwritten}
 use Rattle.dso_plain.proofs.independence.ChangesCommute.{AreDisjoint}
-use Rattle.dso_plain.proofs.independence.WritesGuarded.{IsGuarded, IsNew, IsUnderGuard, IsLonger, other_private, private_unshared}
+use Rattle.dso_plain.proofs.independence.WritesGuarded.{IsGuarded, IsMark, IsNew, IsUnderGuard, IsLonger, other_private, private_unshared}
 
 -- true is not false
 pub differ : {A : Type 0} (b : Bool) → b ≡ false → b ≡ true → A
@@ -49,7 +49,8 @@ pub record IsQuiet (shape : Shape) (t : ThreadId) (touch : LockName → Level �
   pub held : (l : LockName) (x : Level) → level_of (r.monitors (l, t)) ≡ Some x → touch l x
   pub own_waits : (l : LockName) (w : ThreadId) → w ≢ t → r.asleep (l, w) ≡ s.asleep (l, w)
   pub asleep : (l : LockName) (w : ThreadId) → (touch l Write → ⊥) → r.asleep (l, w) ≡ s.asleep (l, w)
-  pub marked : (l : LockName) (w : ThreadId) → (touch l Write → ⊥) → r.marked (l, w) ≡ s.marked (l, w)
+  pub marked : (l : LockName) (w : ThreadId) → w ≢ t → (touch l Write → ⊥) → r.marked (l, w) ≡ s.marked (l, w)
+  pub stays_marked : (l : LockName) (w : ThreadId) → w ≢ t → s.marked (l, w) ≡ true → r.marked (l, w) ≡ true
   pub output : (w : ThreadId) → w ≢ t → r.output w ≡ s.output w
   pub ended : (w : ThreadId) → w ≢ t → r.ended w ≡ s.ended w
   pub lost : (client : ℕ) → r.lost client ≡ s.lost client
@@ -100,7 +101,17 @@ module _ (shape : Shape) (t : ThreadId) (touch : LockName → Level → Type 0) 
     held = λ l. written_is (λ hold. (x : Level) → level_of hold ≡ Some x → touch l x) c.monitors s.monitors (l, t) (λ v e. (g.monitors (l, t) v e).1) (mine l);
     own_waits = λ l w ne. unwritten c.asleep s.asleep (l, w) (λ v e. ne (g.asleep (l, w) v e).0);
     asleep = λ l w free. unwritten c.asleep s.asleep (l, w) (λ v e. free (g.asleep (l, w) v e).1);
-    marked = λ l w free. unwritten c.marked s.marked (l, w) (λ v e. free (g.marked (l, w) v e));
+    marked = λ l w ne free. unwritten c.marked s.marked (l, w) (λ v e. elim (g.marked (l, w) v e) [
+      | inl h ↦ free h.0
+      | inr h ↦ ne h.0
+    ]);
+    stays_marked = λ l w ne was. written_is (λ x. x ≡ true) c.marked s.marked (l, w) (λ v e. elim (g.marked (l, w) v e) [
+      | inl h ↦ elim h.1 [
+        | inl own ↦ absurd (ne own)
+        | inr set ↦ set
+      ]
+      | inr h ↦ h.1
+    ]) was;
     output = λ w ne. unwritten c.output s.output w (λ v e. ne (g.output w v e));
     ended = λ w ne. unwritten c.ended s.ended w (λ v e. ne (g.ended w v e));
     lost = λ client. unwritten c.lost s.lost client (λ v e. g.lost client v e);
@@ -135,7 +146,16 @@ module _ (shape : Shape) (t u : ThreadId) (touch touch' : LockName → Level →
   as_heap w touched made key new (inl a) = inl a
   as_heap w touched made key new (inr a) = inr (inr a.0)
 
-  -- two steps that have nothing to do with each other write nothing at a common key
+  -- a mark that both write is the same
+  mark_once : (key : LockName × ThreadId) (v w : Bool) → IsMark t touch key v → IsMark u touch' key w → v ≡ w
+  mark_once key v w (inl a) (inl b) = not_both touch touch' locks key.0 a.0 b.0
+  mark_once key v w (inl (touched, inl own)) (inr b) = absurd (ne (sym own ∙ b.0))
+  mark_once key v w (inl (touched, inr set)) (inr b) = set ∙ sym b.1
+  mark_once key v w (inr a) (inl (touched, inl own)) = absurd (ne (sym a.0 ∙ own))
+  mark_once key v w (inr a) (inl (touched, inr set)) = a.1 ∙ sym set
+  mark_once key v w (inr a) (inr b) = absurd (ne (sym a.0 ∙ b.0))
+
+  -- two steps that have nothing to do with each other write nothing at a common key, but marks that agree
   pub disjoint : (c d : Change) → IsGuarded shape t touch makes s c → IsGuarded shape u touch' makes' s d → AreDisjoint c d
   disjoint c d g h = record {
     objects = λ key v w a b. object_once key (g.objects key v a).0 (h.objects key w b).0;
@@ -145,7 +165,7 @@ module _ (shape : Shape) (t u : ThreadId) (touch touch' : LockName → Level →
     seen = λ key v w a b. ne (sym (g.seen key v a) ∙ h.seen key w b);
     monitors = λ key v w a b. ne (sym (g.monitors key v a).0 ∙ (h.monitors key w b).0);
     asleep = λ key v w a b. ne (sym (g.asleep key v a).0 ∙ (h.asleep key w b).0);
-    marked = λ key v w a b. not_both touch touch' locks key.0 (g.marked key v a) (h.marked key w b);
+    marked = λ key v w a b. mark_once key v w (g.marked key v a) (h.marked key w b);
     output = λ key v w a b. ne (sym (g.output key v a) ∙ h.output key w b);
     ended = λ key v w a b. ne (sym (g.ended key v a) ∙ h.ended key w b);
     lost = λ key v w a b. g.lost key v a;

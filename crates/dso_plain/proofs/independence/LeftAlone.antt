@@ -6,9 +6,9 @@ use Rattle.dso_base.specs.declared.request.Event.{Event}
 use Rattle.dso_base.specs.declared.request.Event.TheVariants.{Act, Lost}
 use Rattle.dso_base.specs.declared.shape.Shape.{Shape}
 use Rattle.dso_plain.specs.State.{PlainState, IsShared, is_shared, guard_in, guard_of_object}
-use Rattle.dso_plain.specs.Possible.{May}
+use Rattle.dso_plain.specs.Possible.{MayButMarks}
 use Rattle.dso_plain.specs.After.{after}
-use Rattle.dso_plain.specs.History.{Runs, end_of}
+use Rattle.dso_plain.specs.History.{RunsButMarks, end_of}
 use Rattle.dso_plain.specs.Touches.{Touches, TouchesIn, IsActOfOther, AreActsOfOthers, ActTouches, ActMakes}
 use Rattle.dso_plain.specs.Own.{LeavesOwn, LeavesField}
 use Rattle.dso_plain.proofs.independence.LeavesOthers.{absent_shared, private_or_shared}
@@ -16,7 +16,7 @@ use Rattle.dso_plain.proofs.independence.StaysPossible.{kept_private}
 use Rattle.dso_plain.proofs.independence.RunsSwap.{quiet_act}
 
 -- an act of another thread
-act_leaves_own : (shape : Shape) (t : ThreadId) (e : Event) (s : PlainState) → May shape e s → IsActOfOther t e → LeavesOwn t s (after shape e s)
+act_leaves_own : (shape : Shape) (t : ThreadId) (e : Event) (s : PlainState) → MayButMarks shape e s → IsActOfOther t e → LeavesOwn t s (after shape e s)
 act_leaves_own shape t (Lost client) s m other = absurd other
 act_leaves_own shape t (Act u request reply woken) s m other =
     let q = quiet_act shape u request reply woken s m in
@@ -35,7 +35,7 @@ act_leaves_own shape t (Act u request reply woken) s m other =
     }
 
 -- a run of other threads
-pub leaves_own : (shape : Shape) (t : ThreadId) (es : List Event) (s : PlainState) → Runs shape es s → AreActsOfOthers t es → LeavesOwn t s (end_of shape es s)
+pub leaves_own : (shape : Shape) (t : ThreadId) (es : List Event) (s : PlainState) → RunsButMarks shape es s → AreActsOfOthers t es → LeavesOwn t s (end_of shape es s)
 leaves_own shape t [] s m other = record {
   monitors = λ l. refl;
   asleep = λ l. refl;
@@ -65,7 +65,7 @@ leaves_own shape t (e ∷ es) s m other =
     }
 
 -- an event that does not touch the guard at Write
-event_leaves_field : (shape : Shape) (e : Event) (s : PlainState) (o f : ℕ) → May shape e s → IsShared o s → (Touches e s (guard_in shape s o f) Write → ⊥) → LeavesField o f s (after shape e s)
+event_leaves_field : (shape : Shape) (e : Event) (s : PlainState) (o f : ℕ) → MayButMarks shape e s → IsShared o s → (Touches e s (guard_in shape s o f) Write → ⊥) → LeavesField o f s (after shape e s)
 event_leaves_field shape (Lost client) s o f m common free = record { object = refl; heap = refl; past = refl }
 event_leaves_field shape (Act u request reply woken) s o f m common free =
     let q = quiet_act shape u request reply woken s m in
@@ -76,7 +76,7 @@ event_leaves_field shape (Act u request reply woken) s o f m common free =
     }
 
 -- a run that does not touch the guard at Write
-pub leaves_field : (shape : Shape) (es : List Event) (s : PlainState) (o f : ℕ) → Runs shape es s → IsShared o s → (TouchesIn shape es s (guard_in shape s o f) Write → ⊥) → LeavesField o f s (end_of shape es s)
+pub leaves_field : (shape : Shape) (es : List Event) (s : PlainState) (o f : ℕ) → RunsButMarks shape es s → IsShared o s → (TouchesIn shape es s (guard_in shape s o f) Write → ⊥) → LeavesField o f s (end_of shape es s)
 leaves_field shape [] s o f m common free = record { object = refl; heap = refl; past = refl }
 leaves_field shape (e ∷ es) s o f m common free =
     let one = event_leaves_field shape e s o f m.0 common (λ h. free (inl h)) in

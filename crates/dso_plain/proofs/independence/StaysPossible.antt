@@ -1,4 +1,4 @@
--- What a thread may do it may still do after a step of another thread that has nothing to do with it.
+-- What a thread may do it may still do, whatever is marked, after a step of another thread that has nothing to do with it.
 use Rattle.std.proofs.Common.{ℕ, ◌<◌, ◌≡◌, ◌≢◌, ◌⊎◌, inl, inr, refl, sym, ◌∙◌, ap, subst, Bool, true, false, Option, Some, None}
 use Rattle.dso_base.specs.declared.lock.Level.{Level}
 use Rattle.dso_base.specs.declared.lock.Level.TheVariants.{Read, Write}
@@ -9,12 +9,13 @@ use Rattle.dso_base.specs.declared.request.Fault.TheVariants.{UnlockedSharedObje
 use Rattle.dso_base.specs.declared.request.Reply.{Reply}
 use Rattle.dso_base.specs.declared.request.Reply.TheVariants.{Done, Made, Seen, Val, Local, Refused}
 use Rattle.dso_base.specs.declared.request.Request.{Request}
-use Rattle.dso_base.specs.declared.request.Request.TheVariants.{New, Look, Get, Put, Enter, Exit, Wait, Resume, Notify, NotifyAll, Print, End, Pause}
+use Rattle.dso_base.specs.declared.request.Request.TheVariants.{New, Look, Get, Put, Enter, Exit, Wait, Tick, Timeout, Resume, Notify, NotifyAll, Print, End, Pause, Settle}
 use Rattle.dso_base.specs.declared.shape.Shape.{Shape}
 use Rattle.dso_base.specs.declared.value.ClassId.{ClassId}
+use Rattle.dso_base.specs.declared.value.Value.TheVariants as value
 use Rattle.dso_base.specs.Following.{is_thread}
 use Rattle.dso_plain.specs.State.{Hold, PlainState, is_shared, size_of, IsPrivate, IsShared, HasField, HoldsNothing, level_of, guard_in, guard_of_object, hold_on_guard}
-use Rattle.dso_plain.specs.Possible.{IsPossible, Answers, AnswersNew, AnswersLook, AnswersGet, AnswersPut, AnswersEnter, AnswersExit, AnswersMonitor, AnswersResume, AnswersEnd, IsOf, StandsFrom, IsPrivateMonitor, IsClusterLock, IsUpgrade, IsCompatible, NoConflict, HoldsWrite, Wakes, IsAwakeFor}
+use Rattle.dso_plain.specs.Possible.{IsPossibleButMarks, Answers, AnswersNew, AnswersLook, AnswersGet, AnswersPut, AnswersEnter, AnswersExit, AnswersMonitor, AnswersTick, AnswersTimeout, AnswersResume, AnswersEnd, IsOf, StandsFrom, IsPrivateMonitor, IsClusterLock, IsUpgrade, IsCompatible, NoConflict, HoldsWrite, IsAwakeFor}
 use Rattle.dso_plain.specs.Touches.{ActTouches, ActMakes, NoClash, NoCommonId}
 use Rattle.dso_plain.proofs.keys.SameKeys.{same_thread, thread_self}
 use Rattle.dso_plain.proofs.independence.LeavesOthers.{IsQuiet, absent_private, absent_shared, private_or_shared, private_to_one, not_both, differ}
@@ -165,15 +166,25 @@ module _ (shape : Shape) (t u : ThreadId) (touch : LockName → Level → Type 0
   still_monitor l (Refused IllegalMonitor) a = λ h. a (sym (ap level_of (q.monitors l u other)) ∙ h)
   still_monitor l reply a = absurd a
 
+  -- who waits still does
+  still_tick : (l : LockName) (reply : Reply) → AnswersTick u l reply s → AnswersTick u l reply r
+  still_tick l (Val (value.Bool woken)) a = λ e. a (sym (q.own_waits l u other) ∙ e)
+  still_tick l reply a = absurd a
+
+  -- and can still time out
+  still_timeout : (l : LockName) (reply : Reply) → AnswersTimeout u l reply s → AnswersTimeout u l reply r
+  still_timeout l Done a = λ e. a (sym (q.own_waits l u other) ∙ e)
+  still_timeout l (Val (value.Bool true)) a = λ e. a (sym (q.own_waits l u other) ∙ e)
+  still_timeout l reply a = absurd a
+
   -- who could go on still can
   still_resume : (l : LockName) (reply : Reply) → NoClash touch (ActTouches u (Resume l) reply s) → AnswersResume u l reply s → AnswersResume u l reply r
   still_resume l Done locks a =
       let never : (x : Level) → touch l x → ⊥ = λ x w. let e = (locks l x Write w (inr (refl, refl))).1 in cc e in (
         (λ e. a.0 (sym (q.own_waits l u other) ∙ e)),
-        q.marked l u (never Write) ∙ a.1,
         λ w. elim (cases_thread w t) [
           | inl e ↦ subst (λ w. r.monitors (l, w) ≡ None) (sym e) (none_held (r.monitors (l, t)) (λ x h. never x (q.held l x h)))
-          | inr d ↦ q.monitors l w d ∙ a.2 w
+          | inr d ↦ q.monitors l w d ∙ a.1 w
         ],
       )
   still_resume l reply locks a = absurd a
@@ -192,38 +203,28 @@ module _ (shape : Shape) (t u : ThreadId) (touch : LockName → Level → Type 0
   still_answers (Enter l level) reply locks ids a = still_enter l level reply locks a
   still_answers (Exit l) reply locks ids a = still_exit l reply a
   still_answers (Wait l) reply locks ids a = still_monitor l reply a
+  still_answers (Tick l) reply locks ids a = still_tick l reply a
+  still_answers (Timeout l) reply locks ids a = still_timeout l reply a
   still_answers (Resume l) reply locks ids a = still_resume l reply locks a
   still_answers (Notify l) reply locks ids a = still_monitor l reply a
   still_answers (NotifyAll l) reply locks ids a = still_monitor l reply a
   still_answers (Print v) reply locks ids a = a
   still_answers (End fault) reply locks ids a = still_end reply a
   still_answers Pause reply locks ids a = a
-
-  -- the waiters of a lock that u holds at Write are as they were
-  still_waiters : (l : LockName) (w : ThreadId) → (touch l Write → ⊥) → (s.asleep (l, w) ≡ r.asleep (l, w)) × (s.marked (l, w) ≡ r.marked (l, w))
-  still_waiters l w never = (sym (q.asleep l w never), sym (q.marked l w never))
-
-  -- who could be woken still can
-  still_wakes : (request : Request) (reply : Reply) (woken : Option ThreadId) → NoClash touch (ActTouches u request reply s) → Answers shape u request reply s → Wakes request reply woken s → Wakes request reply woken r
-  still_wakes (Notify l) Done None locks a nobody = λ w h.
-      let same = still_waiters l w (λ k. not_both touch (ActTouches u (Notify l) Done s) locks l k (inl a)) in
-      nobody w ((λ e. h.0 (sym same.0 ∙ e)), same.1 ∙ h.1)
-  still_wakes (Notify l) Done (Some w) locks a h =
-      let same = still_waiters l w (λ k. not_both touch (ActTouches u (Notify l) Done s) locks l k (inl a)) in
-      ((λ e. h.0 (same.0 ∙ e)), sym same.1 ∙ h.1)
-  still_wakes request reply woken locks a e = e
+  still_answers Settle reply locks ids a = a
 
   -- who was awake still is
   still_awake : (request : Request) → IsAwakeFor request u s → IsAwakeFor request u r
+  still_awake (Tick l) a = tt
+  still_awake (Timeout l) a = tt
   still_awake (Resume l) a = tt
   still_awake request a = λ l. q.own_waits l u other ∙ a l
 
-  -- the act is still possible
-  pub still : (request : Request) (reply : Reply) (woken : Option ThreadId) → NoClash touch (ActTouches u request reply s) → NoCommonId makes (ActMakes request reply) → IsPossible shape u request reply woken s → IsPossible shape u request reply woken r
-  still request reply woken locks ids p = record {
+  -- the act is still possible, whatever is marked
+  pub still : (request : Request) (reply : Reply) → NoClash touch (ActTouches u request reply s) → NoCommonId makes (ActMakes request reply) → IsPossibleButMarks shape u request reply s → IsPossibleButMarks shape u request reply r
+  still request reply locks ids p = record {
     connected = q.lost u.client ∙ p.connected;
     going = q.ended u other ∙ p.going;
     awake = still_awake request p.awake;
     answers = still_answers request reply locks ids p.answers;
-    wakes = still_wakes request reply woken locks p.answers p.wakes;
   }

@@ -8,7 +8,7 @@ use Rattle.dso_base.specs.declared.request.Fault.{Fault}
 use Rattle.dso_base.specs.declared.request.Reply.{Reply}
 use Rattle.dso_base.specs.declared.request.Reply.TheVariants.{Done, Made, Val}
 use Rattle.dso_base.specs.declared.request.Request.{Request}
-use Rattle.dso_base.specs.declared.request.Request.TheVariants.{New, Get, Put, Enter, Exit, Wait, Resume, Notify, NotifyAll, Print, End}
+use Rattle.dso_base.specs.declared.request.Request.TheVariants.{New, Get, Put, Enter, Exit, Wait, Timeout, Resume, Notify, NotifyAll, Print, End}
 use Rattle.dso_base.specs.declared.shape.Shape.{Shape}
 use Rattle.dso_base.specs.declared.value.ClassId.{ClassId}
 use Rattle.dso_base.specs.declared.value.Value.{Value}
@@ -19,7 +19,7 @@ use Rattle.dso_plain.specs.KeyTests.{is_lock, is_field, is_place, is_view}
 use Rattle.dso_lookup.specs.Maps.{writes}
 use Rattle.dso_plain.specs.State.{Object, Hold, PlainState, is_private_to, is_mine, is_shared, is_owner, IsPrivate, IsShared, level_of, guard_in, hold_on_guard}
 use Rattle.dso_plain.specs.Possible.{Answers}
-use Rattle.dso_plain.specs.After.{Change, nothing, made_new, new_object, read, read_shared, put, notifies, notifies_all, entered, exited, count_of, resumed, change_of, published, shared, present, opening_field, names}
+use Rattle.dso_plain.specs.After.{Change, nothing, made_new, new_object, read, read_shared, put, times_out, notifies, notifies_all, entered, exited, count_of, resumed, change_of, published, shared, present, opening_field, names}
 use Rattle.dso_plain.specs.Touches.{ActTouches, ActMakes}
 use Rattle.dso_plain.proofs.keys.SameKeys.{Wherever, none, written_there, same_number, same_thread, same_lock, same_field, same_place, same_view}
 use Rattle.dso_lookup.proofs.Tests.{both}
@@ -36,6 +36,10 @@ IsUnderGuard shape touch s key = IsShared key.0 s × touch (guard_in shape s key
 abbrev pub IsLonger : List Value → List Value → Type 0
 IsLonger old new = (v : Value) × (new ≡ v ∷ old)
 
+-- a mark that a thread writes: under a lock that it touches, its own one or set; or under no lock its own one, set
+abbrev pub IsMark : ThreadId → (LockName → Level → Type 0) → LockName × ThreadId → Bool → Type 0
+IsMark t touch key mark = (touch key.0 Write × ((key.1 ≡ t) ⊎ (mark ≡ true))) ⊎ ((key.1 ≡ t) × (mark ≡ true))
+
 -- what a step of thread t, which touches these locks and makes these ids, may write
 pub record IsGuarded (shape : Shape) (t : ThreadId) (touch : LockName → Level → Type 0) (makes : ℕ → Type 0) (s : PlainState) (c : Change) : Type 0 where
   pub objects : Wherever c.objects (λ o new. (IsPrivate t o s ⊎ IsNew makes s o) × ((w : ThreadId) → w ≢ t → is_private_to w new ≡ false))
@@ -45,7 +49,7 @@ pub record IsGuarded (shape : Shape) (t : ThreadId) (touch : LockName → Level 
   pub seen : Wherever c.seen (λ key _. key.0 ≡ t)
   pub monitors : Wherever c.monitors (λ key hold. (key.1 ≡ t) × ((x : Level) → level_of hold ≡ Some x → touch key.0 x))
   pub asleep : Wherever c.asleep (λ key _. (key.1 ≡ t) × touch key.0 Write)
-  pub marked : Wherever c.marked (λ key _. touch key.0 Write)
+  pub marked : Wherever c.marked (IsMark t touch)
   pub output : Wherever c.output (λ w _. w ≡ t)
   pub ended : Wherever c.ended (λ w _. w ≡ t)
   pub lost : Wherever c.lost (λ _ _. ⊥)
@@ -171,7 +175,7 @@ module _ (shape : Shape) (t : ThreadId) (touch : LockName → Level → Type 0) 
   at_place l key w e = let d = same_place l w key e in (ap (λ k. k.0) d, ap (λ k. k.1) d)
 
   -- touching at a place
-  touched_at : (l : LockName) (x : Level) (key : LockName × ThreadId) (w : ThreadId) → is_place l w key ≡ true → touch l x → touch key.0 x
+  pub touched_at : (l : LockName) (x : Level) (key : LockName × ThreadId) (w : ThreadId) → is_place l w key ≡ true → touch l x → touch key.0 x
   touched_at l x key w e h = subst (λ k. touch k x) (sym (at_place l key w e).0) h
 
   -- the hold on a lock that the thread has so, or takes so
@@ -203,7 +207,9 @@ module _ (shape : Shape) (t : ThreadId) (touch : LockName → Level → Type 0) 
     asleep = λ key new e.
         let there = written_there (is_place l t) (λ _. count) key new e in
         ((at_place l key t there.0).1, touched_at l Write key t there.0 h);
-    marked = λ key new e. touched_at l Write key t (written_there (is_place l t) (λ _. false) key new e).0 h;
+    marked = λ key new e.
+        let there = written_there (is_place l t) (λ _. false) key new e in
+        inl (touched_at l Write key t there.0 h, inl (at_place l key t there.0).1);
     objects = λ _ _ e. none e;
     made = λ _ _ e. none e;
     heap = λ _ _ e. none e;
@@ -217,14 +223,14 @@ module _ (shape : Shape) (t : ThreadId) (touch : LockName → Level → Type 0) 
   -- a notification marks under the lock
   pub guarded_notify : (l : LockName) (woken : Option ThreadId) → touch l Write → IsGuarded shape t touch makes s (notifies l woken)
   guarded_notify l None h = guarded_nothing false
-  guarded_notify l (Some w) h = record { marked = λ key new e. touched_at l Write key w (written_there (is_place l w) (λ _. true) key new e).0 h; objects = λ _ _ e. none e; made = λ _ _ e. none e; heap = λ _ _ e. none e; past = λ _ _ e. none e; seen = λ _ _ e. none e; monitors = λ _ _ e. none e; asleep = λ _ _ e. none e; output = λ _ _ e. none e; ended = λ _ _ e. none e; lost = λ _ _ e. none e }
+  guarded_notify l (Some w) h = record { marked = λ key new e. let there = written_there (is_place l w) (λ _. true) key new e in inl (touched_at l Write key w there.0 h, inr (sym there.1)); objects = λ _ _ e. none e; made = λ _ _ e. none e; heap = λ _ _ e. none e; past = λ _ _ e. none e; seen = λ _ _ e. none e; monitors = λ _ _ e. none e; asleep = λ _ _ e. none e; output = λ _ _ e. none e; ended = λ _ _ e. none e; lost = λ _ _ e. none e }
 
   -- and so does one of all
   pub guarded_notify_all : (l : LockName) → touch l Write → IsGuarded shape t touch makes s (notifies_all l s)
   guarded_notify_all l h = record {
     marked = λ key new e.
         let there = written_there (λ key. is_lock l key.0 && is_some (s.asleep key)) (λ _. true) key new e in
-        subst (λ k. touch k Write) (sym (same_lock l key.0 (both (is_lock l key.0) (is_some (s.asleep key)) there.0).0)) h;
+        inl (subst (λ k. touch k Write) (sym (same_lock l key.0 (both (is_lock l key.0) (is_some (s.asleep key)) there.0).0)) h, inr (sym there.1));
     objects = λ _ _ e. none e;
     made = λ _ _ e. none e;
     heap = λ _ _ e. none e;
@@ -236,6 +242,10 @@ module _ (shape : Shape) (t : ThreadId) (touch : LockName → Level → Type 0) 
     ended = λ _ _ e. none e;
     lost = λ _ _ e. none e;
   }
+
+  -- a timeout sets the thread's own mark
+  pub guarded_timeout : (l : LockName) → IsGuarded shape t touch makes s (times_out t l)
+  guarded_timeout l = record { marked = λ key new e. let there = written_there (is_place l t) (λ _. true) key new e in inr ((at_place l key t there.0).1, sym there.1); objects = λ _ _ e. none e; made = λ _ _ e. none e; heap = λ _ _ e. none e; past = λ _ _ e. none e; seen = λ _ _ e. none e; monitors = λ _ _ e. none e; asleep = λ _ _ e. none e; output = λ _ _ e. none e; ended = λ _ _ e. none e; lost = λ _ _ e. none e }
 
   -- printing adds to the thread's own output
   pub guarded_print : (out : List Value) → IsGuarded shape t touch makes s (record nothing { output = writes (is_thread t) (λ key. out) })
@@ -288,6 +298,7 @@ module _ (shape : Shape) (t : ThreadId) (s : PlainState) where
   ])
   guarded (Exit l) Done woken a = guarded_hold shape t (ActTouches t (Exit l) Done s) (ActMakes (Exit l) Done) s l (exited (s.monitors (l, t))) (λ x e. inl (exited_level x (s.monitors (l, t)) e))
   guarded (Wait l) Done woken a = guarded_wait shape t (ActTouches t (Wait l) Done s) (ActMakes (Wait l) Done) s l None (Some (count_of (s.monitors (l, t)))) (λ x e. absurd (cc e)) (inl a)
+  guarded (Timeout l) Done woken a = guarded_timeout shape t (ActTouches t (Timeout l) Done s) (ActMakes (Timeout l) Done) s l
   guarded (Resume l) Done woken a = guarded_wait shape t (ActTouches t (Resume l) Done s) (ActMakes (Resume l) Done) s l (resumed (s.asleep (l, t))) None (λ x e. inr (refl, resumed_level x (s.asleep (l, t)) e)) (inr (refl, refl))
   guarded (Notify l) Done woken a = guarded_notify shape t (ActTouches t (Notify l) Done s) (ActMakes (Notify l) Done) s l woken (inl a)
   guarded (NotifyAll l) Done woken a = guarded_notify_all shape t (ActTouches t (NotifyAll l) Done s) (ActMakes (NotifyAll l) Done) s l (inl a)

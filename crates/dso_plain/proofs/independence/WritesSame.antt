@@ -8,7 +8,7 @@ use Rattle.dso_base.specs.declared.lock.ThreadId.{ThreadId}
 use Rattle.dso_base.specs.declared.request.Reply.{Reply}
 use Rattle.dso_base.specs.declared.request.Reply.TheVariants.{Done, Made, Val}
 use Rattle.dso_base.specs.declared.request.Request.{Request}
-use Rattle.dso_base.specs.declared.request.Request.TheVariants.{New, Get, Put, Enter, Exit, Wait, Resume, Notify, NotifyAll, Print, End}
+use Rattle.dso_base.specs.declared.request.Request.TheVariants.{New, Get, Put, Enter, Exit, Wait, Timeout, Resume, Notify, NotifyAll, Print, End}
 use Rattle.dso_base.specs.declared.shape.Shape.{Shape}
 use Rattle.dso_base.specs.declared.value.Value.{Value}
 use Rattle.dso_base.specs.declared.value.Value.TheVariants as value
@@ -155,6 +155,7 @@ module _ (shape : Shape) (t u : ThreadId) (touch : LockName → Level → Type 0
   }) (q.own_waits l u other)
   alike (NotifyAll l) Done woken locks a = alike_marks l (λ w. not_both touch (ActTouches u (NotifyAll l) Done s) locks l w (inl a))
   alike (Print v) Done woken locks a = ap (λ out. record nothing { output = writes (is_thread u) (λ key. v ∷ out) }) (q.output u other)
+  alike (Timeout l) Done woken locks a = refl
   alike (Notify l) Done woken locks a = refl
   alike (End fault) Done woken locks a = refl
   alike request reply woken locks a = refl

@@ -11,7 +11,7 @@ use Rattle.dso_base.specs.declared.request.Fault.{Fault}
 use Rattle.dso_base.specs.declared.request.Reply.{Reply}
 use Rattle.dso_base.specs.declared.request.Reply.TheVariants.{Done, Made, Val}
 use Rattle.dso_base.specs.declared.request.Request.{Request}
-use Rattle.dso_base.specs.declared.request.Request.TheVariants.{New, Get, Put, Enter, Exit, Wait, Resume, Notify, NotifyAll, Print, End}
+use Rattle.dso_base.specs.declared.request.Request.TheVariants.{New, Get, Put, Enter, Exit, Wait, Timeout, Resume, Notify, NotifyAll, Print, End}
 use Rattle.dso_base.specs.declared.shape.Shape.{Shape}
 use Rattle.dso_base.specs.declared.value.Value.{Value}
 use Rattle.dso_base.specs.Following.{is_thread}
@@ -173,7 +173,7 @@ module _ (shape : Shape) (t : ThreadId) (s : PlainState) (k : MonitorInvariant s
   resume_counted l None new d e = absurd (cc e)
   resume_counted l (Some count) new d e = subst (λ x. 1 ≤ count_of x) e (k.counted_waits l t count d)
 
-  -- a notification of a waiter keeps it
+  -- a notification of a waiter keeps it, and so does a timeout, which marks the thread itself
   notify_kept : (l : LockName) (woken : Option ThreadId) → ((w : ThreadId) → woken ≡ Some w → s.asleep (l, w) ≢ None) → MonitorInvariant (apply (notifies l woken) s)
   notify_kept l None ok = k
   notify_kept l (Some w) ok = record {
@@ -240,7 +240,8 @@ module _ (shape : Shape) (t : ThreadId) (s : PlainState) (k : MonitorInvariant s
   act_kept (Enter l level) Done woken p = hold_kept l t (entered level (s.monitors (l, t))) s k (going (Enter l level) Done woken p) (λ x e. enter_beside l level x (s.monitors (l, t)) refl p.answers.2 e) (λ new e. enter_counted level (s.monitors (l, t)) new e)
   act_kept (Exit l) Done woken p = hold_kept l t (exited (s.monitors (l, t))) s k (going (Exit l) Done woken p) (λ x e. own_compatible l x (exited_level x (s.monitors (l, t)) e)) (λ new e. exit_counted l (s.monitors (l, t)) new refl e)
   act_kept (Wait l) Done woken p = wait_kept l t None s k (Some (count_of (s.monitors (l, t)))) (going (Wait l) Done woken p) (λ x e. absurd (cc e)) (λ new e. absurd (cc e)) (λ count e. wait_counts l (s.monitors (l, t)) count refl p.answers e)
-  act_kept (Resume l) Done woken p = wait_kept l t (resumed (s.asleep (l, t))) s k None (going (Resume l) Done woken p) (λ x e. resume_beside l x p.answers.2) (λ new e. resume_counted l (s.asleep (l, t)) new refl e) (λ count e. absurd (cc e))
+  act_kept (Timeout l) Done woken p = notify_kept l (Some t) (λ v e. subst (λ x. s.asleep (l, x) ≢ None) (cc e) p.answers)
+  act_kept (Resume l) Done woken p = wait_kept l t (resumed (s.asleep (l, t))) s k None (going (Resume l) Done woken p) (λ x e. resume_beside l x p.answers.1) (λ new e. resume_counted l (s.asleep (l, t)) new refl e) (λ count e. absurd (cc e))
   act_kept (Notify l) Done None p = k
   act_kept (Notify l) Done (Some w) p = notify_kept l (Some w) (λ v e. subst (λ x. s.asleep (l, x) ≢ None) (cc e) p.wakes.0)
   act_kept (NotifyAll l) Done woken p = notify_all_kept l

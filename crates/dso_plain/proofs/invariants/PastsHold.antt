@@ -9,7 +9,7 @@ use Rattle.dso_base.specs.declared.request.Event.TheVariants.{Act, Lost}
 use Rattle.dso_base.specs.declared.request.Reply.{Reply}
 use Rattle.dso_base.specs.declared.request.Reply.TheVariants.{Done, Made, Val}
 use Rattle.dso_base.specs.declared.request.Request.{Request}
-use Rattle.dso_base.specs.declared.request.Request.TheVariants.{New, Get, Put, Enter, Exit, Wait, Resume, Notify, NotifyAll, Print, End}
+use Rattle.dso_base.specs.declared.request.Request.TheVariants.{New, Get, Put, Enter, Exit, Wait, Timeout, Resume, Notify, NotifyAll, Print, End}
 use Rattle.dso_base.specs.declared.shape.Shape.{Shape}
 use Rattle.dso_base.specs.declared.value.ClassId.{ClassId}
 use Rattle.dso_base.specs.declared.value.Value.{Value}
@@ -19,9 +19,9 @@ use Rattle.dso_base.specs.Following.{is_thread}
 use Rattle.dso_plain.specs.KeyTests.{is_field, is_view}
 use Rattle.dso_lookup.specs.Maps.{or_old}
 use Rattle.dso_plain.specs.State.{Object, Hold, PlainState, opening, roots_object, is_private_to, is_shared, size_of, IsPrivate, IsShared, HasField, hold_on_guard}
-use Rattle.dso_plain.specs.Possible.{May, Answers, AnswersPut}
+use Rattle.dso_plain.specs.Possible.{MayButMarks, Answers, AnswersPut}
 use Rattle.dso_plain.specs.After.{change_of, apply, after, read, read_shared, put, published, shared, present, opening_field, opening_value, new_object, made_new, notifies}
-use Rattle.dso_plain.specs.History.{Runs, end_of, last_state}
+use Rattle.dso_plain.specs.History.{RunsButMarks, end_of, last_state}
 use Rattle.dso_plain.specs.StepInvariants.{PastInvariant}
 use Rattle.dso_plain.specs.Past.{newest, KeepsPast, PastsGrow}
 use Rattle.dso_lookup.specs.Reaching.{IsListed}
@@ -266,6 +266,7 @@ module _ (shape : Shape) (t : ThreadId) (s : PlainState) where
   act_kept (Enter l level) Done woken a k = k
   act_kept (Exit l) Done woken a k = k
   act_kept (Wait l) Done woken a k = k
+  act_kept (Timeout l) Done woken a k = k
   act_kept (Resume l) Done woken a k = k
   act_kept (Notify l) Done woken a k = notify_kept l woken k
   act_kept (NotifyAll l) Done woken a k = k
@@ -274,17 +275,17 @@ module _ (shape : Shape) (t : ThreadId) (s : PlainState) where
   act_kept request reply woken a k = k
 
 -- each event keeps it
-pub event_kept : (shape : Shape) (e : Event) (s : PlainState) → May shape e s → PastInvariant s → PastInvariant (after shape e s)
+pub event_kept : (shape : Shape) (e : Event) (s : PlainState) → MayButMarks shape e s → PastInvariant s → PastInvariant (after shape e s)
 event_kept shape (Act t request reply woken) s m k = act_kept shape t s request reply woken m.answers k
 event_kept shape (Lost client) s m k = k
 
 -- a run keeps it
-pub run_kept : (shape : Shape) (es : List Event) (s : PlainState) → Runs shape es s → PastInvariant s → PastInvariant (end_of shape es s)
+pub run_kept : (shape : Shape) (es : List Event) (s : PlainState) → RunsButMarks shape es s → PastInvariant s → PastInvariant (end_of shape es s)
 run_kept shape [] s m k = k
 run_kept shape (e ∷ es) s m k = run_kept shape es (after shape e s) m.1 (event_kept shape e s m.0 k)
 
 -- in every state that is reached
-pub past : (shape : Shape) (h : List Event) → Runs shape h (opening shape) → KeepsPast (last_state shape h)
+pub past : (shape : Shape) (h : List Event) → RunsButMarks shape h (opening shape) → KeepsPast (last_state shape h)
 past shape h m = kept_past (last_state shape h) (run_kept shape h (opening shape) m (opening_kept shape))
 
 -- a step lets pasts grow
@@ -304,12 +305,12 @@ act_grows shape t request reply woken s a =
     }
 
 -- an event lets pasts grow
-event_grows : (shape : Shape) (e : Event) (s : PlainState) → May shape e s → PastsGrow s (after shape e s)
+event_grows : (shape : Shape) (e : Event) (s : PlainState) → MayButMarks shape e s → PastsGrow s (after shape e s)
 event_grows shape (Act t request reply woken) s m = act_grows shape t request reply woken s m.answers
 event_grows shape (Lost client) s m = record { shared = λ o common. common; grown = λ o f common. ([], refl) }
 
 -- a run lets pasts grow
-pub pasts_grow : (shape : Shape) (es : List Event) (s : PlainState) → Runs shape es s → PastsGrow s (end_of shape es s)
+pub pasts_grow : (shape : Shape) (es : List Event) (s : PlainState) → RunsButMarks shape es s → PastsGrow s (end_of shape es s)
 pasts_grow shape [] s m = record { shared = λ o common. common; grown = λ o f common. ([], refl) }
 pasts_grow shape (e ∷ es) s m =
     let one = event_grows shape e s m.0 in

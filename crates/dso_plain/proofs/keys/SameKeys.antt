@@ -87,6 +87,20 @@ or_old_swap (Some v) (Some w) x ne = absurd (ne v w refl refl)
 pub written_swap : {K V : Type 0} (c d : K → Option V) (f : K → V) → Apart c d → written d (written c f) ≡ written c (written d f)
 written_swap c d f ne = fun_ext (λ key. or_old_swap (c key) (d key) (f key) (ne key))
 
+-- two writings that agree wherever both write
+abbrev pub Agreeing : {K V : Type 0} → (K → Option V) → (K → Option V) → Type 0
+Agreeing {K} {V} c d = (key : K) (v w : V) → c key ≡ Some v → d key ≡ Some w → v ≡ w
+
+-- at one key, two writings that agree
+or_old_agree : {V : Type 0} (p q : Option V) (x : V) → ((v w : V) → p ≡ Some v → q ≡ Some w → v ≡ w) → or_old q (or_old p x) ≡ or_old p (or_old q x)
+or_old_agree None q x same = refl
+or_old_agree (Some v) None x same = refl
+or_old_agree (Some v) (Some w) x same = sym (same v w refl refl)
+
+-- two writings that agree come to the same in either order
+pub written_agree : {K V : Type 0} (c d : K → Option V) (f : K → V) → Agreeing c d → written d (written c f) ≡ written c (written d f)
+written_agree c d f same = fun_ext (λ key. or_old_agree (c key) (d key) (f key) (same key))
+
 -- the same at one key
 is_by_cases : {A : Type 0} (P : A → Type 0) (p : Option A) (x : A) → ((v : A) → p ≡ Some v → P v) → P x → P (or_old p x)
 is_by_cases P None x h was = was

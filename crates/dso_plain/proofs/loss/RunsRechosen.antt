@@ -10,15 +10,16 @@ use Rattle.dso_base.specs.declared.request.Fault.TheVariants.{UnlockedSharedObje
 use Rattle.dso_base.specs.declared.request.Reply.{Reply}
 use Rattle.dso_base.specs.declared.request.Reply.TheVariants.{Done, Made, Seen, Val, Local, Refused}
 use Rattle.dso_base.specs.declared.request.Request.{Request}
-use Rattle.dso_base.specs.declared.request.Request.TheVariants.{New, Look, Get, Put, Enter, Exit, Wait, Resume, Notify, NotifyAll, Print, End, Pause}
+use Rattle.dso_base.specs.declared.request.Request.TheVariants.{New, Look, Get, Put, Enter, Exit, Wait, Tick, Timeout, Resume, Notify, NotifyAll, Print, End, Pause, Settle}
 use Rattle.dso_base.specs.declared.shape.Shape.{Shape}
 use Rattle.dso_base.specs.declared.value.Value.{Value}
+use Rattle.dso_base.specs.declared.value.Value.TheVariants as value
 use Rattle.dso_plain.specs.State.{Hold, PlainState, is_shared, level_of, hold_on_guard}
-use Rattle.dso_plain.specs.Possible.{IsPossible, May, Answers, IsPrivateMonitor, IsClusterLock, Wakes, IsAwakeFor}
+use Rattle.dso_plain.specs.Possible.{IsPossible, May, Answers, IsPrivateMonitor, IsClusterLock, FindsMark, Wakes, IsAwakeFor, FitsMarks}
 use Rattle.dso_plain.specs.After.{change_of, apply, after, put, read, read_shared, notifies}
-use Rattle.dso_plain.specs.History.{Runs, end_of}
+use Rattle.dso_plain.specs.History.{Runs, ChoicesFit, end_of}
 use Rattle.dso_plain.specs.Touches.{ActTouches, Touches, TouchesIn}
-use Rattle.dso_plain.specs.Rechoice.{with_marks, FindsMark, IsOfOtherClient, AreOfOtherClients, IsSameAct, AreSameActs, FitsMarks, ChoicesFit, IsRechosen, RunsRechosen}
+use Rattle.dso_plain.specs.Rechoice.{with_marks, IsOfOtherClient, AreOfOtherClients, IsSameAct, AreSameActs, IsRechosen, RunsRechosen}
 use Rattle.dso_plain.proofs.loss.RunsSurvive.{left, same_hold, not_cleared, still_answers, still_awake, swap}
 
 module _ (shape : Shape) (t : ThreadId) (s : PlainState) (marks : LockName × ThreadId → Bool) where
@@ -32,34 +33,40 @@ module _ (shape : Shape) (t : ThreadId) (s : PlainState) (marks : LockName × Th
   cluster_lock_marked (Mon o) a = a
   cluster_lock_marked (Name n) a = tt
 
-  -- no reply depends on marks, but that Resume needs one
-  answers_marked : (request : Request) (reply : Reply) → FindsMark request t (with_marks marks s) → Answers shape t request reply s → Answers shape t request reply (with_marks marks s)
-  answers_marked (Resume l) Done n a = (a.0, n, a.2)
-  answers_marked (New class k) (Made o) n a = a
-  answers_marked (Look o) (Seen class k) n a = a
-  answers_marked (Get o f) (Val v) n a = a
-  answers_marked (Put o f v) Done n a = a
-  answers_marked (Put o f v) (Refused UnlockedSharedObject) n a = a
-  answers_marked (Put o f v) (Refused ReadOnly) n a = a
-  answers_marked (Put o f v) (Refused WrongLock) n a = a
-  answers_marked (Put o f v) reply n a = absurd a.1
-  answers_marked (Enter l level) Local n a = private_monitor_marked l a
-  answers_marked (Enter l level) (Refused LockUpgrade) n a = a
-  answers_marked (Enter l level) Done n a = (cluster_lock_marked l a.0, a.1, a.2)
-  answers_marked (Exit l) Done n a = a
-  answers_marked (Wait l) Done n a = a
-  answers_marked (Wait l) (Refused IllegalMonitor) n a = a
-  answers_marked (Notify l) Done n a = a
-  answers_marked (Notify l) (Refused IllegalMonitor) n a = a
-  answers_marked (NotifyAll l) Done n a = a
-  answers_marked (NotifyAll l) (Refused IllegalMonitor) n a = a
-  answers_marked (Print v) reply n a = a
-  answers_marked (End fault) Done n a = a
-  answers_marked Pause reply n a = a
-  answers_marked request reply n a = absurd a
+  -- no reply depends on marks
+  answers_marked : (request : Request) (reply : Reply) → Answers shape t request reply s → Answers shape t request reply (with_marks marks s)
+  answers_marked (Tick l) (Val (value.Bool told)) a = a
+  answers_marked (Timeout l) Done a = a
+  answers_marked (Timeout l) (Val (value.Bool true)) a = a
+  answers_marked (Resume l) Done a = a
+  answers_marked (New class k) (Made o) a = a
+  answers_marked (Look o) (Seen class k) a = a
+  answers_marked (Get o f) (Val v) a = a
+  answers_marked (Put o f v) Done a = a
+  answers_marked (Put o f v) (Refused UnlockedSharedObject) a = a
+  answers_marked (Put o f v) (Refused ReadOnly) a = a
+  answers_marked (Put o f v) (Refused WrongLock) a = a
+  answers_marked (Put o f v) reply a = absurd a.1
+  answers_marked (Enter l level) Local a = private_monitor_marked l a
+  answers_marked (Enter l level) (Refused LockUpgrade) a = a
+  answers_marked (Enter l level) Done a = (cluster_lock_marked l a.0, a.1, a.2)
+  answers_marked (Exit l) Done a = a
+  answers_marked (Wait l) Done a = a
+  answers_marked (Wait l) (Refused IllegalMonitor) a = a
+  answers_marked (Notify l) Done a = a
+  answers_marked (Notify l) (Refused IllegalMonitor) a = a
+  answers_marked (NotifyAll l) Done a = a
+  answers_marked (NotifyAll l) (Refused IllegalMonitor) a = a
+  answers_marked (Print v) reply a = a
+  answers_marked (End fault) Done a = a
+  answers_marked Pause reply a = a
+  answers_marked Settle reply a = a
+  answers_marked request reply a = absurd a
 
   -- who is awake does not depend on marks
   awake_marked : (request : Request) → IsAwakeFor request t s → IsAwakeFor request t (with_marks marks s)
+  awake_marked (Tick l) a = tt
+  awake_marked (Timeout l) a = tt
   awake_marked (Resume l) a = tt
   awake_marked request a = a
 
@@ -93,6 +100,7 @@ module _ (shape : Shape) (t : ThreadId) (s : PlainState) (marks : LockName × Th
   writes_marked (Enter l level) Done woken woken' k = refl
   writes_marked (Exit l) Done woken woken' k = refl
   writes_marked (Wait l) Done woken woken' k = refl
+  writes_marked (Timeout l) Done woken woken' k = refl
   writes_marked (Resume l) Done woken woken' k = refl
   writes_marked (Notify l) Done woken woken' k = notify_marked l woken woken' k
   writes_marked (NotifyAll l) Done woken woken' k = refl
@@ -107,13 +115,14 @@ record OneRechosen (shape : Shape) (client : ℕ) (marks : LockName × ThreadId 
   touches : (l : LockName) (x : Level) → Touches chosen (with_marks marks (left client s)) l x → Touches e s l x
 
 -- an act and the same with another choice
-act_rechosen : (shape : Shape) (client : ℕ) (marks : LockName × ThreadId → Bool) (t : ThreadId) (request : Request) (reply : Reply) (woken woken' : Option ThreadId) (s : PlainState) → t.client ≢ client → IsPossible shape t request reply woken s → FindsMark request t (with_marks marks (left client s)) → Wakes request reply woken' (with_marks marks (left client s)) → OneRechosen shape client marks (Act t request reply woken) (Act t request reply woken') s
+act_rechosen : (shape : Shape) (client : ℕ) (marks : LockName × ThreadId → Bool) (t : ThreadId) (request : Request) (reply : Reply) (woken woken' : Option ThreadId) (s : PlainState) → t.client ≢ client → IsPossible shape t request reply woken s → FindsMark request reply t (with_marks marks (left client s)) → Wakes request reply woken' (with_marks marks (left client s)) → OneRechosen shape client marks (Act t request reply woken) (Act t request reply woken') s
 act_rechosen shape client marks t request reply woken woken' s other p n wakes = record {
   may = record {
     connected = not_cleared t.client client true (s.lost t.client) other ∙ p.connected;
     going = p.going;
     awake = awake_marked shape t (left client s) marks request (still_awake shape client s t other request p.awake);
-    answers = answers_marked shape t (left client s) marks request reply n (still_answers shape client s t other request reply p.answers);
+    answers = answers_marked shape t (left client s) marks request reply (still_answers shape client s t other request reply p.answers);
+    finds = n;
     wakes = wakes;
   };
   same_end = by (apply (change_of shape t request reply woken' (with_marks marks (left client s))) (with_marks marks (left client s))).marked;

@@ -12,13 +12,14 @@ use Rattle.dso_base.specs.declared.request.Fault.TheVariants.{UnlockedSharedObje
 use Rattle.dso_base.specs.declared.request.Reply.{Reply}
 use Rattle.dso_base.specs.declared.request.Reply.TheVariants.{Done, Made, Seen, Val, Local, Refused}
 use Rattle.dso_base.specs.declared.request.Request.{Request}
-use Rattle.dso_base.specs.declared.request.Request.TheVariants.{New, Look, Get, Put, Enter, Exit, Wait, Resume, Notify, NotifyAll, Print, End, Pause}
+use Rattle.dso_base.specs.declared.request.Request.TheVariants.{New, Look, Get, Put, Enter, Exit, Wait, Tick, Timeout, Resume, Notify, NotifyAll, Print, End, Pause, Settle}
 use Rattle.dso_base.specs.declared.shape.Shape.{Shape}
 use Rattle.dso_base.specs.declared.value.Value.{Value}
+use Rattle.dso_base.specs.declared.value.Value.TheVariants as value
 use Rattle.dso_plain.specs.KeyTests.{is_lock, is_place}
 use Rattle.dso_lookup.specs.Maps.{writes, or_old, written}
 use Rattle.dso_plain.specs.State.{Hold, PlainState, is_shared, level_of, guard_in, hold_on_guard}
-use Rattle.dso_plain.specs.Possible.{IsPossible, May, Answers, AnswersNew, AnswersLook, AnswersGet, MayPut, IsPrivateMonitor, IsClusterLock, AnswersEnter, AnswersExit, AnswersMonitor, AnswersResume, AnswersEnd, IsCompatible, NoConflict, IsUpgrade, Wakes, IsAwakeFor, IsUnmarkedWaiter}
+use Rattle.dso_plain.specs.Possible.{IsPossible, May, Answers, AnswersNew, AnswersLook, AnswersGet, MayPut, IsPrivateMonitor, IsClusterLock, AnswersEnter, AnswersExit, AnswersMonitor, AnswersTick, AnswersTimeout, AnswersResume, AnswersEnd, IsCompatible, NoConflict, IsUpgrade, FindsMark, Wakes, IsAwakeFor, IsUnmarkedWaiter}
 use Rattle.dso_plain.specs.After.{nothing, change_of, apply, after, loses, put, read, read_shared, notifies_all, entered, exited, count_of, resumed}
 use Rattle.dso_plain.specs.History.{Runs, end_of}
 use Rattle.dso_plain.specs.Touches.{ActTouches, Touches, TouchesIn}
@@ -116,12 +117,22 @@ module _ (shape : Shape) (client : ℕ) (s : PlainState) (t : ThreadId) (other :
   still_monitor l (Refused IllegalMonitor) a = λ h. a (sym (ap level_of (same_hold l)) ∙ h)
   still_monitor l reply a = absurd a
 
+  -- who waits still does
+  still_tick : (l : LockName) (reply : Reply) → AnswersTick t l reply s → AnswersTick t l reply (left client s)
+  still_tick l (Val (value.Bool woken)) a = λ e. a (sym (same_wait l) ∙ e)
+  still_tick l reply a = absurd a
+
+  -- and can still time out
+  still_timeout : (l : LockName) (reply : Reply) → AnswersTimeout t l reply s → AnswersTimeout t l reply (left client s)
+  still_timeout l Done a = λ e. a (sym (same_wait l) ∙ e)
+  still_timeout l (Val (value.Bool true)) a = λ e. a (sym (same_wait l) ∙ e)
+  still_timeout l reply a = absurd a
+
   -- who could go on still can
   still_resume : (l : LockName) (reply : Reply) → AnswersResume t l reply s → AnswersResume t l reply (left client s)
   still_resume l Done a = (
     (λ e. a.0 (sym (same_wait l) ∙ e)),
-    same_mark l ∙ a.1,
-    λ w. cleared_or_same (λ hold. hold ≡ None) (eqb w.client client) None (s.monitors (l, w)) refl (a.2 w),
+    λ w. cleared_or_same (λ hold. hold ≡ None) (eqb w.client client) None (s.monitors (l, w)) refl (a.1 w),
   )
   still_resume l reply a = absurd a
 
@@ -147,17 +158,31 @@ module _ (shape : Shape) (client : ℕ) (s : PlainState) (t : ThreadId) (other :
   still_answers (Enter l level) reply a = still_enter l level reply a
   still_answers (Exit l) reply a = still_exit l reply a
   still_answers (Wait l) reply a = still_monitor l reply a
+  still_answers (Tick l) reply a = still_tick l reply a
+  still_answers (Timeout l) reply a = still_timeout l reply a
   still_answers (Resume l) reply a = still_resume l reply a
   still_answers (Notify l) reply a = still_monitor l reply a
   still_answers (NotifyAll l) reply a = still_monitor l reply a
   still_answers (Print v) reply a = a
   still_answers (End fault) reply a = still_end reply a
   still_answers Pause reply a = a
+  still_answers Settle reply a = a
 
   -- who was awake still is
   pub still_awake : (request : Request) → IsAwakeFor request t s → IsAwakeFor request t (left client s)
+  still_awake (Tick l) a = tt
+  still_awake (Timeout l) a = tt
   still_awake (Resume l) a = tt
   still_awake request a = λ l. same_wait l ∙ a l
+
+  -- who found its mark still does
+  pub still_finds : (request : Request) (reply : Reply) → FindsMark request reply t s → FindsMark request reply t (left client s)
+  still_finds (Tick l) (Val (value.Bool true)) a = same_mark l ∙ a
+  still_finds (Tick l) reply a = tt
+  still_finds (Timeout l) (Val (value.Bool true)) a = same_mark l ∙ a
+  still_finds (Timeout l) reply a = tt
+  still_finds (Resume l) reply a = same_mark l ∙ a
+  still_finds request reply a = a
 
 -- The waiters left are those of other clients.
 pub waiters_left : (client : ℕ) (s : PlainState) (l : LockName) (w : ThreadId) → IsUnmarkedWaiter l w (left client s) ↔ (IsUnmarkedWaiter l w s × (w.client ≢ client))
@@ -188,6 +213,7 @@ module _ (shape : Shape) (client : ℕ) (s : PlainState) (t : ThreadId) (other :
     going = p.going;
     awake = still_awake shape client s t other request p.awake;
     answers = still_answers shape client s t other request reply p.answers;
+    finds = still_finds shape client s t other request reply p.finds;
     wakes = wakes;
   }
 
@@ -219,6 +245,7 @@ module _ (shape : Shape) (client : ℕ) (s : PlainState) (t : ThreadId) (other :
   marks (Enter l level) Done woken n apart key v e = none e
   marks (Exit l) Done woken n apart key v e = none e
   marks (Wait l) Done woken n apart key v e = marks_at l t false other key v e
+  marks (Timeout l) Done woken n apart key v e = marks_at l t true other key v e
   marks (Resume l) Done woken n apart key v e = marks_at l t false other key v e
   marks (Notify l) Done None n apart key v e = none e
   marks (Notify l) Done (Some w) n apart key v e = marks_at l w true apart key v e
@@ -238,7 +265,7 @@ module _ (shape : Shape) (client : ℕ) (s : PlainState) (t : ThreadId) (other :
         seen = λ key v w d e. none e;
         monitors = λ key v w d e. never key (g.monitors key v d).0 (written_there (λ key. eqb key.1.client client) (λ _. None) key w e).0;
         asleep = λ key v w d e. never key (g.asleep key v d).0 (written_there (λ key. eqb key.1.client client) (λ _. None) key w e).0;
-        marked = λ key v w d e. marks request reply woken n apart key v d (same_number key.1.client client (written_there (λ key. eqb key.1.client client) (λ _. false) key w e).0);
+        marked = λ key v w d e. absurd (marks request reply woken n apart key v d (same_number key.1.client client (written_there (λ key. eqb key.1.client client) (λ _. false) key w e).0));
         output = λ key v w d e. none e;
         ended = λ key v w d e. none e;
         lost = λ key v w d e. g.lost key v d;
@@ -280,6 +307,7 @@ module _ (shape : Shape) (client : ℕ) (s : PlainState) (t : ThreadId) (other :
     asleep = writes (is_place l t) (λ key. None);
     marked = writes (is_place l t) (λ key. false);
   }) (same_wait shape client s t other l)
+  alike (Timeout l) Done woken n = refl
   alike (Notify l) Done woken n = refl
   alike (Print x) Done woken n = refl
   alike (End fault) Done woken n = refl

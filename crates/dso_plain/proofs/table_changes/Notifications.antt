@@ -1,4 +1,4 @@
--- Notifications in the tables: a wait moves to those notified.
+-- Marks in the tables: a wait moves to those that are marked, or is one of them already.
 use Rattle.std.proofs.Common.{ℕ, ◌≡◌, ◌≢◌, refl, sym, ◌∙◌, ap, subst, Bool, true, false, cond, ◌&&◌, ◌||◌, is_some, Option, Some, None, List, []}
 use Rattle.std.proofs.Math.Path.{fun_ext}
 use Rattle.std.specs.Ordering.{nat_cmp}
@@ -13,19 +13,13 @@ use Rattle.dso_lookup.specs.Maps.{writes, or_old, written, look}
 use Rattle.dso_lookup.specs.Rows.{look_in, in_row, is_at_pair}
 use Rattle.dso_plain.specs.Possible.{IsUnmarkedWaiter}
 use Rattle.dso_plain.specs.State.{PlainState}
-use Rattle.dso_plain.specs.After.{apply, notifies, notifies_all}
+use Rattle.dso_plain.specs.After.{apply, times_out, notifies_all}
 use Rattle.dso_plain.specs.Changes.{moved}
 use Rattle.dso_plain.specs.TableInvariants.{IndexesAgree}
 use Rattle.dso_plain.specs.Tables.{lock_order, thread_order, either, state_of}
 use Rattle.dso_plain.proofs.keys.SameKeys.{same_place, same_lock, same_thread}
 use Rattle.dso_plain.proofs.keys.TableOrders.{place_at, lock_at, thread_at}
 use Rattle.dso_plain.proofs.keys.Writes.{renamed}
-
--- an unmarked waiter is among those not notified
-pub not_marked : (x y : Option ℕ) → either x y ≢ None → is_some y ≡ false → x ≢ None
-not_marked None None some none e = some refl
-not_marked None (Some y) some none e = absurd (cc none)
-not_marked (Some x) y some none e = absurd (cc e)
 
 module _ (old : Tables) (agrees : IndexesAgree old) (l : LockName) (t : ThreadId) (count : ℕ) (waits marked : BTreeMap LockName (BTreeMap ThreadId ℕ)) (was : Some count ≡ look_in lock_order thread_order old.waits (l, t)) (first : look_in lock_order thread_order waits ≡ written (writes (is_at_pair lock_order thread_order l t) (λ _. None)) (look_in lock_order thread_order old.waits)) (second : look_in lock_order thread_order marked ≡ written (writes (is_at_pair lock_order thread_order l t) (λ _. Some count)) (look_in lock_order thread_order old.marked)) where
   waits_then : LockName × ThreadId → Option ℕ
@@ -54,7 +48,7 @@ module _ (old : Tables) (agrees : IndexesAgree old) (l : LockName) (t : ThreadId
       by true y = refl
       by false y = refl
 
-  pub mark_state : state_of (record old { waits = waits; marked = marked }) ≡ apply (notifies l (Some t)) (state_of old)
+  pub mark_state : state_of (record old { waits = waits; marked = marked }) ≡ apply (times_out t l) (state_of old)
   mark_state = λ i. record (state_of old) { asleep = same_asleep i; marked = now_marked i }
 
   still_apart : (b : Bool) (x y : Option ℕ) → (is_some x && is_some y) ≡ false → (is_some (or_old (cond b (Some None) None) x) && is_some (or_old (cond b (Some (Some count)) None) y)) ≡ false
@@ -67,6 +61,43 @@ module _ (old : Tables) (agrees : IndexesAgree old) (l : LockName) (t : ThreadId
     waiting = λ m u. agrees.waiting m u ∙ sym (ap (λ f. is_some (f (m, u))) same_asleep);
     apart = λ m u. (λ i. is_some (fewer_waits i (m, u)) && is_some (more_marked i (m, u))) ∙ still_apart (is_place l t (m, u)) (look_in lock_order thread_order old.waits (m, u)) (look_in lock_order thread_order old.marked (m, u)) (agrees.apart m u);
     listed = λ m u e. agrees.listed m u (ap (λ f. is_some ((state_of old).monitors (m, u)) || is_some (f (m, u))) (sym same_asleep) ∙ e);
+  }
+
+-- who waits, and not among those that are not marked, is marked
+marked_then_is : (x y : Option ℕ) → either x y ≢ None → None ≡ x → is_some y ≡ true
+marked_then_is x None some e = absurd (some (ap (λ z. either z None) (sym e)))
+marked_then_is x (Some y) some e = refl
+
+module _ (old : Tables) (agrees : IndexesAgree old) (l : LockName) (t : ThreadId) (waits : BTreeMap LockName (BTreeMap ThreadId ℕ)) (asleep : (state_of old).asleep (l, t) ≢ None) (was : None ≡ look_in lock_order thread_order old.waits (l, t)) (first : look_in lock_order thread_order waits ≡ written (writes (is_at_pair lock_order thread_order l t) (λ _. None)) (look_in lock_order thread_order old.waits)) where
+  -- the waits that are not marked stay as they were
+  same_waits : look_in lock_order thread_order waits ≡ look_in lock_order thread_order old.waits
+  same_waits = renamed (is_at_pair lock_order thread_order l t) (is_place l t) None (look_in lock_order thread_order old.waits) (look_in lock_order thread_order waits) (place_at l t) first ∙ fun_ext (λ key. by key (is_place l t key) refl)
+    where
+      by : (key : LockName × ThreadId) (b : Bool) → is_place l t key ≡ b → or_old (cond b (Some None) None) (look_in lock_order thread_order old.waits key) ≡ look_in lock_order thread_order old.waits key
+      by key true e = was ∙ ap (λ k. look_in lock_order thread_order old.waits k) (sym (same_place l t key e))
+      by key false e = refl
+
+  -- and so do all waits
+  all_asleep_still : (λ key. either (look_in lock_order thread_order waits key) (look_in lock_order thread_order old.marked key)) ≡ (state_of old).asleep
+  all_asleep_still = fun_ext (λ key. λ i. either (same_waits i key) (look_in lock_order thread_order old.marked key))
+
+  -- the thread is marked, so that a mark of it changes nothing
+  marked_still : (state_of old).marked ≡ written (writes (is_place l t) (λ _. true)) (state_of old).marked
+  marked_still = fun_ext (λ key. by key (is_place l t key) refl)
+    where
+      by : (key : LockName × ThreadId) (b : Bool) → is_place l t key ≡ b → (state_of old).marked key ≡ or_old (cond b (Some true) None) ((state_of old).marked key)
+      by key true e = ap (λ k. (state_of old).marked k) (same_place l t key e) ∙ marked_then_is (look_in lock_order thread_order old.waits (l, t)) (look_in lock_order thread_order old.marked (l, t)) asleep was
+      by key false e = refl
+
+  pub mark_again_state : state_of (record old { waits = waits }) ≡ apply (times_out t l) (state_of old)
+  mark_again_state = λ i. record (state_of old) { asleep = all_asleep_still i; marked = marked_still i }
+
+  pub mark_again_agrees : IndexesAgree (record old { waits = waits })
+  mark_again_agrees = record {
+    held = agrees.held;
+    waiting = λ m u. agrees.waiting m u ∙ sym (ap (λ f. is_some (f (m, u))) all_asleep_still);
+    apart = λ m u. ap (λ f. is_some (f (m, u)) && is_some (look_in lock_order thread_order old.marked (m, u))) same_waits ∙ agrees.apart m u;
+    listed = λ m u e. agrees.listed m u (ap (λ f. is_some ((state_of old).monitors (m, u)) || is_some (f (m, u))) (sym all_asleep_still) ∙ e);
   }
 
 -- one wait of the row moved
@@ -87,7 +118,7 @@ none_moved l row marked none = sym ((λ i. moved l (none i) marked) ∙ fun_ext 
     by false x = refl
 
 module _ (old : Tables) (agrees : IndexesAgree old) (l : LockName) (row : BTreeMap ThreadId ℕ) (waits marked : BTreeMap LockName (BTreeMap ThreadId ℕ)) (was : (u : ThreadId) → look thread_order row u ≡ in_row thread_order (look lock_order old.waits l) u) (first : look lock_order waits ≡ written (writes (is_at (lock_order l)) (λ _. None)) (look lock_order old.waits)) (second : look_in lock_order thread_order marked ≡ moved l (look thread_order row) (look_in lock_order thread_order old.marked)) where
-  -- the waits that were not notified, without those of the lock
+  -- the waits that are not marked, without those of the lock
   others : (key : LockName × ThreadId) → look_in lock_order thread_order waits key ≡ cond (is_lock l key.0) None (look_in lock_order thread_order old.waits key)
   others key = (λ i. in_row thread_order (first i key.0) key.1) ∙ ((λ i. in_row thread_order (or_old (cond (lock_at l key.0 i) (Some None) None) (look lock_order old.waits key.0)) key.1) ∙ by (is_lock l key.0))
     where

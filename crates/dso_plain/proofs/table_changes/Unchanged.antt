@@ -5,7 +5,7 @@ use Rattle.dso_base.specs.declared.lock.LockName.{LockName}
 use Rattle.dso_base.specs.declared.lock.ThreadId.{ThreadId}
 use Rattle.dso_base.specs.declared.request.Reply.{Reply}
 use Rattle.dso_base.specs.declared.request.Reply.TheVariants.{Done}
-use Rattle.dso_base.specs.declared.request.Request.TheVariants.{Put, Enter, Wait, Notify, NotifyAll}
+use Rattle.dso_base.specs.declared.request.Request.TheVariants.{Put, Enter, Wait, Timeout, Notify, NotifyAll}
 use Rattle.dso_base.specs.declared.shape.Shape.{Shape}
 use Rattle.dso_base.specs.declared.value.Value.{Value}
 use Rattle.dso_plain.specs.State.{PlainState}
@@ -23,6 +23,10 @@ module _ (shape : Shape) (t : ThreadId) (woken : Option ThreadId) (s : PlainStat
   pub still_wait : (l : LockName) (reply : Reply) → (reply ≡ Done → ⊥) → s ≡ apply (change_of shape t (Wait l) reply woken s) s
   still_wait l Done ne = absurd (ne refl)
   still_wait l reply ne = refl
+
+  pub still_timeout : (l : LockName) (reply : Reply) → (reply ≡ Done → ⊥) → s ≡ apply (change_of shape t (Timeout l) reply woken s) s
+  still_timeout l Done ne = absurd (ne refl)
+  still_timeout l reply ne = refl
 
   pub still_notify : (l : LockName) (reply : Reply) → (reply ≡ Done → ⊥) → s ≡ apply (change_of shape t (Notify l) reply woken s) s
   still_notify l Done ne = absurd (ne refl)

@@ -1,6 +1,6 @@
 use Rattle.std.proofs.Common.{refl}
 use Rattle.dso_plain.specs.Tables.{state_of}
-use Rattle.dso_plain.proofs.table_changes.Unchanged.{still_put, still_enter, still_wait, still_notify, still_notify_all}
+use Rattle.dso_plain.proofs.table_changes.Unchanged.{still_put, still_enter, still_wait, still_timeout, still_notify, still_notify_all}
 use Rattle.dso_plain.proofs.steps.act.Goals as goal
 
 pub returns-in-New-Made-clause-state : goal.returns-in-New-Made-clause-state
@@ -36,14 +36,23 @@ returns-in_default-4 c = record { state = rw c.in_default.is-0 (still_enter c.ar
 pub returns-in_default-6 : goal.returns-in_default-6
 returns-in_default-6 c = record { state = rw c.in_default.is-0 (still_wait c.args.shape.now c.args.thread c.args.woken (state_of c.args.tables.now) c.in_default.field-0-0 c.args.reply c.in_default.not-Done-1); agrees = c.requires.kept.agrees }
 
-pub returns-in_default-8 : goal.returns-in_default-8
-returns-in_default-8 c = record { state = rw c.in_default.is-0 (still_notify c.args.shape.now c.args.thread c.args.woken (state_of c.args.tables.now) c.in_default.field-0-0 c.args.reply c.in_default.not-Done-1); agrees = c.requires.kept.agrees }
+pub returns-in_default-7 : goal.returns-in_default-7
+returns-in_default-7 c = record { state = rw c.in_default.is-0 (still_timeout c.args.shape.now c.args.thread c.args.woken (state_of c.args.tables.now) c.in_default.field-0-0 c.args.reply c.in_default.not-Done-1); agrees = c.requires.kept.agrees }
 
 pub returns-in_default-9 : goal.returns-in_default-9
-returns-in_default-9 c = record { state = rw c.in_default.is-0 (still_notify_all c.args.shape.now c.args.thread c.args.woken (state_of c.args.tables.now) c.in_default.field-0-0 c.args.reply c.in_default.not-Done-1); agrees = c.requires.kept.agrees }
+returns-in_default-9 c = record { state = rw c.in_default.is-0 (still_notify c.args.shape.now c.args.thread c.args.woken (state_of c.args.tables.now) c.in_default.field-0-0 c.args.reply c.in_default.not-Done-1); agrees = c.requires.kept.agrees }
+
+pub returns-in_default-10 : goal.returns-in_default-10
+returns-in_default-10 c = record { state = rw c.in_default.is-0 (still_notify_all c.args.shape.now c.args.thread c.args.woken (state_of c.args.tables.now) c.in_default.field-0-0 c.args.reply c.in_default.not-Done-1); agrees = c.requires.kept.agrees }
 
 pub returns-in-Look-default-clause-state : goal.returns-in-Look-default-clause-state
 returns-in-Look-default-clause-state c = rw c.in-Look-default.is-0 refl
 
 pub returns-in-Pause-default-clause-state : goal.returns-in-Pause-default-clause-state
 returns-in-Pause-default-clause-state c = rw c.in-Pause-default.is-0 refl
+
+pub returns-in-Tick-default-clause-state : goal.returns-in-Tick-default-clause-state
+returns-in-Tick-default-clause-state c = rw c.in-Tick-default.is-0 refl
+
+pub returns-in-Settle-default-clause-state : goal.returns-in-Settle-default-clause-state
+returns-in-Settle-default-clause-state c = rw c.in-Settle-default.is-0 refl
