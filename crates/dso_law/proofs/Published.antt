@@ -1,5 +1,5 @@
 -- What is published of a value, by the search for what is found from it.
-use Rattle.std.proofs.Common.{ℕ, ◌≡◌, ◌↔◌, ◌⊎◌, inl, inr, refl, sym, ◌∙◌, ap, Bool, true, false, cond, not, eqb, ◌||◌, is_some, IsTrue, Option, Some, List, [], ◌∷◌, ◌++◌, map, filter}
+use Rattle.std.proofs.Common.{ℕ, ◌≡◌, ◌↔◌, ◌⊎◌, inl, inr, refl, sym, ◌∙◌, ap, Bool, true, false, cond, not, eqb, ◌||◌, is_some, IsTrue, Some, List, [], ◌∷◌, ◌++◌, map, filter}
 use Rattle.std.proofs.lemmas.Bool.{eqb-true}
 use Rattle.std.proofs.lemmas.List.{append-nil}
 use Rattle.std.proofs.lemmas.List.Folds.{list_any-append}
@@ -12,7 +12,7 @@ use Rattle.dso_base.specs.declared.value.Value.TheVariants as value
 use Rattle.dso_base.specs.Block.{body_in, has_reference, body_names, is_published, insert_bodies, publish, Work}
 use Rattle.dso_base.specs.Reach.{Reached}
 use Rattle.dso_lookup.specs.Reaching.{IsListed}
-use Rattle.dso_lookup.specs.Search.{is_listed, reference_in}
+use Rattle.dso_lookup.specs.Search.{is_listed}
 use Rattle.dso_lookup.proofs.Reaching.{reach_tells}
 use Rattle.dso_lookup.proofs.Tests.{same_tests}
 use Rattle.dso_law.specs.Publishing.{with_references}

@@ -1,6 +1,6 @@
 -- Which of a client's leases are closing, which let a thread in, and which are to be given back.
 use Rattle.std.specs.List.{list_any}
-use Rattle.std.specs.Prelude.{ℕ, Bool, true, false, not, ◌&&◌, ◌||◌, is_none, Option, Some, List, filter}
+use Rattle.std.specs.Prelude.{ℕ, Bool, true, false, not, ◌&&◌, ◌||◌, is_none, Option, Some, None, List, filter}
 use Rattle.dso_base.specs.declared.journal.Entry.{Entry}
 use Rattle.dso_base.specs.declared.lock.Level.{Level}
 use Rattle.dso_base.specs.declared.lock.Level.TheVariants.{Read, Write}
@@ -16,24 +16,24 @@ use Rattle.dso_law.specs.ClientWaiters.{is_marked}
 
 -- the request is for the lock at Write: an Enter at Write, or a Resume of a thread that is marked
 abbrev pub wants_write : LockName → Bool → Option Request → Bool
-wants_write l is_marked None = false
-wants_write l is_marked (Some (New class n)) = false
-wants_write l is_marked (Some (Look o)) = false
-wants_write l is_marked (Some (Get o f)) = false
-wants_write l is_marked (Some (Put o f v)) = false
-wants_write l is_marked (Some (Enter k Read)) = false
-wants_write l is_marked (Some (Enter k Write)) = is_lock l k
-wants_write l is_marked (Some (Exit k)) = false
-wants_write l is_marked (Some (Wait k)) = false
-wants_write l is_marked (Some (Tick k)) = false
-wants_write l is_marked (Some (Timeout k)) = false
-wants_write l is_marked (Some (Resume k)) = is_lock l k && is_marked
-wants_write l is_marked (Some (Notify k)) = false
-wants_write l is_marked (Some (NotifyAll k)) = false
-wants_write l is_marked (Some (Print v)) = false
-wants_write l is_marked (Some (End fault)) = false
-wants_write l is_marked (Some Pause) = false
-wants_write l is_marked (Some Settle) = false
+wants_write l marked None = false
+wants_write l marked (Some (New class n)) = false
+wants_write l marked (Some (Look o)) = false
+wants_write l marked (Some (Get o f)) = false
+wants_write l marked (Some (Put o f v)) = false
+wants_write l marked (Some (Enter k Read)) = false
+wants_write l marked (Some (Enter k Write)) = is_lock l k
+wants_write l marked (Some (Exit k)) = false
+wants_write l marked (Some (Wait k)) = false
+wants_write l marked (Some (Tick k)) = false
+wants_write l marked (Some (Timeout k)) = false
+wants_write l marked (Some (Resume k)) = is_lock l k && marked
+wants_write l marked (Some (Notify k)) = false
+wants_write l marked (Some (NotifyAll k)) = false
+wants_write l marked (Some (Print v)) = false
+wants_write l marked (Some (End fault)) = false
+wants_write l marked (Some Pause) = false
+wants_write l marked (Some Settle) = false
 
 -- whether the level is Read
 abbrev pub is_read : Option Level → Bool

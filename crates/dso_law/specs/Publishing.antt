@@ -1,5 +1,5 @@
 -- The objects that values name.
-use Rattle.std.specs.Prelude.{ℕ, List, [], ◌∷◌, ◌++◌, fold}
+use Rattle.std.specs.Prelude.{ℕ, List, ◌++◌, fold}
 use Rattle.dso_base.specs.declared.value.Value.{Value}
 use Rattle.dso_lookup.specs.Search.{reference_in}
 

@@ -338,6 +338,7 @@ fn ending_by(request: Request, reply: Reply, locks: &Locks) -> Option<Ending>
             exit_ending(lock, exited(hold_in(locks.holds.as_slice(), lock)))
         }
         (Request::Wait(lock), Reply::Done) => Some(Ending::Wait(lock)),
+        (Request::Timeout(lock), Reply::Done) => Some(Ending::Timeout(lock)),
         (Request::End(fault), Reply::Done) => Some(Ending::End(fault)),
         _ => None,
     }

@@ -13,7 +13,7 @@ use Rattle.dso_base.specs.declared.message.Down.{Down}
 use Rattle.dso_base.specs.declared.message.Up.{Up}
 use Rattle.dso_plain.proofs.keys.SameKeys.{same_number, number_self}
 use Rattle.dso_law.specs.Entries.{is_node, if_to, by_sent_up, by_sent_down}
-use Rattle.dso_law.specs.Channels.{Letter, posted, Direction, to_server, to_client, in_flight, in_flight_after, up_in_flight, down_in_flight, IsFirst, TakesFirst, KeepsChannels}
+use Rattle.dso_law.specs.Channels.{Letter, posted, Direction, to_server, to_client, in_flight, up_in_flight, down_in_flight, IsFirst, TakesFirst, KeepsChannels}
 use Rattle.dso_law.specs.Prefixes.{added, added_if_some, messages_sent, with_taken, messages_taken, IsPrefix, TakenWasSent, Prefixes}
 
 -- the messages of the letters

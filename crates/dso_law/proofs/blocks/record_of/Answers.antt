@@ -1,4 +1,4 @@
-use Rattle.std.proofs.Common.{◌∙◌, ap, reverse}
+use Rattle.std.proofs.Common.{◌∙◌, ap}
 use Rattle.dso_base.specs.declared.journal.Node.TheVariants.{Client}
 use Rattle.dso_base.specs.Block.{work_after}
 use Rattle.dso_law.specs.Entries.{entries_of}

@@ -1,4 +1,4 @@
-use Rattle.std.proofs.Common.{rules, arith, ◌≡◌, ◌∙◌, Some, None, reverse}
+use Rattle.std.proofs.Common.{rules, arith, ◌≡◌, ◌∙◌, Some, None}
 use Rattle.dso_base.specs.declared.journal.Node.TheVariants.{Client}
 use Rattle.dso_law.specs.Entries.{entries_of}
 use Rattle.dso_law.specs.Records.{batches}
