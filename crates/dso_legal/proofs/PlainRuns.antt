@@ -13,58 +13,46 @@ use Rattle.dso_base.specs.declared.request.Request.TheVariants.{Timeout}
 use Rattle.dso_base.specs.declared.shape.Shape.{Shape}
 use Rattle.std.specs.Prelude.{ℕ}
 use Rattle.dso_plain.specs.State.{PlainState, IsShared, guard_in}
-use Rattle.dso_plain.specs.Possible.{IsPossible, IsPossibleButMarks, May, MayButMarks}
+use Rattle.dso_plain.specs.Possible.{IsPossible, May}
 use Rattle.dso_plain.specs.After.{after}
-use Rattle.dso_plain.specs.History.{Runs, RunsButMarks, end_of}
-use Rattle.dso_plain.specs.Laws.{CanSwap}
+use Rattle.dso_plain.specs.History.{Runs, end_of}
+use Rattle.dso_plain.specs.Laws.{AreApart, CanSwap}
 use Rattle.dso_plain.specs.Own.{LeavesOwn, LeavesField}
 use Rattle.dso_plain.specs.Past.{PastsGrow}
 use Rattle.dso_plain.specs.StepInvariants.{PastInvariant}
 use Rattle.dso_plain.specs.Touches.{ActTouches, ActMakes, TouchesIn, MakesIn, AreActsOf, AreActsOfOthers, TimesOut, NobodyTimesOut, NoClash, NoCommonId}
+use Rattle.dso_plain.proofs.histories.RunKinds.{possible_but_marks, may_but_marks, runs_but_marks}
 use Rattle.dso_plain.proofs.independence.LeavesOthers.{IsQuiet}
 use Rattle.dso_plain.proofs.independence.LeftAlone as alone
+use Rattle.dso_plain.proofs.independence.ChoicesSwap.{choices_swap}
 use Rattle.dso_plain.proofs.independence.RunsSwap as swap
 use Rattle.dso_plain.proofs.invariants.PastsHold as pasts
 use Rattle.dso_legal.specs.WaitsAndLosses.{is_wait}
 
--- a possible act is possible whatever is marked
-act_but_marks : {shape : Shape} {t : ThreadId} {request : Request} {reply : Reply} {woken : Option ThreadId} {s : PlainState} → IsPossible shape t request reply woken s → IsPossibleButMarks shape t request reply s
-act_but_marks may = record { connected = may.connected; going = may.going; awake = may.awake; answers = may.answers }
-
--- so is an event
-pub event_but_marks : (shape : Shape) (e : Event) (s : PlainState) → May shape e s → MayButMarks shape e s
-event_but_marks shape (Act t request reply woken) s may = act_but_marks may
-event_but_marks shape (Lost client) s may = may
-
--- and a run is one whatever is marked
-pub but_marks : (shape : Shape) (es : List Event) (s : PlainState) → Runs shape es s → RunsButMarks shape es s
-but_marks shape [] s runs = tt
-but_marks shape (e ∷ es) s runs = (event_but_marks shape e s runs.0, but_marks shape es (after shape e s) runs.1)
-
 -- Acts of other threads leave a thread's own parts as they were.
 pub leaves_own : (shape : Shape) (t : ThreadId) (es : List Event) (s : PlainState) → Runs shape es s → AreActsOfOthers t es → LeavesOwn t s (end_of shape es s)
-leaves_own shape t es s runs others = alone.leaves_own shape t es s (but_marks shape es s runs) others
+leaves_own shape t es s runs others = alone.leaves_own shape t es s (runs_but_marks shape es s runs) others
 
 -- A run that doesn't touch the guard of a shared object's field at Write leaves the field as it was.
 pub leaves_field : (shape : Shape) (es : List Event) (s : PlainState) (o f : ℕ) → Runs shape es s → IsShared o s → (TouchesIn shape es s (guard_in shape s o f) Write → ⊥) → LeavesField o f s (end_of shape es s)
-leaves_field shape es s o f runs shared untouched = alone.leaves_field shape es s o f (but_marks shape es s runs) shared untouched
+leaves_field shape es s o f runs shared untouched = alone.leaves_field shape es s o f (runs_but_marks shape es s runs) shared untouched
 
 -- A possible act leaves what is others' and what it touches no lock of.
 pub quiet_act : (shape : Shape) (t : ThreadId) (request : Request) (reply : Reply) (woken : Option ThreadId) (s : PlainState) → IsPossible shape t request reply woken s
     → IsQuiet shape t (ActTouches t request reply s) (ActMakes request reply) s (after shape (Act t request reply woken) s)
-quiet_act shape t request reply woken s may = swap.quiet_act shape t request reply woken s (act_but_marks may)
+quiet_act shape t request reply woken s may = swap.quiet_act shape t request reply woken s (possible_but_marks shape t request reply woken s may)
 
 -- Pasts hold after a possible event,
 pub event_kept : (shape : Shape) (e : Event) (s : PlainState) → May shape e s → PastInvariant s → PastInvariant (after shape e s)
-event_kept shape e s may kept = pasts.event_kept shape e s (event_but_marks shape e s may) kept
+event_kept shape e s may kept = pasts.event_kept shape e s (may_but_marks shape e s may) kept
 
 -- after a run,
 pub run_kept : (shape : Shape) (es : List Event) (s : PlainState) → Runs shape es s → PastInvariant s → PastInvariant (end_of shape es s)
-run_kept shape es s runs kept = pasts.run_kept shape es s (but_marks shape es s runs) kept
+run_kept shape es s runs kept = pasts.run_kept shape es s (runs_but_marks shape es s runs) kept
 
 -- and only grow in it.
 pub pasts_grow : (shape : Shape) (es : List Event) (s : PlainState) → Runs shape es s → PastsGrow s (end_of shape es s)
-pasts_grow shape es s runs = pasts.pasts_grow shape es s (but_marks shape es s runs)
+pasts_grow shape es s runs = pasts.pasts_grow shape es s (runs_but_marks shape es s runs)
 
 -- an event that doesn't wait is no timeout
 calm_is_no_timeout : (event : Event) → is_wait event ≡ false → TimesOut event → ⊥
@@ -98,14 +86,14 @@ pub record RunsCanSwap (shape : Shape) (others own : List Event) (s : PlainState
 
 pub swap_runs : (shape : Shape) (t : ThreadId) (others own : List Event) (s : PlainState) → RunsApart shape t others own s → RunsCanSwap shape others own s
 swap_runs shape t others own s h =
-    let apart = record {
+    let apart : AreApart shape t others own s = record {
       others_act = h.others_act;
       own_acts = h.own_acts;
-      others_run = but_marks shape others s h.others_run;
-      own_runs = but_marks shape own s h.own_runs;
+      others_run = runs_but_marks shape others s h.others_run;
+      own_runs = runs_but_marks shape own s h.own_runs;
       locks = h.locks;
       ids = h.ids;
     } in
     let swaps : CanSwap shape others own s = swap.diamond shape t others own s apart in
-    let choices = swap.choices_swap shape t others own s apart h.others_in_time h.own_in_time h.others_run h.own_runs in
+    let choices = choices_swap shape t others own s apart h.others_in_time h.own_in_time h.others_run h.own_runs in
     record { own_after = choices.0; others_after = choices.1; same_end = swaps.same_end; own_touches = swaps.own_touches; others_touch = swaps.others_touch }

@@ -92,6 +92,9 @@ exit_ends l (Some hold) = by (eqb hold.count 1) ∙ ap (λ b. is_some (exit_endi
 -- an act is an ending exactly where it ends the block
 ends_is : (request : Request) (reply : Reply) (locks : Locks) (block : List Event) → is_some (ending_by request reply locks) ≡ ends_block request reply (thread_state_of locks block)
 ends_is (Exit l) Done locks block = exit_ends l (hold_in l locks.holds)
+ends_is (Wait l) Done locks block = refl
+ends_is (Timeout l) Done locks block = refl
+ends_is (End fault) Done locks block = refl
 ends_is request reply locks block = refl
 
 -- the block that an ending gives, by whether there is one

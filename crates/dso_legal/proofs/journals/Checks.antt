@@ -297,8 +297,8 @@ fits_choice p c choice = granted tt
 abbrev fits_note : (p : Settings) (c : ℕ) (es : List Entry) (note : Note) → Checked (FitsNote p c es note)
 fits_note p c es note = both (at_write (leased_to c note.lock es)) (fits_choice p c note.choice)
 
-waits_on_lock : (l k : LockName) → is_lock l k ≡ true → Some (ending.Wait k) ≡ Some (ending.Wait l)
-waits_on_lock l k same = ap (λ n. Some (ending.Wait n)) (sym (same_lock l k same))
+pub waits_on_lock : (l k : LockName) → is_lock l k ≡ true → Some (ending.Wait k) ≡ Some (ending.Wait l)
+waits_on_lock l k same = ap (λ n. Some (ending.Wait n)) (same_lock l k same)
 
 abbrev is_wait_on : (l : LockName) (end : Option Ending) → Checked (end ≡ Some (ending.Wait l))
 is_wait_on l None = refused

@@ -26,7 +26,7 @@ never_times_out request locks latest awake keeps = tt
 -- a thread that hasn't ended and doesn't wait keeps to it where it names what it was told, keeps its locks and makes what it can
 pub keeps : {shape : Shape} {t : ThreadId} {events : List Event} {request : Request} → list_any ends_thread events ≡ false → (locks_through t events no_locks).waiting ≡ None → NamesOnlyTold request events
     → KeepsLocks request (locks_through t events no_locks) → MakesOnly shape request → KeepsTo shape t events request
-keeps goes awake names locks makes = record { goes = goes; names = names; locks = locks; makes = makes; waits = λ waits. absurd (waits awake); times_out_once = never_times_out request (locks_through t events no_locks) (latest_ending t events no_locks None) awake locks }
+keeps {t = t} {events = events} {request = request} goes awake names locks makes = record { goes = goes; names = names; locks = locks; makes = makes; waits = λ waits. absurd (waits awake); times_out_once = never_times_out request (locks_through t events no_locks) (latest_ending t events no_locks None) awake locks }
 
 -- what was told later was told
 told_later : (earlier later : Bool) → later ≡ true → (earlier || later) ≡ true
