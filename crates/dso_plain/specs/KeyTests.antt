@@ -1,5 +1,5 @@
 -- When two keys are the same.
-use Rattle.std.specs.Prelude.{ℕ, Bool, false, cond, eqb, ◌&&◌, Option, Some, None}
+use Rattle.std.specs.Prelude.{ℕ, Bool, false, eqb, ◌&&◌}
 use Rattle.dso_base.specs.declared.lock.LockName.{LockName}
 use Rattle.dso_base.specs.declared.lock.LockName.TheVariants.{Mon, Name}
 use Rattle.dso_base.specs.declared.lock.ThreadId.{ThreadId}

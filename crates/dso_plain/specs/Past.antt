@@ -1,5 +1,5 @@
 -- What holds of pasts in every state that a run from the opening state reaches.
-use Rattle.std.specs.Prelude.{ℕ, ◌<◌, ◌≡◌, ◌⊎◌, false, ltb, is_some, Option, Some, None, List, [], ◌∷◌, ◌++◌, length}
+use Rattle.std.specs.Prelude.{ℕ, ◌<◌, ◌≡◌, false, ltb, is_some, Option, Some, None, List, [], ◌∷◌, ◌++◌, length}
 use Rattle.dso_base.specs.declared.lock.ThreadId.{ThreadId}
 use Rattle.dso_base.specs.declared.value.Value.{Value}
 use Rattle.dso_lookup.specs.Reaching.{IsListed}

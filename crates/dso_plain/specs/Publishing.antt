@@ -1,5 +1,5 @@
 -- Publishing: which objects become shared, in the state and in the tables.
-use Rattle.std.specs.Prelude.{ℕ, ◌≡◌, ◌↔◌, refl, Bool, true, false, ltb, is_some, Option, Some, None, List, []}
+use Rattle.std.specs.Prelude.{ℕ, ◌≡◌, ◌↔◌, refl, Bool, true, false, ltb, is_some, Option, Some, None, []}
 use Rattle.std.specs.Option.{option_map}
 use Rattle.dso_base.specs.declared.lock.ThreadId.{ThreadId}
 use Rattle.dso_base.specs.declared.value.Value.{Value}

@@ -1,6 +1,6 @@
 -- Which plain state the tables stand for: each part of it is a function of keys that reads one table.
 use Rattle.std.specs.BTreeMap.{BTreeMap}
-use Rattle.std.specs.Prelude.{ℕ, ◌≡◌, Bool, false, eqb, ltb, ◌&&◌, is_some, Option, Some, None, List, [], reverse}
+use Rattle.std.specs.Prelude.{ℕ, ◌≡◌, Bool, false, eqb, ltb, ◌&&◌, is_some, Option, Some, None, List, []}
 use Rattle.std.specs.Option.{option_map, unwrap_or}
 use Rattle.std.specs.declared.cmp.Ordering.{Ordering}
 use Rattle.std.specs.Ordering.{nat_cmp, ordering_then}
@@ -8,7 +8,6 @@ use Rattle.dso_base.specs.contracts.lock.LockNameOrd.TheImpl as lock
 use Rattle.dso_base.specs.contracts.lock.ThreadIdOrd.TheImpl as thread
 use Rattle.dso_base.specs.declared.lock.LockName.{LockName}
 use Rattle.dso_base.specs.declared.lock.ThreadId.{ThreadId}
-use Rattle.dso_base.specs.declared.request.Fault.{Fault}
 use Rattle.dso_base.specs.declared.value.Value.{Value}
 use Rattle.dso_plain.specs.declared.tables.Hold as table_hold
 use Rattle.dso_plain.specs.declared.tables.Object as table_object

@@ -199,10 +199,7 @@ fn finds_mark(tables: &Tables, request: Request, reply: Reply, thread: ThreadId)
     ensures { IsTrue result ↔ FindsMark request reply thread (state_of tables.now) }
 {
     match (request, reply) {
-        (
-            Request::Tick(lock) | Request::Timeout(lock),
-            Reply::Val(Value::Bool(true)),
-        )
+        (Request::Tick(lock) | Request::Timeout(lock), Reply::Val(Value::Bool(true)))
         | (Request::Resume(lock), _) => is_marked(tables, lock, thread),
         _ => true,
     }

@@ -19,13 +19,13 @@ use Rattle.dso_plain.specs.State.{Hold, PlainState, is_shared, hold_on_guard}
 use Rattle.dso_plain.specs.Possible.{Answers, FindsMark, Wakes, IsUnmarkedWaiter, MayButMarks, FitsMarks}
 use Rattle.dso_plain.specs.After.{change_of, after, put, read, read_shared}
 use Rattle.dso_plain.specs.History.{Runs, ChoicesFit, end_of}
-use Rattle.dso_plain.specs.Touches.{ActTouches, ActMakes, Touches, TimesOut, NobodyTimesOut, NoClash}
+use Rattle.dso_plain.specs.Touches.{ActTouches, ActMakes, TimesOut, NobodyTimesOut, NoClash}
 use Rattle.dso_plain.specs.Laws.{AreApart}
 use Rattle.dso_plain.proofs.keys.SameKeys.{Wherever, none, unwritten, written_there, same_place, same_lock}
 use Rattle.dso_lookup.proofs.Tests.{both}
 use Rattle.dso_plain.proofs.independence.LeavesOthers.{IsQuiet, not_both}
 use Rattle.dso_plain.proofs.independence.StaysPossible.{cases_thread}
-use Rattle.dso_plain.proofs.independence.RunsSwap.{quiet_act, swapped, Strangers, Square, square, Front, Behind, first_strangers, front_after, front_of, apart_after, behind, diamond}
+use Rattle.dso_plain.proofs.independence.RunsSwap.{quiet_act, swapped, Strangers, square, Front, first_strangers, front_after, front_of, apart_after, behind, diamond}
 use Rattle.dso_plain.proofs.histories.RunKinds.{choices_fit, runs_with_marks}
 
 module _ (shape : Shape) (t : ThreadId) (s : PlainState) where
@@ -126,7 +126,7 @@ first_fits shape u (Lost client) b s h never fits = absurd h.other
 first_fits shape u (Act t request reply woken) (Lost client) s h never fits = absurd h.own
 first_fits shape u (Act t request reply woken) (Act v request' reply' woken') s h never fits =
     act_fits shape v t request' request reply' reply woken' woken s (λ e. h.other (e ∙ h.own)) h.second h.first
-        (swapped (ActTouches t request reply s) (ActTouches v request' reply' s) h.locks) never fits
+    (swapped (ActTouches t request reply s) (ActTouches v request' reply' s) h.locks) never fits
 
 -- an event in front of a run finds its marks behind it, and so does the run without it
 behind_fits : (shape : Shape) (u : ThreadId) (a : Event) (own : List Event) (s : PlainState) → Front shape u a own s → (TimesOut a → ⊥) → NobodyTimesOut own → FitsMarks a s → ChoicesFit shape own s

@@ -18,7 +18,7 @@ use Rattle.dso_plain.specs.State.{Hold, PlainState, is_shared, size_of, IsPrivat
 use Rattle.dso_plain.specs.Possible.{IsPossibleButMarks, Answers, AnswersNew, AnswersLook, AnswersGet, AnswersPut, AnswersEnter, AnswersExit, AnswersMonitor, AnswersTick, AnswersTimeout, AnswersResume, AnswersEnd, IsOf, StandsFrom, IsPrivateMonitor, IsClusterLock, IsUpgrade, IsCompatible, NoConflict, HoldsWrite, IsAwakeFor}
 use Rattle.dso_plain.specs.Touches.{ActTouches, ActMakes, NoClash, NoCommonId}
 use Rattle.dso_plain.proofs.keys.SameKeys.{same_thread, thread_self}
-use Rattle.dso_plain.proofs.independence.LeavesOthers.{IsQuiet, absent_private, absent_shared, private_or_shared, private_to_one, not_both, differ}
+use Rattle.dso_plain.proofs.independence.LeavesOthers.{IsQuiet, absent_private, absent_shared, private_or_shared, private_to_one, differ}
 
 -- two threads are the same or not
 pub cases_thread : (w t : ThreadId) → (w ≡ t) ⊎ (w ≢ t)

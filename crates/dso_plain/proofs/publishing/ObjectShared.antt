@@ -1,16 +1,15 @@
 -- One object made shared in the tables.
-use Rattle.std.proofs.Common.{ℕ, ◌≡◌, inl, inr, refl, sym, ◌∙◌, ap, subst, Bool, true, false, cond, eqb, ltb, ◌&&◌, is_some, Option, Some, None, List, [], arith, ◌≤◌}
+use Rattle.std.proofs.Common.{ℕ, ◌≡◌, refl, sym, ◌∙◌, ap, Bool, true, false, cond, eqb, ltb, ◌&&◌, is_some, Option, Some, None, List, [], arith}
 use Rattle.std.proofs.lemmas.Bool.{le-ltb}
 use Rattle.std.proofs.Math.Path.{fun_ext}
 use Rattle.std.specs.Ordering.{nat_cmp}
 use Rattle.std.specs.Option.{option_map}
 use Rattle.std.specs.BTreeMap.{is_at}
-use Rattle.dso_base.specs.declared.lock.ThreadId.{ThreadId}
 use Rattle.dso_base.specs.declared.value.Value.{Value}
 use Rattle.dso_plain.specs.declared.tables.Object as table
 use Rattle.dso_plain.specs.declared.tables.Tables.{Tables}
 use Rattle.dso_lookup.specs.Maps.{writes, or_old, written, look}
-use Rattle.dso_plain.specs.State.{PlainState, is_owner, is_private_to, size_of}
+use Rattle.dso_plain.specs.State.{PlainState, size_of}
 use Rattle.dso_plain.specs.After.{shared, present}
 use Rattle.dso_plain.specs.Publishing.{with_shared, HasItsFields}
 use Rattle.dso_plain.specs.Tables.{object_of, field_order, pasts_of, is_below, state_of}

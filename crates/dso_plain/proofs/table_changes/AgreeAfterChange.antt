@@ -1,6 +1,5 @@
 -- Tables that agree still do after a hold or a wait was changed in each.
-use Rattle.std.proofs.Common.{ℕ, ◌≡◌, inl, inr, refl, sym, ◌∙◌, ap, subst, Bool, true, false, cond, eqb, ◌&&◌, ◌||◌, is_some, Option, Some, None}
-use Rattle.std.proofs.Math.Path.{fun_ext}
+use Rattle.std.proofs.Common.{ℕ, ◌≡◌, refl, sym, ◌∙◌, ap, Bool, true, false, cond, ◌&&◌, is_some, Option, Some, None}
 use Rattle.std.specs.Option.{option_map}
 use Rattle.std.specs.Ordering.{nat_cmp}
 use Rattle.std.specs.BTreeMap.{is_at}
@@ -8,18 +7,14 @@ use Rattle.dso_base.specs.declared.lock.LockName.{LockName}
 use Rattle.dso_base.specs.declared.lock.ThreadId.{ThreadId}
 use Rattle.dso_base.specs.Following.{is_thread}
 use Rattle.dso_plain.specs.declared.tables.Hold as table
-use Rattle.dso_plain.specs.declared.tables.Tables.{Tables}
 use Rattle.dso_plain.specs.KeyTests.{is_lock, is_place}
 use Rattle.dso_lookup.specs.Maps.{writes, or_old, written}
-use Rattle.dso_lookup.specs.Rows.{look_in, is_at_pair}
-use Rattle.dso_plain.specs.State.{PlainState}
-use Rattle.dso_plain.specs.TableInvariants.{IndexesAgree}
-use Rattle.dso_plain.specs.Changes.{with_hold, with_wait}
-use Rattle.dso_plain.specs.Tables.{lock_order, thread_order, hold_of, either, state_of}
-use Rattle.dso_plain.proofs.keys.SameKeys.{same_place, same_thread, number_self, thread_self}
-use Rattle.dso_lookup.proofs.Tests.{both, number_at}
+use Rattle.dso_lookup.specs.Rows.{is_at_pair}
+use Rattle.dso_plain.specs.Tables.{lock_order, thread_order, hold_of}
+use Rattle.dso_plain.proofs.keys.SameKeys.{number_self, thread_self}
+use Rattle.dso_lookup.proofs.Tests.{number_at}
 use Rattle.dso_plain.proofs.keys.TableOrders.{place_at, thread_at, lock_at}
-use Rattle.dso_plain.proofs.keys.Writes.{through, renamed}
+use Rattle.dso_plain.proofs.keys.Writes.{through}
 
 -- both tests in the other order
 swapped : (a b : Bool) → (a && b) ≡ (b && a)

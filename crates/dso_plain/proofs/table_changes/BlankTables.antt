@@ -1,11 +1,11 @@
 -- Empty tables stand for the state in which nothing is there, and with object 0 added for the opening state.
-use Rattle.std.proofs.Common.{ℕ, ◌-◌, ◌≤◌, ◌≡◌, inl, inr, refl, sym, ◌∙◌, ap, subst, Bool, true, false, cond, eqb, ltb, ◌&&◌, ◌||◌, is_some, Option, Some, None, List, [], ◌∷◌, length, arith}
+use Rattle.std.proofs.Common.{ℕ, ◌≡◌, refl, sym, ◌∙◌, ap, subst, Bool, true, false, cond, eqb, ◌&&◌, ◌||◌, is_some, Option, Some, None, List, [], ◌∷◌, arith}
 use Rattle.std.proofs.lemmas.Bool.{le-ltb}
 use Rattle.std.proofs.Math.Path.{fun_ext}
 use Rattle.std.specs.Option.{option_map, unwrap_or}
 use Rattle.std.specs.Ordering.{nat_cmp}
 use Rattle.std.specs.Map.{lookup}
-use Rattle.std.specs.BTreeMap.{BTreeMap, get, is_at}
+use Rattle.std.specs.BTreeMap.{BTreeMap, is_at}
 use Rattle.std.specs.declared.cmp.Ordering.{Ordering}
 use Rattle.dso_base.specs.declared.shape.Shape.{Shape}
 use Rattle.dso_base.specs.declared.value.ClassId.TheVariants as class
@@ -15,7 +15,7 @@ use Rattle.dso_plain.specs.declared.tables.Object as table
 use Rattle.dso_plain.specs.declared.tables.Tables.{Tables}
 use Rattle.dso_lookup.specs.Maps.{writes, or_old, written, look}
 use Rattle.dso_lookup.specs.Rows.{in_row, look_in}
-use Rattle.dso_plain.specs.State.{Object, PlainState, opening, roots_object}
+use Rattle.dso_plain.specs.State.{opening, roots_object}
 use Rattle.dso_plain.specs.After.{present}
 use Rattle.dso_plain.specs.StepInvariants.{PastInvariant, MonitorInvariant}
 use Rattle.dso_plain.specs.TableInvariants.{IndexesAgree, TablesInvariant}

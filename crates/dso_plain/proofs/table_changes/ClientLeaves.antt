@@ -1,8 +1,8 @@
 -- The threads of a lost client leave the tables one by one.
-use Rattle.std.proofs.Common.{ℕ, ◌≡◌, ◌⊎◌, inl, inr, refl, sym, ◌∙◌, ap, subst, Bool, true, false, cond, eqb, ◌&&◌, ◌||◌, is_some, Option, Some, None}
+use Rattle.std.proofs.Common.{ℕ, ◌≡◌, ◌⊎◌, inl, inr, refl, sym, ◌∙◌, ap, Bool, true, false, cond, eqb, ◌&&◌, ◌||◌, is_some, Option, Some, None}
 use Rattle.std.proofs.lemmas.Bool.{or_cases}
 use Rattle.std.proofs.Math.Path.{fun_ext}
-use Rattle.std.specs.Option.{option_map, unwrap_or}
+use Rattle.std.specs.Option.{unwrap_or}
 use Rattle.std.specs.Ordering.{nat_cmp}
 use Rattle.std.specs.BTreeMap.{BTreeMap, is_at}
 use Rattle.dso_base.specs.declared.lock.LockName.{LockName}
@@ -11,12 +11,12 @@ use Rattle.dso_base.specs.Following.{is_thread}
 use Rattle.dso_plain.specs.declared.tables.Tables.{Tables}
 use Rattle.dso_lookup.specs.Maps.{writes, or_old, written, look}
 use Rattle.dso_lookup.specs.Rows.{look_in, in_row}
-use Rattle.dso_plain.specs.State.{Hold, PlainState}
+use Rattle.dso_plain.specs.State.{PlainState}
 use Rattle.dso_plain.specs.After.{apply, loses}
 use Rattle.dso_plain.specs.TableInvariants.{IndexesAgree}
 use Rattle.dso_plain.specs.Changes.{without, Mirrors, ClearsRow}
 use Rattle.dso_plain.specs.Tables.{lock_order, thread_order, either, state_of}
-use Rattle.dso_plain.proofs.keys.SameKeys.{same_number, same_thread, thread_self}
+use Rattle.dso_plain.proofs.keys.SameKeys.{same_number, same_thread}
 use Rattle.dso_lookup.proofs.Tests.{both, number_at}
 use Rattle.dso_plain.proofs.keys.TableOrders.{thread_at}
 use Rattle.dso_plain.proofs.keys.Writes.{through}

@@ -1,6 +1,5 @@
 -- The state after a change of a hold or a wait in the tables, and that the tables still agree.
 use Rattle.std.proofs.Common.{ℕ, ◌≡◌, inl, inr, refl, sym, ◌∙◌, ap, subst, Bool, true, false, cond, ◌&&◌, ◌||◌, ◌⊎◌, is_some, Option, Some, None}
-use Rattle.std.proofs.lemmas.Bool.{or_cases}
 use Rattle.std.proofs.Math.Path.{fun_ext}
 use Rattle.std.specs.Option.{option_map}
 use Rattle.std.specs.Ordering.{nat_cmp}
@@ -12,7 +11,7 @@ use Rattle.dso_plain.specs.declared.tables.Tables.{Tables}
 use Rattle.dso_plain.specs.KeyTests.{is_place}
 use Rattle.dso_lookup.specs.Maps.{writes, or_old, written}
 use Rattle.dso_lookup.specs.Rows.{look_in, is_at_pair}
-use Rattle.dso_plain.specs.State.{Hold, PlainState}
+use Rattle.dso_plain.specs.State.{Hold}
 use Rattle.dso_plain.specs.TableInvariants.{IndexesAgree}
 use Rattle.dso_plain.specs.Changes.{with_hold, with_wait}
 use Rattle.dso_plain.specs.Tables.{lock_order, thread_order, hold_of, either, state_of}

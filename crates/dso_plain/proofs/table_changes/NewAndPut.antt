@@ -1,5 +1,5 @@
 -- New objects and puts in the tables.
-use Rattle.std.proofs.Common.{ℕ, ◌≡◌, refl, sym, ◌∙◌, ap, subst, Bool, true, false, cond, eqb, ltb, ◌&&◌, is_some, Option, Some, None, List, [], ◌∷◌, length, arith}
+use Rattle.std.proofs.Common.{ℕ, ◌≡◌, refl, ◌∙◌, ap, Bool, true, false, cond, eqb, ltb, ◌&&◌, is_some, Option, Some, None, List, ◌∷◌, length, arith}
 use Rattle.std.proofs.Math.Path.{fun_ext}
 use Rattle.std.proofs.lemmas.Bool.{le-ltb}
 use Rattle.std.specs.Ordering.{nat_cmp}
@@ -15,13 +15,13 @@ use Rattle.dso_plain.specs.declared.tables.Object as table
 use Rattle.dso_plain.specs.declared.tables.Tables.{Tables}
 use Rattle.dso_plain.specs.KeyTests.{is_field, is_view}
 use Rattle.dso_lookup.specs.Maps.{writes, or_old, written, look}
-use Rattle.dso_plain.specs.State.{Object, PlainState, IsShared, is_shared, size_of, is_private_to}
-use Rattle.dso_plain.specs.After.{apply, made_new, put, published, present, opening_value, opening_field, new_object}
+use Rattle.dso_plain.specs.State.{PlainState, IsShared, is_shared, size_of}
+use Rattle.dso_plain.specs.After.{apply, made_new, put, published, present, opening_value, opening_field}
 use Rattle.dso_plain.specs.StepInvariants.{PastInvariant}
 use Rattle.dso_plain.specs.Publishing.{with_shared}
 use Rattle.dso_plain.specs.Tables.{thread_order, field_order, view_order, object_of, pasts_of, is_below, state_of}
 use Rattle.dso_lookup.specs.Lists.{lists_of}
-use Rattle.dso_plain.proofs.keys.SameKeys.{same_number, same_field}
+use Rattle.dso_plain.proofs.keys.SameKeys.{same_number}
 use Rattle.dso_plain.proofs.independence.WritesGuarded.{published_private, private_unshared}
 use Rattle.dso_plain.proofs.keys.TableOrders.{thread_at, field_at, view_at}
 use Rattle.dso_lookup.proofs.Tests.{number_at}

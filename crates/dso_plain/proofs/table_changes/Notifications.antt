@@ -1,8 +1,6 @@
 -- Marks in the tables: a wait moves to those that are marked, or is one of them already.
-use Rattle.std.proofs.Common.{ℕ, ◌≡◌, ◌≢◌, refl, sym, ◌∙◌, ap, subst, Bool, true, false, cond, ◌&&◌, ◌||◌, is_some, Option, Some, None, List, []}
+use Rattle.std.proofs.Common.{ℕ, ◌≡◌, ◌≢◌, refl, sym, ◌∙◌, ap, Bool, true, false, cond, ◌&&◌, ◌||◌, is_some, Option, Some, None}
 use Rattle.std.proofs.Math.Path.{fun_ext}
-use Rattle.std.specs.Ordering.{nat_cmp}
-use Rattle.std.specs.Map.{lookup}
 use Rattle.std.specs.BTreeMap.{BTreeMap, is_at}
 use Rattle.dso_base.specs.declared.lock.LockName.{LockName}
 use Rattle.dso_base.specs.declared.lock.ThreadId.{ThreadId}
@@ -11,8 +9,6 @@ use Rattle.dso_plain.specs.declared.tables.Tables.{Tables}
 use Rattle.dso_plain.specs.KeyTests.{is_lock, is_place}
 use Rattle.dso_lookup.specs.Maps.{writes, or_old, written, look}
 use Rattle.dso_lookup.specs.Rows.{look_in, in_row, is_at_pair}
-use Rattle.dso_plain.specs.Possible.{IsUnmarkedWaiter}
-use Rattle.dso_plain.specs.State.{PlainState}
 use Rattle.dso_plain.specs.After.{apply, times_out, notifies_all}
 use Rattle.dso_plain.specs.Changes.{moved}
 use Rattle.dso_plain.specs.TableInvariants.{IndexesAgree}

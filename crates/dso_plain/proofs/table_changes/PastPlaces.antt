@@ -1,5 +1,5 @@
 -- Where a value stands in a past that is kept with the newest last.
-use Rattle.std.proofs.Common.{ℕ, suc, ◌+◌, ◌-◌, ◌<◌, ◌≤◌, ◌≡◌, ◌⊎◌, inl, inr, refl, sym, ◌∙◌, ap, subst, List, [], ◌∷◌, ◌++◌, length, reverse, take, drop, get_or, arith}
+use Rattle.std.proofs.Common.{ℕ, suc, ◌<◌, ◌≤◌, ◌≡◌, inl, inr, sym, subst, List, [], ◌∷◌, ◌++◌, length, reverse, take, drop, get_or, arith}
 use Rattle.std.proofs.Math.Seq.{take-suc}
 use Rattle.std.proofs.lemmas.List.{take-append-drop, reverse-append, length-reverse, length-take, length-take-le}
 use Rattle.dso_base.specs.declared.value.Value.{Value}

@@ -1,5 +1,5 @@
 -- A thread that leaves all monitors and waits in the tables.
-use Rattle.std.proofs.Common.{ℕ, ◌≡◌, refl, sym, ◌∙◌, ap, subst, Bool, true, false, cond, ◌&&◌, ◌||◌, is_some, Option, Some, None}
+use Rattle.std.proofs.Common.{ℕ, ◌≡◌, refl, sym, ◌∙◌, ap, Bool, true, false, cond, ◌&&◌, is_some, Option, Some, None}
 use Rattle.std.proofs.Math.Path.{fun_ext}
 use Rattle.std.specs.Option.{option_map}
 use Rattle.std.specs.BTreeMap.{BTreeMap, is_at}
@@ -8,10 +8,9 @@ use Rattle.dso_base.specs.declared.lock.ThreadId.{ThreadId}
 use Rattle.dso_base.specs.Following.{is_thread}
 use Rattle.dso_plain.specs.declared.tables.Hold as table
 use Rattle.dso_plain.specs.declared.tables.Tables.{Tables}
-use Rattle.dso_plain.specs.KeyTests.{is_lock, is_place}
+use Rattle.dso_plain.specs.KeyTests.{is_lock}
 use Rattle.dso_lookup.specs.Maps.{writes, or_old, written, look}
 use Rattle.dso_lookup.specs.Rows.{look_in, in_row, is_at_pair}
-use Rattle.dso_plain.specs.State.{Hold, PlainState}
 use Rattle.dso_plain.specs.Changes.{dropped, without, Mirrors}
 use Rattle.dso_plain.specs.Tables.{lock_order, thread_order, hold_of, either, state_of}
 use Rattle.dso_plain.proofs.keys.SameKeys.{same_lock, same_thread}

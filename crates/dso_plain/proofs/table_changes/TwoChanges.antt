@@ -1,20 +1,15 @@
 -- Two changes of holds and waits, one after the other.
-use Rattle.std.proofs.Common.{ℕ, ◌≡◌, refl, sym, ◌∙◌, ap, subst, Bool, true, false, cond, ◌&&◌, is_some, Option, Some, None}
+use Rattle.std.proofs.Common.{ℕ, ◌≡◌, refl, sym, ◌∙◌, ap, Bool, true, false, cond, ◌&&◌, is_some, Option, Some, None}
 use Rattle.std.proofs.Math.Path.{fun_ext}
-use Rattle.std.specs.Option.{option_map}
-use Rattle.dso_base.specs.declared.lock.Level.{Level}
 use Rattle.dso_base.specs.declared.lock.Level.TheVariants.{Write}
 use Rattle.dso_base.specs.declared.lock.LockName.{LockName}
 use Rattle.dso_base.specs.declared.lock.ThreadId.{ThreadId}
-use Rattle.dso_plain.specs.declared.tables.Hold as table
-use Rattle.dso_plain.specs.declared.tables.Tables.{Tables}
 use Rattle.dso_plain.specs.KeyTests.{is_place}
 use Rattle.dso_lookup.specs.Maps.{writes, or_old, written}
-use Rattle.dso_lookup.specs.Rows.{look_in}
 use Rattle.dso_plain.specs.State.{Hold, PlainState}
-use Rattle.dso_plain.specs.After.{apply, waits, resumes, entered, exited, count_of, resumed}
+use Rattle.dso_plain.specs.After.{apply, waits, resumes, count_of, resumed}
 use Rattle.dso_plain.specs.Changes.{with_hold, with_wait}
-use Rattle.dso_plain.specs.Tables.{lock_order, thread_order, hold_of, either, state_of}
+use Rattle.dso_plain.specs.Tables.{either}
 
 -- the second of two writes at one place is what stands there
 over : {K V : Type 0} (p : K → Bool) (a b : V) (f : K → V) → written (writes p (λ _. a)) (written (writes p (λ _. b)) f) ≡ written (writes p (λ _. a)) f

@@ -1,4 +1,4 @@
-use Rattle.std.proofs.Common.{ap, sym, ◌∙◌}
+use Rattle.std.proofs.Common.{sym, ◌∙◌}
 use Rattle.dso_lookup.specs.Rows.{look_in}
 use Rattle.dso_plain.specs.Tables.{state_of, lock_order, thread_order}
 use Rattle.dso_plain.proofs.table_changes.TwoChanges.{went_on, woken}

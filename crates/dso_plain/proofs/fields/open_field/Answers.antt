@@ -1,4 +1,4 @@
-use Rattle.std.proofs.Common.{◌≡◌, ◌∙◌, Some, None, ap, reverse}
+use Rattle.std.proofs.Common.{◌∙◌, Some, None, ap, reverse}
 use Rattle.std.specs.BTreeMap.{is_at}
 use Rattle.dso_plain.specs.KeyTests.{is_field}
 use Rattle.dso_lookup.specs.Maps.{writes, written, look}

@@ -1,6 +1,4 @@
 use Rattle.std.proofs.Common.{sym, ◌∙◌}
-use Rattle.dso_lookup.specs.Rows.{look_in}
-use Rattle.dso_plain.specs.Tables.{lock_order, thread_order}
 use Rattle.dso_plain.proofs.table_changes.Notifications.{mark_state, mark_agrees, mark_again_state, mark_again_agrees}
 use Rattle.dso_plain.proofs.marks.mark.Goals as goal
 
