@@ -3,6 +3,7 @@
 //! | Line | Entry |
 //! |---|---|
 //! | `act 1.2 enter n0 write` | the second thread of client 1 acts: a verb with its numbers, its lock (`n0`, `m1`) or its object |
+//! | `act 1.2 tick n0 false` | and is answered: a tick tells whether the thread was woken, as does a timeout that comes too late |
 //! | `take 1 record 3` | the server takes the record of number 3 of client 1 |
 //! | `take 1 record 3 wakes 1.1 1.2` | and it wakes these threads |
 //! | `take 1 return n0 1.1 1.2` | the server takes the lock of client 1 back, with the threads that wait for it |
@@ -133,13 +134,16 @@ fn record_of(alloc: Global, client: u8, seq: u64) -> Txn {
     }
 }
 
-/// A request with its reply, as `put 1 0 4` or `get 0 0 r1`.
+/// A request with its reply, as `put 1 0 4`, `get 0 0 r1` or `tick n0 false`.
 fn request_of(words: &str) -> Option<(Request, Reply)> {
     let mut words = words.split(' ');
     let verb = words.next()?;
     let (first, second, third) = (words.next(), words.next(), words.next());
     match verb {
         "end" => Some((Request::End(None), Reply::Done)),
+        "settle" => Some((Request::Settle, Reply::Done)),
+        "tick" => Some((Request::Tick(lock(first?)?), answer_of(second)?)),
+        "timeout" => Some((Request::Timeout(lock(first?)?), answer_of(second)?)),
         "print" => Some((Request::Print(value(first?)?), Reply::Done)),
         "new" => Some((
             Request::New(ClassId::Plain(0), 1),
@@ -158,6 +162,14 @@ fn request_of(words: &str) -> Option<(Request, Reply)> {
             Reply::Done,
         )),
         _ => Some((lock_request(verb, lock(first?)?, second)?, Reply::Done)),
+    }
+}
+
+/// The answer in a timed wait: the value of the word, Done where there is none.
+fn answer_of(word: Option<&str>) -> Option<Reply> {
+    match word {
+        Some(word) => Some(Reply::Val(value(word)?)),
+        None => Some(Reply::Done),
     }
 }
 
@@ -200,12 +212,14 @@ fn lock(word: &str) -> Option<LockName> {
     Some(LockName::Mon(number(word.strip_prefix('m')?)?))
 }
 
-/// A reference as `r1`, or a number.
+/// A reference as `r1`, `true` or `false`, or a number.
 fn value(word: &str) -> Option<Value> {
-    if let Some(object) = word.strip_prefix('r') {
-        return Some(Value::Ref(number(object)?));
+    match (word, word.strip_prefix('r')) {
+        ("true", _) => Some(Value::Bool(true)),
+        ("false", _) => Some(Value::Bool(false)),
+        (_, Some(object)) => Some(Value::Ref(number(object)?)),
+        (_, None) => Some(Value::Long(word.parse().ok()?)),
     }
-    Some(Value::Long(word.parse().ok()?))
 }
 
 /// The number of an object.
