@@ -7,5 +7,5 @@ returns-clause-exits c = runs.exits
 pub returns-clause-ends : goal.returns-clause-ends
 returns-clause-ends c = runs.ends
 
-pub returns-clause-resumes : goal.returns-clause-resumes
-returns-clause-resumes c = runs.resumes
+pub returns-clause-waits : goal.returns-clause-waits
+returns-clause-waits c = runs.waits
