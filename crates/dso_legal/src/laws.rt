@@ -177,8 +177,9 @@ pub fn store_is_heap()
 {}
 
 /// The code of a thread's machine, where it is sound, is a sound program: its threads name only what they were told, leave only
-/// locks that they hold, end holding none, and make only what the classes have. Clause `texts`: they store and print no text but
-/// the program's and those that they read.
+/// locks that they hold, tick, time out (once for a wait) and resume only where they wait, end holding none, make only what
+/// the classes have, and go by the replies alone. Clause `texts`: they store and print no text but the program's and those that
+/// they read.
 pub fn sound_code_is_sound_program()
     ensures sound { SoundCodeIsSoundProgram }
     ensures texts { SoundCodeGivesKnownTexts }
