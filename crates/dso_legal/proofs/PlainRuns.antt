@@ -1,6 +1,6 @@
 -- Runs in which each event finds the marks that it asks for: what the laws of one heap say of runs whatever is marked, said of these.
 use Rattle.std.specs.List.{AllByRecursion}
-use Rattle.std.proofs.Common.{◌≡◌, refl, Bool, true, false, Option, List, [], ◌∷◌}
+use Rattle.std.proofs.Common.{◌≡◌, false, Option, List, [], ◌∷◌}
 use Rattle.dso_base.specs.declared.lock.Level.{Level}
 use Rattle.dso_base.specs.declared.lock.Level.TheVariants.{Write}
 use Rattle.dso_base.specs.declared.lock.LockName.{LockName}

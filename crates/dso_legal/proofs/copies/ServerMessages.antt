@@ -15,7 +15,6 @@ use Rattle.dso_base.specs.declared.message.Down.TheVariants as down
 use Rattle.dso_base.specs.declared.message.Up.{Up}
 use Rattle.dso_base.specs.declared.message.Up.TheVariants as up
 use Rattle.dso_base.specs.declared.record.Body.{Body}
-use Rattle.dso_base.specs.declared.record.Note.{Note}
 use Rattle.dso_base.specs.declared.record.Txn.{Txn}
 use Rattle.dso_base.specs.declared.request.Event.{Event}
 use Rattle.dso_base.specs.declared.request.Request.{Request}
@@ -31,7 +30,7 @@ use Rattle.dso_legal.specs.Lawful.{ServerFollows, AllFollow}
 use Rattle.dso_legal.proofs.leases.LeaseSteps.{unless_true, if_true}
 use Rattle.dso_legal.proofs.objects.ObjectsInFlight.{fault_stores, found}
 use Rattle.dso_legal.proofs.objects.ResidentServer.{stored_is_of}
-use Rattle.dso_legal.proofs.records.ServerSent.{EachTold, told_each_append, told_each_flat, told_each_map, each_woken}
+use Rattle.dso_legal.proofs.records.ServerSent.{EachTold, told_each_flat, told_each_map, each_woken}
 use Rattle.dso_legal.proofs.copies.ChangesSent.{changes_down, told_of_changes, told_if_client}
 use Rattle.dso_legal.proofs.channels.InFlight.{told_to, told_append}
 

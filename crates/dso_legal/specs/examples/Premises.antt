@@ -101,9 +101,9 @@ abbrev pub settling_courses : List (ThreadId × Course)
 settling_courses = (
   thread 1 1,
   Does (request.Enter (Name 0) Write) (
-  Does (request.Exit (Name 0)) (
-  Does request.Settle (
-  Does (request.End None) Stops))),
+      Does (request.Exit (Name 0)) (
+      Does request.Settle (
+      Does (request.End None) Stops))),
 ) ∷ []
 
 -- the counter's journal meets them
