@@ -8,7 +8,7 @@ use Rattle.dso_base.specs.declared.request.Event.TheVariants.{Act, Lost}
 use Rattle.dso_base.specs.declared.request.Reply.{Reply}
 use Rattle.dso_base.specs.declared.request.Reply.TheVariants.{Made, Val}
 use Rattle.dso_base.specs.declared.request.Request.{Request}
-use Rattle.dso_base.specs.declared.request.Request.TheVariants.{Look, Get, Put, Enter, Exit, Wait, Resume, Notify, NotifyAll, Print}
+use Rattle.dso_base.specs.declared.request.Request.TheVariants.{New, Look, Get, Put, Enter, Exit, Wait, Tick, Timeout, Resume, Notify, NotifyAll, Print, End, Pause, Settle}
 use Rattle.dso_base.specs.declared.value.Value.{Value}
 use Rattle.dso_base.specs.declared.value.Value.TheVariants as value
 use Rattle.dso_base.specs.Following.{FollowsProgram, Listed}
@@ -43,17 +43,22 @@ module _ (IsText IsObject : ℕ → Type 0) where
 
   -- The request names only what is known; and object 0, where it reads or binds a root.
   abbrev pub NamesOnlyKnown : Request → Type 0
+  NamesOnlyKnown (New class n) = Unit {0}
   NamesOnlyKnown (Look object) = IsObject object
   NamesOnlyKnown (Get object field) = (object ≡ 0) ⊎ IsObject object
   NamesOnlyKnown (Put object field v) = ((object ≡ 0) ⊎ IsObject object) × IsKnownValue v
   NamesOnlyKnown (Enter lock level) = IsKnownLock lock
   NamesOnlyKnown (Exit lock) = IsKnownLock lock
   NamesOnlyKnown (Wait lock) = IsKnownLock lock
+  NamesOnlyKnown (Tick lock) = IsKnownLock lock
+  NamesOnlyKnown (Timeout lock) = IsKnownLock lock
   NamesOnlyKnown (Resume lock) = IsKnownLock lock
   NamesOnlyKnown (Notify lock) = IsKnownLock lock
   NamesOnlyKnown (NotifyAll lock) = IsKnownLock lock
   NamesOnlyKnown (Print v) = IsKnownValue v
-  NamesOnlyKnown request = Unit {0}
+  NamesOnlyKnown (End fault) = Unit {0}
+  NamesOnlyKnown Pause = Unit {0}
+  NamesOnlyKnown Settle = Unit {0}
 
 -- a text of the program, or one that the thread was told of
 abbrev pub IsTextOf : Code → List Event → ℕ → Type 0

@@ -37,6 +37,7 @@ fn request_of(text: &str) -> Option<Request> {
     let (verb, rest) = first_of(text);
     match verb {
         "pause" => Some(Request::Pause),
+        "settle" => Some(Request::Settle),
         "print" => Some(Request::Print(value(rest)?)),
         "end" => ended(rest),
         "new" | "look" | "get" | "put" => object_request(verb, rest),
@@ -72,6 +73,8 @@ fn lock_request(verb: &str, rest: &str) -> Option<Request> {
         "enter" => Some(Request::Enter(lock, level(second)?)),
         "exit" => Some(Request::Exit(lock)),
         "wait" => Some(Request::Wait(lock)),
+        "tick" => Some(Request::Tick(lock)),
+        "timeout" => Some(Request::Timeout(lock)),
         "resume" => Some(Request::Resume(lock)),
         "notify" => Some(Request::Notify(lock)),
         "notify-all" => Some(Request::NotifyAll(lock)),

@@ -9,7 +9,7 @@ ghost use Rattle.dso_base.specs.Following.{IsListed};
 use dso_base::{ClassId, Fault, Reply, Request, Value};
 use dso_plain::Plain;
 
-/// The replies that tell nothing of the heap, in the order in which they are offered.
+/// The replies that are offered behind the one that tells of the heap, in their order.
 pub(crate) const PLAIN_REPLIES: &[Reply] = &[
     Reply::Done,
     Reply::Local,
@@ -18,9 +18,11 @@ pub(crate) const PLAIN_REPLIES: &[Reply] = &[
     Reply::Refused(Fault::ReadOnly),
     Reply::Refused(Fault::LockUpgrade),
     Reply::Refused(Fault::IllegalMonitor),
+    Reply::Val(Value::Bool(false)),
 ];
 
-/// The reply to a request that tells of the heap; Done to any other. A new object gets this id.
+/// The reply to a request that tells of the heap: of a tick or a timeout that the thread was woken; Done to any other. A new object gets
+/// this id.
 pub(crate) fn told(plain: &Plain, id: u64, request: Request) -> Reply {
     match request {
         Request::New(..) => Reply::Made(id),
@@ -28,6 +30,7 @@ pub(crate) fn told(plain: &Plain, id: u64, request: Request) -> Reply {
         Request::Get(object, field) => {
             Reply::Val(plain.value(object, field).unwrap_or(Value::Null))
         }
+        Request::Tick(_) | Request::Timeout(_) => Reply::Val(Value::Bool(true)),
         _ => Reply::Done,
     }
 }
@@ -51,6 +54,10 @@ pub(crate) fn is_listed(request: Request, reply: Reply) -> bool
         Request::Put(..) => is_put_reply(reply),
         Request::Enter(..) => is_enter_reply(reply),
         Request::Wait(_) => is_monitor_reply(reply),
+        Request::Tick(_) => matches!(reply, Reply::Val(Value::Bool(_))),
+        Request::Timeout(_) => {
+            matches!(reply, Reply::Done | Reply::Val(Value::Bool(true)))
+        }
         Request::Notify(_) => is_monitor_reply(reply),
         Request::NotifyAll(_) => is_monitor_reply(reply),
         _ => matches!(reply, Reply::Done),

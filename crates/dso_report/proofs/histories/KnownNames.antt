@@ -71,8 +71,18 @@ module _ (shape : Shape) (IsText IsObject : ℕ → Type 0) (literal : (text : �
     enter_awake = λ g l level awake comes. tt;
     exit_asked = λ g h l level awake comes same. comes.names;
     exit_same = λ g h l level awake comes same. tt;
-    resume_asked = λ g l awake comes. comes.names;
-    resume_same = λ g l awake comes. tt;
+    Asleep = λ g l h. IsKnownLock IsText IsObject l;
+    Roused = λ g l h. IsKnownLock IsText IsObject l;
+    wait_asleep = λ g l awake comes. comes.names;
+    tick_asked = λ g h l asleep. asleep;
+    tick_asleep = λ g h l asleep comes. asleep;
+    tick_roused = λ g h l asleep comes. asleep;
+    timeout_asked = λ g h l asleep. asleep;
+    timeout_roused = λ g h l r asleep comes. asleep;
+    asleep_roused = λ g h l asleep. asleep;
+    resume_asked = λ g h l roused. roused;
+    resume_same = λ g h l roused comes. tt;
+    roused_knows = λ g h l roused object known. known;
     end_asked = λ g fault same. tt;
     class_asked = λ g class awake less. tt;
     array_asked = λ g kind size awake few. tt;
@@ -87,6 +97,7 @@ module _ (shape : Shape) (IsText IsObject : ℕ → Type 0) (literal : (text : �
     notify_all_asked = λ g object awake known. known;
     print_asked = λ g v awake known. known_value v known;
     pause_asked = λ g awake. tt;
+    settle_asked = λ g awake. tt;
   }
 
   -- events that follow the code, and one more

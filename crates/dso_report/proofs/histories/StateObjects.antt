@@ -7,7 +7,7 @@ use Rattle.dso_base.specs.declared.request.Event.TheVariants.{Act, Lost}
 use Rattle.dso_base.specs.declared.request.Reply.{Reply}
 use Rattle.dso_base.specs.declared.request.Reply.TheVariants.{Done, Made, Val}
 use Rattle.dso_base.specs.declared.request.Request.{Request}
-use Rattle.dso_base.specs.declared.request.Request.TheVariants.{New, Get, Put, Enter, Exit, Wait, Resume, Notify, NotifyAll, Print, End}
+use Rattle.dso_base.specs.declared.request.Request.TheVariants.{New, Get, Put, Enter, Exit, Wait, Timeout, Resume, Notify, NotifyAll, Print, End}
 use Rattle.dso_base.specs.declared.shape.Shape.{Shape}
 use Rattle.dso_base.specs.declared.value.ClassId.{ClassId}
 use Rattle.dso_base.specs.declared.value.Value.{Value}
@@ -141,6 +141,7 @@ module _ (shape : Shape) where
     act_grows (Enter l level) Done woken may = grows_same s (apply (change_of shape t (Enter l level) Done woken s) s) refl
     act_grows (Exit l) Done woken may = grows_same s (apply (change_of shape t (Exit l) Done woken s) s) refl
     act_grows (Wait l) Done woken may = grows_same s (apply (change_of shape t (Wait l) Done woken s) s) refl
+    act_grows (Timeout l) Done woken may = grows_same s (apply (change_of shape t (Timeout l) Done woken s) s) refl
     act_grows (Resume l) Done woken may = grows_same s (apply (change_of shape t (Resume l) Done woken s) s) refl
     act_grows (Notify l) Done woken may = notify_grows l woken
     act_grows (NotifyAll l) Done woken may = grows_same s (apply (change_of shape t (NotifyAll l) Done woken s) s) refl

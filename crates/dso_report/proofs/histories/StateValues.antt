@@ -9,7 +9,7 @@ use Rattle.dso_base.specs.declared.request.Event.TheVariants.{Lost}
 use Rattle.dso_base.specs.declared.request.Reply.{Reply}
 use Rattle.dso_base.specs.declared.request.Reply.TheVariants.{Done, Made, Val}
 use Rattle.dso_base.specs.declared.request.Request.{Request}
-use Rattle.dso_base.specs.declared.request.Request.TheVariants.{New, Get, Put, Enter, Exit, Wait, Resume, Notify, NotifyAll, Print, End}
+use Rattle.dso_base.specs.declared.request.Request.TheVariants.{New, Get, Put, Enter, Exit, Wait, Timeout, Resume, Notify, NotifyAll, Print, End}
 use Rattle.dso_base.specs.declared.shape.Shape.{Shape}
 use Rattle.dso_base.specs.declared.value.ClassId.{ClassId}
 use Rattle.dso_base.specs.declared.value.Kind.{Kind}
@@ -151,6 +151,7 @@ module _ (P : Value → Type 0) where
     act_has shape t (Enter l level) Done woken s gives has = record { heap = has.heap; past = has.past; output = has.output }
     act_has shape t (Exit l) Done woken s gives has = record { heap = has.heap; past = has.past; output = has.output }
     act_has shape t (Wait l) Done woken s gives has = record { heap = has.heap; past = has.past; output = has.output }
+    act_has shape t (Timeout l) Done woken s gives has = record { heap = has.heap; past = has.past; output = has.output }
     act_has shape t (Resume l) Done woken s gives has = record { heap = has.heap; past = has.past; output = has.output }
     act_has shape t (Notify l) Done woken s gives has = notify_has l woken s has
     act_has shape t (NotifyAll l) Done woken s gives has = record { heap = has.heap; past = has.past; output = has.output }

@@ -7,9 +7,10 @@ use Rattle.dso_base.specs.declared.request.Event.TheVariants.{Act, Lost}
 use Rattle.dso_base.specs.declared.request.Reply.{Reply}
 use Rattle.dso_base.specs.declared.request.Reply.TheVariants.{Made, Val}
 use Rattle.dso_base.specs.declared.request.Request.{Request}
-use Rattle.dso_base.specs.declared.request.Request.TheVariants.{New, Get, Put, Print}
+use Rattle.dso_base.specs.declared.request.Request.TheVariants.{New, Get, Put, Tick, Timeout, Print}
 use Rattle.dso_base.specs.declared.shape.Shape.{Shape}
 use Rattle.dso_base.specs.declared.value.Value.{Value}
+use Rattle.dso_base.specs.declared.value.Value.TheVariants as value
 use Rattle.dso_base.specs.Following.{is_thread, IsListed, IsListedFor, Listed, FollowsFrom}
 use Rattle.dso_machine.specs.declared.code.Code.{Code}
 use Rattle.dso_machine.specs.Next.{next_request}
@@ -68,6 +69,8 @@ module _ (code : Code) (last : PlainState) where
       let real : o ≢ 0 = λ none. omega (arith, may.0, none) in
       (real, grows.stays o (new_there code.shape t s class n o))
   reply_known t (Get o f) (Val v) woken s grows has may listed = of_read (IsKnownValue (IsOwnText code.shape) (IsObject last)) code.shape t o f v s has may
+  reply_known t (Tick l) (Val (value.Bool told)) woken s grows has may listed = tt
+  reply_known t (Timeout l) (Val (value.Bool true)) woken s grows has may listed = tt
   reply_known t q (Made o) woken s grows has may listed = absurd listed
   reply_known t q (Val v) woken s grows has may listed = absurd listed
   reply_known t q r woken s grows has may listed = tt

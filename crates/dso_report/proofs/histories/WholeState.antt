@@ -15,6 +15,7 @@ use Rattle.dso_plain.specs.History.{last_state}
 use Rattle.dso_plain.specs.Past.{KeepsPast}
 use Rattle.dso_plain.specs.Possible.{IsFieldCount, CanBeMade}
 use Rattle.dso_plain.specs.State.{PlainState, HasField, opening, size_of}
+use Rattle.dso_plain.proofs.histories.RunKinds.{runs_but_marks}
 use Rattle.dso_plain.proofs.invariants.PastsHold.{past}
 use Rattle.dso_report.specs.HistoryState.{IsLastStateOf}
 use Rattle.dso_report.specs.WholeState.{NamesWhatIsThere, HasClassWords, HasWords, IsWholeState}
@@ -76,4 +77,4 @@ pub whole : (p : Program) (s : PlainState) → IsSound p → IsLastStateOf p s �
 whole p s sound state =
     let last : PlainState = last_state p.code.shape state.history in
     let has : HasObjects p.code.shape last = (run_grows p.code.shape state.history (opening p.code.shape) state.legal.runs).has (opening_objects p.code.shape) in
-    subst (IsWholeState p.names) (sym state.is_last) (whole_by p sound.names last (past p.code.shape state.history state.legal.runs) has (last_known p.code sound.code state.history state.legal))
+    subst (IsWholeState p.names) (sym state.is_last) (whole_by p sound.names last (past p.code.shape state.history (runs_but_marks p.code.shape state.history (opening p.code.shape) state.legal.runs)) has (last_known p.code sound.code state.history state.legal))
