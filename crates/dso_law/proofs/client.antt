@@ -6,3 +6,4 @@ pub mod WorkByEntry
 pub mod IdsAndRecords
 pub mod ClientLaws
 pub mod OpeningValues
+pub mod TimedOut

@@ -1,5 +1,5 @@
 //! Laws of the readings of a journal. Each is the contract of a function that does nothing.
-ghost use Rattle.dso_law.specs.Laws.{HoldsAfter, WorkGoesOn, ActsAreOpen};
+ghost use Rattle.dso_law.specs.Laws.{HoldsAfter, WorkGoesOn, ActsAreOpen, Timeouts};
 ghost use Rattle.dso_law.specs.Prefixes.{Prefixes};
 
 /// Each message that is taken is the first on its way exactly where, at each entry and for each client, the messages
@@ -21,4 +21,10 @@ pub fn work()
 /// The client rule has an act of a thread exactly where there is an entry that it allows.
 pub fn acts()
     ensures { ActsAreOpen }
+{}
+
+/// A thread whose timeout is done leaves its client's list, marked where it stood there; behind the record of its timeout
+/// it isn't in the server's list either.
+pub fn timeouts()
+    ensures { Timeouts }
 {}

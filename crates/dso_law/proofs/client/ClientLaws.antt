@@ -84,7 +84,7 @@ either_way a b = elim (eqb_tells a b) [
 ]
 
 -- a test of two locks is the same either way
-lock_either_way : (l k : LockName) → is_lock l k ≡ is_lock k l
+pub lock_either_way : (l k : LockName) → is_lock l k ≡ is_lock k l
 lock_either_way (Mon o) (Mon p) = either_way p o
 lock_either_way (Name n) (Name m) = either_way m n
 lock_either_way (Mon o) (Name m) = refl
