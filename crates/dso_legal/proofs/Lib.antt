@@ -1,3 +1,4 @@
+pub mod PlainRuns
 pub mod journals
 pub mod programs
 pub mod channels

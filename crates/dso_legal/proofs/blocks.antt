@@ -3,6 +3,7 @@ pub mod BlockSteps
 pub mod ClientBlocks
 pub mod Histories
 pub mod BlocksWithoutWaits
+pub mod ResolvedBlocks
 pub mod OpenLocks
 pub mod OpenRuns
 pub mod OpenBlocksHold

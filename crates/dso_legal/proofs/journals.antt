@@ -1,4 +1,4 @@
--- The example journals: that they are those of runs, that three of them meet the premises of the central law, and that wrong entries
+-- The example journals: that they are those of runs, that four of them meet the premises of the central law, and that wrong entries
 -- are refused.
 pub mod Facts
 pub mod Checks

@@ -16,6 +16,7 @@ use Rattle.dso_law.specs.ServerReadings.{is_lost}
 use Rattle.dso_legal.specs.Agreement.{messages}
 use Rattle.dso_legal.specs.Lawful.{IsLawful}
 use Rattle.dso_legal.specs.Committed.{ended_blocks, committed}
+use Rattle.dso_legal.specs.Resolved.{AreResolved}
 use Rattle.dso_legal.specs.WaitsAndLosses.{WithoutWaits}
 use Rattle.dso_legal.specs.PendingBlocks.{joined, handed_in, taken_in, records_in, records_sent, no_locks, locks_through, privates_through, StaysOpen, AreRecordsOf}
 
@@ -50,7 +51,12 @@ abbrev pub BlocksAreHandedIn : Type 0
 BlocksAreHandedIn = (p : Settings) (next : ThreadId → List Event → Option Request) (es : List Entry) → IsLawful p next es
     → (c : ℕ) → is_lost c (entries_of Server es) ≡ false → IsHandedIn c es
 
--- The history has, of each thread of a client that isn't lost, the events of the blocks that the server took in.
+-- The history has, of each thread of a client that isn't lost, the events of the blocks that the server took in, resolved.
 abbrev pub HistoriesHoldBlocks : Type 0
-HistoriesHoldBlocks = (p : Settings) (next : ThreadId → List Event → Option Request) (es : List Entry) → IsLawful p next es → WithoutWaits es
+HistoriesHoldBlocks = (p : Settings) (next : ThreadId → List Event → Option Request) (es : List Entry) → IsLawful p next es
+    → (t : ThreadId) → is_lost t.client (entries_of Server es) ≡ false → AreResolved (events_of t (joined (taken_in t.client es))) (events_of t (committed es))
+
+-- In a journal without waits, just as the threads made them.
+abbrev pub HistoriesHoldBlocksAsMade : Type 0
+HistoriesHoldBlocksAsMade = (p : Settings) (next : ThreadId → List Event → Option Request) (es : List Entry) → IsLawful p next es → WithoutWaits es
     → (t : ThreadId) → is_lost t.client (entries_of Server es) ≡ false → events_of t (committed es) ≡ events_of t (joined (taken_in t.client es))

@@ -16,7 +16,7 @@ use Rattle.dso_base.specs.declared.request.Event.TheVariants.{Act, Lost}
 use Rattle.dso_base.specs.declared.request.Reply.{Reply}
 use Rattle.dso_base.specs.declared.request.Reply.TheVariants.{Done}
 use Rattle.dso_base.specs.declared.request.Request.{Request}
-use Rattle.dso_base.specs.declared.request.Request.TheVariants.{Notify, NotifyAll}
+use Rattle.dso_base.specs.declared.request.Request.TheVariants.{New, Look, Get, Put, Enter, Exit, Wait, Tick, Timeout, Resume, Notify, NotifyAll, Print, End, Pause, Settle}
 use Rattle.dso_law.specs.Entries.{newest_first, entries_of, by_event}
 use Rattle.dso_law.specs.Threads.{locks_of, ending_of, open_block}
 use Rattle.dso_law.specs.Replies.{first_of_list}
@@ -50,21 +50,60 @@ block_numbered (suc n) blocks = or_empty (slice_get blocks n)
 
 -- whom the server woke for an act, by its lists: for a done Notify that woke nobody at its client the first of the list
 abbrev pub woken_there : Request → Reply → Option ThreadId → (LockName → List ThreadId) → Option ThreadId
+woken_there (New class n) reply woken lists = woken
+woken_there (Look o) reply woken lists = woken
+woken_there (Get o f) reply woken lists = woken
+woken_there (Put o f v) reply woken lists = woken
+woken_there (Enter l level) reply woken lists = woken
+woken_there (Exit l) reply woken lists = woken
+woken_there (Wait l) reply woken lists = woken
+woken_there (Tick l) reply woken lists = woken
+woken_there (Timeout l) reply woken lists = woken
+woken_there (Resume l) reply woken lists = woken
 woken_there (Notify l) Done None lists = first_of_list (lists l)
-woken_there request reply woken lists = woken
+woken_there (Notify l) reply woken lists = woken
+woken_there (NotifyAll l) reply woken lists = woken
+woken_there (Print v) reply woken lists = woken
+woken_there (End fault) reply woken lists = woken
+woken_there Pause reply woken lists = woken
+woken_there Settle reply woken lists = woken
 
--- the server's lists after an act's notification
+-- the server's lists after an act's notification (a timeout notifies nobody, and is the last act of its block)
 abbrev pub lists_after_act : Request → Reply → Option ThreadId → (LockName → List ThreadId) → LockName → List ThreadId
+lists_after_act (New class n) reply woken lists = lists
+lists_after_act (Look o) reply woken lists = lists
+lists_after_act (Get o f) reply woken lists = lists
+lists_after_act (Put o f v) reply woken lists = lists
+lists_after_act (Enter l level) reply woken lists = lists
+lists_after_act (Exit l) reply woken lists = lists
+lists_after_act (Wait l) reply woken lists = lists
+lists_after_act (Tick l) reply woken lists = lists
+lists_after_act (Timeout l) reply woken lists = lists
+lists_after_act (Resume l) reply woken lists = lists
 lists_after_act (Notify l) Done None lists = lists_after l There lists
 lists_after_act (Notify l) Done (Some woken) lists = lists_after l (Here woken) lists
+lists_after_act (Notify l) reply woken lists = lists
 lists_after_act (NotifyAll l) Done woken lists = lists_after l All lists
-lists_after_act request reply woken lists = lists
+lists_after_act (NotifyAll l) reply woken lists = lists
+lists_after_act (Print v) reply woken lists = lists
+lists_after_act (End fault) reply woken lists = lists
+lists_after_act Pause reply woken lists = lists
+lists_after_act Settle reply woken lists = lists
+
+-- an event with whom the server woke for it
+abbrev pub resolved_event : Event → (LockName → List ThreadId) → Event
+resolved_event (Act thread request reply woken) lists = Act thread request reply (woken_there request reply woken lists)
+resolved_event (Lost client) lists = Lost client
+
+-- the lists after an event's notification
+abbrev pub lists_after_event : Event → (LockName → List ThreadId) → LockName → List ThreadId
+lists_after_event (Act thread request reply woken) lists = lists_after_act request reply woken lists
+lists_after_event (Lost client) lists = lists
 
 -- Resolved: the events of a block, where each Notify that left the choice to the server has the thread that it woke.
 abbrev pub resolved : List Event → (LockName → List ThreadId) → List Event
 resolved [] lists = []
-resolved (Act thread request reply woken ∷ events) lists = Act thread request reply (woken_there request reply woken lists) ∷ resolved events (lists_after_act request reply woken lists)
-resolved (Lost client ∷ events) lists = Lost client ∷ resolved events lists
+resolved (event ∷ events) lists = resolved_event event lists ∷ resolved events (lists_after_event event lists)
 
 -- the block of client c's ending of this number, resolved at the server's lists
 abbrev pub block_taken : ℕ → ℕ → List Entry → List Event

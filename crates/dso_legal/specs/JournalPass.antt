@@ -1,5 +1,5 @@
 -- The committed history by one pass over a journal: what is kept after some entries, and what one more entry makes of it.
-use Rattle.std.specs.Prelude.{ℕ, suc, ◌-◌, ◌<◌, ◌^◌, Bool, true, false, cond, eqb, not, is_some, Option, Some, None, List, [], ◌∷◌, ◌++◌}
+use Rattle.std.specs.Prelude.{ℕ, suc, ◌-◌, ◌<◌, ◌^◌, Bool, true, false, cond, eqb, is_some, Option, Some, None, List, [], ◌∷◌, ◌++◌}
 use Rattle.std.specs.Option.{unwrap_or, option_map}
 use Rattle.dso_base.specs.declared.journal.Entry.{Entry}
 use Rattle.dso_base.specs.declared.journal.Input.{Input}
@@ -7,6 +7,7 @@ use Rattle.dso_base.specs.declared.journal.Input.TheVariants.{TookUp, Lose}
 use Rattle.dso_base.specs.declared.journal.Node.{Node}
 use Rattle.dso_base.specs.declared.journal.Node.TheVariants.{Server, Client}
 use Rattle.dso_base.specs.declared.journal.Sent.{Sent}
+use Rattle.dso_base.specs.declared.lock.Level.TheVariants.{Write}
 use Rattle.dso_base.specs.declared.lock.LockName.{LockName}
 use Rattle.dso_base.specs.declared.lock.ThreadId.{ThreadId}
 use Rattle.dso_base.specs.declared.message.Up.TheVariants.{Commit}
@@ -15,16 +16,17 @@ use Rattle.dso_base.specs.declared.request.Event.TheVariants.{Act, Lost}
 use Rattle.dso_base.specs.declared.request.Reply.{Reply}
 use Rattle.dso_base.specs.declared.request.Reply.TheVariants.{Done}
 use Rattle.dso_base.specs.declared.request.Request.{Request}
-use Rattle.dso_base.specs.declared.request.Request.TheVariants.{Enter, Exit, Wait, Resume, End}
+use Rattle.dso_base.specs.declared.request.Request.TheVariants.{New, Look, Get, Put, Enter, Exit, Wait, Tick, Timeout, Resume, Notify, NotifyAll, Print, End, Pause, Settle}
 use Rattle.dso_lookup.specs.Maps.{written, writes}
 use Rattle.dso_plain.specs.KeyTests.{is_lock}
 use Rattle.dso_plain.specs.History.{is_act_of}
 use Rattle.dso_plain.specs.State.{Hold}
 use Rattle.dso_law.specs.Entries.{entries_of, by_event, by_sent_down}
-use Rattle.dso_law.specs.Threads.{Waiting, Locks, hold_in, locks_of, open_block}
+use Rattle.dso_law.specs.Threads.{Held, Waiting, Locks, hold_in, locks_of, ending_by, open_block}
 use Rattle.dso_law.specs.ServerReadings.{is_lost, counted, loses}
 use Rattle.dso_law.specs.ServerWaiters.{waiters_of, waiters_by, waiters_by_sent}
 use Rattle.dso_legal.specs.Committed.{ended_blocks, block_numbered, resolved, committed}
+use Rattle.dso_legal.specs.PendingBlocks.{no_locks}
 
 -- What is kept of a thread: how often it holds each lock, the count that it is to have again after a wait, its open block.
 pub record ThreadState : Type 0 where
@@ -103,18 +105,54 @@ with_resume l (Some count) state = record state { counts = with_count l (Some co
 
 -- what an act makes of what its thread holds
 abbrev pub counts_after : Request → Reply → ThreadState → ThreadState
+counts_after (New class n) reply state = state
+counts_after (Look o) reply state = state
+counts_after (Get o f) reply state = state
+counts_after (Put o f v) reply state = state
 counts_after (Enter l level) Done state = with_entry l state
+counts_after (Enter l level) reply state = state
 counts_after (Exit l) Done state = record state { counts = with_count l (one_less (state.counts l)) state.counts }
+counts_after (Exit l) reply state = state
 counts_after (Wait l) Done state = with_wait l state
+counts_after (Wait l) reply state = state
+counts_after (Tick l) reply state = state
+counts_after (Timeout l) reply state = state
 counts_after (Resume l) Done state = with_resume l state.waiting state
-counts_after request reply state = state
+counts_after (Resume l) reply state = state
+counts_after (Notify l) reply state = state
+counts_after (NotifyAll l) reply state = state
+counts_after (Print v) reply state = state
+counts_after (End fault) reply state = state
+counts_after Pause reply state = state
+counts_after Settle reply state = state
 
--- whether the act ends its thread's block: a full release, a wait, the thread's end
+-- the lock, held so often, as a thread's holds
+abbrev pub held_so_often : LockName → Option ℕ → List Held
+held_so_often l None = []
+held_so_often l (Some n) = record { lock = l; hold = record { level = Write; count = n } } ∷ []
+
+-- what of its thread's locks decides whether the act is an ending: how often it holds the one that it leaves
+abbrev pub locks_left_by : Request → ThreadState → Locks
+locks_left_by (New class n) state = no_locks
+locks_left_by (Look o) state = no_locks
+locks_left_by (Get o f) state = no_locks
+locks_left_by (Put o f v) state = no_locks
+locks_left_by (Enter l level) state = no_locks
+locks_left_by (Exit l) state = record { holds = held_so_often l (state.counts l); waiting = None }
+locks_left_by (Wait l) state = no_locks
+locks_left_by (Tick l) state = no_locks
+locks_left_by (Timeout l) state = no_locks
+locks_left_by (Resume l) state = no_locks
+locks_left_by (Notify l) state = no_locks
+locks_left_by (NotifyAll l) state = no_locks
+locks_left_by (Print v) state = no_locks
+locks_left_by (End fault) state = no_locks
+locks_left_by Pause state = no_locks
+locks_left_by Settle state = no_locks
+
+-- whether the act ends its thread's block: whether it is an ending
 abbrev pub ends_block : Request → Reply → ThreadState → Bool
-ends_block (Exit l) Done state = not (is_some (one_less (state.counts l)))
-ends_block (Wait l) Done state = true
-ends_block (End fault) Done state = true
-ends_block request reply state = false
+ends_block request reply state = is_some (ending_by request reply (locks_left_by request state))
 
 -- the open block with one more event, where it isn't ended
 abbrev pub block_left : Bool → Event → List Event → List Event

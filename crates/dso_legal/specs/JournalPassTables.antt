@@ -5,11 +5,9 @@ use Rattle.std.specs.Option.{unwrap_or}
 use Rattle.std.specs.Ordering.{nat_cmp}
 use Rattle.dso_base.specs.declared.lock.LockName.{LockName}
 use Rattle.dso_base.specs.declared.lock.ThreadId.{ThreadId}
-use Rattle.dso_base.specs.declared.request.Event.{Event}
-use Rattle.dso_base.specs.declared.request.Event.TheVariants.{Act, Lost}
 use Rattle.dso_lookup.specs.Maps.{look}
 use Rattle.dso_plain.specs.Tables.{lock_order, thread_order}
-use Rattle.dso_legal.specs.Committed.{or_empty, woken_there, lists_after_act}
+use Rattle.dso_legal.specs.Committed.{or_empty}
 use Rattle.dso_legal.specs.JournalPass.{ThreadState, ClientState, ServerState, PassState}
 use Rattle.dso_legal.specs.declared.committing.PassState as table_pass
 use Rattle.dso_legal.specs.declared.threads.ThreadState as table_thread
@@ -73,13 +71,3 @@ woken_count gone l = unwrap_or (look lock_order gone l) 0
 -- the lists without those that were woken already
 abbrev pub lists_left : (LockName → List ThreadId) → BTreeMap LockName ℕ → LockName → List ThreadId
 lists_left waiters gone l = drop (woken_count gone l) (waiters l)
-
--- an event with whom the server woke for it
-abbrev pub resolved_event : Event → (LockName → List ThreadId) → Event
-resolved_event (Act thread request reply woken) lists = Act thread request reply (woken_there request reply woken lists)
-resolved_event (Lost client) lists = Lost client
-
--- the lists after an event's notification
-abbrev pub lists_after_event : Event → (LockName → List ThreadId) → LockName → List ThreadId
-lists_after_event (Act thread request reply woken) lists = lists_after_act request reply woken lists
-lists_after_event (Lost client) lists = lists

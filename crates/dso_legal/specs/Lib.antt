@@ -13,6 +13,7 @@ pub mod OwnObjects
 pub mod NewsAreNew
 pub mod Sorted
 pub mod PendingBlocks
+pub mod Resolved
 pub mod Line
 pub mod SoundProgram
 pub mod SoundCode

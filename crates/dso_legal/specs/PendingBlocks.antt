@@ -13,11 +13,17 @@ use Rattle.dso_base.specs.declared.record.Ending.{Ending}
 use Rattle.dso_base.specs.declared.record.Txn.{Txn}
 use Rattle.dso_base.specs.declared.request.Event.{Event}
 use Rattle.dso_base.specs.declared.request.Event.TheVariants.{Act, Lost}
+use Rattle.dso_base.specs.declared.request.Reply.{Reply}
+use Rattle.dso_base.specs.declared.request.Reply.TheVariants.{Done}
+use Rattle.dso_base.specs.declared.request.Request.{Request}
+use Rattle.dso_base.specs.declared.request.Request.TheVariants.{New, Look, Get, Put, Enter, Exit, Wait, Tick, Timeout, Resume, Notify, NotifyAll, Print, End, Pause, Settle}
 use Rattle.dso_base.specs.declared.shape.Shape.{Shape}
 use Rattle.dso_plain.specs.History.{is_act_of}
+use Rattle.dso_plain.specs.KeyTests.{is_lock}
 use Rattle.dso_plain.specs.Touches.{AreActsOf}
 use Rattle.dso_law.specs.Entries.{entries_of, by_sent_up}
 use Rattle.dso_law.specs.Threads.{Locks, locks_after, ending_of}
+use Rattle.dso_law.specs.ClientWaiters.{without}
 use Rattle.dso_law.specs.ServerReadings.{counted, last_number}
 use Rattle.dso_law.specs.ServerWaiters.{waiters_by_message}
 use Rattle.dso_legal.specs.Committed.{ended_blocks, resolved, lists_after_act}
@@ -106,10 +112,34 @@ AreRecordsOf shape before txns blocks = ⊥
 abbrev pub WaiterLists : Type 0
 WaiterLists = LockName → List ThreadId
 
--- the lists after the notifications of a block
+-- the lists without the thread in that of the lock
+abbrev pub lists_without : ThreadId → LockName → WaiterLists → WaiterLists
+lists_without t l lists k = cond (is_lock l k) (without t (lists k)) (lists k)
+
+-- the lists where a thread's timeout is taken: without the thread; no other act does so
+abbrev pub lists_timed_out : ThreadId → Request → Reply → WaiterLists → WaiterLists
+lists_timed_out t (New class n) reply lists = lists
+lists_timed_out t (Look o) reply lists = lists
+lists_timed_out t (Get o f) reply lists = lists
+lists_timed_out t (Put o f v) reply lists = lists
+lists_timed_out t (Enter l level) reply lists = lists
+lists_timed_out t (Exit l) reply lists = lists
+lists_timed_out t (Wait l) reply lists = lists
+lists_timed_out t (Tick l) reply lists = lists
+lists_timed_out t (Timeout l) Done lists = lists_without t l lists
+lists_timed_out t (Timeout l) reply lists = lists
+lists_timed_out t (Resume l) reply lists = lists
+lists_timed_out t (Notify l) reply lists = lists
+lists_timed_out t (NotifyAll l) reply lists = lists
+lists_timed_out t (Print v) reply lists = lists
+lists_timed_out t (End fault) reply lists = lists
+lists_timed_out t Pause reply lists = lists
+lists_timed_out t Settle reply lists = lists
+
+-- the lists after a block: after its notifications, and the timeout in which it ends
 abbrev pub lists_through : List Event → WaiterLists → WaiterLists
 lists_through [] lists = lists
-lists_through (Act thread request reply woken ∷ events) lists = lists_through events (lists_after_act request reply woken lists)
+lists_through (Act thread request reply woken ∷ events) lists = lists_through events (lists_timed_out thread request reply (lists_after_act request reply woken lists))
 lists_through (Lost client ∷ events) lists = lists_through events lists
 
 -- the lists after another message of a client: the threads of a return stand at the end

@@ -6,6 +6,10 @@ pub mod Flush
 pub mod Broken
 pub mod LostClient
 pub mod Waiting
+pub mod TimedOutHere
+pub mod TimedOutThere
+pub mod CrossedTimeout
+pub mod Settling
 pub mod Refusals
 pub mod Misfits
 pub mod Courses

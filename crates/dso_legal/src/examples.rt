@@ -7,9 +7,13 @@ ghost use Rattle.dso_legal.specs.examples.Refusals.{Refusals, WrongSendings};
 ghost use Rattle.dso_legal.specs.examples.Recall.{RecallJournal};
 ghost use Rattle.dso_legal.specs.examples.Flush.{FlushJournal};
 ghost use Rattle.dso_legal.specs.examples.Waiting.{WaitingJournal};
+ghost use Rattle.dso_legal.specs.examples.TimedOutHere.{TimedOutHereJournal};
+ghost use Rattle.dso_legal.specs.examples.TimedOutThere.{TimedOutThereJournal};
+ghost use Rattle.dso_legal.specs.examples.CrossedTimeout.{CrossedTimeoutJournal};
+ghost use Rattle.dso_legal.specs.examples.Settling.{SettlingJournal};
 ghost use Rattle.dso_legal.specs.examples.Broken.{BrokenJournal};
 ghost use Rattle.dso_legal.specs.examples.LostClient.{LostClientJournal};
-ghost use Rattle.dso_legal.specs.examples.Premises.{CounterMeets, RecallMeets, FlushMeets};
+ghost use Rattle.dso_legal.specs.examples.Premises.{CounterMeets, RecallMeets, FlushMeets, SettlingMeets};
 
 /// One thread makes a counter, shares it, and adds to it under its monitor.
 pub fn counter()
@@ -29,6 +33,26 @@ pub fn flush()
 /// A thread waits and gives its lock's lease back; a thread of another client notifies, and the server wakes the first.
 pub fn waiting()
     ensures { WaitingJournal }
+{}
+
+/// A thread waits for two ticks and times out: it stands in its client's list, and is marked at once.
+pub fn timed_out_here()
+    ensures { TimedOutHereJournal }
+{}
+
+/// A thread whose client gave its lock back times out: the server wakes it as it takes the record of the timeout.
+pub fn timed_out_there()
+    ensures { TimedOutThereJournal }
+{}
+
+/// The record of a timeout crosses a notification, which wakes the thread first: the timeout then wakes nobody.
+pub fn crossed_timeout()
+    ensures { CrossedTimeoutJournal }
+{}
+
+/// A thread settles after a release: it goes on once the record of its release is acknowledged.
+pub fn settling()
+    ensures { SettlingJournal }
 {}
 
 /// A connection breaks with messages in flight, twice, and both ends take it up again.
@@ -57,10 +81,11 @@ pub fn misfits()
     ensures { Misfits }
 {}
 
-/// What the central law asks of a journal is met by the first three journals above, each with a
-/// program that asks what the journal's scripts do, goes by the replies, and is sound.
+/// What the central law asks of a journal is met by the first three journals above and by that of a thread that settles,
+/// each with a program that asks what the journal's scripts do, goes by the replies, and is sound.
 pub fn law_applies()
     ensures counter { CounterMeets }
     ensures recall { RecallMeets }
     ensures flush { FlushMeets }
+    ensures settling { SettlingMeets }
 {}

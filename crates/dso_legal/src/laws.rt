@@ -10,11 +10,11 @@ ghost use Rattle.dso_legal.specs.MadeOnce.{ObjectsAreMadeOnce};
 ghost use Rattle.dso_legal.specs.OwnObjects.{ObjectsInHandAreOwn};
 ghost use Rattle.dso_legal.specs.NewsAreNew.{NewsAreNew};
 ghost use Rattle.dso_legal.specs.Sorted.{RecordsAreSorted};
-ghost use Rattle.dso_legal.specs.Blocks.{BlocksAreKept, BlocksAreHandedIn, HistoriesHoldBlocks};
+ghost use Rattle.dso_legal.specs.Blocks.{BlocksAreKept, BlocksAreHandedIn, HistoriesHoldBlocks, HistoriesHoldBlocksAsMade};
 ghost use Rattle.dso_legal.specs.Works.{WorksTell};
 ghost use Rattle.dso_legal.specs.Names.{NamesStayKnown, ObjectsAreMade};
 ghost use Rattle.dso_legal.specs.Views.{ActsArePossible};
-ghost use Rattle.dso_legal.specs.Central.{ClientsStand, CentralLaw};
+ghost use Rattle.dso_legal.specs.Central.{ClientsStand, CentralLaw, CommitsWhatWasMade};
 ghost use Rattle.dso_legal.specs.Store.{StoreIsHeap};
 ghost use Rattle.dso_legal.specs.SoundCode.{SoundCodeIsSoundProgram, SoundCodeGivesKnownTexts};
 
@@ -136,9 +136,12 @@ pub fn blocks_are_handed_in()
     ensures { BlocksAreHandedIn }
 {}
 
-/// Without waits, the history has of each thread of a client that isn't lost the events of the blocks that the server took.
+/// The history has of each thread of a client that isn't lost the events of the blocks that the server took, each
+/// notification that left the choice to the server with whom it chose. Clause `as_made`: without waits just as the threads
+/// made them.
 pub fn histories_hold_blocks()
-    ensures { HistoriesHoldBlocks }
+    ensures resolved { HistoriesHoldBlocks }
+    ensures as_made { HistoriesHoldBlocksAsMade }
 {}
 
 /// What a thread has in hand (its private objects; what its block published and set) tells what the block made of the one heap,
@@ -174,16 +177,18 @@ pub fn store_is_heap()
 {}
 
 /// The code of a thread's machine, where it is sound, is a sound program: its threads name only what they were told, leave only
-/// locks that they hold, end holding none, and make only what the classes have. Clause `texts`: they store and print no text but
-/// the program's and those that they read.
+/// locks that they hold, tick, time out (once for a wait) and resume only where they wait, end holding none, make only what
+/// the classes have, and go by the replies alone. Clause `texts`: they store and print no text but the program's and those that
+/// they read.
 pub fn sound_code_is_sound_program()
     ensures sound { SoundCodeIsSoundProgram }
     ensures texts { SoundCodeGivesKnownTexts }
 {}
 
 /// **The central law.** A lawful journal without waits and losses, of a sound program, commits a legal history, in which each
-/// thread follows the program; the history has of each thread a prefix of its events, each once and in order, and all of them
-/// where the journal is finished.
+/// thread follows the program; the history has of each thread the first of its events, each once and in order, and all of them
+/// where the journal is finished, but for whom the server chose to wake. Clause `as_made`: just as the threads made them.
 pub fn central_law()
-    ensures { CentralLaw }
+    ensures legal { CentralLaw }
+    ensures as_made { CommitsWhatWasMade }
 {}

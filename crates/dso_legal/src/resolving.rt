@@ -3,8 +3,8 @@ ghost use Rattle.std.specs.Prelude.{◌≡◌, ◌++◌, OnOk, IfOk};
 ghost use Rattle.dso_base.specs.declared.record.Choice.TheVariants.{There, All};
 ghost use Rattle.dso_law.specs.Replies.{first_of_list};
 ghost use Rattle.dso_law.specs.ServerWaiters as waking;
-ghost use Rattle.dso_legal.specs.Committed.{resolved};
-ghost use Rattle.dso_legal.specs.JournalPassTables.{server_state_in, woken_count, lists_left, resolved_event, lists_after_event};
+ghost use Rattle.dso_legal.specs.Committed.{resolved, resolved_event, lists_after_event};
+ghost use Rattle.dso_legal.specs.JournalPassTables.{server_state_in, woken_count, lists_left};
 
 use crate::waiters::ServerState;
 use dso_base::{Event, LockName, NoMemory, Reply, Request, ThreadId};

@@ -119,6 +119,7 @@ impl ThreadState {
         match (request, reply) {
             (Request::Exit(lock), Reply::Done) => one_less(self.count(lock)).is_none(),
             (Request::Wait(_), Reply::Done) => true,
+            (Request::Timeout(_), Reply::Done) => true,
             (Request::End(_), Reply::Done) => true,
             _ => false,
         }

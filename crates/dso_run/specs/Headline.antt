@@ -109,8 +109,8 @@ module _ (p : Settings) (next : ThreadId → List Event → Option Request) (bud
   EndsAs outcome.Budget es = EndsOverBudget p next budget es
 
   -- A run that ended so. What its journal commits is a legal history of one heap with plain monitors, in which each
-  -- thread follows the program. The history has a prefix of each thread's events, each once and in order, and all of them
-  -- where the run is finished.
+  -- thread follows the program. The history has the first of each thread's events, each once and in order, and all of them
+  -- where the run is finished, but for whom the server chose to wake.
   pub record HasRun (outcome : Outcome) (es : List Entry) : Type 0 where
     pub ended : EndsAs outcome es
     pub commits : CommitsLegally p next es

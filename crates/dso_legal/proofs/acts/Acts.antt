@@ -6,9 +6,9 @@ use Rattle.dso_base.specs.declared.lock.ThreadId.{ThreadId}
 use Rattle.dso_base.specs.declared.request.Reply.{Reply}
 use Rattle.dso_base.specs.declared.request.Reply.TheVariants.{Done}
 use Rattle.dso_base.specs.declared.request.Request.{Request}
-use Rattle.dso_base.specs.declared.request.Request.TheVariants.{New, Look, Get, Put, Enter, Exit, Wait, Resume, Notify, NotifyAll, Print, End, Pause}
+use Rattle.dso_base.specs.declared.request.Request.TheVariants.{New, Look, Get, Put, Enter, Exit, Wait, Tick, Timeout, Resume, Notify, NotifyAll, Print, End, Pause, Settle}
 use Rattle.dso_plain.specs.State.{PlainState}
-use Rattle.dso_plain.specs.Possible.{Answers, AnswersExit, AnswersResume, AnswersEnd, AnswersDone, IsAwakeFor, Wakes, IsPossible}
+use Rattle.dso_plain.specs.Possible.{Answers, AnswersExit, AnswersResume, AnswersEnd, AnswersDone, FindsMark, IsAwakeFor, Wakes, IsPossible}
 use Rattle.dso_law.specs.Settings.{Settings}
 use Rattle.dso_law.specs.Entries.{events_in}
 use Rattle.dso_law.specs.RequestNeeds.{unmet}
@@ -19,7 +19,7 @@ use Rattle.dso_legal.specs.Views.{IsOrderly, ActsArePossible, Sees}
 use Rattle.dso_legal.specs.Works.{wait_count}
 use Rattle.dso_legal.proofs.blocks.SameLocks.{same_locks}
 use Rattle.dso_legal.proofs.acts.ActsOnObjects.{may_make, may_look, may_read, may_put}
-use Rattle.dso_legal.proofs.acts.ActsOnLocks.{may_enter, may_exit, may_end, may_resume}
+use Rattle.dso_legal.proofs.acts.ActsOnLocks.{may_enter, may_exit, may_end, may_resume, never_resumes}
 
 module _ (p : Settings) (next : ThreadId → Option Request) (t : ThreadId) (client : List Entry) (start_state s : PlainState) (sees : Sees p t client start_state s) (orderly : IsOrderly p t client) where
   -- the reply is possible
@@ -32,20 +32,32 @@ module _ (p : Settings) (next : ThreadId → Option Request) (t : ThreadId) (cli
   may_answer (Enter l level) reply keeps calm need e = may_enter p t client start_state s sees next l level reply orderly.listed keeps.names need e
   may_answer (Exit l) reply keeps calm need e = subst (λ r. AnswersExit t l r s) {x = Done} (cc e) (may_exit p t client start_state s sees (same_locks t client) l keeps.locks)
   may_answer (Wait l) reply keeps calm need e = absurd (cc calm)
+  may_answer (Tick l) reply keeps calm need e = absurd (cc calm)
+  may_answer (Timeout l) reply keeps calm need e = absurd (cc calm)
   may_answer (Resume l) reply keeps calm need e = subst (λ r. AnswersResume t l r s) {x = Done} (cc e) (may_resume p t client start_state s sees (same_locks t client) l orderly.awake keeps.locks)
   may_answer (Notify l) reply keeps calm need e = absurd (cc calm)
   may_answer (NotifyAll l) reply keeps calm need e = absurd (cc calm)
   may_answer (Print v) reply keeps calm need e = subst (λ r. AnswersDone r) {x = Done} (cc e) tt
   may_answer (End fault) reply keeps calm need e = subst (λ r. AnswersEnd t r s) {x = Done} (cc e) (may_end p t client start_state s sees (same_locks t client) fault keeps.locks)
   may_answer Pause reply keeps calm need e = subst (λ r. AnswersDone r) {x = Done} (cc e) tt
+  may_answer Settle reply keeps calm need e = subst (λ r. AnswersDone r) {x = Done} (cc e) tt
 
   -- the thread doesn't wait
   asleep_nowhere : (l : LockName) → s.asleep (l, t) ≡ None
   asleep_nowhere l = sees.holds.own.waits l ∙ ap (λ waiting. wait_count l waiting) orderly.awake
 
   is_awake : (request : Request) → IsAwakeFor request t s
+  is_awake (Tick l) = tt
+  is_awake (Timeout l) = tt
   is_awake (Resume l) = tt
   is_awake request = asleep_nowhere
+
+  -- it finds its mark where it asks for one, as it never does
+  finds_mark : (request : Request) (reply : Reply) → KeepsTo p.shape t (events_in t client) request → waits_or_notifies request ≡ false → FindsMark request reply t s
+  finds_mark (Tick l) reply keeps calm = absurd (cc calm)
+  finds_mark (Timeout l) reply keeps calm = absurd (cc calm)
+  finds_mark (Resume l) reply keeps calm = never_resumes t client (same_locks t client) l orderly.awake keeps.locks
+  finds_mark request reply keeps calm = tt
 
   -- and its act wakes nobody
   wakes_nobody : (request : Request) (reply : Reply) → waits_or_notifies request ≡ false → Wakes request reply (woken_by request reply client) s
@@ -60,6 +72,7 @@ module _ (p : Settings) (next : ThreadId → Option Request) (t : ThreadId) (cli
     going = sees.going;
     awake = is_awake request;
     answers = may_answer request reply keeps calm need e;
+    finds = finds_mark request reply keeps calm;
     wakes = wakes_nobody request reply calm;
   }
 

@@ -176,3 +176,8 @@ module _ (p : Settings) (t : ThreadId) (client : List Entry) (start_state s : Pl
     -- Resume, which a thread that doesn't wait never asks for
     pub may_resume : (l : LockName) → (locks_of t client).waiting ≡ None → KeepsLocks (Resume l) (locks_through t (events_in t client) no_locks) → AnswersResume t l Done s
     may_resume l awake waits = absurd (subst (λ waiting. IsWaitingOn l waiting) (ap (λ (locks : Locks). locks.waiting) (sym same) ∙ awake) waits)
+
+-- A thread that doesn't wait never asks to resume.
+pub never_resumes : {A : Type 0} (t : ThreadId) (client : List Entry) → locks_of t client ≡ locks_through t (events_in t client) no_locks → (l : LockName) → (locks_of t client).waiting ≡ None
+    → KeepsLocks (Resume l) (locks_through t (events_in t client) no_locks) → A
+never_resumes t client same l awake waits = absurd (subst (λ waiting. IsWaitingOn l waiting) (ap (λ (locks : Locks). locks.waiting) (sym same) ∙ awake) waits)

@@ -17,7 +17,7 @@ use Rattle.dso_law.specs.Entries.{unsent}
 use Rattle.dso_law.specs.Copies.{is_object_asked}
 use Rattle.dso_law.specs.Records.{is_batch_asked}
 use Rattle.dso_law.specs.Leases.{leased, is_asked_for}
-use Rattle.dso_law.specs.RequestNeeds.{Need, NeedsId, NeedsObject, NeedsClass, NeedsMark, NeedsLease, NeedsOthersOut, unmet, ask_for}
+use Rattle.dso_law.specs.RequestNeeds.{Need, NeedsId, NeedsObject, NeedsClass, NeedsMark, NeedsLease, NeedsOthersOut, NeedsAck, unmet, ask_for}
 use Rattle.dso_law.specs.Replies.{woken_by, reply_of}
 use Rattle.dso_law.specs.ClientStep.{commits, returns, asks_again, DoesOrAsks, ActsOn, ClientStepOn, ClientStep}
 use Rattle.dso_legal.proofs.leases.ClientLeases.{ask_is}
@@ -69,6 +69,7 @@ ask_no_record (NeedsLease k level) es m ask = subst IsNoRecord (sym (ask_is (is_
 ask_no_record (NeedsClass o) es m ask = absurd (cc ask)
 ask_no_record (NeedsMark k) es m ask = absurd (cc ask)
 ask_no_record (NeedsOthersOut k) es m ask = absurd (cc ask)
+ask_no_record NeedsAck es m ask = absurd (cc ask)
 
 module _ (p : Settings) (c : ℕ) (before after_it : ThreadId → Option Request) (e : Entry) (es : List Entry) where
   given_back : NoRecords (returns p c after_it (unsent e ∷ es))

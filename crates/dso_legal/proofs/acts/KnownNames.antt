@@ -6,7 +6,7 @@ use Rattle.dso_base.specs.declared.request.Event.{Event}
 use Rattle.dso_base.specs.declared.request.Reply.{Reply}
 use Rattle.dso_base.specs.declared.request.Reply.TheVariants.{Done, Made, Val}
 use Rattle.dso_base.specs.declared.request.Request.{Request}
-use Rattle.dso_base.specs.declared.request.Request.TheVariants.{New, Get, Put, Enter, Exit, Wait, Resume, Notify, NotifyAll, Print, End}
+use Rattle.dso_base.specs.declared.request.Request.TheVariants.{New, Get, Put, Enter, Exit, Wait, Timeout, Resume, Notify, NotifyAll, Print, End}
 use Rattle.dso_base.specs.declared.shape.Shape.{Shape}
 use Rattle.dso_base.specs.declared.value.ClassId.{ClassId}
 use Rattle.dso_base.specs.declared.value.Kind.{Kind}
@@ -268,6 +268,7 @@ module _ (shape : Shape) (t : ThreadId) (s : PlainState) (before : ThreadId → 
   act_names (Enter l level) Done woken its a w = k w
   act_names (Exit l) Done woken its a w = k w
   act_names (Wait l) Done woken its a w = k w
+  act_names (Timeout l) Done woken its a w = k w
   act_names (Resume l) Done woken its a w = k w
   act_names (Notify l) Done woken its a w = notify_names l woken w
   act_names (NotifyAll l) Done woken its a w = k w

@@ -17,7 +17,8 @@ use Rattle.dso_plain.specs.After.{after}
 use Rattle.dso_plain.specs.History.{Runs, end_of, last_state, events_of, is_act_of}
 use Rattle.dso_plain.specs.StepInvariants.{PastInvariant}
 use Rattle.dso_plain.proofs.keys.SameKeys.{same_thread, thread_self}
-use Rattle.dso_plain.proofs.invariants.PastsHold.{opening_kept, event_kept}
+use Rattle.dso_plain.proofs.invariants.PastsHold.{opening_kept}
+use Rattle.dso_legal.proofs.PlainRuns.{event_kept}
 use Rattle.dso_legal.specs.Names.{NameOnlyTold, NamesStayKnown}
 use Rattle.dso_legal.specs.SoundProgram.{event_tells, was_told, NamesOnlyTold}
 use Rattle.dso_legal.proofs.acts.KnownNames.{IsAmong, KeepsNames, known_names, act_names, reply_known}

@@ -9,7 +9,7 @@ use Rattle.dso_base.specs.declared.request.Event.TheVariants.{Act, Lost}
 use Rattle.dso_base.specs.declared.request.Reply.{Reply}
 use Rattle.dso_base.specs.declared.request.Reply.TheVariants.{Done, Made, Seen, Val}
 use Rattle.dso_base.specs.declared.request.Request.{Request}
-use Rattle.dso_base.specs.declared.request.Request.TheVariants.{New, Look, Get, Put, Enter, Exit, Wait, Resume, Notify, NotifyAll, Print, End, Pause}
+use Rattle.dso_base.specs.declared.request.Request.TheVariants.{New, Look, Get, Put, Enter, Exit, Wait, Tick, Timeout, Resume, Notify, NotifyAll, Print, End, Pause, Settle}
 use Rattle.dso_base.specs.declared.shape.Shape.{Shape}
 use Rattle.dso_base.specs.declared.value.ClassId.{ClassId}
 use Rattle.dso_base.specs.declared.value.Kind.{Kind}
@@ -111,12 +111,15 @@ told_puts before (Act t (Get o f) reply woken) told = tt
 told_puts before (Act t (Enter l level) reply woken) told = tt
 told_puts before (Act t (Exit l) reply woken) told = tt
 told_puts before (Act t (Wait l) reply woken) told = tt
+told_puts before (Act t (Tick l) reply woken) told = tt
+told_puts before (Act t (Timeout l) reply woken) told = tt
 told_puts before (Act t (Resume l) reply woken) told = tt
 told_puts before (Act t (Notify l) reply woken) told = tt
 told_puts before (Act t (NotifyAll l) reply woken) told = tt
 told_puts before (Act t (Print v) reply woken) told = tt
 told_puts before (Act t (End fault) reply woken) told = tt
 told_puts before (Act t Pause reply woken) told = tt
+told_puts before (Act t Settle reply woken) told = tt
 told_puts before (Lost client) told = tt
 
 -- events that name only what was told put no reference to object 0
@@ -197,6 +200,7 @@ module _ (shape : Shape) (t : ThreadId) (s : PlainState) (none : NoRoots s) wher
   act_names_none (Enter l level) Done woken free = none
   act_names_none (Exit l) Done woken free = none
   act_names_none (Wait l) Done woken free = none
+  act_names_none (Timeout l) Done woken free = none
   act_names_none (Resume l) Done woken free = none
   act_names_none (Notify l) Done woken free = notify_names_none l woken
   act_names_none (NotifyAll l) Done woken free = none
@@ -216,12 +220,15 @@ module _ (shape : Shape) (t : ThreadId) (s : PlainState) (none : NoRoots s) wher
   made_none (Enter l level) o a = absurd a
   made_none (Exit l) o a = absurd a
   made_none (Wait l) o a = absurd a
+  made_none (Tick l) o a = absurd a
+  made_none (Timeout l) o a = absurd a
   made_none (Resume l) o a = absurd a
   made_none (Notify l) o a = absurd a
   made_none (NotifyAll l) o a = absurd a
   made_none (Print v) o a = absurd a
   made_none (End fault) o a = absurd a
   made_none Pause o a = absurd a
+  made_none Settle o a = absurd a
 
   -- a value that is read is none
   read_none : (o f : ℕ) (v : Value) → Answers shape t (Get o f) (Val v) s → IsNoRoot v
@@ -229,7 +236,22 @@ module _ (shape : Shape) (t : ThreadId) (s : PlainState) (none : NoRoots s) wher
   read_none o f v (inr (inl held)) root = none.heap_none (o, f) v held.2 root
   read_none o f v (inr (inr free)) root = none.past_none (o, f) (subst (λ x. StandsFrom 0 x (s.past (o, f))) root (from_first (s.seen (t, o, f)) v (s.past (o, f)) free.2))
 
-  -- and only a read is answered by a value
+  -- a tick and a timeout are answered by no reference
+  tick_none : (l : LockName) (v : Value) → Answers shape t (Tick l) (Val v) s → IsNoRoot v
+  tick_none l (value.Bool b) a root = cc root
+  tick_none l value.Null a root = absurd a
+  tick_none l (value.Ref x) a root = absurd a
+  tick_none l (value.Long n) a root = absurd a
+  tick_none l (value.Text n) a root = absurd a
+
+  timeout_none : (l : LockName) (v : Value) → Answers shape t (Timeout l) (Val v) s → IsNoRoot v
+  timeout_none l (value.Bool b) a root = cc root
+  timeout_none l value.Null a root = absurd a
+  timeout_none l (value.Ref x) a root = absurd a
+  timeout_none l (value.Long n) a root = absurd a
+  timeout_none l (value.Text n) a root = absurd a
+
+  -- and no other request than a read by another value
   value_none : (request : Request) (v : Value) → Answers shape t request (Val v) s → IsNoRoot v
   value_none (New class n) v a = absurd a
   value_none (Look x) v a = absurd a
@@ -238,12 +260,15 @@ module _ (shape : Shape) (t : ThreadId) (s : PlainState) (none : NoRoots s) wher
   value_none (Enter l level) v a = absurd a
   value_none (Exit l) v a = absurd a
   value_none (Wait l) v a = absurd a
+  value_none (Tick l) v a = tick_none l v a
+  value_none (Timeout l) v a = timeout_none l v a
   value_none (Resume l) v a = absurd a
   value_none (Notify l) v a = absurd a
   value_none (NotifyAll l) v a = absurd a
   value_none (Print w) v a = absurd a
   value_none (End fault) v a = absurd a
   value_none Pause v a = absurd a
+  value_none Settle v a = absurd a
 
   -- a reference that isn't one to object 0
   other_named : (x : ℕ) → IsNoRoot (value.Ref x) → (b : Bool) → eqb x 0 ≡ b → b ≡ false

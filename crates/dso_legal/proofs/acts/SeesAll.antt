@@ -61,7 +61,7 @@ module _ (p : Settings) (next : ThreadId → List Event → Option Request) (es 
         (sees_all t keeps.goes) keeps quiet met answered
       where
         keeps : KeepsTo p.shape t (events_in t (entries_of (Client t.client) es)) request
-        keeps = sound t (events_in t (entries_of (Client t.client) es)) request (own_acts t (entries_of (Client t.client) es)) (untold t) (threads_wait p next t es follow) (threads_follow p next t es follow) asked
+        keeps = sound.keeps t (events_in t (entries_of (Client t.client) es)) request (own_acts t (entries_of (Client t.client) es)) (untold t) (threads_wait p next t es follow) (threads_follow p next t es follow) asked
 
     can : (c : ℕ) → t.client ≡ c → unmet p c (next_after next es) t request (entries_of (Client c) es) ≡ None → reply_of p t request (entries_of (Client c) es) ≡ Some reply
         → May p.shape (Act t request reply (woken_by request reply (entries_of (Client c) es))) (end_of p.shape (open_block t (entries_of (Client c) es)) (state_at p c es))

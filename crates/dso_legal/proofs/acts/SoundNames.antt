@@ -45,7 +45,7 @@ module _ (shape : Shape) (next : ThreadId → List Event → Option Request) (so
   names_from before (Act u request reply woken ∷ events) acts untold held so_far h =
       let act : Event = Act u request reply woken in
       let on : before ++ act ∷ events ≡ (before ++ act ∷ []) ++ events = sym (append_assoc before (act ∷ []) events) in (
-        (sound t before request (acts_in_parts t before (act ∷ events) acts).0 (has_before (event_tells 0) before (act ∷ events) untold) (waits_before t before (act ∷ events) no_locks held) so_far h.0.0).names,
+        (sound.keeps t before request (acts_in_parts t before (act ∷ events) acts).0 (has_before (event_tells 0) before (act ∷ events) untold) (waits_before t before (act ∷ events) no_locks held) so_far h.0.0).names,
         names_from (before ++ act ∷ []) events (subst (AreActsOf t) on acts) (subst (λ all. list_any (event_tells 0) all ≡ false) on untold) (subst (λ all. WaitsAreHeld t all no_locks) on held) (follows_one_more next (Listed next) t [] before act so_far h.0) h.1,
       )
   names_from before (Lost client ∷ events) acts untold held so_far h = absurd h.0

@@ -16,7 +16,7 @@ use Rattle.dso_plain.specs.History.{Runs, end_of, last_state, events_of}
 use Rattle.dso_plain.specs.StepInvariants.{PastInvariant}
 use Rattle.dso_plain.specs.Past.{KeepsPast}
 use Rattle.dso_plain.proofs.histories.LegalGoesOn.{events_in_parts}
-use Rattle.dso_plain.proofs.invariants.PastsHold.{run_kept}
+use Rattle.dso_legal.proofs.PlainRuns.{run_kept}
 use Rattle.dso_plain.proofs.invariants.PastsHold.{kept_past}
 use Rattle.dso_law.specs.Settings.{Settings}
 use Rattle.dso_law.specs.Entries.{entries_of}

@@ -14,6 +14,7 @@ use Rattle.dso_base.specs.declared.request.Event.{Event}
 use Rattle.dso_base.specs.declared.request.Request.{Request}
 use Rattle.dso_plain.specs.State.{opening}
 use Rattle.dso_plain.specs.History.{end_of, last_state}
+use Rattle.dso_plain.specs.Touches.{NobodyTimesOut}
 use Rattle.dso_plain.proofs.independence.RunsSwap.{ends_in_parts}
 use Rattle.dso_law.specs.Settings.{Settings}
 use Rattle.dso_law.specs.Entries.{entries_of}
@@ -28,7 +29,9 @@ use Rattle.dso_legal.proofs.records.ClientRecords.{EndsNone, EndsBlock, block_en
 use Rattle.dso_legal.proofs.records.Handing.{says_its_own}
 use Rattle.dso_legal.proofs.records.HandedIn.{TakesBlock, KeepsBoth, ends_none, pending_ended}
 use Rattle.dso_legal.proofs.blocks.Histories.{history_takes}
-use Rattle.dso_legal.proofs.blocks.BlocksWithoutWaits.{IsCalm, each_of_node, ended_are_calm}
+use Rattle.dso_law.specs.Threads.{open_block}
+use Rattle.dso_legal.proofs.PlainRuns.{nobody_times_out}
+use Rattle.dso_legal.proofs.blocks.BlocksWithoutWaits.{IsCalm, each_of_node, open_is_calm, ended_are_calm}
 
 module _ (p : Settings) (next : ThreadId → List Event → Option Request) (c : ℕ) (es : List Entry) (follow : AllFollow p next es) (alive : is_lost c (entries_of Server es) ≡ false) (e : Entry) (follows : MayFollow p next e es) where
   -- An entry of the client that ends no block leaves them.
@@ -68,6 +71,18 @@ each_dropped P (suc n) (x ∷ xs) each = each_dropped P n xs each.1
 pub pending_are_calm : (c : ℕ) (es : List Entry) → WithoutWaits es → AllByRecursion IsCalm (pending c es)
 pending_are_calm c es calm = each_dropped IsCalm (handed_in c es) (ended_blocks (entries_of (Client c) es))
     (ended_are_calm (entries_of (Client c) es) (each_of_node (λ e. HasNoWait e.event) (Client c) es calm))
+
+-- so nobody times out in one,
+pub pending_in_time : (c : ℕ) (es : List Entry) → WithoutWaits es → AllByRecursion NobodyTimesOut (pending c es)
+pending_in_time c es calm = each_in_time (pending c es) (pending_are_calm c es calm)
+  where
+    each_in_time : (blocks : List (List Event)) → AllByRecursion IsCalm blocks → AllByRecursion NobodyTimesOut blocks
+    each_in_time [] each = tt
+    each_in_time (block ∷ blocks) each = (nobody_times_out block each.0, each_in_time blocks each.1)
+
+-- and nobody in an open block.
+pub open_in_time : (t : ThreadId) (node : Node) (es : List Entry) → WithoutWaits es → NobodyTimesOut (open_block t (entries_of node es))
+open_in_time t node es calm = nobody_times_out (open_block t (entries_of node es)) (open_is_calm t (entries_of node es) (each_of_node (λ e. HasNoWait e.event) node es calm))
 
 -- who loses nobody doesn't lose the client
 loses_not : (c : ℕ) (i : Input) → is_loss i ≡ false → loses c i ≡ false

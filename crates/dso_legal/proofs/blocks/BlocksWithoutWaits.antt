@@ -28,7 +28,7 @@ each_both P [] second each later = later
 each_both P (x ∷ first) second each later = (each.0, each_both P first second each.1 later)
 
 -- who woke nobody left no choice
-woken_as_said : (request : Request) (reply : Reply) (woken : Option ThreadId) (lists : LockName → List ThreadId) → waits_or_notifies request ≡ false → woken_there request reply woken lists ≡ woken
+pub woken_as_said : (request : Request) (reply : Reply) (woken : Option ThreadId) (lists : LockName → List ThreadId) → waits_or_notifies request ≡ false → woken_there request reply woken lists ≡ woken
 woken_as_said (Notify l) reply woken lists calm = absurd (cc calm)
 woken_as_said request reply woken lists calm = refl
 

@@ -10,7 +10,7 @@ use Rattle.dso_base.specs.declared.request.Event.TheVariants.{Act, Lost}
 use Rattle.dso_base.specs.declared.request.Reply.{Reply}
 use Rattle.dso_base.specs.declared.request.Reply.TheVariants.{Done, Made, Val}
 use Rattle.dso_base.specs.declared.request.Request.{Request}
-use Rattle.dso_base.specs.declared.request.Request.TheVariants.{New, Get, Put, Enter, Exit, Wait, Resume, Notify, NotifyAll, Print, End}
+use Rattle.dso_base.specs.declared.request.Request.TheVariants.{New, Get, Put, Enter, Exit, Wait, Timeout, Resume, Notify, NotifyAll, Print, End}
 use Rattle.dso_base.specs.declared.shape.Shape.{Shape}
 use Rattle.dso_plain.specs.KeyTests.{is_lock, is_place}
 use Rattle.dso_lookup.specs.Maps.{writes, or_old, written}
@@ -21,7 +21,7 @@ use Rattle.dso_plain.specs.After.{nothing, after, apply, change_of, read, read_s
 use Rattle.dso_plain.specs.History.{Runs, end_of, is_act_of, events_of}
 use Rattle.dso_plain.specs.Touches.{AreActsOf}
 use Rattle.dso_plain.proofs.keys.SameKeys.{number_self, same_thread, thread_self, same_lock}
-use Rattle.dso_plain.proofs.independence.RunsSwap.{quiet_act}
+use Rattle.dso_legal.proofs.PlainRuns.{quiet_act}
 use Rattle.dso_law.specs.Threads.{Locks, Waiting, hold_in, with_hold, waiting_on, resumed, locks_by, locks_after}
 use Rattle.dso_law.proofs.client.ClientLaws.{holds_after}
 use Rattle.dso_base.specs.declared.value.Value.{Value}
@@ -130,6 +130,7 @@ module _ (shape : Shape) (t : ThreadId) (locks : Locks) (s : PlainState) (have :
   own_act (Enter l level) Done woken p = hold_set l (entered level (s.monitors (l, t))) (entered level (hold_in l locks.holds)) (ap (entered level) (have.holds l))
   own_act (Exit l) Done woken p = hold_set l (exited (s.monitors (l, t))) (exited (hold_in l locks.holds)) (ap exited (have.holds l))
   own_act (Wait l) Done woken p = wait_set l p.awake
+  own_act (Timeout l) Done woken p = record { holds = have.holds; waits = have.waits }
   own_act (Resume l) Done woken p = resume_set l locks.waiting refl p.answers.0
   own_act (New class n) (Made o) woken p = record { holds = have.holds; waits = have.waits }
   own_act (Get o f) (Val v) woken p = read_same o f (is_shared (s.objects o))

@@ -16,7 +16,7 @@ use Rattle.dso_base.specs.declared.request.Request.{Request}
 use Rattle.dso_base.specs.Following.{is_thread}
 use Rattle.dso_plain.specs.State.{PlainState}
 use Rattle.dso_plain.specs.History.{Runs, end_of, is_act_of}
-use Rattle.dso_plain.specs.Touches.{MakesIn, IsActOf, AreActsOf, NoCommonId}
+use Rattle.dso_plain.specs.Touches.{MakesIn, IsActOf, AreActsOf, NobodyTimesOut, NoCommonId}
 use Rattle.dso_plain.proofs.keys.SameKeys.{thread_self}
 use Rattle.dso_law.specs.Settings.{Settings}
 use Rattle.dso_law.specs.Entries.{entries_of, by_event}
@@ -51,12 +51,12 @@ module _ (p : Settings) (next : ThreadId → List Event → Option Request) (es 
 
   -- The open block of a thread of the client runs from behind another client's block.
   pub opens_passed : (t : ThreadId) (txn : Txn) (block : List Event) (e : Entry) → t.client ≡ c → is_lost c (entries_of Server es) ≡ false → OpensFrom p.shape t own (state_at p c es) → RecordPasses p c txn block e es
-      → NoCommonId (MakesIn block) (MakesIn (open_block t own)) → Runs p.shape (open_block t own) (state_at p c (e ∷ es))
-  opens_passed t txn block e its alive opens passes ids =
+      → NoCommonId (MakesIn block) (MakesIn (open_block t own)) → NobodyTimesOut (open_block t own) → Runs p.shape (open_block t own) (state_at p c (e ∷ es))
+  opens_passed t txn block e its alive opens passes ids in_time =
       let other : txn.thread ≢ t = λ same. passes.other (ap (λ (w : ThreadId). w.client) same ∙ its) in
       let swap = open_passed p.shape t txn.thread (open_block t own) block (state_at p c es) (locks_before t own) other opens.keeps.acts passes.acts opens.runs passes.runs opens.have opens.keeps.stays
       (λ l a b touched held. passes.free l a b touched (lease_is_lent p next es follow c l b alive
-      (held_leased p next es follow c t l b (subst (IsHeldFor l b) (locks_now p.shape t own opens.keeps) held)))) ids in
+      (held_leased p next es follow c t l b (subst (IsHeldFor l b) (locks_now p.shape t own opens.keeps) held)))) ids in_time passes.in_time in
       subst (λ s. Runs p.shape (open_block t own) s) (sym passes.state) swap.own_after
 
   -- two threads of the client hold no lock in conflict
@@ -70,12 +70,12 @@ module _ (p : Settings) (next : ThreadId → List Event → Option Request) (es 
   -- The open block of a thread of the client runs from behind the block that another thread of the client ends.
   pub opens_mate : (t u : ThreadId) (s : PlainState) (ending : Ending) (event : Event) → is_thread t u ≡ false → OpensFrom p.shape t own s → OpensFrom p.shape u own s → IsActOf u event → ending_of event (locks_of u own) ≡ Some ending
       → AreActsOf u (open_block u own ++ event ∷ []) → Runs p.shape (open_block u own ++ event ∷ []) s → NoCommonId (MakesIn (open_block u own ++ event ∷ [])) (MakesIn (open_block t own))
-      → Runs p.shape (open_block t own) (end_of p.shape (open_block u own ++ event ∷ []) s)
-  opens_mate t u s ending event apart mine its is_act ends acts runs ids =
+      → NobodyTimesOut (open_block t own) → NobodyTimesOut (open_block u own ++ event ∷ []) → Runs p.shape (open_block t own) (end_of p.shape (open_block u own ++ event ∷ []) s)
+  opens_mate t u s ending event apart mine its is_act ends acts runs ids own_in_time its_in_time =
       let other : u ≢ t = λ same. no_both (is_thread t t) (thread_self t) (subst (λ w. is_thread t w ≡ false) same apart) in
       (open_passed p.shape t u (open_block t own) (open_block u own ++ event ∷ []) s (locks_before t own) other mine.keeps.acts acts mine.runs runs mine.have mine.keeps.stays
       (λ l a b touched held. mates_apart t u apart l a b (ended_touches p next es follow c u s its ending event is_act ends acts runs l a touched)
-      (subst (IsHeldFor l b) (locks_now p.shape t own mine.keeps) held)) ids).own_after
+      (subst (IsHeldFor l b) (locks_now p.shape t own mine.keeps) held)) ids own_in_time its_in_time).own_after
 
 -- the open block after one more entry of the client, by its event
 abbrev block_with : ThreadId → List Entry → Option Event → List Event

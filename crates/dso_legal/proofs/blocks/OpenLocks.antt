@@ -9,7 +9,7 @@ use Rattle.dso_base.specs.declared.lock.ThreadId.{ThreadId}
 use Rattle.dso_base.specs.declared.request.Reply.{Reply}
 use Rattle.dso_base.specs.declared.request.Reply.TheVariants.{Done, Made, Val}
 use Rattle.dso_base.specs.declared.request.Request.{Request}
-use Rattle.dso_base.specs.declared.request.Request.TheVariants.{New, Get, Put, Enter, Exit, Wait, Resume, Notify, NotifyAll, Print, End}
+use Rattle.dso_base.specs.declared.request.Request.TheVariants.{New, Get, Put, Enter, Exit, Wait, Timeout, Resume, Notify, NotifyAll, Print, End}
 use Rattle.dso_base.specs.declared.shape.Shape.{Shape}
 use Rattle.dso_base.specs.declared.value.Value.{Value}
 use Rattle.dso_base.specs.Following.{is_thread}
@@ -173,6 +173,7 @@ module _ (shape : Shape) (t : ThreadId) (s : PlainState) (locks : Locks) (have :
     waits = have.waits;
   }
   act_have (Wait k) Done woken a none = absurd (cc none)
+  act_have (Timeout k) Done woken a none = absurd (cc none)
   act_have (Resume k) Done woken a none = resume_have k locks.waiting refl a.0
   act_have (Notify k) Done woken a none = notify_have k woken
   act_have (NotifyAll k) Done woken a none = left (apply (notifies_all k s) s) (λ l. refl) (λ l. refl)
@@ -189,7 +190,7 @@ module _ (shape : Shape) (t : ThreadId) (s : PlainState) (locks : Locks) (have :
   act_keeps (Enter k level) Done a none l x e = set_keeps k l x (entered level (hold_in k locks.holds)) locks.holds (enter_keeps level x (hold_in k locks.holds)) e
   act_keeps (Exit k) Done a none l x e = set_keeps k l x (exited (hold_in k locks.holds)) locks.holds (exit_keeps k x (hold_in k locks.holds) none) e
   act_keeps (Wait k) Done a none l x e = absurd (cc none)
-  act_keeps (Resume k) Done a none l x e = resume_keeps k l x locks.waiting (sym (have.holds k) ∙ a.2 t) e
+  act_keeps (Resume k) Done a none l x e = resume_keeps k l x locks.waiting (sym (have.holds k) ∙ a.1 t) e
   act_keeps request reply a none l x e = e
 
   resume_takes : (k : LockName) (waiting : Option Waiting) → locks.waiting ≡ waiting → s.asleep (k, t) ≢ None → IsHeldFor k Write (resumed k waiting locks)

@@ -18,10 +18,10 @@ use Rattle.dso_plain.specs.State.{Hold, PlainState, level_of}
 use Rattle.dso_plain.specs.Possible.{May}
 use Rattle.dso_plain.specs.After.{after}
 use Rattle.dso_plain.specs.History.{Runs, end_of}
-use Rattle.dso_plain.specs.Touches.{Touches, TouchesIn, Takes, MakesIn, IsActOf, AreActsOf, NoClash, NoCommonId}
-use Rattle.dso_plain.specs.Laws.{CanSwap}
+use Rattle.dso_plain.specs.Touches.{Touches, TouchesIn, Takes, MakesIn, IsActOf, AreActsOf, NobodyTimesOut, NoClash, NoCommonId}
 use Rattle.dso_plain.proofs.keys.SameKeys.{thread_self}
-use Rattle.dso_plain.proofs.independence.RunsSwap.{diamond, runs_in_parts}
+use Rattle.dso_plain.proofs.independence.RunsSwap.{runs_in_parts}
+use Rattle.dso_legal.proofs.PlainRuns.{RunsCanSwap, swap_runs}
 use Rattle.dso_law.specs.RequestNeeds.{is_enough}
 use Rattle.dso_law.specs.Threads.{Locks, hold_in, locks_by, locks_after, ending_by, ending_of}
 use Rattle.dso_legal.specs.PendingBlocks.{locks_through, StaysOpen}
@@ -148,21 +148,23 @@ parts_touched shape t ending earlier last s locks acts runs have stays ends l x 
 
 -- Runs of two threads from one state can swap, where their locks don't clash and they make no common id.
 pub open_foreign : (shape : Shape) (t u : ThreadId) (y x : List Event) (s : PlainState) → u ≢ t → AreActsOf t y → AreActsOf u x → Runs shape y s → Runs shape x s
-    → NoClash (TouchesIn shape x s) (TouchesIn shape y s) → NoCommonId (MakesIn x) (MakesIn y) → CanSwap shape x y s
-open_foreign shape t u y x s ne own acts runs foreign locks ids = diamond shape t x y s (record {
+    → NoClash (TouchesIn shape x s) (TouchesIn shape y s) → NoCommonId (MakesIn x) (MakesIn y) → NobodyTimesOut y → NobodyTimesOut x → RunsCanSwap shape x y s
+open_foreign shape t u y x s ne own acts runs foreign locks ids own_in_time others_in_time = swap_runs shape t x y s (record {
   others_act = acts_of_other t u x ne acts;
   own_acts = own;
   others_run = foreign;
   own_runs = runs;
+  others_in_time = others_in_time;
+  own_in_time = own_in_time;
   locks = locks;
   ids = ids;
 })
 
 -- an open run of a thread that ends with holds not in conflict with what a run of another thread touches can swap with it
 pub open_passed : (shape : Shape) (t u : ThreadId) (y x : List Event) (s : PlainState) (locks : Locks) → u ≢ t → AreActsOf t y → AreActsOf u x → Runs shape y s → Runs shape x s → HaveLocks t locks s → StaysOpen t y locks
-    → ((l : LockName) (a b : Level) → TouchesIn shape x s l a → IsHeldFor l b (locks_through t y locks) → (a ≡ Read) × (b ≡ Read)) → NoCommonId (MakesIn x) (MakesIn y) → CanSwap shape x y s
-open_passed shape t u y x s locks ne own acts runs foreign have stays free ids =
-    open_foreign shape t u y x s ne own acts runs foreign (λ l a b p q. free l a b p ((open_run shape t y s locks own runs have stays).touched l b q)) ids
+    → ((l : LockName) (a b : Level) → TouchesIn shape x s l a → IsHeldFor l b (locks_through t y locks) → (a ≡ Read) × (b ≡ Read)) → NoCommonId (MakesIn x) (MakesIn y) → NobodyTimesOut y → NobodyTimesOut x → RunsCanSwap shape x y s
+open_passed shape t u y x s locks ne own acts runs foreign have stays free ids own_in_time others_in_time =
+    open_foreign shape t u y x s ne own acts runs foreign (λ l a b p q. free l a b p ((open_run shape t y s locks own runs have stays).touched l b q)) ids own_in_time others_in_time
 
 -- what is enough for a level that is enough for another is enough for that
 pub enough_through : (x y : Level) (o : Option Level) → is_enough x (Some y) ≡ true → is_enough y o ≡ true → is_enough x o ≡ true

@@ -17,9 +17,10 @@ use Rattle.dso_base.specs.declared.request.Event.TheVariants.{Act, Lost}
 use Rattle.dso_base.specs.declared.request.Reply.{Reply}
 use Rattle.dso_base.specs.declared.request.Reply.TheVariants.{Done, Made, Seen, Val, Local}
 use Rattle.dso_base.specs.declared.request.Request.{Request}
-use Rattle.dso_base.specs.declared.request.Request.TheVariants.{New, Look, Get, Put, Enter, Exit, Wait, Resume, Notify, NotifyAll, Print, End, Pause}
+use Rattle.dso_base.specs.declared.request.Request.TheVariants.{New, Look, Get, Put, Enter, Exit, Wait, Tick, Timeout, Resume, Notify, NotifyAll, Print, End, Pause, Settle}
 use Rattle.dso_base.specs.declared.value.ClassId.{ClassId}
 use Rattle.dso_base.specs.declared.value.Value.{Value}
+use Rattle.dso_base.specs.declared.value.Value.TheVariants as value
 use Rattle.dso_base.specs.Shape.{guard_of}
 use Rattle.dso_base.specs.Following.{is_thread, FollowsProgram, IsListed, IsListedFor, Listed}
 use Rattle.dso_plain.specs.Touches.{AreActsOf}
@@ -28,9 +29,10 @@ use Rattle.dso_plain.proofs.histories.LegalGoesOn.{follows_in_parts}
 use Rattle.dso_law.specs.Settings.{Settings}
 use Rattle.dso_law.specs.Entries.{entries_of, by_event, add_event, events_in}
 use Rattle.dso_law.specs.Threads.{Held, Locks, own, locks_after, locks_of, hold_of, is_private, is_local}
+use Rattle.dso_law.specs.ClientWaiters.{is_marked}
 use Rattle.dso_law.specs.Records.{next_id}
 use Rattle.dso_law.specs.RequestNeeds.{Need, hold_level, unmet}
-use Rattle.dso_law.specs.Replies.{put_reply, enter_reply, monitor_reply, woken_by, class_known, value_seen, value_in, put_answer, answer_put, reply_of}
+use Rattle.dso_law.specs.Replies.{put_reply, enter_reply, monitor_reply, timeout_reply, woken_by, class_known, value_seen, value_in, put_answer, answer_put, reply_of}
 use Rattle.dso_law.specs.ClientStep.{DoesOrAsks, ActsOn, ClientStepOn, ClientStep}
 use Rattle.dso_legal.specs.Lawful.{next_after, ClientFollows, NodeFollows, AllFollow}
 use Rattle.dso_legal.specs.PendingBlocks.{no_locks, locks_through}
@@ -140,6 +142,10 @@ notify_all_listed l (Some Write) = tt
 notify_all_listed l (Some Read) = tt
 notify_all_listed l None = tt
 
+timeout_listed : (l : LockName) (woken : Bool) → IsListed (Timeout l) (timeout_reply woken)
+timeout_listed l true = tt
+timeout_listed l false = tt
+
 module _ (p : Settings) (t : ThreadId) (es : List Entry) where
   put_at : (o f : ℕ) (v : Value) (class : ClassId × ℕ) (b : Bool) (reply : Reply) → cond b (Some (put_answer p t o f class.0 es)) None ≡ Some reply → IsListed (Put o f v) reply
   put_at o f v class true reply answered = same_reply (IsListed (Put o f v)) (put_answer p t o f class.0 es) reply answered
@@ -165,6 +171,9 @@ module _ (p : Settings) (t : ThreadId) (es : List Entry) where
   reply_listed (Print v) reply answered = same_reply (IsListed (Print v)) Done reply answered tt
   reply_listed (End fault) reply answered = same_reply (IsListed (End fault)) Done reply answered tt
   reply_listed Pause reply answered = same_reply (IsListed Pause) Done reply answered tt
+  reply_listed Settle reply answered = same_reply (IsListed Settle) Done reply answered tt
+  reply_listed (Tick l) reply answered = same_reply (IsListed (Tick l)) (Val (value.Bool (is_marked t es))) reply answered tt
+  reply_listed (Timeout l) reply answered = same_reply (IsListed (Timeout l)) (timeout_reply (is_marked t es)) reply answered (timeout_listed l (is_marked t es))
 
 -- what holds of a thread's events and goes on with each of its acts
 module _ (p : Settings) (next : ThreadId → List Event → Option Request) (t : ThreadId) (Holds : List Event → Type 0)

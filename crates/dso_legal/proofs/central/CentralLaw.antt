@@ -19,7 +19,7 @@ use Rattle.dso_law.specs.Settings.{Settings}
 use Rattle.dso_law.specs.Replies.{woken_by}
 use Rattle.dso_legal.specs.Agreement.{messages}
 use Rattle.dso_legal.specs.WaitsAndLosses.{HasNoWait, WithoutWaits, WithoutLosses}
-use Rattle.dso_legal.specs.Central.{server_lists, pending_at, open_at, state_with, ClientStands, CentralLaw, ClientsStand}
+use Rattle.dso_legal.specs.Central.{server_lists, pending_at, open_at, state_with, ClientStands, CentralLaw, CommitsWhatWasMade, ClientsStand}
 use Rattle.dso_legal.specs.Committed.{committed}
 use Rattle.dso_legal.specs.CopiesStand.{state_at, CopiesStand}
 use Rattle.dso_legal.specs.Lawful.{next_after, ClientFollows, NodeFollows, AllFollow}
@@ -32,7 +32,7 @@ use Rattle.dso_law.specs.Granting.{standing_with}
 use Rattle.dso_law.specs.Threads.{open_block}
 use Rattle.dso_legal.proofs.line.AllStandOn.{all_stand_on}
 use Rattle.dso_legal.proofs.blocks.BlockSteps.{pending_are_calm}
-use Rattle.dso_legal.proofs.central.Finished.{UntoldAlong, commits_where_it_runs}
+use Rattle.dso_legal.proofs.central.Finished.{UntoldAlong, commits_as_made, commits_where_it_runs}
 use Rattle.dso_legal.proofs.blocks.BlocksWithoutWaits.{IsCalm, no_choice, open_is_calm, each_of_node}
 use Rattle.dso_legal.proofs.blocks.OwnActs.{IsNextAct, next_act}
 use Rattle.dso_legal.proofs.copies.OwnCopies.{own_copies}
@@ -125,9 +125,13 @@ module _ (p : Settings) (next : ThreadId → List Event → Option Request) (sou
   untold_along t [] follow calm safe = tt
   untold_along t (e ∷ es) follow calm safe = (untold_along t es follow.0 calm.1 safe.1, (all_holds es follow.0 calm.1 safe.1).untold t)
 
--- A lawful journal commits legally.
+-- A lawful journal commits legally,
 pub central_law : CentralLaw
 central_law p next sound es lawful calm safe = commits_where_it_runs p next sound es lawful calm safe (λ t. untold_along p next sound t es lawful.follow calm safe) (all_holds p next sound es lawful.follow calm safe).stand.runs
+
+-- and just what its threads made.
+pub commits_what_was_made : CommitsWhatWasMade
+commits_what_was_made p next sound es lawful calm safe = commits_as_made p next sound es lawful calm safe (λ t. untold_along p next sound t es lawful.follow calm safe)
 
 -- blocks without notifications are in flight as they were made
 resolved_calm : (ms : List Up) (blocks : List (List Event)) (lists : WaiterLists) → AllByRecursion IsCalm blocks → resolved_in_flight ms blocks lists ≡ blocks

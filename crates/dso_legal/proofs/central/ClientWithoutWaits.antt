@@ -17,26 +17,29 @@ use Rattle.dso_base.specs.declared.message.Down.TheVariants as down
 use Rattle.dso_base.specs.declared.message.Up.{Up}
 use Rattle.dso_base.specs.declared.message.Up.TheVariants as up
 use Rattle.dso_base.specs.declared.record.Ending.{Ending}
+use Rattle.dso_base.specs.declared.record.Ending.TheVariants as ending
 use Rattle.dso_base.specs.declared.record.Note.{Note}
 use Rattle.dso_base.specs.declared.request.Event.{Event}
 use Rattle.dso_base.specs.declared.request.Event.TheVariants.{Act, Lost}
 use Rattle.dso_base.specs.declared.request.Reply.{Reply}
 use Rattle.dso_base.specs.declared.request.Reply.TheVariants.{Done, Made}
 use Rattle.dso_base.specs.declared.request.Request.{Request}
-use Rattle.dso_base.specs.declared.request.Request.TheVariants.{New, Put, Print, Enter, Wait, Notify, NotifyAll}
+use Rattle.dso_base.specs.declared.request.Request.TheVariants.{New, Put, Enter, Exit, Wait, Timeout, Notify, NotifyAll, Print, End}
 use Rattle.dso_base.specs.declared.shape.Shape.{Shape}
 use Rattle.dso_base.specs.declared.value.Value.{Value}
 use Rattle.dso_plain.specs.History.{is_act_of}
 use Rattle.dso_plain.specs.KeyTests.{is_lock}
 use Rattle.dso_law.specs.Settings.{Settings}
 use Rattle.dso_law.specs.Entries.{is_node, entries_of, unsent, by_taken_down, by_event, by_sent_up}
-use Rattle.dso_law.specs.Threads.{Locks, locks_of, ending_of, block_after, open_block, privates_before}
+use Rattle.dso_plain.specs.After.{exited}
+use Rattle.dso_plain.specs.State.{Hold}
+use Rattle.dso_law.specs.Threads.{Locks, hold_in, locks_of, exit_ending, ending_by, ending_of, block_after, open_block, privates_before}
 use Rattle.dso_law.specs.Copies.{is_object_asked}
 use Rattle.dso_law.specs.ClientWaiters.{list_by_taken, list_by_sent, list_by_act, list_by_event, client_list}
 use Rattle.dso_law.specs.Records.{is_batch_asked}
 use Rattle.dso_law.specs.Leases.{leased, is_asked_for}
 use Rattle.dso_law.specs.Closing.{is_closing, due}
-use Rattle.dso_law.specs.RequestNeeds.{Need, NeedsId, NeedsObject, NeedsClass, NeedsMark, NeedsLease, NeedsOthersOut, unmet, ask_for}
+use Rattle.dso_law.specs.RequestNeeds.{Need, NeedsId, NeedsObject, NeedsClass, NeedsMark, NeedsLease, NeedsOthersOut, NeedsAck, unmet, ask_for}
 use Rattle.dso_law.specs.Replies.{woken_by}
 use Rattle.dso_law.specs.ClientStep.{record_of, commits, returns, asks_again, DoesOrAsks, ActsOn, ClientStepOn, ClientStep}
 use Rattle.dso_legal.specs.WaitsAndLosses.{is_wait, HasNoWait, WithoutWaits}
@@ -68,6 +71,7 @@ empty_input l other = refl
 
 empty_act : (l : LockName) (t : ThreadId) (request : Request) (reply : Reply) (woken : Option ThreadId) → IsCalm (Act t request reply woken) → list_by_act l t request reply woken [] ≡ []
 empty_act l t (Wait k) reply woken h = absurd (cc h)
+empty_act l t (Timeout k) reply woken h = absurd (cc h)
 empty_act l t (Notify k) reply woken h = absurd (cc h)
 empty_act l t (NotifyAll k) reply woken h = absurd (cc h)
 empty_act l t request reply woken h = refl
@@ -143,11 +147,34 @@ pub notes_worked : (shape : Shape) (events : List Event) (work : Work) → AllBy
 notes_worked shape [] work h = refl
 notes_worked shape (event ∷ events) work h = notes_worked shape events (work_after shape event work) h.1 ∙ notes_after shape event work h.0
 
--- a return of no threads, a record of no notifications, or another message
+-- no timeout
+abbrev pub IsInTime : Ending → Type 0
+IsInTime (ending.Exit l) = Unit {0}
+IsInTime (ending.Wait l) = Unit {0}
+IsInTime (ending.End fault) = Unit {0}
+IsInTime (ending.Timeout l) = ⊥
+
+-- a return of no threads, a record of no notifications that isn't of a timeout, or another message
 abbrev pub IsCalmUp : Up → Type 0
 IsCalmUp (up.Return l threads) = threads ≡ []
-IsCalmUp (up.Commit txn) = txn.notes ≡ []
+IsCalmUp (up.Commit txn) = (txn.notes ≡ []) × IsInTime txn.ending
 IsCalmUp m = Unit {0}
+
+-- a calm act ends no block by a timeout
+exit_in_time : (l : LockName) (hold : Option Hold) (end : Ending) → exit_ending l hold ≡ Some end → IsInTime end
+exit_in_time l None end e = subst IsInTime {x = ending.Exit l} (cc e) tt
+exit_in_time l (Some hold) end e = absurd (cc e)
+
+act_in_time : (t : ThreadId) (request : Request) (reply : Reply) (woken : Option ThreadId) (locks : Locks) (end : Ending) → IsCalm (Act t request reply woken) → ending_by request reply locks ≡ Some end → IsInTime end
+act_in_time t (Exit l) Done woken locks end h e = exit_in_time l (exited (hold_in l locks.holds)) end e
+act_in_time t (Wait l) reply woken locks end h e = absurd (cc h)
+act_in_time t (Timeout l) reply woken locks end h e = absurd (cc h)
+act_in_time t (End fault) Done woken locks end h e = subst IsInTime {x = ending.End fault} (cc e) tt
+act_in_time t request reply woken locks end h e = absurd (cc e)
+
+calm_ending : (event : Event) (locks : Locks) (end : Ending) → IsCalm event → ending_of event locks ≡ Some end → IsInTime end
+calm_ending (Act t request reply woken) locks end h e = act_in_time t request reply woken locks end h e
+calm_ending (Lost client) locks end h e = absurd (cc e)
 
 calm_returns : (list : LockName → List ThreadId) (locks : List LockName) → ((l : LockName) → list l ≡ []) → AllByRecursion IsCalmUp (map (λ l. up.Return l (list l)) locks)
 calm_returns list [] h = tt
@@ -160,6 +187,7 @@ calm_ask (NeedsLease k level) es m ask = subst IsCalmUp (sym (ask_is (is_some (l
 calm_ask (NeedsClass o) es m ask = absurd (cc ask)
 calm_ask (NeedsMark k) es m ask = absurd (cc ask)
 calm_ask (NeedsOthersOut k) es m ask = absurd (cc ask)
+calm_ask NeedsAck es m ask = absurd (cc ask)
 
 module _ (p : Settings) (c : ℕ) (before after_it : ThreadId → Option Request) (e : Entry) (es : List Entry) (calm : WithoutWaits (e ∷ es)) where
   calm_given : AllByRecursion IsCalmUp (returns p c after_it (unsent e ∷ es))
@@ -173,10 +201,13 @@ module _ (p : Settings) (c : ℕ) (before after_it : ThreadId → Option Request
   calm_again (Some (Enter k Write)) = calm_again_if k (not (is_closing p c before k es) && list_any (is_lock k) (due p c after_it (unsent e ∷ es)))
   calm_again request = tt
 
-  calm_record : (t : ThreadId) (event : Event) (ending : Option Ending) → IsCalm event → AllByRecursion IsCalmUp (record_of p t event ending es)
-  calm_record t event None h = tt
-  calm_record t event (Some ending) h = (
-    notes_worked p.shape (open_block t es ++ event ∷ []) (start (privates_before p.shape t es)) (each_behind IsCalm (open_block t es) (event ∷ []) (calm_open t es calm.1) (h, tt)),
+  calm_record : (t : ThreadId) (event : Event) (ending : Option Ending) → ending_of event (locks_of t es) ≡ ending → IsCalm event → AllByRecursion IsCalmUp (record_of p t event ending es)
+  calm_record t event None ends h = tt
+  calm_record t event (Some ending) ends h = (
+    (
+      notes_worked p.shape (open_block t es ++ event ∷ []) (start (privates_before p.shape t es)) (each_behind IsCalm (open_block t es) (event ∷ []) (calm_open t es calm.1) (h, tt)),
+      calm_ending event (locks_of t es) ending h ends,
+    ),
     tt,
   )
 
@@ -187,7 +218,7 @@ module _ (p : Settings) (c : ℕ) (before after_it : ThreadId → Option Request
   calm_does t request None does =
       let event : Event = Act t request does.reply (woken_by request does.reply es) in
       calm_said _ does.sends (each_behind IsCalmUp (commits p t event es ++ returns p c after_it (unsent e ∷ es)) (asks_again p c before after_it (after_it t) (unsent e ∷ es) es)
-      (each_behind IsCalmUp (commits p t event es) (returns p c after_it (unsent e ∷ es)) (calm_record t event (ending_of event (locks_of t es)) (subst HasNoWait does.event calm.0)) calm_given)
+      (each_behind IsCalmUp (commits p t event es) (returns p c after_it (unsent e ∷ es)) (calm_record t event (ending_of event (locks_of t es)) refl (subst HasNoWait does.event calm.0)) calm_given)
       (calm_again (after_it t)))
   calm_does t request (Some need) asks = calm_said _ asks.sends (each_behind IsCalmUp (returns p c after_it (unsent e ∷ es)) (asks.message ∷ []) calm_given (calm_ask need es asks.message asks.asked, tt))
 

@@ -29,7 +29,9 @@ use Rattle.dso_law.specs.ServerReadings.{is_lost}
 use Rattle.dso_law.specs.Threads.{Locks, locks_of, ending_by, block_after, open_block, ends_thread}
 use Rattle.dso_legal.specs.Agreement.{messages}
 use Rattle.dso_legal.specs.WaitsAndLosses.{WithoutWaits, WithoutLosses}
-use Rattle.dso_legal.specs.Central.{CommitsLegally}
+use Rattle.dso_legal.specs.Central.{CommitsLegally, CommitsAsMade}
+use Rattle.dso_legal.specs.Resolved.{AreResolved}
+use Rattle.dso_legal.proofs.blocks.ResolvedBlocks.{resolved_itself}
 use Rattle.dso_legal.specs.Committed.{ended_blocks, committed}
 use Rattle.dso_legal.specs.Lawful.{next_after, ClientFollows, NodeFollows, AllFollow, IsLawful}
 use Rattle.dso_legal.specs.PendingBlocks.{joined, taken_in, pending, records_in, handed_in, AreRecordsOf}
@@ -136,7 +138,7 @@ module _ (p : Settings) (next : ThreadId → List Event → Option Request) (sou
         → cond b (block_after (Act it.thread it.request it.reply (woken_by it.request it.reply own)) (locks_of t own) (open_block t own)) (open_block t own) ≡ []
     act_closed it true is ended =
         let asked : next t (events_in t own) ≡ Some it.request = subst (λ u. next_after next es u ≡ Some it.request) (same_thread t it.thread is) it.asked in
-        let goes : list_any ends (events_in t own) ≡ false = same_ends (events_in t own) ∙ (sound t (events_in t own) it.request (own_acts t own) untold (threads_wait p next t es follow) (threads_follow p next t es follow) asked).goes in
+        let goes : list_any ends (events_in t own) ≡ false = same_ends (events_in t own) ∙ (sound.keeps t (events_in t own) it.request (own_acts t own) untold (threads_wait p next t es follow) (threads_follow p next t es follow) asked).goes in
         let act : Event = Act it.thread it.request it.reply (woken_by it.request it.reply own) in
         ap (λ b. cond b [] (open_block t own ++ act ∷ []))
         (end_is_ending it.request it.reply (locks_of t own) (last_found ends (events_in t own) act ended goes) (reply_listed p it.thread own it.request it.reply it.answered))
@@ -219,11 +221,19 @@ module _ (p : Settings) (next : ThreadId → List Event → Option Request) (es 
       ∙ ap (λ block. events_of t (committed es) ++ (events_of t (joined (pending t.client es)) ++ block)) (sym (ended_is_closed p next sound t es follow untold ended))
       ∙ thread_in_parts p next t t.client refl es follow calm alive
 
--- A lawful journal without waits and losses whose history runs commits legally, where the program is sound.
-pub commits_where_it_runs : (p : Settings) (next : ThreadId → List Event → Option Request) → IsSound p.shape next → (es : List Entry) → IsLawful p next es → WithoutWaits es → WithoutLosses es
-    → ((t : ThreadId) → UntoldAlong t es) → Runs p.shape (committed es) (opening p.shape) → CommitsLegally p next es
-commits_where_it_runs p next sound es lawful calm none untold runs = record {
-  legal = record { runs = runs; follows = λ t. part_follows p next es lawful.follow calm t (none_is_lost t.client es none) };
-  parts = λ t. is_first_part p next es lawful.follow calm t (none_is_lost t.client es none);
-  whole = λ finished t its. is_whole p next es lawful.follow calm t (none_is_lost t.client es none) sound (untold t) its finished;
-}
+module _ (p : Settings) (next : ThreadId → List Event → Option Request) (sound : IsSound p.shape next) (es : List Entry) (lawful : IsLawful p next es) (calm : WithoutWaits es) (none : WithoutLosses es)
+    (untold : (t : ThreadId) → UntoldAlong t es) where
+  -- A lawful journal without waits and losses commits of each thread just what the thread made, where the program is sound.
+  pub commits_as_made : CommitsAsMade p es
+  commits_as_made = record {
+    parts = λ t. is_first_part p next es lawful.follow calm t (none_is_lost t.client es none);
+    whole = λ finished t its alive. is_whole p next es lawful.follow calm t alive sound (untold t) its finished;
+  }
+
+  -- And where its history runs it commits legally.
+  pub commits_where_it_runs : Runs p.shape (committed es) (opening p.shape) → CommitsLegally p next es
+  commits_where_it_runs runs = record {
+    legal = record { runs = runs; follows = λ t. part_follows p next es lawful.follow calm t (none_is_lost t.client es none) };
+    parts = λ t. record { first = events_of t (committed es); begins = commits_as_made.parts t; resolved = resolved_itself (events_of t (committed es)) };
+    whole = λ finished t its alive. subst (λ events. AreResolved (events_in t (entries_of (Client t.client) es)) events) (sym (commits_as_made.whole finished t its alive)) (resolved_itself (events_in t (entries_of (Client t.client) es)));
+  }

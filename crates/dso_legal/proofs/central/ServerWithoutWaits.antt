@@ -12,6 +12,9 @@ use Rattle.dso_base.specs.declared.lock.ThreadId.{ThreadId}
 use Rattle.dso_base.specs.declared.message.Down.TheVariants as down
 use Rattle.dso_base.specs.declared.message.Up.{Up}
 use Rattle.dso_base.specs.declared.message.Up.TheVariants as up
+use Rattle.dso_base.specs.declared.lock.LockName.{LockName}
+use Rattle.dso_base.specs.declared.record.Ending.{Ending}
+use Rattle.dso_base.specs.declared.record.Ending.TheVariants as ending
 use Rattle.dso_base.specs.declared.record.Txn.{Txn}
 use Rattle.dso_base.specs.declared.request.Event.{Event}
 use Rattle.dso_base.specs.declared.request.Request.{Request}
@@ -20,11 +23,11 @@ use Rattle.dso_law.specs.Entries.{unsent, entries_of, by_sent_up}
 use Rattle.dso_law.specs.Channels.{Letter, posted, takes_up, up_in_flight, in_flight_after, to_server, IsFirst}
 use Rattle.dso_law.specs.ServerReadings.{is_lost, counted}
 use Rattle.dso_law.specs.ServerStep.{sets_for, changes_of}
-use Rattle.dso_law.specs.ServerWaiters.{waiters_of, wakes}
+use Rattle.dso_law.specs.ServerWaiters.{waiters_of, lists_noted, wakes, wakes_timed_out, wakes_of}
 use Rattle.dso_legal.specs.Agreement.{messages}
 use Rattle.dso_legal.specs.WaitsAndLosses.{WithoutWaits}
 use Rattle.dso_legal.specs.Lawful.{next_after, ClientFollows, ServerFollows, NodeFollows, AllFollow}
-use Rattle.dso_legal.proofs.central.ClientWithoutWaits.{IsCalmUp, calm_of, client_says_calm, each_behind}
+use Rattle.dso_legal.proofs.central.ClientWithoutWaits.{IsInTime, IsCalmUp, calm_of, client_says_calm, each_behind}
 use Rattle.dso_legal.proofs.objects.ObjectsInFlight.{heard_step}
 use Rattle.dso_legal.proofs.copies.ChangesSent.{changes_down}
 use Rattle.dso_legal.proofs.channels.InFlight.{said_of, said_letters, told_to}
@@ -62,6 +65,16 @@ module _ (p : Settings) (next : ThreadId → List Event → Option Request) wher
   pub first_is_calm : (c : ℕ) (m : Up) (es : List Entry) → AllFollow p next es → WithoutWaits es → IsFirst m (up_in_flight c es) → IsCalmUp m
   first_is_calm c m es follow calm first = first_of_calm m (up_in_flight c es) first (calm_ways c es follow calm)
 
+-- a record of no notifications that isn't of a timeout wakes nobody
+wakes_nobody : (txn : Txn) (lists : LockName → List ThreadId) → IsCalmUp (up.Commit txn) → wakes_of txn lists ≡ []
+wakes_nobody txn lists calm = ap (λ notes. wakes notes lists ++ wakes_timed_out txn.thread txn.ending (lists_noted notes lists)) calm.0 ∙ in_time txn.thread txn.ending calm.1
+  where
+    in_time : (t : ThreadId) (end : Ending) → IsInTime end → wakes_timed_out t end lists ≡ []
+    in_time t (ending.Exit l) calm = refl
+    in_time t (ending.Wait l) calm = refl
+    in_time t (ending.End fault) calm = refl
+    in_time t (ending.Timeout l) calm = absurd calm
+
 -- For a record its client is told that it was taken, each other one the sets of objects that it holds; and nobody is woken.
 pub told_of_record : (p : Settings) (next : ThreadId → List Event → Option Request) (c d : ℕ) (txn : Txn) (e : Entry) (es : List Entry) → AllFollow p next es → WithoutWaits es → ServerFollows p next e es
     → e.input ≡ input.TookUp d (up.Commit txn) → IsFirst (up.Commit txn) (up_in_flight d es) → is_lost d (entries_of Server es) ≡ false
@@ -70,5 +83,5 @@ told_of_record p next c d txn e es follow calm h is first alive =
     let now : List Entry = unsent e ∷ counted (entries_of Server es) in
     let sends = (heard_step p d (up.Commit txn) e (entries_of Server es) h.step is alive).sends in
     let silent = first_is_calm p next d (up.Commit txn) es follow calm first in
-    ap (told_to c) (sends ∙ ap (λ notes. ToClient d (down.Ack txn.seq) ∷ changes_of p d txn now ++ wakes notes (λ l. waiters_of l now)) silent)
+    ap (told_to c) (sends ∙ ap (λ woken. ToClient d (down.Ack txn.seq) ∷ changes_of p d txn now ++ woken) (wakes_nobody txn (λ l. waiters_of l now) silent))
     ∙ record_told p next c e es follow d txn [] is ∙ append-nil (cond (eqb c d) (down.Ack txn.seq ∷ []) (changes_down (sets_for c txn (counted (entries_of Server es)))))

@@ -9,7 +9,7 @@ use Rattle.dso_base.specs.declared.request.Fault.{Fault}
 use Rattle.dso_base.specs.declared.request.Reply.{Reply}
 use Rattle.dso_base.specs.declared.request.Reply.TheVariants.{Done, Made, Val}
 use Rattle.dso_base.specs.declared.request.Request.{Request}
-use Rattle.dso_base.specs.declared.request.Request.TheVariants.{New, Get, Put, Enter, Exit, Wait, Resume, Notify, NotifyAll, Print, End}
+use Rattle.dso_base.specs.declared.request.Request.TheVariants.{New, Get, Put, Enter, Exit, Wait, Timeout, Resume, Notify, NotifyAll, Print, End}
 use Rattle.dso_base.specs.declared.shape.Shape.{Shape}
 use Rattle.dso_base.specs.declared.value.Value.{Value}
 use Rattle.dso_base.specs.Following.{is_thread}
@@ -17,7 +17,7 @@ use Rattle.dso_lookup.specs.Maps.{or_old}
 use Rattle.dso_plain.specs.State.{Hold, PlainState, opening, is_shared, hold_on_guard}
 use Rattle.dso_plain.specs.After.{apply, after, change_of, read, read_shared, put, notifies}
 use Rattle.dso_plain.specs.History.{Runs, end_of, last_state, events_of, is_act_of}
-use Rattle.dso_plain.proofs.independence.RunsSwap.{quiet_act}
+use Rattle.dso_legal.proofs.PlainRuns.{quiet_act}
 use Rattle.dso_plain.proofs.keys.SameKeys.{same_thread, thread_self}
 use Rattle.dso_law.specs.Threads.{ends_thread}
 
@@ -58,6 +58,7 @@ module _ (shape : Shape) (t u : ThreadId) (s : PlainState) where
   act_ends (Enter l level) Done woken there = inl there
   act_ends (Exit l) Done woken there = inl there
   act_ends (Wait l) Done woken there = inl there
+  act_ends (Timeout l) Done woken there = inl there
   act_ends (Resume l) Done woken there = inl there
   act_ends (Notify l) Done woken there = inl (notify_goes l woken there)
   act_ends (NotifyAll l) Done woken there = inl there

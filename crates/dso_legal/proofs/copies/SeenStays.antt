@@ -8,7 +8,7 @@ use Rattle.dso_base.specs.declared.request.Event.TheVariants.{Act, Lost}
 use Rattle.dso_base.specs.declared.request.Reply.{Reply}
 use Rattle.dso_base.specs.declared.request.Reply.TheVariants.{Done, Made, Seen, Val}
 use Rattle.dso_base.specs.declared.request.Request.{Request}
-use Rattle.dso_base.specs.declared.request.Request.TheVariants.{New, Look, Get, Put, Enter, Exit, Wait, Resume, Notify, NotifyAll, Print, End}
+use Rattle.dso_base.specs.declared.request.Request.TheVariants.{New, Look, Get, Put, Enter, Exit, Wait, Timeout, Resume, Notify, NotifyAll, Print, End}
 use Rattle.dso_base.specs.declared.shape.Shape.{Shape}
 use Rattle.dso_base.specs.declared.value.Value.{Value}
 use Rattle.dso_base.specs.Following.{is_thread}
@@ -22,7 +22,7 @@ use Rattle.dso_plain.specs.State.{PlainState, Object, Hold, IsShared, is_shared,
 use Rattle.dso_plain.specs.Touches.{TouchesIn, AreActsOf}
 use Rattle.dso_plain.proofs.keys.SameKeys.{same_number}
 use Rattle.dso_lookup.proofs.Tests.{both}
-use Rattle.dso_plain.proofs.independence.LeftAlone.{leaves_field}
+use Rattle.dso_legal.proofs.PlainRuns.{leaves_field}
 
 -- no object is both private and shared
 not_both : (t : ThreadId) (object : Option Object) → is_private_to t object ≡ true → is_shared object ≡ true → ⊥
@@ -78,6 +78,7 @@ module _ (shape : Shape) (t : ThreadId) (o f : ℕ) where
   act_seen (Enter l level) Done woken s may shared outside = refl
   act_seen (Exit l) Done woken s may shared outside = refl
   act_seen (Wait l) Done woken s may shared outside = refl
+  act_seen (Timeout l) Done woken s may shared outside = refl
   act_seen (Resume l) Done woken s may shared outside = refl
   act_seen (Notify l) Done None s may shared outside = refl
   act_seen (Notify l) Done (Some woken) s may shared outside = refl

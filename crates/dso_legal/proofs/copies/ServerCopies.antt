@@ -21,8 +21,9 @@ use Rattle.dso_plain.specs.StepInvariants.{PastInvariant}
 use Rattle.dso_plain.specs.Possible.{IsOf}
 use Rattle.dso_plain.specs.State.{PlainState, Object, IsShared, is_shared, guard_in, guard_of_object}
 use Rattle.dso_plain.proofs.keys.SameKeys.{same_number, number_self}
-use Rattle.dso_plain.proofs.independence.LeftAlone.{leaves_own}
-use Rattle.dso_plain.proofs.invariants.PastsHold.{run_kept, kept_past, pasts_grow}
+use Rattle.dso_legal.proofs.PlainRuns.{leaves_own}
+use Rattle.dso_plain.proofs.invariants.PastsHold.{kept_past}
+use Rattle.dso_legal.proofs.PlainRuns.{run_kept, pasts_grow}
 use Rattle.dso_law.specs.Channels.{up_in_flight, down_in_flight}
 use Rattle.dso_law.specs.Copies.{is_resident, resident_by_taken, is_set_of, value_by_sets}
 use Rattle.dso_law.specs.Entries.{entries_of}

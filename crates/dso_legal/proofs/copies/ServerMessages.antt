@@ -15,7 +15,6 @@ use Rattle.dso_base.specs.declared.message.Down.TheVariants as down
 use Rattle.dso_base.specs.declared.message.Up.{Up}
 use Rattle.dso_base.specs.declared.message.Up.TheVariants as up
 use Rattle.dso_base.specs.declared.record.Body.{Body}
-use Rattle.dso_base.specs.declared.record.Note.{Note}
 use Rattle.dso_base.specs.declared.record.Txn.{Txn}
 use Rattle.dso_base.specs.declared.request.Event.{Event}
 use Rattle.dso_base.specs.declared.request.Request.{Request}
@@ -25,13 +24,13 @@ use Rattle.dso_law.specs.ServerReadings.{is_lost, is_of_lost, counted, next_batc
 use Rattle.dso_law.specs.Granting.{Waiter, LeaseTable, queue_of, with_grant, is_against, recalls, serve_queue, serves, serves_all, leases_so_far, requested}
 use Rattle.dso_law.specs.ServerStep.{object_to, sets_for, changes_of, HeardOrLost, HeardStep, ServerStepOn}
 use Rattle.dso_law.specs.Store.{held_by, stored, holds_object}
-use Rattle.dso_law.specs.ServerWaiters.{waiters_of, waiters_woken, lists_after, wake_each, wakes}
+use Rattle.dso_law.specs.ServerWaiters.{waiters_of, wakes_of}
 use Rattle.dso_legal.specs.CopiesStand.{speaks_of}
 use Rattle.dso_legal.specs.Lawful.{ServerFollows, AllFollow}
 use Rattle.dso_legal.proofs.leases.LeaseSteps.{unless_true, if_true}
 use Rattle.dso_legal.proofs.objects.ObjectsInFlight.{fault_stores, found}
 use Rattle.dso_legal.proofs.objects.ResidentServer.{stored_is_of}
-use Rattle.dso_legal.proofs.records.ServerSent.{EachTold, told_each_append, told_each_flat, told_each_map}
+use Rattle.dso_legal.proofs.records.ServerSent.{EachTold, told_each_flat, told_each_map, each_woken}
 use Rattle.dso_legal.proofs.copies.ChangesSent.{changes_down, told_of_changes, told_if_client}
 use Rattle.dso_legal.proofs.channels.InFlight.{told_to, told_append}
 
@@ -89,13 +88,6 @@ module _ (p : Settings) where
 
   all_told : (c : ℕ) (es : List Entry) → AllByRecursion IsOfLease (told_to c (serves_all p es))
   all_told c es = each_told IsOfLease c (serves_all p es) (told_each_flat IsOfLease (λ l. serves p l es) (requested es) (λ l. serve_each l (queue_of l es) (leases_so_far l es)))
-
--- wakings wake
-wakes_each : (notes : List Note) (lists : LockName → List ThreadId) → EachTold IsWake (wakes notes lists)
-wakes_each [] lists = tt
-wakes_each (note ∷ notes) lists = told_each_append IsWake (wake_each note.lock (waiters_woken note.choice (lists note.lock))) (wakes notes (lists_after note.lock note.choice lists))
-    (told_each_map IsWake (λ (t : ThreadId). t.client) (λ t. down.Wake note.lock t) (waiters_woken note.choice (lists note.lock)) (λ t. tt))
-    (wakes_each notes (lists_after note.lock note.choice lists))
 
 -- For a fault the client itself is told the object as it is stored, no other client anything.
 pub record TellsObject (p : Settings) (c d o : ℕ) (server : List Entry) (ms : List Down) : Type 0 where
@@ -181,10 +173,10 @@ module _ (p : Settings) (next : ThreadId → List Event → Option Request) (c :
   told_for d (up.Request l level) is h = subst (λ out. AllByRecursion IsOfLease (told_to c out)) (sym h.sends) (serves_told p c l now)
   told_for d (up.Return l threads) is h = subst (λ out. AllByRecursion IsOfLease (told_to c out)) (sym h.sends) (serves_told p c l now)
   told_for d (up.Commit txn) is h =
-      let woken : List Sent = wakes txn.notes (λ l. waiters_of l now) in
+      let woken : List Sent = wakes_of txn (λ l. waiters_of l now) in
       record {
         woken = told_to c woken;
-        wake = each_told IsWake c woken (wakes_each txn.notes (λ l. waiters_of l now));
+        wake = each_told IsWake c woken (each_woken IsWake (λ l t. tt) txn (λ l. waiters_of l now));
         tells = ap (told_to c) h.sends ∙ record_told d txn woken is;
       }
 

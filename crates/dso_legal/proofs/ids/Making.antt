@@ -18,7 +18,7 @@ use Rattle.dso_base.specs.declared.request.Event.TheVariants.{Act, Lost}
 use Rattle.dso_base.specs.declared.request.Reply.{Reply}
 use Rattle.dso_base.specs.declared.request.Reply.TheVariants.{Done, Made, Seen, Val, Local}
 use Rattle.dso_base.specs.declared.request.Request.{Request}
-use Rattle.dso_base.specs.declared.request.Request.TheVariants.{New, Look, Get, Put, Enter, Wait, Notify, NotifyAll}
+use Rattle.dso_base.specs.declared.request.Request.TheVariants.{New, Look, Get, Put, Enter, Wait, Timeout, Notify, NotifyAll}
 use Rattle.dso_base.specs.declared.value.ClassId.{ClassId}
 use Rattle.dso_base.specs.declared.value.Value.{Value}
 use Rattle.dso_base.specs.Shape.{guard_of}
@@ -28,7 +28,8 @@ use Rattle.dso_law.specs.Entries.{entries_of, by_taken_down, by_event}
 use Rattle.dso_law.specs.Threads.{Held, own, is_private, is_local, locks_of, hold_of}
 use Rattle.dso_law.specs.Records.{batches_by_taken, batches, made_by_reply, made_by, made, id_at, next_id}
 use Rattle.dso_law.specs.RequestNeeds.{Need, unmet, hold_level}
-use Rattle.dso_law.specs.Replies.{put_reply, enter_reply, monitor_reply, class_known, value_seen, value_in, put_answer, answer_put, reply_of}
+use Rattle.dso_law.specs.ClientWaiters.{is_marked}
+use Rattle.dso_law.specs.Replies.{put_reply, enter_reply, monitor_reply, timeout_reply, class_known, value_seen, value_in, put_answer, answer_put, reply_of}
 use Rattle.dso_law.specs.FitsDown.{FitsDown}
 use Rattle.dso_law.specs.ClientStep.{DoesOrAsks, ActsOn, ClientStepOn}
 use Rattle.dso_legal.specs.Lawful.{next_after, ClientFollows, NodeFollows, AllFollow}
@@ -204,6 +205,10 @@ no_monitor (Some Write) o e = cc e
 no_monitor (Some Read) o e = cc e
 no_monitor None o e = cc e
 
+no_timeout : (woken : Bool) (o : ℕ) → Some (timeout_reply woken) ≡ Some (Made o) → ⊥
+no_timeout true o e = cc e
+no_timeout false o e = cc e
+
 pub only_new : (p : Settings) (t : ThreadId) (request : Request) (es : List Entry) (o : ℕ) → reply_of p t request es ≡ Some (Made o) → IsNew request
 only_new p t (New class n) es o e = tt
 only_new p t (Look x) es o e = no_look (class_known p t x es) o e
@@ -213,6 +218,7 @@ only_new p t (Enter l level) es o e = no_enter (is_local p.shape t l es) level (
 only_new p t (Wait l) es o e = no_monitor (hold_level (hold_of t l es)) o e
 only_new p t (Notify l) es o e = no_monitor (hold_level (hold_of t l es)) o e
 only_new p t (NotifyAll l) es o e = no_monitor (hold_level (hold_of t l es)) o e
+only_new p t (Timeout l) es o e = no_timeout (is_marked t es) o e
 only_new p t request es o e = cc e
 
 -- an object is made with the next id

@@ -1,5 +1,5 @@
 -- What one more entry makes of what the pass keeps.
-use Rattle.std.proofs.Common.{ℕ, suc, ◌-◌, ◌≡◌, refl, sym, ◌∙◌, ap, Bool, true, false, cond, eqb, not, is_some, ◌||◌, Option, Some, None, List, [], ◌∷◌, ◌++◌}
+use Rattle.std.proofs.Common.{ℕ, suc, ◌-◌, ◌≡◌, refl, sym, ◌∙◌, ap, Bool, true, false, cond, eqb, is_some, ◌||◌, Option, Some, None, List, [], ◌∷◌, ◌++◌}
 use Rattle.std.proofs.Math.Path.{fun_ext}
 use Rattle.std.proofs.lemmas.List.{append-nil}
 use Rattle.dso_base.specs.declared.journal.Entry.{Entry}
@@ -15,7 +15,7 @@ use Rattle.dso_base.specs.declared.request.Event.TheVariants.{Act, Lost}
 use Rattle.dso_base.specs.declared.request.Reply.{Reply}
 use Rattle.dso_base.specs.declared.request.Reply.TheVariants.{Done}
 use Rattle.dso_base.specs.declared.request.Request.{Request}
-use Rattle.dso_base.specs.declared.request.Request.TheVariants.{Enter, Exit, Wait, Resume, End}
+use Rattle.dso_base.specs.declared.request.Request.TheVariants.{Enter, Exit, Wait, Timeout, Resume, End}
 use Rattle.std.specs.Option.{unwrap_or}
 use Rattle.dso_base.specs.declared.lock.Level.TheVariants.{Write}
 use Rattle.dso_base.specs.declared.record.Ending.{Ending}
@@ -30,8 +30,9 @@ use Rattle.dso_law.specs.ServerReadings.{is_lost, is_of_lost, counted, loses}
 use Rattle.dso_law.specs.ServerWaiters.{waiters_of}
 use Rattle.dso_law.specs.Threads.{Waiting, Locks, hold_in, with_hold, resumed, locks_by, locks_after, locks_of, exit_ending, ending_by, block_after, open_block}
 use Rattle.dso_law.proofs.client.ClientLaws.{holds_after}
+use Rattle.dso_legal.proofs.leases.Queues.{lock_self}
 use Rattle.dso_legal.specs.Committed.{block_if, ended_by, ended_blocks, committed_by, committed_at, committed}
-use Rattle.dso_legal.specs.JournalPass.{list_after, is_of_lost as kept_is_of_lost, hold_count, waiting_count, thread_state_of, client_state_of, server_state_of, pass_state_of, one_less, with_count, with_resume, counts_after, ends_block, block_left, block_ended, thread_state_after, client_state_after, server_state_after, given_events, pass_state_at_client, pass_state_after}
+use Rattle.dso_legal.specs.JournalPass.{list_after, is_of_lost as kept_is_of_lost, hold_count, waiting_count, thread_state_of, client_state_of, server_state_of, pass_state_of, one_less, with_count, with_resume, counts_after, held_so_often, ends_block, block_left, block_ended, thread_state_after, client_state_after, server_state_after, given_events, pass_state_at_client, pass_state_after}
 
 -- a count that is written, seen in the holds
 count_with : (l : LockName) (hold : Option Hold) (locks : Locks) → (λ k. hold_count (hold_in k (with_hold l hold locks.holds))) ≡ with_count l (hold_count hold) (λ k. hold_count (hold_in k locks.holds))
@@ -79,12 +80,12 @@ held_is (Wait l) Done locks block = λ i. record { counts = count_with l None lo
 held_is (Resume l) Done locks block = resumed_is l locks.waiting locks block
 held_is request reply locks block = refl
 
--- an exit ends the block where the lock isn't held after it
-exit_ends : (l : LockName) (hold : Option Hold) → is_some (exit_ending l (exited hold)) ≡ not (is_some (one_less (hold_count hold)))
+-- an exit ends the block where the lock isn't held after it, be it told by the hold or by how often it is held
+exit_ends : (l : LockName) (hold : Option Hold) → is_some (exit_ending l (exited hold)) ≡ is_some (exit_ending l (exited (hold_in l (held_so_often l (hold_count hold)))))
 exit_ends l None = refl
-exit_ends l (Some hold) = by (eqb hold.count 1)
+exit_ends l (Some hold) = by (eqb hold.count 1) ∙ ap (λ b. is_some (exit_ending l (exited (cond b (Some (record { level = Write; count = hold.count })) None)))) (sym (lock_self l))
   where
-    by : (b : Bool) → is_some (exit_ending l (cond b None (Some (record { level = hold.level; count = hold.count - 1 })))) ≡ not (is_some (cond b None (Some (hold.count - 1))))
+    by : (b : Bool) → is_some (exit_ending l (cond b None (Some (record { level = hold.level; count = hold.count - 1 })))) ≡ is_some (exit_ending l (cond b None (Some (record { level = Write; count = hold.count - 1 }))))
     by true = refl
     by false = refl
 
@@ -92,6 +93,7 @@ exit_ends l (Some hold) = by (eqb hold.count 1)
 ends_is : (request : Request) (reply : Reply) (locks : Locks) (block : List Event) → is_some (ending_by request reply locks) ≡ ends_block request reply (thread_state_of locks block)
 ends_is (Exit l) Done locks block = exit_ends l (hold_in l locks.holds)
 ends_is (Wait l) Done locks block = refl
+ends_is (Timeout l) Done locks block = refl
 ends_is (End fault) Done locks block = refl
 ends_is request reply locks block = refl
 

@@ -49,7 +49,7 @@ use Rattle.dso_law.specs.FitsDown.{FitFrom, HasSize, FitsShape, FitsIds, FitsObj
 use Rattle.dso_law.specs.FitsUp.{Rises, IsLock, FitsRequest, AreDistinct, IsNewWaiter, FitsReturn, FitsNews, FitsStored, FitsSet, IsNamed, IsPrinted, IsLiteral, FitsChoice, FitsNote, FitsEnding, stored_values, FitsRecord, FitsUp}
 use Rattle.dso_law.specs.Leases.{is_asked_for}
 use Rattle.dso_law.specs.Records.{batches, is_batch_asked, unacked}
-use Rattle.dso_law.specs.ServerReadings.{is_given, is_given_to, last_number, is_ended}
+use Rattle.dso_law.specs.ServerReadings.{is_given, is_given_to, last_number, is_ended, last_ending}
 use Rattle.dso_law.specs.Granting.{leased_to, queue_of}
 use Rattle.dso_law.specs.Store.{stored, holds_object}
 use Rattle.dso_law.specs.Threads.{Waiting, locks_of}
@@ -297,10 +297,21 @@ fits_choice p c choice = granted tt
 abbrev fits_note : (p : Settings) (c : ℕ) (es : List Entry) (note : Note) → Checked (FitsNote p c es note)
 fits_note p c es note = both (at_write (leased_to c note.lock es)) (fits_choice p c note.choice)
 
-abbrev fits_ending : (c : ℕ) (end : Ending) (es : List Entry) → Checked (FitsEnding c end es)
-fits_ending c (ending.Exit l) es = something (leased_to c l es)
-fits_ending c (ending.Wait l) es = at_write (leased_to c l es)
-fits_ending c (ending.End fault) es = granted tt
+pub waits_on_lock : (l k : LockName) → is_lock l k ≡ true → Some (ending.Wait k) ≡ Some (ending.Wait l)
+waits_on_lock l k same = ap (λ n. Some (ending.Wait n)) (same_lock l k same)
+
+abbrev is_wait_on : (l : LockName) (end : Option Ending) → Checked (end ≡ Some (ending.Wait l))
+is_wait_on l None = refused
+is_wait_on l (Some (ending.Exit k)) = refused
+is_wait_on l (Some (ending.Wait k)) = record { passes = is_lock l k; holds = waits_on_lock l k }
+is_wait_on l (Some (ending.End fault)) = refused
+is_wait_on l (Some (ending.Timeout k)) = refused
+
+abbrev fits_ending : (c : ℕ) (t : ThreadId) (end : Ending) (es : List Entry) → Checked (FitsEnding c t end es)
+fits_ending c t (ending.Exit l) es = something (leased_to c l es)
+fits_ending c t (ending.Wait l) es = at_write (leased_to c l es)
+fits_ending c t (ending.End fault) es = granted tt
+fits_ending c t (ending.Timeout l) es = is_wait_on l (last_ending t es)
 
 -- a record: its number and thread, its news, its sets, its values, its notes and its ending
 abbrev fits_record : (p : Settings) (c : ℕ) (txn : Txn) (es : List Entry) → Checked (FitsRecord p c txn es)
@@ -322,7 +333,7 @@ fits_record p c txn es = so (λ h. record {
     (both (both (each (fits_news p c es) txn.news) (rises (λ a b. ltb a.object b.object) txn.news))
     (both (both (each (fits_set p c es) txn.sets) (rises is_field_before txn.sets))
     (both (both (each (is_named p txn.news es) (stored_values txn)) (both (each (is_printed es) txn.outs) (each (is_literal p) (stored_values txn ++ txn.outs))))
-    (both (each (fits_note p c es) txn.notes) (fits_ending c txn.ending es))))))
+    (both (each (fits_note p c es) txn.notes) (fits_ending c txn.thread txn.ending es))))))
 
 -- whether a message of a client fits
 abbrev pub fits_up : (p : Settings) (c : ℕ) (m : Up) (es : List Entry) → Checked (FitsUp p c m es)

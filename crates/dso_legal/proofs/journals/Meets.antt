@@ -1,4 +1,4 @@
--- That three of the example journals meet the premises of the central law, each with a program of courses that go by the replies.
+-- That four of the example journals meet the premises of the central law, each with a program of courses that go by the replies.
 use Rattle.std.specs.Prelude.{ℕ, suc, ◌≢◌, not, map}
 use Rattle.std.proofs.Common.{◌≡◌, refl, ◌∙◌, true, cond, Some, None, List, [], ◌∷◌}
 use Rattle.dso_base.specs.declared.lock.Level.TheVariants.{Write}
@@ -10,10 +10,11 @@ use Rattle.dso_law.specs.Settings.{Settings, clients_of}
 use Rattle.dso_law.specs.Threads.{Held, hold_in, with_hold}
 use Rattle.dso_base.specs.declared.journal.Entry.{Entry}
 use Rattle.dso_legal.specs.examples.Courses.{Course, program_of, course_of}
-use Rattle.dso_legal.specs.examples.Premises.{MeetsPremises, counter_courses, recall_courses, flush_courses, CounterMeets, RecallMeets, FlushMeets}
+use Rattle.dso_legal.specs.examples.Premises.{MeetsPremises, counter_courses, recall_courses, flush_courses, settling_courses, CounterMeets, RecallMeets, FlushMeets, SettlingMeets}
 use Rattle.dso_legal.specs.examples.Counter as counter
 use Rattle.dso_legal.specs.examples.Flush as flush
 use Rattle.dso_legal.specs.examples.Recall as recall
+use Rattle.dso_legal.specs.examples.Settling as settling
 use Rattle.dso_legal.specs.examples.Words.{thread}
 use Rattle.dso_legal.proofs.journals.Checks.{each, counts_rejoins, without_waits, without_losses}
 use Rattle.dso_legal.proofs.journals.CourseKeeps.{step, keeps, told_first, told_second}
@@ -96,6 +97,14 @@ flush_sound =
     step (keeps refl refl tt tt tt) (λ w.
     step (keeps refl refl tt refl tt) (λ w. tt))))))))))))))
 
+-- the course of the thread that settles
+settling_sound : StaysSound settling.settings.shape (thread 1 1) [] (course_of (thread 1 1) settling_courses)
+settling_sound =
+    step (keeps refl refl tt tt tt) (λ w.
+    step (keeps refl refl tt (is_there _ refl) tt) (λ w.
+    step (keeps refl refl tt tt tt) (λ w.
+    step (keeps refl refl tt refl tt) (λ w. tt))))
+
 -- A journal meets the premises where its courses are sound; the rest is computed.
 meets : (p : Settings) (courses : List (ThreadId × Course)) (es : List Entry) → AllSound p.shape courses → replayed p (program_of courses) es ≡ map Some es
     → (each (counts_rejoins es) (clients_of p)).passes ≡ true → (without_waits es).passes ≡ true → (without_losses es).passes ≡ true → MeetsPremises p (program_of courses) es
@@ -114,3 +123,6 @@ recall_meets = meets recall.settings recall_courses recall.entries (first_sound,
 
 pub flush_meets : FlushMeets
 flush_meets = meets flush.settings flush_courses flush.entries (flush_sound, tt) refl refl refl refl
+
+pub settling_meets : SettlingMeets
+settling_meets = meets settling.settings settling_courses settling.entries (settling_sound, tt) refl refl refl refl

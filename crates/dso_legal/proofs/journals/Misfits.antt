@@ -1,5 +1,7 @@
 -- That each of the misfits breaks its row.
-use Rattle.std.specs.Prelude.{◌≤◌, ◌<◌}
+use Rattle.std.specs.Prelude.{◌≤◌, ◌<◌, ◌≡◌, Some}
+use Rattle.dso_base.specs.declared.lock.LockName.TheVariants.{Name}
+use Rattle.dso_base.specs.declared.record.Ending.TheVariants as ending
 use Rattle.std.proofs.Common.{refl, ap, arith}
 use Rattle.dso_legal.specs.examples.Misfits.{MisfitsAtClient, MisfitsAtServer, Misfits}
 use Rattle.dso_legal.proofs.journals.Refused.{differ, number, there}
@@ -34,6 +36,7 @@ at_server = record {
   set_of_object_not_held = λ h. differ refl (ap number h.sets.0.0);
   set_without_lease = λ h. differ refl (ap there h.sets.0.1.1);
   set_of_another_kind = λ h. h.sets.0.1.2;
+  timeout_without_wait = λ h. let never : Some (ending.Exit (Name 0)) ≡ Some (ending.Wait (Name 0)) = h.ending in cc never;
   ending_without_lease = λ h. h.ending refl;
 }
 

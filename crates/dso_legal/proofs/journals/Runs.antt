@@ -5,6 +5,10 @@ use Rattle.dso_legal.specs.examples.Counter as counter
 use Rattle.dso_legal.specs.examples.Flush as flush
 use Rattle.dso_legal.specs.examples.LostClient as lost
 use Rattle.dso_legal.specs.examples.Recall as recall
+use Rattle.dso_legal.specs.examples.Settling as settling
+use Rattle.dso_legal.specs.examples.TimedOutHere as here
+use Rattle.dso_legal.specs.examples.TimedOutThere as there
+use Rattle.dso_legal.specs.examples.CrossedTimeout as crossed
 use Rattle.dso_legal.specs.examples.Waiting as waiting
 use Rattle.dso_legal.proofs.journals.Replay.{lawful_by_replay}
 
@@ -19,6 +23,18 @@ flush_runs = record { lawful = lawful_by_replay flush.settings flush.next flush.
 
 pub waiting_runs : waiting.WaitingJournal
 waiting_runs = record { lawful = lawful_by_replay waiting.settings waiting.next waiting.entries refl refl; finished = refl; opens = refl; commits = refl; weighs = refl }
+
+pub timed_out_here_runs : here.TimedOutHereJournal
+timed_out_here_runs = record { lawful = lawful_by_replay here.settings here.next here.entries refl refl; finished = refl; opens = refl; commits = refl; weighs = refl }
+
+pub timed_out_there_runs : there.TimedOutThereJournal
+timed_out_there_runs = record { lawful = lawful_by_replay there.settings there.next there.entries refl refl; finished = refl; opens = refl; commits = refl; weighs = refl }
+
+pub crossed_timeout_runs : crossed.CrossedTimeoutJournal
+crossed_timeout_runs = record { lawful = lawful_by_replay crossed.settings crossed.next crossed.entries refl refl; finished = refl; opens = refl; commits = refl; weighs = refl }
+
+pub settling_runs : settling.SettlingJournal
+settling_runs = record { lawful = lawful_by_replay settling.settings settling.next settling.entries refl refl; finished = refl; opens = refl; commits = refl; weighs = refl }
 
 pub broken_runs : broken.BrokenJournal
 broken_runs = record { lawful = lawful_by_replay broken.settings broken.next broken.entries refl refl; finished = refl; opens = refl; commits = refl; weighs = refl }

@@ -14,6 +14,7 @@ use Rattle.dso_base.specs.declared.value.ClassId.{ClassId}
 use Rattle.dso_base.specs.declared.value.Value.{Value}
 use Rattle.dso_base.specs.Following.{is_thread, FollowsFrom, Listed}
 use Rattle.dso_plain.proofs.keys.SameKeys.{same_thread, thread_self}
+use Rattle.dso_plain.specs.Rechoice.{AreSameActs}
 use Rattle.dso_legal.specs.SoundProgram.{KeepsTo, IsSound}
 use Rattle.dso_legal.specs.examples.Courses.{Course, Stops, Makes, Looks, Reads, Does, asked_first, after_reply, asks_after, course_of, program_of}
 
@@ -93,6 +94,21 @@ module _ (shape : Shape) where
       by others true e = subst (λ u. StaysSound u [] course.1) (same_thread t course.0 e) all.0
       by others false e = others
 
+  -- a course goes by the replies alone
+  by_replies : (t : ThreadId) (course : Course) (events same : List Event) → AreSameActs events same → asks_after t course same ≡ asks_after t course events
+  by_replies t course [] [] are = refl
+  by_replies t course [] (e ∷ same) are = absurd are
+  by_replies t course (e ∷ events) [] are = absurd are
+  by_replies t course (Act u request reply woken ∷ events) (Act u' request' reply' woken' ∷ same) are =
+      ap (λ w. cond (is_thread t w) (asks_after t (after_reply course reply') same) None) are.0.0
+      ∙ ap (λ r. cond (is_thread t u) (asks_after t (after_reply course r) same) None) are.0.2
+      ∙ ap (λ asks. cond (is_thread t u) asks None) (by_replies t (after_reply course reply) events same are.1)
+  by_replies t course (Act u request reply woken ∷ events) (Lost client ∷ same) are = absurd are.0
+  by_replies t course (Lost client ∷ events) (e ∷ same) are = absurd are.0
+
   -- The program of the courses is sound.
   pub sound_program : (courses : List (ThreadId × Course)) → AllSound courses → IsSound shape (program_of courses)
-  sound_program courses all t events request acts untold held follows asks = sound_from (program_of courses) t (course_of t courses) [] events request (its_course t courses all) (λ more. refl) follows asks
+  sound_program courses all = record {
+    keeps = λ t events request acts untold held follows asks. sound_from (program_of courses) t (course_of t courses) [] events request (its_course t courses all) (λ more. refl) follows asks;
+    goes_by_replies = λ t events same are. by_replies t (course_of t courses) events same are;
+  }

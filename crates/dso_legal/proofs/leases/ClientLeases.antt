@@ -27,7 +27,7 @@ use Rattle.dso_law.specs.Threads.{locks_of, ending_of}
 use Rattle.dso_law.specs.ClientWaiters.{client_list}
 use Rattle.dso_law.specs.Leases.{idle, standing_up, standing_down, standing, leased, is_asked_for, granted, leased_locks}
 use Rattle.dso_law.specs.Closing.{is_closing, is_due, due}
-use Rattle.dso_law.specs.RequestNeeds.{Need, NeedsId, NeedsObject, NeedsClass, NeedsMark, NeedsLease, NeedsOthersOut, unmet, unless_asked, ask_for}
+use Rattle.dso_law.specs.RequestNeeds.{Need, NeedsId, NeedsObject, NeedsClass, NeedsMark, NeedsLease, NeedsOthersOut, NeedsAck, unmet, unless_asked, ask_for}
 use Rattle.dso_law.specs.Replies.{woken_by}
 use Rattle.dso_law.specs.ClientStep.{record_of, commits, returns, asks_again, Does, Asks, DoesOrAsks, ActsOn, ClientStepOn, ClientStep}
 use Rattle.dso_legal.specs.Agreement.{after, EachMay}
@@ -195,6 +195,7 @@ module _ (p : Settings) (c : ℕ) (l : LockName) (next : ThreadId → Option Req
   ask_one (NeedsClass o) before m same ask s is plain = absurd (cc ask)
   ask_one (NeedsMark k) before m same ask s is plain = absurd (cc ask)
   ask_one (NeedsOthersOut k) before m same ask s is plain = absurd (cc ask)
+  ask_one NeedsAck before m same ask s is plain = absurd (cc ask)
 
 -- a record alone is deaf
 commits_deaf : (p : Settings) (l : LockName) (t : ThreadId) (event : Event) (ending : Option Ending) (es : List Entry) → AllDeaf (MayGoUp l) (standing_up l) (record_of p t event ending es)

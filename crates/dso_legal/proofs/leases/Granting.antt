@@ -15,10 +15,14 @@ use Rattle.dso_base.specs.declared.record.Note.{Note}
 use Rattle.dso_base.specs.declared.record.Set.{Set}
 use Rattle.dso_plain.specs.KeyTests.{is_lock}
 use Rattle.dso_plain.proofs.keys.SameKeys.{same_lock}
+use Rattle.dso_base.specs.declared.record.Ending.{Ending}
+use Rattle.dso_base.specs.declared.record.Ending.TheVariants as ending
+use Rattle.dso_base.specs.declared.record.Txn.{Txn}
+use Rattle.dso_base.specs.Following.{is_thread}
 use Rattle.dso_law.specs.Settings.{Settings, clients_of}
 use Rattle.dso_law.specs.Granting.{queue_of, serves, serves_all, leases_so_far, requested}
 use Rattle.dso_law.specs.Store.{stored}
-use Rattle.dso_law.specs.ServerWaiters.{waiters_of, waiters_woken, lists_after, wake_each, wakes}
+use Rattle.dso_law.specs.ServerWaiters.{waiters_of, waiters_woken, lists_after, lists_noted, wake_each, wakes, wakes_timed_out, wakes_of}
 use Rattle.dso_law.specs.ServerStep.{object_to, sets_for, changes_to, changes_of, answers}
 use Rattle.dso_legal.proofs.leases.ClientLeases.{neither}
 use Rattle.dso_legal.proofs.leases.Locks.{Distinct, rising_distinct, requested_rises}
@@ -106,6 +110,20 @@ module _ (p : Settings) (l : LockName) (es : List Entry) where
       (no_grants_map l (λ (t : ThreadId). t.client) (λ t. down.Wake note.lock t) (waiters_woken note.choice (lists note.lock)) (λ t. tt))
       (wakes_no_grant notes (lists_after note.lock note.choice lists))
 
+  timed_out_no_grant : (t : ThreadId) (end : Ending) (lists : LockName → List ThreadId) → NoGrants l (wakes_timed_out t end lists)
+  timed_out_no_grant t (ending.Exit k) lists = tt
+  timed_out_no_grant t (ending.Wait k) lists = tt
+  timed_out_no_grant t (ending.End fault) lists = tt
+  timed_out_no_grant t (ending.Timeout k) lists = by (list_any (is_thread t) (lists k))
+    where
+      by : (b : Bool) → NoGrants l (cond b (wake_each k (t ∷ [])) [])
+      by true = (tt, tt)
+      by false = tt
+
+  woken_no_grant : (txn : Txn) (lists : LockName → List ThreadId) → NoGrants l (wakes_of txn lists)
+  woken_no_grant txn lists = no_grants_append l (wakes txn.notes lists) (wakes_timed_out txn.thread txn.ending (lists_noted txn.notes lists)) (wakes_no_grant txn.notes lists)
+      (timed_out_no_grant txn.thread txn.ending (lists_noted txn.notes lists))
+
   -- the answer to a message of client d
   pub answered : (d : ℕ) (m : Up) → OneServing p l (answers p d m es) es
   answered d up.IdAsk = inl (tt, tt)
@@ -115,7 +133,7 @@ module _ (p : Settings) (l : LockName) (es : List Entry) where
   answered d (up.Return k threads) = serve_lock k (is_lock l k) refl
   answered d (up.Commit txn) = inl (
     tt,
-    no_grants_append l (changes_of p d txn es) (wakes txn.notes (λ l. waiters_of l es))
+    no_grants_append l (changes_of p d txn es) (wakes_of txn (λ l. waiters_of l es))
         (no_grants_each l (λ x. cond (eqb x d) [] (changes_to x (sets_for x txn es))) (clients_of p) (λ x. changes_if (eqb x d) x (sets_for x txn es)))
-        (wakes_no_grant txn.notes (λ l. waiters_of l es)),
+        (woken_no_grant txn (λ l. waiters_of l es)),
   )

@@ -19,7 +19,7 @@ use Rattle.dso_plain.specs.History.{end_of, last_state}
 use Rattle.dso_plain.specs.Own.{LeavesOwn}
 use Rattle.dso_plain.specs.Touches.{AreActsOfOthers}
 use Rattle.dso_plain.proofs.keys.SameKeys.{same_number}
-use Rattle.dso_plain.proofs.independence.LeftAlone.{leaves_own}
+use Rattle.dso_legal.proofs.PlainRuns.{leaves_own}
 use Rattle.dso_law.specs.Settings.{Settings}
 use Rattle.dso_law.specs.Entries.{entries_of}
 use Rattle.dso_law.specs.Channels.{up_in_flight}

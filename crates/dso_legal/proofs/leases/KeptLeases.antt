@@ -33,7 +33,7 @@ use Rattle.dso_law.specs.Records.{is_batch_asked}
 use Rattle.dso_law.specs.ClientWaiters.{client_list}
 use Rattle.dso_law.specs.Leases.{standing_up, standing_down, standing, leased, is_asked_for, since_grant, is_entered, leased_locks}
 use Rattle.dso_law.specs.Closing.{is_closing, is_free, is_due, due}
-use Rattle.dso_law.specs.RequestNeeds.{Need, NeedsId, NeedsObject, NeedsClass, NeedsMark, NeedsLease, NeedsOthersOut, unmet, ask_for}
+use Rattle.dso_law.specs.RequestNeeds.{Need, NeedsId, NeedsObject, NeedsClass, NeedsMark, NeedsLease, NeedsOthersOut, NeedsAck, unmet, ask_for}
 use Rattle.dso_law.specs.Replies.{woken_by}
 use Rattle.dso_law.specs.FitsDown.{FitsDown}
 use Rattle.dso_law.specs.ClientStep.{record_of, commits, returns, asks_again, Does, Asks, DoesOrAsks, ActsOn, ClientStepOn, ClientStep}
@@ -86,6 +86,7 @@ ask_leaves l (NeedsLease k level) es m ask = subst (LeavesLease l) (sym (ask_is 
 ask_leaves l (NeedsClass o) es m ask = absurd (cc ask)
 ask_leaves l (NeedsMark k) es m ask = absurd (cc ask)
 ask_leaves l (NeedsOthersOut k) es m ask = absurd (cc ask)
+ask_leaves l NeedsAck es m ask = absurd (cc ask)
 
 -- a thread of a list that passes a test is found
 pub found : (t : ThreadId) (test : ThreadId → Bool) (threads : List ThreadId) → test t ≡ true → list_any (is_thread t) threads ≡ true → list_any test threads ≡ true

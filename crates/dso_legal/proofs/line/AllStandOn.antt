@@ -1,4 +1,5 @@
 -- One step of the induction for lines and open blocks: what stands of all clients stands again after one more entry.
+use Rattle.std.specs.List.{AllByRecursion}
 use Rattle.std.proofs.Common.{ℕ, ◌≡◌, ◌≢◌, refl, sym, subst, Bool, true, false, eqb, List, ◌∷◌, ◌++◌}
 use Rattle.std.specs.Prelude.{Option}
 use Rattle.dso_base.specs.declared.journal.Entry.{Entry}
@@ -13,7 +14,7 @@ use Rattle.dso_base.specs.declared.request.Event.{Event}
 use Rattle.dso_base.specs.declared.request.Request.{Request}
 use Rattle.dso_plain.specs.State.{opening}
 use Rattle.dso_plain.specs.History.{Runs}
-use Rattle.dso_plain.specs.Touches.{MakesIn, NoCommonId}
+use Rattle.dso_plain.specs.Touches.{MakesIn, NobodyTimesOut, NoCommonId}
 use Rattle.dso_plain.proofs.keys.SameKeys.{same_number, number_self}
 use Rattle.dso_law.specs.Settings.{Settings}
 use Rattle.dso_law.specs.Entries.{entries_of}
@@ -24,7 +25,7 @@ use Rattle.dso_legal.specs.Committed.{committed}
 use Rattle.dso_legal.specs.CopiesStand.{state_at}
 use Rattle.dso_legal.specs.Lawful.{AllFollow}
 use Rattle.dso_legal.specs.PendingBlocks.{joined, pending}
-use Rattle.dso_legal.proofs.blocks.BlockSteps.{none_is_lost}
+use Rattle.dso_legal.proofs.blocks.BlockSteps.{pending_in_time, open_in_time, none_is_lost}
 use Rattle.dso_legal.proofs.records.HandedIn.{TakesBlock, takes_its_block}
 use Rattle.dso_legal.proofs.blocks.Histories.{history_takes}
 use Rattle.dso_legal.proofs.leases.LeaseSteps.{no_both}
@@ -113,15 +114,19 @@ module _ (p : Settings) (next : ThreadId → List Event → Option Request) (e :
       ids : NoCommonId (MakesIn block) (MakesIn (joined (pending c es)))
       ids id made too = pending_apart p es (made_once p next es follow.0) c d unlike (stand.lines d).line (stand.lines c).line id (block_makes id made) too
 
+      -- nobody times out in the block, which is one of the pending ones
+      block_in_time : NobodyTimesOut block
+      block_in_time = (subst (λ blocks. AllByRecursion NobodyTimesOut blocks) takes.first (pending_in_time d es calm.1)).0
+
       pub passes : RecordPasses p c txn block e es
-      passes = line_passed p next e es follow d txn is took alive block history takes.first (stand.lines d).line c other ids (stand.lines c).line
+      passes = line_passed p next e es follow d txn is took alive block history takes.first (stand.lines d).line c other ids block_in_time (pending_in_time c es calm.1) (stand.lines c).line
 
       stands_passed : LinesStand p c (e ∷ es)
       stands_passed = record {
         line = passes.line;
         opens = λ t its. subst (λ own. Runs p.shape (open_block t own) (state_at p c (e ∷ es))) (sym (server_turn c e es is).own)
             (opens_passed p next es follow.0 c t txn block e its (none_is_lost c es safe.1) (opens_from p next es follow.0 calm.1 safe.1 stand c t its) passes
-            (λ id made too. open_apart p es (made_once p next es follow.0) c d unlike (stand.lines d).line t its id (block_makes id made) too));
+            (λ id made too. open_apart p es (made_once p next es follow.0) c d unlike (stand.lines d).line t its id (block_makes id made) too) (open_in_time t (Client c) es calm.1));
       }
 
     taken_by : (c : ℕ) (b : Bool) → eqb c d ≡ b → LinesStand p c (e ∷ es)

@@ -16,7 +16,7 @@ use Rattle.dso_base.specs.declared.request.Event.{Event}
 use Rattle.dso_base.specs.declared.request.Event.TheVariants.{Act}
 use Rattle.dso_base.specs.declared.request.Reply.{Reply}
 use Rattle.dso_base.specs.declared.request.Request.{Request}
-use Rattle.dso_base.specs.declared.request.Request.TheVariants.{Exit, Wait, End}
+use Rattle.dso_base.specs.declared.request.Request.TheVariants.{Exit, Wait, Timeout, End}
 use Rattle.dso_base.specs.declared.shape.Shape.{Shape}
 use Rattle.dso_base.specs.Following.{is_thread}
 use Rattle.dso_plain.specs.History.{Runs, end_of, last_state}
@@ -24,8 +24,9 @@ use Rattle.dso_plain.specs.StepInvariants.{PastInvariant}
 use Rattle.dso_plain.specs.State.{PlainState, IsShared, guard_in}
 use Rattle.dso_plain.specs.Touches.{AreActsOf, TouchesIn}
 use Rattle.dso_plain.proofs.keys.SameKeys.{same_thread}
-use Rattle.dso_plain.proofs.independence.LeftAlone.{leaves_own}
-use Rattle.dso_plain.proofs.invariants.PastsHold.{kept_past, run_kept}
+use Rattle.dso_legal.proofs.PlainRuns.{leaves_own}
+use Rattle.dso_plain.proofs.invariants.PastsHold.{kept_past}
+use Rattle.dso_legal.proofs.PlainRuns.{run_kept}
 use Rattle.dso_law.specs.Copies.{is_resident, is_set_of}
 use Rattle.dso_law.specs.Entries.{entries_of}
 use Rattle.dso_law.specs.Leases.{standing, leased}
@@ -62,6 +63,7 @@ use Rattle.dso_legal.proofs.objects.WorksTell.{start_goes, history_kept, works_t
 ending_work : (shape : Shape) (request : Request) (reply : Reply) (woken : Option ThreadId) (work : Work) (locks : Locks) (ending : Ending) → ending_by request reply locks ≡ Some ending → work_by shape request reply woken work ≡ work
 ending_work shape (Exit l) reply woken work locks ending ends = refl
 ending_work shape (Wait l) reply woken work locks ending ends = refl
+ending_work shape (Timeout l) reply woken work locks ending ends = refl
 ending_work shape (End fault) reply woken work locks ending ends = refl
 ending_work shape request reply woken work locks ending ends = absurd (cc ends)
 

@@ -1,5 +1,6 @@
 -- A client's line where the server takes a record: the client's own line is cut behind the first block, which becomes the
 -- history's last; another client's line has that block in front.
+use Rattle.std.specs.List.{AllByRecursion}
 use Rattle.std.proofs.Common.{ℕ, ◌≡◌, ◌≢◌, refl, sym, ◌∙◌, ap, subst, Bool, true, false, cond, eqb, List, [], ◌∷◌, ◌++◌}
 use Rattle.std.specs.Prelude.{Option, Some, None, drop}
 use Rattle.dso_base.specs.declared.journal.Entry.{Entry}
@@ -16,7 +17,7 @@ use Rattle.dso_base.specs.declared.request.Request.{Request}
 use Rattle.dso_base.specs.declared.shape.Shape.{Shape}
 use Rattle.dso_plain.specs.State.{PlainState, opening}
 use Rattle.dso_plain.specs.History.{Runs, end_of, last_state}
-use Rattle.dso_plain.specs.Touches.{MakesIn, AreActsOf, NoCommonId}
+use Rattle.dso_plain.specs.Touches.{MakesIn, AreActsOf, NobodyTimesOut, NoCommonId}
 use Rattle.dso_plain.proofs.keys.SameKeys.{number_self}
 use Rattle.dso_plain.proofs.independence.RunsSwap.{runs_in_parts, ends_in_parts}
 use Rattle.dso_law.specs.declared.readings.Standing.{Standing}
@@ -76,6 +77,7 @@ pub record RecordPasses (p : Settings) (c : ℕ) (txn : Txn) (block : List Event
   pub line : LineStands p c (e ∷ es)
   pub other : txn.thread.client ≢ c
   pub acts : AreActsOf txn.thread block
+  pub in_time : NobodyTimesOut block
   pub runs : Runs p.shape block (state_at p c es)
   pub free : IsFreeOf p.shape block (λ l. standing_with c l (counted (entries_of Server es))) (state_at p c es)
   pub state : state_at p c (e ∷ es) ≡ end_of p.shape block (state_at p c es)
@@ -147,7 +149,7 @@ module _ (p : Settings) (next : ThreadId → List Event → Option Request) (e :
     pub state_taken : state_at p d (e ∷ es) ≡ state_at p d es
     state_taken = ap (λ r. end_of p.shape (joined (pending d (e ∷ es))) r) state_now ∙ sym (ends_in_parts p.shape block (joined (pending d (e ∷ es))) s) ∙ ap (λ blocks. end_of p.shape (joined blocks) s) (sym mine)
 
-    module _ (c : ℕ) (apart : eqb c d ≡ false) (ids : NoCommonId (MakesIn block) (MakesIn (joined (pending c es)))) (its : LineStands p c es) where
+    module _ (c : ℕ) (apart : eqb c d ≡ false) (ids : NoCommonId (MakesIn block) (MakesIn (joined (pending c es)))) (in_time : NobodyTimesOut block) (others_in_time : AllByRecursion NobodyTimesOut (pending c es)) (its : LineStands p c es) where
       -- the block touches nothing in conflict with the other client's leases
       free_block : IsFreeOf p.shape block (λ l. standing_with c l before) s
       free_block l a b touched enough = both_read a b (leased_to d l before) (leased_to c l before) (taken_block.can.within l a touched) enough
@@ -157,7 +159,7 @@ module _ (p : Settings) (next : ThreadId → List Event → Option Request) (e :
       foreign same = absurd (cc (sym (number_self c) ∙ ap (eqb c) (sym same ∙ taken_block.can.its) ∙ apart))
 
       passes : PassesLine p.shape c block (messages (up_in_flight c es)) (pending c es) (λ l. standing_with c l before) s
-      passes = line_foreign p.shape c txn.thread foreign block taken_block.can.acts (messages (up_in_flight c es)) (pending c es) (λ l. standing_with c l before) s taken_block.can.runs free_block ids its
+      passes = line_foreign p.shape c txn.thread foreign block taken_block.can.acts (messages (up_in_flight c es)) (pending c es) (λ l. standing_with c l before) s taken_block.can.runs free_block ids in_time others_in_time its
 
       -- Another client's line stands again, and the block runs where it ends.
       pub line_passed : RecordPasses p c txn block e es
@@ -169,6 +171,7 @@ module _ (p : Settings) (next : ThreadId → List Event → Option Request) (e :
             (line_grows p.shape c (messages (up_in_flight c es)) (pending c es) (λ l. standing_with c l before) (λ l. standing_with c l (counted (entries_of Server (e ∷ es)))) (end_of p.shape block s) (record_grows c) passes.line)));
         other = foreign;
         acts = taken_block.can.acts;
+        in_time = in_time;
         runs = passes.runs;
         free = λ l a b touched enough. free_block l a b (passes.touches l a touched) enough;
         state = ap (λ blocks. end_of p.shape (joined blocks) (last_state p.shape (committed (e ∷ es)))) (pending_of_other c apart) ∙ ap (λ r. end_of p.shape (joined (pending c es)) r) state_now ∙ passes.same;

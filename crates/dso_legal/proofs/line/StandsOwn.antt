@@ -19,13 +19,15 @@ use Rattle.dso_law.specs.Settings.{Settings}
 use Rattle.dso_law.specs.Entries.{entries_of, by_event, events_in}
 use Rattle.dso_law.specs.ServerReadings.{is_lost}
 use Rattle.dso_law.specs.Threads.{ending_of, locks_of, open_block}
-use Rattle.dso_legal.specs.WaitsAndLosses.{WithoutWaits, WithoutLosses}
+use Rattle.dso_legal.specs.WaitsAndLosses.{is_wait, HasNoWait, WithoutWaits, WithoutLosses}
 use Rattle.dso_legal.specs.Committed.{block_if, ended_by, ended_blocks}
 use Rattle.dso_legal.specs.CopiesStand.{state_at}
 use Rattle.dso_legal.specs.Lawful.{next_after, ClientFollows, NodeFollows, AllFollow}
 use Rattle.dso_legal.specs.PendingBlocks.{joined, handed_in, no_locks, locks_through}
 use Rattle.dso_legal.specs.Works.{HaveLocks}
-use Rattle.dso_legal.proofs.blocks.BlockSteps.{none_is_lost}
+use Rattle.dso_legal.proofs.blocks.BlockSteps.{open_in_time, none_is_lost}
+use Rattle.dso_legal.proofs.PlainRuns.{nobody_times_out}
+use Rattle.dso_legal.proofs.blocks.BlocksWithoutWaits.{each_both, each_of_node, open_is_calm}
 use Rattle.dso_legal.proofs.acts.ClientActs.{IsQuiet, HasEvent, client_acted}
 use Rattle.dso_legal.proofs.blocks.ClientBlocks.{joined_more, block_acts, keeps_thread}
 use Rattle.dso_legal.proofs.records.ClientRecords.{quiet_ends_none, goes_on}
@@ -176,6 +178,7 @@ module _ (p : Settings) (next : ThreadId → List Event → Option Request) (e :
             unlike id
             (subst (λ mine. MakesIn (events_in t mine) id) (sym own_now) (open_makes p.shape t (e ∷ own) id (subst (λ block. MakesIn block id) (sym (open_at_other t e own event it.event other)) too)))
             (subst (λ mine. MakesIn (events_in it.thread mine) id) (sym own_now) (act_makes p.shape it.thread e own event it.event (thread_self it.thread) id made)))
+            (open_in_time t (Client c) es calm.1) (nobody_times_out block (each_both (λ event. is_wait event ≡ false) (open_block it.thread own) (event ∷ []) (open_is_calm it.thread own (each_of_node (λ e. HasNoWait e.event) (Client c) es calm.1)) (subst HasNoWait it.event calm.0, tt)))
 
         -- an open block after an ending
         ended_runs : (t : ThreadId) → t.client ≡ c → (b : Bool) → is_thread t it.thread ≡ b → Runs p.shape (open_block t (e ∷ own)) (end_of p.shape block s)

@@ -7,15 +7,15 @@ use Rattle.dso_base.specs.declared.lock.Level.TheVariants.{Write}
 use Rattle.dso_base.specs.declared.lock.LockName.{LockName}
 use Rattle.dso_base.specs.declared.lock.ThreadId.{ThreadId}
 use Rattle.dso_base.specs.declared.request.Request.{Request}
-use Rattle.dso_base.specs.declared.request.Request.TheVariants.{New, Look, Get, Put, Enter, Resume}
+use Rattle.dso_base.specs.declared.request.Request.TheVariants.{New, Look, Get, Put, Enter, Resume, Settle}
 use Rattle.dso_law.specs.Settings.{Settings, threads_of}
 use Rattle.dso_law.specs.Threads.{own, is_local, hold_of}
 use Rattle.dso_law.specs.Copies.{is_resident}
 use Rattle.dso_law.specs.Leases.{leased}
-use Rattle.dso_law.specs.Records.{next_id}
+use Rattle.dso_law.specs.Records.{next_id, is_settled}
 use Rattle.dso_law.specs.ClientWaiters.{is_marked}
 use Rattle.dso_law.specs.Closing.{admits}
-use Rattle.dso_law.specs.RequestNeeds.{Need, NeedsId, NeedsObject, NeedsClass, NeedsMark, NeedsLease, NeedsOthersOut, is_enough, is_in_conflict, entry_need, look_need, access_need, unless, first_unmet, unmet}
+use Rattle.dso_law.specs.RequestNeeds.{Need, NeedsId, NeedsObject, NeedsClass, NeedsMark, NeedsLease, NeedsOthersOut, NeedsAck, is_enough, is_in_conflict, entry_need, look_need, access_need, unless, first_unmet, unmet}
 
 -- What the need says, where it is an object: that it isn't resident.
 abbrev pub IsLacking : List Entry → Option Need → Type 0
@@ -61,4 +61,5 @@ module _ (p : Settings) (c : ℕ) (next : ThreadId → Option Request) (t : Thre
   lacking (Put o f v) = lacking_access o
   lacking (Enter l level) = lacking_enter (is_local p.shape t l es || is_some (hold_of t l es)) l level
   lacking (Resume l) = lacking_first es (unless (is_marked t es) (NeedsMark l)) _ (other_unless es (is_marked t es) (NeedsMark l) tt) (lacking_entry l Write)
+  lacking Settle = other_unless es (is_settled t es) NeedsAck tt
   lacking other = tt

@@ -23,8 +23,9 @@ use Rattle.dso_plain.specs.Own.{LeavesOwn}
 use Rattle.dso_plain.specs.Touches.{AreActsOf, AreActsOfOthers}
 use Rattle.dso_plain.proofs.keys.SameKeys.{same_thread, thread_self}
 use Rattle.dso_plain.proofs.histories.LegalGoesOn.{events_in_parts}
-use Rattle.dso_plain.proofs.independence.LeftAlone.{leaves_own}
-use Rattle.dso_plain.proofs.invariants.PastsHold.{event_kept, opening_kept}
+use Rattle.dso_legal.proofs.PlainRuns.{leaves_own}
+use Rattle.dso_plain.proofs.invariants.PastsHold.{opening_kept}
+use Rattle.dso_legal.proofs.PlainRuns.{event_kept}
 use Rattle.dso_legal.specs.PendingBlocks.{joined, no_locks, locks_through, privates_by, privates_through}
 use Rattle.dso_legal.specs.Works.{HasBody, ArePrivates, HaveLocks}
 use Rattle.dso_legal.proofs.objects.FoundBodies.{found_is}

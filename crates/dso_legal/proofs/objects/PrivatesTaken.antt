@@ -19,7 +19,7 @@ use Rattle.dso_plain.specs.Possible.{IsOf}
 use Rattle.dso_plain.specs.Touches.{AreActsOf, AreActsOfOthers}
 use Rattle.dso_plain.proofs.independence.RunsSwap.{runs_in_parts, ends_in_parts}
 use Rattle.dso_plain.proofs.keys.SameKeys.{number_self, same_thread}
-use Rattle.dso_plain.proofs.independence.LeftAlone.{leaves_own}
+use Rattle.dso_legal.proofs.PlainRuns.{leaves_own}
 use Rattle.dso_law.specs.Settings.{Settings}
 use Rattle.dso_law.specs.Channels.{up_in_flight}
 use Rattle.dso_law.specs.Entries.{is_node, entries_of}

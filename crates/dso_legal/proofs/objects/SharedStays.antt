@@ -11,7 +11,8 @@ use Rattle.dso_plain.specs.After.{after}
 use Rattle.dso_plain.specs.History.{Runs, end_of, last_state}
 use Rattle.dso_plain.specs.Possible.{May}
 use Rattle.dso_plain.specs.State.{PlainState, IsShared, is_shared, opening}
-use Rattle.dso_plain.proofs.independence.RunsSwap.{quiet_act, runs_in_parts, ends_in_parts}
+use Rattle.dso_plain.proofs.independence.RunsSwap.{runs_in_parts, ends_in_parts}
+use Rattle.dso_legal.proofs.PlainRuns.{quiet_act}
 use Rattle.dso_plain.proofs.independence.LeavesOthers.{absent_shared}
 use Rattle.dso_plain.proofs.independence.LeavesOthers.{private_or_shared}
 use Rattle.dso_legal.specs.PendingBlocks.{joined, privates_through, IsRecordOf, AreRecordsOf}

@@ -10,7 +10,7 @@ use Rattle.dso_base.specs.declared.request.Event.TheVariants.{Act, Lost}
 use Rattle.dso_base.specs.declared.request.Reply.{Reply}
 use Rattle.dso_base.specs.declared.request.Reply.TheVariants.{Done, Made, Val}
 use Rattle.dso_base.specs.declared.request.Request.{Request}
-use Rattle.dso_base.specs.declared.request.Request.TheVariants.{New, Look, Get, Put, Enter, Exit, Wait, Resume, Notify, NotifyAll, Print, End, Pause}
+use Rattle.dso_base.specs.declared.request.Request.TheVariants.{New, Look, Get, Put, Enter, Exit, Wait, Tick, Timeout, Resume, Notify, NotifyAll, Print, End, Pause, Settle}
 use Rattle.dso_base.specs.declared.shape.Shape.{Shape}
 use Rattle.dso_base.specs.declared.value.Value.{Value}
 use Rattle.dso_base.specs.Block as block
@@ -25,7 +25,8 @@ use Rattle.dso_plain.specs.StepInvariants.{PastInvariant}
 use Rattle.dso_plain.specs.Touches.{AreActsOf}
 use Rattle.dso_plain.proofs.independence.WritesGuarded.{published_private, private_unshared}
 use Rattle.dso_plain.proofs.keys.SameKeys.{same_number}
-use Rattle.dso_plain.proofs.invariants.PastsHold.{opening_kept, event_kept, run_kept}
+use Rattle.dso_plain.proofs.invariants.PastsHold.{opening_kept}
+use Rattle.dso_legal.proofs.PlainRuns.{event_kept, run_kept}
 use Rattle.dso_plain.proofs.independence.LeavesOthers.{private_or_shared, absent_private, absent_shared}
 use Rattle.dso_legal.specs.OwnObjects.{count_bodies, count_in_hand}
 use Rattle.dso_legal.specs.Works.{HasBody, ArePrivates, TellsWork, WorksTell}
@@ -149,6 +150,7 @@ module _ (shape : Shape) (t : ThreadId) (work : Work) (before s : PlainState) (g
   act_tells (Enter l level) Done woken a = goes.tells
   act_tells (Exit l) Done woken a = goes.tells
   act_tells (Wait l) Done woken a = goes.tells
+  act_tells (Timeout l) Done woken a = goes.tells
   act_tells (Resume l) Done woken a = goes.tells
   act_tells (End fault) Done woken a = goes.tells
   act_tells request reply woken a = goes.tells
@@ -174,12 +176,15 @@ module _ (shape : Shape) (t : ThreadId) (work : Work) (before s : PlainState) (g
   only_new (Enter l level) o a = absurd a
   only_new (Exit l) o a = absurd a
   only_new (Wait l) o a = absurd a
+  only_new (Tick l) o a = absurd a
+  only_new (Timeout l) o a = absurd a
   only_new (Resume l) o a = absurd a
   only_new (Notify l) o a = absurd a
   only_new (NotifyAll l) o a = absurd a
   only_new (Print v) o a = absurd a
   only_new (End fault) o a = absurd a
   only_new Pause o a = absurd a
+  only_new Settle o a = absurd a
 
   -- a new object is in hand once
   few_new : (o p : ℕ) (b : Bool) → eqb o p ≡ b → s.objects o ≡ None → cond b 1 0 + count_in_hand p work ≤ 1

@@ -5,11 +5,13 @@ use Rattle.dso_base.specs.declared.lock.Level.{Level}
 use Rattle.dso_base.specs.declared.lock.Level.TheVariants.{Write}
 use Rattle.dso_base.specs.declared.lock.LockName.{LockName}
 use Rattle.dso_base.specs.declared.lock.LockName.TheVariants.{Mon}
+use Rattle.dso_base.specs.declared.record.Ending.{Ending}
+use Rattle.dso_base.specs.declared.record.Ending.TheVariants as ending
 use Rattle.dso_base.specs.declared.request.Fault.{Fault}
 use Rattle.dso_base.specs.declared.request.Reply.{Reply}
 use Rattle.dso_base.specs.declared.request.Reply.TheVariants.{Done, Made, Val}
 use Rattle.dso_base.specs.declared.request.Request.{Request}
-use Rattle.dso_base.specs.declared.request.Request.TheVariants.{New, Look, Get, Put, Enter, Exit, Wait, Resume, Notify, NotifyAll, Print, End, Pause}
+use Rattle.dso_base.specs.declared.request.Request.TheVariants.{New, Look, Get, Put, Enter, Exit, Wait, Tick, Timeout, Resume, Notify, NotifyAll, Print, End, Pause, Settle}
 use Rattle.dso_base.specs.declared.shape.ClassShape.{ClassShape}
 use Rattle.dso_base.specs.declared.shape.Shape.{Shape}
 use Rattle.dso_base.specs.declared.value.ClassId.TheVariants.{Plain, Array}
@@ -22,29 +24,36 @@ use Rattle.dso_plain.specs.State.{Hold}
 use Rattle.dso_plain.specs.After.{entered, exited, count_of}
 use Rattle.dso_plain.specs.Possible.{IsFieldCount}
 use Rattle.dso_plain.proofs.keys.SameKeys.{number_self, same_lock}
+use Rattle.dso_law.specs.FitsDown.{IsWaitingOn}
 use Rattle.dso_law.specs.RequestNeeds.{hold_level}
-use Rattle.dso_law.specs.Threads.{Held, Locks, hold_in, with_hold, locks_by, asks_end}
+use Rattle.dso_law.specs.Threads.{Held, Locks, or_else, hold_in, with_hold, waiting_on, resumed, locks_by, ending_by, asks_end}
 use Rattle.dso_law.proofs.client.ClientLaws.{holds_after}
 use Rattle.dso_legal.specs.PendingBlocks.{no_locks}
-use Rattle.dso_legal.specs.SoundProgram.{tells, IsTextAmong, GivesTextsAmong, KeepsLocks, MakesOnly, IsResume}
+use Rattle.dso_legal.specs.SoundProgram.{tells, IsTextAmong, GivesTextsAmong, KeepsLocks, MakesOnly, IsOfWaiter, TimesOutOnce}
 use Rattle.dso_legal.proofs.leases.Queues.{lock_self}
 use Rattle.dso_machine.proofs.protocol.Protocol.{KnowsValue, KnowsLock, is_plain, Keeper}
 
 -- ---- points
 
--- a thread's locks, the objects that it was told of, and whether it has ended
+-- a thread's locks, its latest ending, the objects that it was told of, and whether it has ended
 pub record Point : Type 0 where
   pub locks : Locks
+  pub latest : Option Ending
   pub told : ℕ → Bool
   pub ended : Bool
 
 -- a thread's start: it was told of object 0
 abbrev pub first : Point
-first = record { locks = no_locks; told = λ object. eqb object 0; ended = false }
+first = record { locks = no_locks; latest = None; told = λ object. eqb object 0; ended = false }
 
 -- the point after a request with its reply
 abbrev pub next_point : Request → Reply → Point → Point
-next_point q r g = record { locks = locks_by q r g.locks; told = λ object. g.told object || tells object r; ended = g.ended || asks_end q }
+next_point q r g = record {
+  locks = locks_by q r g.locks;
+  latest = or_else (ending_by q r g.locks) g.latest;
+  told = λ object. g.told object || tells object r;
+  ended = g.ended || asks_end q;
+}
 
 -- the thread was told of the object, which is not object 0
 pub record Knows (g : Point) (object : ℕ) : Type 0 where
@@ -66,7 +75,8 @@ pub record Asks (shape : Shape) (HasText : ℕ → Type 0) (g : Point) (q : Requ
   pub texts : GivesTextsAmong HasText q
   pub locks : KeepsLocks q g.locks
   pub makes : MakesOnly shape q
-  pub waits : g.locks.waiting ≢ None → IsResume q
+  pub waits : g.locks.waiting ≢ None → IsOfWaiter q
+  pub once : TimesOutOnce q g.latest
 
 -- a thread that waits held the lock at Write
 abbrev pub WaitsHeld : Request → Reply → Locks → Type 0
@@ -96,6 +106,20 @@ pub record Awake (g : Point) : Type 0 where
   pub up : g.locks.waiting ≡ None
   pub counts : (l : LockName) → Counts (hold_in l g.locks.holds)
   pub roots : g.told 0 ≡ true
+
+-- At the second point the thread waits on the lock since the first one, at which it was awake and held the lock at Write; no
+-- less was told.
+pub record Roused (g : Point) (l : LockName) (h : Point) : Type 0 where
+  pub awake : Awake g
+  pub held : hold_level (hold_in l g.locks.holds) ≡ Some Write
+  pub locks : h.locks ≡ waiting_on l g.locks
+  pub goes : h.ended ≡ false
+  pub told : (object : ℕ) → g.told object ≡ true → h.told object ≡ true
+
+-- and its latest ending is the wait
+pub record Asleep (g : Point) (l : LockName) (h : Point) : Type 0 where
+  pub roused : Roused g l h
+  pub latest : h.latest ≡ Some (ending.Wait l)
 
 -- each lock is held so, nothing else has changed, and no less was told
 pub record Same (g h : Point) : Type 0 where
@@ -165,6 +189,8 @@ pub plain_same : {HasText : ℕ → Type 0} (g : Point) (q : Request) (r : Reply
 plain_same g (Enter l level) r awake plain comes = absurd (cc plain)
 plain_same g (Exit l) r awake plain comes = absurd (cc plain)
 plain_same g (Wait l) r awake plain comes = absurd (cc plain)
+plain_same g (Tick l) r awake plain comes = absurd (cc plain)
+plain_same g (Timeout l) r awake plain comes = absurd (cc plain)
 plain_same g (Resume l) r awake plain comes = absurd (cc plain)
 plain_same g (End fault) r awake plain comes = absurd (cc plain)
 plain_same g q r awake plain comes = unchanged g q r refl refl awake
@@ -221,7 +247,7 @@ counts_either true here there h t = h
 counts_either false here there h t = t
 
 -- no waiting, no resume
-not_waiting : (g : Point) (q : Request) → Awake g → g.locks.waiting ≢ None → IsResume q
+not_waiting : (g : Point) (q : Request) → Awake g → g.locks.waiting ≢ None → IsOfWaiter q
 not_waiting g q awake waits = absurd (waits awake.up)
 
 module _ (g : Point) (l : LockName) (level : Level) (awake : Awake g) where
@@ -256,6 +282,7 @@ module _ (g : Point) (l : LockName) (level : Level) (awake : Awake g) where
           locks = λ none. entered_there level (hold_in l g.locks.holds) (sym (same.holds l ∙ hold_inside) ∙ none);
           makes = tt;
           waits = not_waiting h (Exit l) still;
+          once = tt;
         }
 
     -- each lock is held as before the entry
@@ -273,25 +300,62 @@ module _ (g : Point) (l : LockName) (level : Level) (awake : Awake g) where
 
 -- ---- waits
 
-module _ (g : Point) (l : LockName) (awake : Awake g) where
-  pub resume_asked : (shape : Shape) (HasText : ℕ → Type 0) → Asks shape HasText (next_point (Wait l) Done g) (Resume l)
-  resume_asked shape HasText = record { goes = ap (λ b. b || false) awake.goes; names = tt; texts = tt; locks = refl; makes = tt; waits = λ waits. tt }
-
-  -- each lock is held as before the wait
-  as_woken : hold_level (hold_in l g.locks.holds) ≡ Some Write → (k : LockName) (b : Bool) → is_lock l k ≡ b
-      → cond b (Some (record { level = Write; count = count_of (hold_in l g.locks.holds) })) (cond b None (hold_in k g.locks.holds)) ≡ hold_in k g.locks.holds
-  as_woken held k true is = held_again (hold_in l g.locks.holds) held ∙ ap (λ x. hold_in x g.locks.holds) (sym (same_lock l k is))
-  as_woken held k false is = refl
-
-  pub resume_same : hold_level (hold_in l g.locks.holds) ≡ Some Write → Same g (next_point (Resume l) Done (next_point (Wait l) Done g))
-  resume_same held = record {
-    holds = λ k. holds_after l k (Some (record { level = Write; count = count_of (hold_in l g.locks.holds) })) (with_hold l None g.locks.holds)
-        ∙ ap (cond (is_lock l k) (Some (record { level = Write; count = count_of (hold_in l g.locks.holds) }))) (holds_after l k None g.locks.holds)
-        ∙ as_woken held k (is_lock l k) refl;
-    waiting = sym awake.up;
-    ended = ap (λ b. (b || false) || false) awake.goes ∙ sym awake.goes;
-    told = λ object is. told_on (g.told object || false) false (told_on (g.told object) false is);
+module _ (g : Point) (l : LockName) where
+  -- a wait answered Done is the thread's latest ending
+  pub wait_asleep : Awake g → hold_level (hold_in l g.locks.holds) ≡ Some Write → Asleep g l (next_point (Wait l) Done g)
+  wait_asleep awake held = record {
+    roused = record { awake = awake; held = held; locks = refl; goes = ap (λ b. b || false) awake.goes; told = λ object is. told_on (g.told object) false is };
+    latest = refl;
   }
+
+  module _ (h : Point) where
+    -- where the thread waits on the lock
+    waits_here : Roused g l h → IsWaitingOn l h.locks.waiting
+    waits_here roused = subst (λ (locks : Locks). IsWaitingOn l locks.waiting) (sym roused.locks) refl
+
+    -- a tick and a timeout leave it so
+    pub still_roused : (q : Request) (r : Reply) → locks_by q r h.locks ≡ h.locks → asks_end q ≡ false → Roused g l h → Roused g l (next_point q r h)
+    still_roused q r same goes roused = record {
+      awake = roused.awake;
+      held = roused.held;
+      locks = same ∙ roused.locks;
+      goes = ap (λ b. b || asks_end q) roused.goes ∙ goes;
+      told = λ object is. told_on (h.told object) (tells object r) (roused.told object is);
+    }
+
+    pub still_asleep : (r : Reply) → Asleep g l h → Asleep g l (next_point (Tick l) r h)
+    still_asleep r asleep = record { roused = still_roused (Tick l) r refl refl asleep.roused; latest = asleep.latest }
+
+    module _ (shape : Shape) (HasText : ℕ → Type 0) where
+      -- what a waiting thread may ask
+      pub tick_asked : Roused g l h → Asks shape HasText h (Tick l)
+      tick_asked roused = record { goes = roused.goes; names = tt; texts = tt; locks = waits_here roused; makes = tt; waits = λ waits. tt; once = tt }
+
+      pub timeout_asked : Asleep g l h → Asks shape HasText h (Timeout l)
+      timeout_asked asleep = record { goes = asleep.roused.goes; names = tt; texts = tt; locks = waits_here asleep.roused; makes = tt; waits = λ waits. tt; once = asleep.latest }
+
+      pub resume_asked : Roused g l h → Asks shape HasText h (Resume l)
+      resume_asked roused = record { goes = roused.goes; names = tt; texts = tt; locks = waits_here roused; makes = tt; waits = λ waits. tt; once = tt }
+
+    pub roused_knows : Roused g l h → (object : ℕ) → Knows g object → Knows h object
+    roused_knows roused object known = record { real = known.real; told = roused.told object known.told }
+
+    -- each lock is held as before the wait
+    as_woken : hold_level (hold_in l g.locks.holds) ≡ Some Write → (k : LockName) (b : Bool) → is_lock l k ≡ b
+        → cond b (Some (record { level = Write; count = count_of (hold_in l g.locks.holds) })) (cond b None (hold_in k g.locks.holds)) ≡ hold_in k g.locks.holds
+    as_woken held k true is = held_again (hold_in l g.locks.holds) held ∙ ap (λ x. hold_in x g.locks.holds) (sym (same_lock l k is))
+    as_woken held k false is = refl
+
+    pub resume_same : Roused g l h → Same g (next_point (Resume l) Done h)
+    resume_same roused = record {
+      holds = λ k. ap (λ (locks : Locks). hold_in k (resumed l locks.waiting locks).holds) roused.locks
+          ∙ holds_after l k (Some (record { level = Write; count = count_of (hold_in l g.locks.holds) })) (with_hold l None g.locks.holds)
+          ∙ ap (cond (is_lock l k) (Some (record { level = Write; count = count_of (hold_in l g.locks.holds) }))) (holds_after l k None g.locks.holds)
+          ∙ as_woken roused.held k (is_lock l k) refl;
+      waiting = ap (λ (locks : Locks). (resumed l locks.waiting locks).waiting) roused.locks ∙ sym roused.awake.up;
+      ended = ap (λ b. b || false) roused.goes ∙ sym roused.awake.goes;
+      told = λ object is. told_on (h.told object) false (roused.told object is);
+    }
 
 -- ---- what may be asked
 
@@ -302,7 +366,7 @@ start_awake = record { goes = refl; up = refl; counts = λ l. tt; roots = refl }
 pub end_asked : (shape : Shape) (HasText : ℕ → Type 0) (g : Point) (fault : Option Fault) → Same first g → Asks shape HasText g (End fault)
 end_asked shape HasText g fault same =
     let still : Awake g = same_awake first g same start_awake in
-    record { goes = still.goes; names = tt; texts = tt; locks = no_holds g.locks.holds same.holds; makes = tt; waits = not_waiting g (End fault) still }
+    record { goes = still.goes; names = tt; texts = tt; locks = no_holds g.locks.holds same.holds; makes = tt; waits = not_waiting g (End fault) still; once = tt }
 
 -- a class that is there, with its number of fields
 pub field_count : (class : Option ClassShape) → (class ≡ None → ⊥) → IsFieldCount class (length (fields_of class))
@@ -325,9 +389,9 @@ text_known HasText knows (value.Long n) known = tt
 text_known HasText knows (value.Bool b) known = tt
 
 module _ (shape : Shape) (HasText : ℕ → Type 0) where
-  -- a request that neither leaves a lock nor resumes nor ends
-  pub plainly : (g : Point) (q : Request) → Awake g → NamesAt HasText g.told (Knows g) q → GivesTextsAmong HasText q → KeepsLocks q g.locks → MakesOnly shape q → Asks shape HasText g q
-  plainly g q awake names texts locks makes = record { goes = awake.goes; names = names; texts = texts; locks = locks; makes = makes; waits = not_waiting g q awake }
+  -- a request of a thread that is awake
+  pub plainly : (g : Point) (q : Request) → Awake g → NamesAt HasText g.told (Knows g) q → GivesTextsAmong HasText q → KeepsLocks q g.locks → MakesOnly shape q → TimesOutOnce q g.latest → Asks shape HasText g q
+  plainly g q awake names texts locks makes once = record { goes = awake.goes; names = names; texts = texts; locks = locks; makes = makes; waits = not_waiting g q awake; once = once }
 
   -- What the law asks of a program of this shape, where the texts that may be named are these, the program's own among them.
   abbrev pub law_keeper : ((t : ℕ) → t < shape.texts → HasText t) → Keeper shape
@@ -340,6 +404,8 @@ module _ (shape : Shape) (HasText : ℕ → Type 0) where
     Knows = Knows;
     HasText = HasText;
     Awake = Awake;
+    Asleep = Asleep;
+    Roused = Roused;
     Same = Same;
     listed = λ g q r comes. comes.listed;
     start_awake = start_awake;
@@ -358,20 +424,29 @@ module _ (shape : Shape) (HasText : ℕ → Type 0) where
     enter_awake = λ g l level awake comes. enter_awake g l level awake;
     exit_asked = λ g h l level awake comes same. exit_asked g l level awake h same shape HasText;
     exit_same = λ g h l level awake comes same. exit_same g l level awake h same;
-    resume_asked = λ g l awake comes. resume_asked g l awake shape HasText;
-    resume_same = λ g l awake comes. resume_same g l awake comes.held;
+    wait_asleep = λ g l awake comes. wait_asleep g l awake comes.held;
+    tick_asked = λ g h l asleep. tick_asked g l h shape HasText asleep.roused;
+    tick_asleep = λ g h l asleep comes. still_asleep g l h (Val (value.Bool false)) asleep;
+    tick_roused = λ g h l asleep comes. still_roused g l h (Tick l) (Val (value.Bool true)) refl refl asleep.roused;
+    timeout_asked = λ g h l asleep. timeout_asked g l h shape HasText asleep;
+    timeout_roused = λ g h l r asleep comes. still_roused g l h (Timeout l) r refl refl asleep.roused;
+    asleep_roused = λ g h l asleep. asleep.roused;
+    roused_knows = λ g h l roused. roused_knows g l h roused;
+    resume_asked = λ g h l roused. resume_asked g l h shape HasText roused;
+    resume_same = λ g h l roused comes. resume_same g l h roused;
     end_asked = end_asked shape HasText;
-    class_asked = λ g class awake less. plainly g (New (Plain class) (length (fields_at shape class))) awake tt tt tt (field_count (slice_get shape.classes class) (class_there shape class less));
-    array_asked = λ g kind size awake few. plainly g (New (Array kind) size) awake tt tt tt few;
-    look_asked = λ g object awake known. plainly g (Look object) awake known.told tt tt tt;
-    get_asked = λ g object place awake known. plainly g (Get object place) awake known.told tt tt tt;
-    put_asked = λ g object place v awake known v_known. plainly g (Put object place v) awake (known.told, v_known) (text_known HasText (Knows g) v v_known) tt tt;
-    get_root_asked = λ g r awake. plainly g (Get 0 r) awake awake.roots tt tt tt;
-    put_root_asked = λ g r v awake known. plainly g (Put 0 r v) awake (awake.roots, known) (text_known HasText (Knows g) v known) tt tt;
-    enter_asked = λ g l level awake known. plainly g (Enter l level) awake known tt tt tt;
-    wait_asked = λ g object awake known. plainly g (Wait (Mon object)) awake tt tt tt tt;
-    notify_asked = λ g object awake known. plainly g (Notify (Mon object)) awake tt tt tt tt;
-    notify_all_asked = λ g object awake known. plainly g (NotifyAll (Mon object)) awake tt tt tt tt;
-    print_asked = λ g v awake known. plainly g (Print v) awake tt (text_known HasText (Knows g) v known) tt tt;
-    pause_asked = λ g awake. plainly g Pause awake tt tt tt tt;
+    class_asked = λ g class awake less. plainly g (New (Plain class) (length (fields_at shape class))) awake tt tt tt (field_count (slice_get shape.classes class) (class_there shape class less)) tt;
+    array_asked = λ g kind size awake few. plainly g (New (Array kind) size) awake tt tt tt few tt;
+    look_asked = λ g object awake known. plainly g (Look object) awake known.told tt tt tt tt;
+    get_asked = λ g object place awake known. plainly g (Get object place) awake known.told tt tt tt tt;
+    put_asked = λ g object place v awake known v_known. plainly g (Put object place v) awake (known.told, v_known) (text_known HasText (Knows g) v v_known) tt tt tt;
+    get_root_asked = λ g r awake. plainly g (Get 0 r) awake awake.roots tt tt tt tt;
+    put_root_asked = λ g r v awake known. plainly g (Put 0 r v) awake (awake.roots, known) (text_known HasText (Knows g) v known) tt tt tt;
+    enter_asked = λ g l level awake known. plainly g (Enter l level) awake known tt tt tt tt;
+    wait_asked = λ g object awake known. plainly g (Wait (Mon object)) awake tt tt tt tt tt;
+    notify_asked = λ g object awake known. plainly g (Notify (Mon object)) awake tt tt tt tt tt;
+    notify_all_asked = λ g object awake known. plainly g (NotifyAll (Mon object)) awake tt tt tt tt tt;
+    print_asked = λ g v awake known. plainly g (Print v) awake tt (text_known HasText (Knows g) v known) tt tt tt;
+    pause_asked = λ g awake. plainly g Pause awake tt tt tt tt tt;
+    settle_asked = λ g awake. plainly g Settle awake tt tt tt tt tt;
   }

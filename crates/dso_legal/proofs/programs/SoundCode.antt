@@ -15,14 +15,16 @@ use Rattle.dso_base.specs.declared.shape.Shape.{Shape}
 use Rattle.dso_base.specs.declared.value.Value.{Value}
 use Rattle.dso_base.specs.declared.value.Value.TheVariants as value
 use Rattle.dso_base.specs.Following.{IsListedFor, Listed, FollowsFrom, FollowsProgram}
+use Rattle.dso_plain.specs.Rechoice.{AreSameActs}
 use Rattle.dso_plain.specs.Touches.{AreActsOf}
 use Rattle.dso_plain.proofs.keys.SameKeys.{thread_self, number_self}
-use Rattle.dso_law.specs.Threads.{Locks, locks_by, locks_after, ends_thread}
+use Rattle.dso_law.specs.Threads.{Locks, or_else, locks_by, locks_after, ending_by, ends_thread}
 use Rattle.dso_legal.specs.PendingBlocks.{no_locks, locks_through}
 use Rattle.dso_legal.specs.SoundCode.{SoundCodeIsSoundProgram, SoundCodeGivesKnownTexts}
-use Rattle.dso_legal.specs.SoundProgram.{tells, event_tells, event_tells_text, was_told, IsToldText, IsTextAmong, IsToldValue, IsToldLock, NamesOnlyTold, KeepsLocks, IsResume, WaitIsHeld, WaitsAreHeld}
+use Rattle.dso_legal.specs.SoundProgram.{tells, event_tells, event_tells_text, was_told, IsToldText, IsTextAmong, IsToldValue, IsToldLock, NamesOnlyTold, KeepsLocks, IsOfWaiter, latest_ending, TimesOutOnce, WaitIsHeld, WaitsAreHeld}
+use Rattle.dso_legal.specs.SoundProgram as law
 use Rattle.dso_machine.specs.declared.code.Code.{Code}
-use Rattle.dso_machine.specs.Next.{next_request}
+use Rattle.dso_machine.specs.Next.{replies_in, body_of, next_of, next_request}
 use Rattle.dso_machine.specs.Sound as machine
 use Rattle.dso_machine.proofs.protocol.Protocol.{KnowsValue, KnowsLock, through, FollowsAt}
 use Rattle.dso_machine.proofs.protocol.Threads.{keeps_to}
@@ -66,6 +68,13 @@ module _ (shape : Shape) (HasText : ℕ → Type 0) (own : (text : ℕ) → text
   through_locks [] g acts = refl
   through_locks (Act u q r woken ∷ events) g acts = through_locks events (next_point q r g) acts.1 ∙ ap (locks_through t events) (sym (own_act t u q r woken g.locks acts.0))
   through_locks (Lost client ∷ events) g acts = absurd acts.0
+
+  -- the latest ending after them
+  through_latest : (events : List Event) (g : Point) → AreActsOf t events → (through (law_keeper shape HasText own) g events).latest ≡ latest_ending t events g.locks g.latest
+  through_latest [] g acts = refl
+  through_latest (Act u q r woken ∷ events) g acts = through_latest events (next_point q r g) acts.1
+      ∙ ap (λ locks. latest_ending t events locks (or_else (ending_by q r g.locks) g.latest)) (sym (own_act t u q r woken g.locks acts.0))
+  through_latest (Lost client ∷ events) g acts = absurd acts.0
 
   -- what they told
   through_told : (events : List Event) (g : Point) (object : ℕ) → (through (law_keeper shape HasText own) g events).told object ≡ (g.told object || list_any (event_tells object) events)
@@ -154,9 +163,10 @@ may_ask code sound t events q acts untold held follows asked =
     keeps_to code (law_keeper code.shape HasText own) sound t events q
     (follows_code code HasText own t events [] first acts untold held (λ text is. inr is) follows) asked
 
--- Sound code is a sound program.
-pub sound_program : SoundCodeIsSoundProgram
-sound_program code sound t events q acts untold held follows asked =
+-- what it asks keeps to what the law asks of a program
+keeps_law : (code : Code) → machine.IsSound code → (t : ThreadId) (events : List Event) (q : Request) → AreActsOf t events → list_any (event_tells 0) events ≡ false
+    → WaitsAreHeld t events no_locks → FollowsProgram (next_request code) (Listed (next_request code)) t events → next_request code t events ≡ Some q → law.KeepsTo code.shape t events q
+keeps_law code sound t events q acts untold held follows asked =
     let HasText : ℕ → Type 0 = IsToldText code.shape events in
     let own : (text : ℕ) → text < code.shape.texts → HasText text = λ text less. inl less in
     let g : Point = through (law_keeper code.shape HasText own) first events in
@@ -167,8 +177,25 @@ sound_program code sound t events q acts untold held follows asked =
       names = told_names HasText events g (through_told code.shape HasText own t events first) q may.names;
       locks = subst (KeepsLocks q) locks may.locks;
       makes = may.makes;
-      waits = subst (λ (x : Locks). (x.waiting ≡ None → ⊥) → IsResume q) locks may.waits;
+      waits = subst (λ (x : Locks). (x.waiting ≡ None → ⊥) → IsOfWaiter q) locks may.waits;
+      times_out_once = subst (TimesOutOnce q) (through_latest code.shape HasText own t events first acts) may.once;
     }
+
+-- the same acts have the same replies
+same_replies : (events same : List Event) → AreSameActs events same → replies_in same ≡ replies_in events
+same_replies [] [] are = refl
+same_replies [] (e ∷ same) are = absurd are
+same_replies (e ∷ events) [] are = absurd are
+same_replies (Act u q r woken ∷ events) (Act v q' r' woken' ∷ same) are = ap (λ reply. reply ∷ replies_in same) are.0.2 ∙ ap (λ replies. r ∷ replies) (same_replies events same are.1)
+same_replies (Act u q r woken ∷ events) (Lost client ∷ same) are = absurd are.0
+same_replies (Lost client ∷ events) (e ∷ same) are = absurd are.0
+
+-- Sound code is a sound program: what it asks next goes by the replies.
+pub sound_program : SoundCodeIsSoundProgram
+sound_program code sound = record {
+  keeps = keeps_law code sound;
+  goes_by_replies = λ t events same are. ap (λ replies. next_of code replies (body_of t code.bodies)) (same_replies events same are);
+}
 
 -- Sound code gives only known texts.
 pub known_texts : SoundCodeGivesKnownTexts

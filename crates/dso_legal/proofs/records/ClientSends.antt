@@ -28,7 +28,7 @@ use Rattle.dso_law.specs.ClientWaiters.{client_list}
 use Rattle.dso_law.specs.Records.{records, is_batch_asked, batch_asked_by_taken}
 use Rattle.dso_law.specs.Leases.{leased, is_asked_for}
 use Rattle.dso_law.specs.Closing.{is_closing, due}
-use Rattle.dso_law.specs.RequestNeeds.{Need, NeedsId, NeedsObject, NeedsClass, NeedsMark, NeedsLease, NeedsOthersOut, unmet, ask_for}
+use Rattle.dso_law.specs.RequestNeeds.{Need, NeedsId, NeedsObject, NeedsClass, NeedsMark, NeedsLease, NeedsOthersOut, NeedsAck, unmet, ask_for}
 use Rattle.dso_law.specs.Replies.{woken_by}
 use Rattle.dso_law.specs.ClientStep.{record_of, commits, returns, asks_again, Does, Asks, DoesOrAsks, ActsOn, ClientStepOn, ClientStep}
 use Rattle.dso_legal.proofs.objects.AsksForAbsent.{IsLacking, lacking}
@@ -112,6 +112,7 @@ ask_is_new (NeedsLease k level) before m input es batch object there lacks ask =
 ask_is_new (NeedsClass o) before m input es batch object there lacks ask = absurd (cc ask)
 ask_is_new (NeedsMark k) before m input es batch object there lacks ask = absurd (cc ask)
 ask_is_new (NeedsOthersOut k) before m input es batch object there lacks ask = absurd (cc ask)
+ask_is_new NeedsAck before m input es batch object there lacks ask = absurd (cc ask)
 
 module _ (p : Settings) (c : ℕ) (before after_it : ThreadId → Option Request) (e : Entry) (es : List Entry) where
   about_again_if : (k : LockName) (b : Bool) → EachAboutLock (cond b (up.Request k Write ∷ []) [])

@@ -28,7 +28,7 @@ use Rattle.dso_law.specs.ClientWaiters.{client_list}
 use Rattle.dso_law.specs.Records.{records, is_batch_asked}
 use Rattle.dso_law.specs.Leases.{leased, is_asked_for}
 use Rattle.dso_law.specs.Closing.{is_closing, due}
-use Rattle.dso_law.specs.RequestNeeds.{Need, NeedsId, NeedsObject, NeedsClass, NeedsMark, NeedsLease, NeedsOthersOut, unmet, ask_for}
+use Rattle.dso_law.specs.RequestNeeds.{Need, NeedsId, NeedsObject, NeedsClass, NeedsMark, NeedsLease, NeedsOthersOut, NeedsAck, unmet, ask_for}
 use Rattle.dso_law.specs.Replies.{woken_by}
 use Rattle.dso_law.specs.ClientStep.{record_of, commits, returns, asks_again, Does, DoesOrAsks, ActsOn, ClientStepOn, ClientStep}
 use Rattle.dso_legal.specs.Agreement.{after, EachMay}
@@ -211,6 +211,7 @@ module _ (p : Settings) (c : ℕ) (before after_it : ThreadId → Option Request
   word_asks (NeedsClass o) m is lacks ask whole = absurd (cc ask)
   word_asks (NeedsMark k) m is lacks ask whole = absurd (cc ask)
   word_asks (NeedsOthersOut k) m is lacks ask whole = absurd (cc ask)
+  word_asks NeedsAck m is lacks ask whole = absurd (cc ask)
 
   word_or_asks : (index : ℕ) (request : Request) (need : Option Need) → e.input ≡ input.Act index → IsLacking es need → DoesOrAsks p c (record { client = c; index = index }) request need before after_it e es → ClientWord p c e es
   word_or_asks index request None is lacks h = word_does index request is h

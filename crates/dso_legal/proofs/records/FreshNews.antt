@@ -9,7 +9,7 @@ use Rattle.dso_base.specs.declared.request.Event.{Event}
 use Rattle.dso_base.specs.declared.request.Event.TheVariants.{Act}
 use Rattle.dso_base.specs.declared.request.Reply.{Reply}
 use Rattle.dso_base.specs.declared.request.Request.{Request}
-use Rattle.dso_base.specs.declared.request.Request.TheVariants.{Exit, Wait, End}
+use Rattle.dso_base.specs.declared.request.Request.TheVariants.{Exit, Wait, Timeout, End}
 use Rattle.dso_base.specs.declared.shape.Shape.{Shape}
 use Rattle.dso_base.specs.declared.record.Body.{Body}
 use Rattle.dso_base.specs.Block.{txn_of, Work, start, work_by, worked}
@@ -45,6 +45,7 @@ in_hand_is_fresh p next c o index es follow among =
 ending_leaves : (shape : Shape) (request : Request) (reply : Reply) (woken : Option ThreadId) (locks : Locks) (ending : Ending) (work : Work) → ending_by request reply locks ≡ Some ending → work_by shape request reply woken work ≡ work
 ending_leaves shape (Exit l) reply woken locks ending work e = refl
 ending_leaves shape (Wait l) reply woken locks ending work e = refl
+ending_leaves shape (Timeout l) reply woken locks ending work e = refl
 ending_leaves shape (End fault) reply woken locks ending work e = refl
 ending_leaves shape request reply woken locks ending work e = absurd (cc e)
 

@@ -16,13 +16,17 @@ use Rattle.dso_base.specs.declared.message.Up.{Up}
 use Rattle.dso_base.specs.declared.message.Up.TheVariants as up
 use Rattle.dso_base.specs.declared.record.Note.{Note}
 use Rattle.dso_base.specs.declared.record.Set.{Set}
+use Rattle.dso_base.specs.declared.record.Ending.{Ending}
+use Rattle.dso_base.specs.declared.record.Ending.TheVariants as ending
+use Rattle.dso_base.specs.declared.record.Txn.{Txn}
+use Rattle.dso_base.specs.Following.{is_thread}
 use Rattle.dso_law.specs.Settings.{Settings, clients_of}
 use Rattle.dso_law.specs.Entries.{unsent}
 use Rattle.dso_law.specs.FitsUp.{FitsUp}
 use Rattle.dso_law.specs.ServerReadings.{is_lost, is_of_lost, counted, next_batch}
 use Rattle.dso_law.specs.Granting.{Waiter, LeaseTable, queue_of, with_grant, is_against, recalls, serve_queue, serves, serves_all, leases_so_far, requested}
 use Rattle.dso_law.specs.Store.{stored}
-use Rattle.dso_law.specs.ServerWaiters.{waiters_of, waiters_woken, lists_after, wake_each, wakes}
+use Rattle.dso_law.specs.ServerWaiters.{waiters_of, waiters_woken, lists_after, lists_noted, wake_each, wakes, wakes_timed_out, wakes_of}
 use Rattle.dso_law.specs.ServerStep.{object_to, sets_for, changes_to, changes_of, answers, HeardOrLost, ServerStepOn, ServerStep}
 use Rattle.dso_legal.proofs.channels.Agreement.{AllDeaf, IsDeaf, more_deaf}
 use Rattle.dso_legal.proofs.leases.LeaseSteps.{no_both}
@@ -47,6 +51,30 @@ module _ (P : Down → Type 0) where
   pub told_each_map : {X : Type 0} (to : X → ℕ) (m : X → Down) (xs : List X) → ((x : X) → P (m x)) → EachTold P (map (λ x. ToClient (to x) (m x)) xs)
   told_each_map to m [] h = tt
   told_each_map to m (x ∷ xs) h = (h x, told_each_map to m xs h)
+
+  -- where each waking passes, so do all wakings of a record: those of its notifications,
+  module _ (woken : (l : LockName) (t : ThreadId) → P (down.Wake l t)) where
+    each_noted : (notes : List Note) (lists : LockName → List ThreadId) → EachTold P (wakes notes lists)
+    each_noted [] lists = tt
+    each_noted (note ∷ notes) lists = told_each_append (wake_each note.lock (waiters_woken note.choice (lists note.lock))) (wakes notes (lists_after note.lock note.choice lists))
+        (told_each_map (λ (t : ThreadId). t.client) (λ t. down.Wake note.lock t) (waiters_woken note.choice (lists note.lock)) (λ t. woken note.lock t))
+        (each_noted notes (lists_after note.lock note.choice lists))
+
+    -- that of its timeout,
+    each_timed_out : (t : ThreadId) (end : Ending) (lists : LockName → List ThreadId) → EachTold P (wakes_timed_out t end lists)
+    each_timed_out t (ending.Exit l) lists = tt
+    each_timed_out t (ending.Wait l) lists = tt
+    each_timed_out t (ending.End fault) lists = tt
+    each_timed_out t (ending.Timeout l) lists = by (list_any (is_thread t) (lists l))
+      where
+        by : (b : Bool) → EachTold P (cond b (wake_each l (t ∷ [])) [])
+        by true = (woken l t, tt)
+        by false = tt
+
+    -- and both.
+    pub each_woken : (txn : Txn) (lists : LockName → List ThreadId) → EachTold P (wakes_of txn lists)
+    each_woken txn lists = told_each_append (wakes txn.notes lists) (wakes_timed_out txn.thread txn.ending (lists_noted txn.notes lists)) (each_noted txn.notes lists)
+        (each_timed_out txn.thread txn.ending (lists_noted txn.notes lists))
 
 -- where each is deaf, all to a client are
 pub told_each_deaf : {S : Type 0} (may : Down → S → Type 0) (step : Down → S → S) (c : ℕ) (out : List Sent) → EachTold (IsDeaf may step) out → AllDeaf may step (told_to c out)
@@ -115,12 +143,6 @@ module _ (p : Settings) where
   changes_if true d sets = tt
   changes_if false d sets = changes_no_reply d sets
 
-  wakes_no_reply : (notes : List Note) (lists : LockName → List ThreadId) → EachTold IsNoReply (wakes notes lists)
-  wakes_no_reply [] lists = tt
-  wakes_no_reply (note ∷ notes) lists = told_each_append IsNoReply (wake_each note.lock (waiters_woken note.choice (lists note.lock))) (wakes notes (lists_after note.lock note.choice lists))
-      (told_each_map IsNoReply (λ (t : ThreadId). t.client) (λ t. down.Wake note.lock t) (waiters_woken note.choice (lists note.lock)) (λ t. tt))
-      (wakes_no_reply notes (lists_after note.lock note.choice lists))
-
   -- the answer to a message
   record Answered (c : ℕ) (m : Up) (es : List Entry) : Type 0 where
     others : List Sent
@@ -139,11 +161,11 @@ module _ (p : Settings) where
   answered c (up.Request l level) es = record { others = serves p l es; whole = refl; no_replies = serve_no_reply l (queue_of l es) (leases_so_far l es) }
   answered c (up.Return l threads) es = record { others = serves p l es; whole = refl; no_replies = serve_no_reply l (queue_of l es) (leases_so_far l es) }
   answered c (up.Commit txn) es = record {
-    others = changes_of p c txn es ++ wakes txn.notes (λ l. waiters_of l es);
+    others = changes_of p c txn es ++ wakes_of txn (λ l. waiters_of l es);
     whole = refl;
-    no_replies = told_each_append IsNoReply (changes_of p c txn es) (wakes txn.notes (λ l. waiters_of l es))
+    no_replies = told_each_append IsNoReply (changes_of p c txn es) (wakes_of txn (λ l. waiters_of l es))
         (told_each_flat IsNoReply (λ x. cond (eqb x c) [] (changes_to x (sets_for x txn es))) (clients_of p) (λ x. changes_if (eqb x c) x (sets_for x txn es)))
-        (wakes_no_reply txn.notes (λ l. waiters_of l es));
+        (each_woken IsNoReply (λ l t. tt) txn (λ l. waiters_of l es));
   }
 
   module _ (e : Entry) (es : List Entry) where

@@ -64,6 +64,7 @@ pub record MisfitsAtServer : Type 0 where
   pub set_of_object_not_held : MisfitsUp (recorded 2 [] (set 7 0 (value.Long (pos 5)) ∷ []) (ending.Exit (Name 0))) (first 15 entries)
   pub set_without_lease : MisfitsUp (recorded 2 [] (set 1 0 (value.Long (pos 5)) ∷ []) (ending.Exit (Name 0))) (first 15 entries)
   pub set_of_another_kind : MisfitsUp (recorded 2 [] (set 0 0 (value.Long (pos 5)) ∷ []) (ending.Exit (Name 0))) (first 15 entries)
+  pub timeout_without_wait : MisfitsUp (recorded 2 [] [] (ending.Timeout (Name 0))) (first 15 entries)
   pub ending_without_lease : MisfitsUp (recorded 2 [] [] (ending.Exit (Mon 1))) (first 15 entries)
 
 -- both

@@ -19,6 +19,7 @@ use Rattle.dso_legal.specs.examples.Words.{thread}
 use Rattle.dso_legal.specs.examples.Counter as counter
 use Rattle.dso_legal.specs.examples.Recall as recall
 use Rattle.dso_legal.specs.examples.Flush as flush
+use Rattle.dso_legal.specs.examples.Settling as settling
 
 -- all that the central law asks of a cluster's settings, its program and its journal
 pub record MeetsPremises (p : Settings) (next : ThreadId → List Event → Option Request) (es : List Entry) : Type 0 where
@@ -95,6 +96,16 @@ flush_courses = (
       Does (request.End None) Stops))))))))))))),
 ) ∷ []
 
+-- a thread enters a lock, leaves it, and settles
+abbrev pub settling_courses : List (ThreadId × Course)
+settling_courses = (
+  thread 1 1,
+  Does (request.Enter (Name 0) Write) (
+      Does (request.Exit (Name 0)) (
+      Does request.Settle (
+      Does (request.End None) Stops))),
+) ∷ []
+
 -- the counter's journal meets them
 abbrev pub CounterMeets : Type 0
 CounterMeets = MeetsPremises counter.settings (program_of counter_courses) counter.entries
@@ -106,3 +117,7 @@ RecallMeets = MeetsPremises recall.settings (program_of recall_courses) recall.e
 -- so does that of a client that flushes
 abbrev pub FlushMeets : Type 0
 FlushMeets = MeetsPremises flush.settings (program_of flush_courses) flush.entries
+
+-- so does that of a thread that settles
+abbrev pub SettlingMeets : Type 0
+SettlingMeets = MeetsPremises settling.settings (program_of settling_courses) settling.entries

@@ -10,7 +10,7 @@ use Rattle.dso_base.specs.declared.journal.Trigger.{Trigger}
 use Rattle.dso_base.specs.declared.lock.ThreadId.{ThreadId}
 use Rattle.dso_base.specs.declared.request.Event.{Event}
 use Rattle.dso_base.specs.declared.request.Request.{Request}
-use Rattle.dso_base.specs.declared.request.Request.TheVariants.{Wait, Notify, NotifyAll}
+use Rattle.dso_base.specs.declared.request.Request.TheVariants.{Wait, Tick, Timeout, Notify, NotifyAll}
 use Rattle.dso_law.specs.Settings.{Settings}
 use Rattle.dso_law.specs.Entries.{entries_of}
 use Rattle.dso_law.specs.ClientStep.{ClientStepOn}
@@ -81,6 +81,8 @@ module _ (p : Settings) (next : ThreadId → List Event → Option Request) wher
 -- a request of the first path is no wait
 no_wait : (request : Request) → IsAsked request → waits_or_notifies request ≡ false
 no_wait (Wait l) is = absurd is
+no_wait (Tick l) is = absurd is
+no_wait (Timeout l) is = absurd is
 no_wait (Notify l) is = absurd is
 no_wait (NotifyAll l) is = absurd is
 no_wait request is = refl

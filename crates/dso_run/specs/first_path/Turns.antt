@@ -6,7 +6,7 @@ use Rattle.dso_base.specs.declared.message.Up.{Up}
 use Rattle.dso_base.specs.declared.request.Event.{Event}
 use Rattle.dso_base.specs.declared.request.Reply.{Reply}
 use Rattle.dso_base.specs.declared.request.Request.{Request}
-use Rattle.dso_base.specs.declared.request.Request.TheVariants.{New, Look, Get, Put, Enter, Exit, Print, End}
+use Rattle.dso_base.specs.declared.request.Request.TheVariants.{New, Look, Get, Put, Enter, Exit, Wait, Tick, Timeout, Resume, Notify, NotifyAll, Print, End, Pause, Settle}
 use Rattle.dso_base.specs.Following.{IsListedFor}
 use Rattle.dso_law.specs.RequestNeeds.{Need, unmet, ask_for}
 use Rattle.dso_law.specs.Replies.{reply_of}
@@ -52,9 +52,16 @@ IsAsked (Get o f) = Unit {0}
 IsAsked (Put o f v) = Unit {0}
 IsAsked (Enter l level) = Unit {0}
 IsAsked (Exit l) = Unit {0}
+IsAsked (Wait l) = ⊥
+IsAsked (Tick l) = ⊥
+IsAsked (Timeout l) = ⊥
+IsAsked (Resume l) = ⊥
+IsAsked (Notify l) = ⊥
+IsAsked (NotifyAll l) = ⊥
 IsAsked (Print v) = Unit {0}
 IsAsked (End fault) = Unit {0}
-IsAsked request = ⊥
+IsAsked Pause = ⊥
+IsAsked Settle = ⊥
 
 -- the entry of the turn
 abbrev pub entry_by : Request → Turn → List Entry → Option Entry

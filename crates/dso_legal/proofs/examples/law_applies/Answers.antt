@@ -1,5 +1,5 @@
 use Rattle.dso_legal.proofs.examples.law_applies.Goals as goal
-use Rattle.dso_legal.proofs.journals.Meets.{counter_meets, recall_meets, flush_meets}
+use Rattle.dso_legal.proofs.journals.Meets.{counter_meets, recall_meets, flush_meets, settling_meets}
 
 pub returns-clause-counter : goal.returns-clause-counter
 returns-clause-counter c = counter_meets
@@ -9,3 +9,6 @@ returns-clause-recall c = recall_meets
 
 pub returns-clause-flush : goal.returns-clause-flush
 returns-clause-flush c = flush_meets
+
+pub returns-clause-settling : goal.returns-clause-settling
+returns-clause-settling c = settling_meets

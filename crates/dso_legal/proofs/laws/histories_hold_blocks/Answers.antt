@@ -1,5 +1,8 @@
 use Rattle.dso_legal.proofs.laws.histories_hold_blocks.Goals as goal
-use Rattle.dso_legal.proofs.blocks.Histories.{histories_hold_blocks}
+use Rattle.dso_legal.proofs.blocks.Histories.{histories_hold_blocks, histories_hold_blocks_as_made}
 
-pub returns : goal.returns
-returns c = histories_hold_blocks
+pub returns-clause-resolved : goal.returns-clause-resolved
+returns-clause-resolved c = histories_hold_blocks
+
+pub returns-clause-as_made : goal.returns-clause-as_made
+returns-clause-as_made c = histories_hold_blocks_as_made
