@@ -229,11 +229,13 @@ HoldsAfter o before (Act thread q r woken ∷ events) after = (grade : Grade) ×
     HoldsAfter (λ rs. o (r ∷ rs)) (holds_after_reply grade q r before) events after
 HoldsAfter o before (Lost client ∷ events) after = HoldsAfter o before events after
 
--- these are the holds of a thread of the code after its events
+-- these are the holds of a thread of the code after its events, by some number of moves that is enough
 pub record HoldsOf (code : Code) (t : ThreadId) (events : List Event) (holds : List Hold) : Type 0 where
   pub body : ThreadBody
   pub its : body_of t code.bodies ≡ Some body
-  pub after : HoldsAfter (whole code body (enough_for (replies_in events))) [] events holds
+  pub moves : ℕ
+  pub enough : enough_for (replies_in events) ≤ moves
+  pub after : HoldsAfter (whole code body moves) [] events holds
   pub locks : locks_of holds ≡ locks_after [] events
 
 -- From these events on, the thread unwinds: after more events its next request is the next one of the unwinding of its
@@ -243,3 +245,21 @@ pub record Unwinds (code : Code) (t : ThreadId) (events : List Event) (fault : F
   pub its : HoldsOf code t events holds
   pub asks : (more : List Event) → FollowsCode code t (events ++ more)
       → next_request code t (events ++ more) ≡ slice_get (unwinding fault holds) (length more)
+
+-- ---- settling
+
+-- After an exit behind these events a thread settles next exactly where that lock's entry was at synchronous write.
+pub record SettlesAsEntered (code : Code) (t : ThreadId) (events : List Event) (next : Option Request) : Type 0 where
+  pub hold : Hold
+  pub others : List Hold
+  pub its : HoldsOf code t events (hold ∷ others)
+  pub settles : hold.synchronous ≡ true → next ≡ Some Settle
+  pub only_then : next ≡ Some Settle → hold.synchronous ≡ true
+
+-- the last of the events is an exit that was answered Done
+pub record AreBehindExit (events : List Event) : Type 0 where
+  pub before : List Event
+  pub thread : ThreadId
+  pub lock : LockName
+  pub woken : Option ThreadId
+  pub is : events ≡ before ++ Act thread (Exit lock) Done woken ∷ []

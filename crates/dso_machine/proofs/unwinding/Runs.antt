@@ -1,5 +1,5 @@
 -- A thread's run, event by event: which holds it has, how it waits, and what follows a fault.
-use Rattle.std.proofs.Common.{◌≡◌, refl, ℕ, ◌+◌, ◌≤◌, Bool, true, false, cond, List, [], ◌∷◌, ◌++◌, length, Option, None, Some, subst, sym, ap, ◌∙◌, append_assoc, arith}
+use Rattle.std.proofs.Common.{◌≡◌, refl, ℕ, ◌+◌, ◌≤◌, Bool, true, false, cond, List, [], ◌∷◌, ◌++◌, length, Option, None, Some, subst, sym, ap, ◌∙◌, append_assoc, ◌⊎◌, inl, inr, arith}
 use Rattle.std.specs.Prelude.{slice_get}
 use Rattle.std.proofs.lemmas.List.{append-nil, length-append}
 use Rattle.dso_base.specs.declared.lock.Grade.{Grade}
@@ -21,7 +21,7 @@ use Rattle.dso_machine.specs.declared.code.ThreadBody.{ThreadBody}
 use Rattle.dso_machine.specs.Next.{body_of, enough_for, finish, next_of, next_request, opening, replies_in, request_of, whole}
 use Rattle.dso_machine.specs.Outcome.{State, Outcome, Wants, Gives, Leaves, Fails, Hears, Over, Stopped, Meaning, on_reply, ask, asked, done, on_value, level_of, settling, leaving, leave}
 use Rattle.dso_machine.specs.Statements.{block, methods}
-use Rattle.dso_machine.specs.Unwinding.{outer, locks_after_reply, locks_after, with_replies, Waiting, Awake, Asleep, Roused, waiting_after_reply, waiting_after, waited_on, waited_on_by, AsksAsItWaits, Hold, is_synchronous, hold_at, Layer, UsesValue, ReturnsTo, LeavesLock, in_layer, in_context, holds_around, locks_of, IsAtFault, FailsAfter, FollowsCode, unwinding, IsAtEntry, IsAtGrade, holds_after_reply, HoldsAfter, HoldsOf, Unwinds}
+use Rattle.dso_machine.specs.Unwinding.{outer, locks_after_reply, locks_after, with_replies, Waiting, Awake, Asleep, Roused, waiting_after_reply, waiting_after, waited_on, waited_on_by, AsksAsItWaits, Hold, is_synchronous, hold_at, Layer, UsesValue, ReturnsTo, LeavesLock, in_layer, in_context, holds_around, locks_of, IsAtFault, FailsAfter, FollowsCode, unwinding, IsAtEntry, IsAtGrade, holds_after_reply, HoldsAfter, HoldsOf, Unwinds, SettlesAsEntered, AreBehindExit}
 use Rattle.dso_machine.proofs.moves.MoreRepliesInTrees.{moves_enough, same_wanted}
 use Rattle.dso_machine.proofs.protocol.Parts.{refilled, one_function}
 use Rattle.dso_machine.proofs.unwinding.Tidy.{is_simple, Failing, Entering, IsEnd, Phase, Goes, Settles, Waits, left_at, ticked, Tidy, wants_within}
@@ -41,9 +41,16 @@ waiting_in Settles = Awake
 waiting_in (Waits l true) = Asleep l
 waiting_in (Waits l false) = Roused l
 
+-- the request is an exit that is answered Done
+pub record IsLeft (q : Request) (r : Reply) : Type 0 where
+  pub lock : LockName
+  pub asked : q ≡ Exit lock
+  pub answered : r ≡ Done
+
 -- the run after this reply
 pub record Stepped (p : Phase) (hs : List Hold) (w : List Reply → Outcome) (q : Request) (r : Reply) : Type 0 where
   pub phase : Phase
+  pub left : phase ≡ Settles → IsLeft q r
   pub grade : Grade
   pub run : Run phase (holds_after_reply grade q r hs) (λ rs. w (r ∷ rs))
   pub entry : IsAtGrade w q r grade
@@ -111,6 +118,7 @@ module _ (hs : List Hold) (w o : List Reply → Outcome) (is : (rs : List Reply)
   after_simple : (q : Request) → is_simple q ≡ true → ((r : Reply) → Tidy Goes hs (λ rs. o (r ∷ rs))) → (r : Reply) → Stepped Goes hs w q r
   after_simple q simple go r = record {
     phase = Goes;
+    left = λ same. absurd (cc same);
     grade = grade.Read;
     run = subst (λ ks. Run Goes ks (λ rs. w (r ∷ rs))) (sym (same_stack grade.Read q r hs simple)) (Run.within (λ rs. o (r ∷ rs)) (go r) (λ rs. is (r ∷ rs)));
     entry = no_entry w q r (λ l level same. not_simple q (Enter l level) simple refl same);
@@ -139,9 +147,10 @@ module _ (hs : List Hold) (w o : List Reply → Outcome) (is : (rs : List Reply)
   -- what follows an entry
   after_entry : (l : LockName) (g : Grade) → Entering l g o → Tidy Goes (hold_at l g ∷ hs) (λ rs. o (Done ∷ rs)) → ((r : Reply) → (r ≡ Done → ⊥) → Tidy Goes hs (λ rs. o (r ∷ rs)))
       → (r : Reply) → Stepped Goes hs w (Enter l (level_of g)) r
-  after_entry l g e inside other Done = record { phase = Goes; grade = g; run = Run.within (λ rs. o (Done ∷ rs)) inside (λ rs. is (Done ∷ rs)); entry = at_this_grade l g e; waits = refl }
+  after_entry l g e inside other Done = record { phase = Goes; left = λ same. absurd (cc same); grade = g; run = Run.within (λ rs. o (Done ∷ rs)) inside (λ rs. is (Done ∷ rs)); entry = at_this_grade l g e; waits = refl }
   after_entry l g e inside other r = record {
     phase = Goes;
+    left = λ same. absurd (cc same);
     grade = g;
     run = Run.within (λ rs. o (r ∷ rs)) (other r (λ same. cc same)) (λ rs. is (r ∷ rs));
     entry = record { entry = λ k level same answered. absurd (cc answered) };
@@ -162,7 +171,7 @@ module _ (hs : List Hold) (w o : List Reply → Outcome) (is : (rs : List Reply)
 
   -- what follows settling
   after_settling : Tidy Goes hs (λ rs. o (Done ∷ rs)) → (r : Reply) → IsListed Settle r → Stepped Settles hs w Settle r
-  after_settling go Done listed = record { phase = Goes; grade = grade.Read; run = Run.within (λ rs. o (Done ∷ rs)) go (λ rs. is (Done ∷ rs)); entry = no_entry w Settle Done (λ l level same. cc same); waits = refl }
+  after_settling go Done listed = record { phase = Goes; left = λ same. absurd (cc same); grade = grade.Read; run = Run.within (λ rs. o (Done ∷ rs)) go (λ rs. is (Done ∷ rs)); entry = no_entry w Settle Done (λ l level same. cc same); waits = refl }
   after_settling go r listed = absurd listed
 
   -- a thread that settles
@@ -180,6 +189,7 @@ module _ (hs : List Hold) (w o : List Reply → Outcome) (is : (rs : List Reply)
   after_wait : (l : LockName) → Tidy (Waits l true) hs (λ rs. o (Done ∷ rs)) → ((r : Reply) → (r ≡ Done → ⊥) → Tidy Goes hs (λ rs. o (r ∷ rs))) → (r : Reply) → Stepped Goes hs w (Wait l) r
   after_wait l asleep other Done = record {
     phase = Waits l true;
+    left = λ same. absurd (cc same);
     grade = grade.Read;
     run = Run.within (λ rs. o (Done ∷ rs)) asleep (λ rs. is (Done ∷ rs));
     entry = no_entry w (Wait l) Done (λ k level same. cc same);
@@ -187,6 +197,7 @@ module _ (hs : List Hold) (w o : List Reply → Outcome) (is : (rs : List Reply)
   }
   after_wait l asleep other r = record {
     phase = Goes;
+    left = λ same. absurd (cc same);
     grade = grade.Read;
     run = Run.within (λ rs. o (r ∷ rs)) (other r (λ same. cc same)) (λ rs. is (r ∷ rs));
     entry = no_entry w (Wait l) r (λ k level same. cc same);
@@ -209,6 +220,7 @@ module _ (hs : List Hold) (w o : List Reply → Outcome) (is : (rs : List Reply)
   after_tick : (l : LockName) → ((woken : Bool) → Tidy (ticked l woken) hs (λ rs. o (Val (value.Bool woken) ∷ rs))) → (r : Reply) → IsListed (Tick l) r → Stepped (Waits l true) hs w (Tick l) r
   after_tick l go (Val (value.Bool true)) listed = record {
     phase = Waits l false;
+    left = λ same. absurd (cc same);
     grade = grade.Read;
     run = Run.within (λ rs. o (Val (value.Bool true) ∷ rs)) (go true) (λ rs. is (Val (value.Bool true) ∷ rs));
     entry = no_entry w (Tick l) (Val (value.Bool true)) (λ k level same. cc same);
@@ -216,6 +228,7 @@ module _ (hs : List Hold) (w o : List Reply → Outcome) (is : (rs : List Reply)
   }
   after_tick l go (Val (value.Bool false)) listed = record {
     phase = Waits l true;
+    left = λ same. absurd (cc same);
     grade = grade.Read;
     run = Run.within (λ rs. o (Val (value.Bool false) ∷ rs)) (go false) (λ rs. is (Val (value.Bool false) ∷ rs));
     entry = no_entry w (Tick l) (Val (value.Bool false)) (λ k level same. cc same);
@@ -239,6 +252,7 @@ module _ (hs : List Hold) (w o : List Reply → Outcome) (is : (rs : List Reply)
       → (r : Reply) → IsListed (Timeout l) r → Stepped (Waits l true) hs w (Timeout l) r
   after_timeout l out woken Done listed = record {
     phase = Waits l false;
+    left = λ same. absurd (cc same);
     grade = grade.Read;
     run = Run.within (λ rs. o (Done ∷ rs)) out (λ rs. is (Done ∷ rs));
     entry = no_entry w (Timeout l) Done (λ k level same. cc same);
@@ -246,6 +260,7 @@ module _ (hs : List Hold) (w o : List Reply → Outcome) (is : (rs : List Reply)
   }
   after_timeout l out woken (Val (value.Bool true)) listed = record {
     phase = Waits l false;
+    left = λ same. absurd (cc same);
     grade = grade.Read;
     run = Run.within (λ rs. o (Val (value.Bool true) ∷ rs)) woken (λ rs. is (Val (value.Bool true) ∷ rs));
     entry = no_entry w (Timeout l) (Val (value.Bool true)) (λ k level same. cc same);
@@ -268,6 +283,7 @@ module _ (hs : List Hold) (w o : List Reply → Outcome) (is : (rs : List Reply)
   after_resuming : (l : LockName) (more : Bool) → Tidy Goes hs (λ rs. o (Done ∷ rs)) → (r : Reply) → IsListed (Resume l) r → Stepped (Waits l more) hs w (Resume l) r
   after_resuming l more go Done listed = record {
     phase = Goes;
+    left = λ same. absurd (cc same);
     grade = grade.Read;
     run = Run.within (λ rs. o (Done ∷ rs)) go (λ rs. is (Done ∷ rs));
     entry = no_entry w (Resume l) Done (λ k level same. cc same);
@@ -299,7 +315,7 @@ module _ (h : Hold) (hs : List Hold) (w o : List Reply → Outcome) (is : (rs : 
 
   -- what follows an exit
   after_exit : (r : Reply) → IsListed (Exit h.lock) r → Stepped Goes (h ∷ hs) w (Exit h.lock) r
-  after_exit Done listed = record { phase = left_at h.synchronous; grade = grade.Read; run = left_run; entry = no_entry w (Exit h.lock) Done (λ l level same. cc same); waits = left_awake h.synchronous }
+  after_exit Done listed = record { phase = left_at h.synchronous; left = λ same. record { lock = h.lock; asked = refl; answered = refl }; grade = grade.Read; run = left_run; entry = no_entry w (Exit h.lock) Done (λ l level same. cc same); waits = left_awake h.synchronous }
   after_exit r listed = absurd listed
 
   at_exit : Facts Goes (h ∷ hs) w (Exit h.lock)
@@ -314,7 +330,7 @@ module _ (h : Hold) (hs : List Hold) (w o : List Reply → Outcome) (is : (rs : 
 
 -- what follows the end
 after_end : (w : List Reply → Outcome) (end : Option Fault) → ((r : Reply) (rs : List Reply) → w (r ∷ rs) ≡ Over) → (r : Reply) → Stepped Goes [] w (End end) r
-after_end w end after r = record { phase = Goes; grade = grade.Read; run = Run.over (after r); entry = no_entry w (End end) r (λ l level same. cc same); waits = refl }
+after_end w end after r = record { phase = Goes; left = λ same. absurd (cc same); grade = grade.Read; run = Run.over (after r); entry = no_entry w (End end) r (λ l level same. cc same); waits = refl }
 
 -- the end
 at_end : (w : List Reply → Outcome) (end : Option Fault) → ((r : Reply) (rs : List Reply) → w (r ∷ rs) ≡ Over) → ((fault : Fault) → end ≡ Some fault → IsAtFault fault [] w) → Facts Goes [] w (End end)
@@ -432,6 +448,22 @@ pub record RunsOn (p : Phase) (hs : List Hold) (w : List Reply → Outcome) (eve
   pub after : HoldsAfter w hs events holds
   pub locks : locks_of holds ≡ locks_after (locks_of hs) events
   pub waits : waiting_in phase ≡ waiting_after (waiting_in p) events
+  pub behind : phase ≡ Settles → ((events ≡ []) × (p ≡ Settles)) ⊎ AreBehindExit events
+
+-- with one more event in front, the last one is still an exit, or this one is
+behind_more : (p : Phase) (t : ThreadId) (q : Request) (r : Reply) (woken : Option ThreadId) (events : List Event) → (p ≡ Settles → IsLeft q r)
+    → ((events ≡ []) × (p ≡ Settles)) ⊎ AreBehindExit events → AreBehindExit (Act t q r woken ∷ events)
+behind_more p t q r woken events left (inl here) =
+    let exit : IsLeft q r = left here.1 in
+    record {
+      before = [];
+      thread = t;
+      lock = exit.lock;
+      woken = woken;
+      is = ap (λ x. Act t x r woken ∷ events) exit.asked ∙ ap (λ x. Act t (Exit exit.lock) x woken ∷ events) exit.answered ∙ ap (λ x. Act t (Exit exit.lock) Done woken ∷ x) here.0;
+    }
+behind_more p t q r woken events left (inr there) =
+    record { before = Act t q r woken ∷ there.before; thread = there.thread; lock = there.lock; woken = there.woken; is = ap (λ x. Act t q r woken ∷ x) there.is }
 
 -- the locks of the holds after a reply
 locks_stack : (g : Grade) (q : Request) (r : Reply) (hs : List Hold) → locks_of (holds_after_reply g q r hs) ≡ locks_after_reply q r (locks_of hs)
@@ -443,7 +475,7 @@ locks_stack g q r hs = refl
 
 -- the run after events that follow
 run_on : (events : List Event) (p : Phase) (hs : List Hold) (w : List Reply → Outcome) → Run p hs w → Follow w events → RunsOn p hs w events
-run_on [] p hs w run follows = record { phase = p; holds = hs; run = run; after = refl; locks = refl; waits = refl }
+run_on [] p hs w run follows = record { phase = p; holds = hs; run = run; after = refl; locks = refl; waits = refl; behind = λ same. inl (refl, same) }
 run_on (Act t q r woken ∷ events) p hs w run follows =
     let step : Stepped p hs w q r = (facts p hs w run q follows.0).steps r follows.1 in
     let on : RunsOn step.phase (holds_after_reply step.grade q r hs) (λ rs. w (r ∷ rs)) events =
@@ -455,6 +487,7 @@ run_on (Act t q r woken ∷ events) p hs w run follows =
       after = (step.grade, step.entry, on.after);
       locks = on.locks ∙ ap (λ ls. locks_after ls events) (locks_stack step.grade q r hs);
       waits = on.waits ∙ ap (λ x. waiting_after x events) step.waits;
+      behind = λ same. inr (behind_more step.phase t q r woken events step.left (on.behind same));
     }
 run_on (Lost client ∷ events) p hs w run follows = absurd follows
 
@@ -676,6 +709,23 @@ enough_front past more =
 front_is : (l : LockName) (ls rest : List LockName) → ls ≡ l ∷ rest → ls ≡ l ∷ outer ls
 front_is l ls rest is = is ∙ ap (λ ks. l ∷ ks) (sym (ap outer is))
 
+-- the run behind an exit settles exactly where that is said
+settles_left : (synchronous : Bool) (hs : List Hold) (w : List Reply → Outcome) → Run (left_at synchronous) hs w
+    → (synchronous ≡ true → request_of (w []) ≡ Some Settle) × (request_of (w []) ≡ Some Settle → synchronous ≡ true)
+settles_left true hs w run = (λ same. (settled Settles hs w refl run).wanted, λ wanted. refl)
+settles_left false hs w run = (λ same. absurd (cc same), λ wanted. absurd (goes_on ((facts Goes hs w run Settle wanted).settles refl)))
+  where
+    goes_on : Goes ≡ Settles → ⊥
+    goes_on same = cc same
+
+-- a thread does not settle at its start
+from_start : (events : List Event) → ((events ≡ []) × (Goes ≡ Settles)) ⊎ AreBehindExit events → AreBehindExit events
+from_start events (inl start) = absurd (goes_on start.1)
+  where
+    goes_on : Goes ≡ Settles → ⊥
+    goes_on same = cc same
+from_start events (inr behind) = behind
+
 module _ (c : Code) (t : ThreadId) (body : ThreadBody) (found : body_of t c.bodies ≡ Some body) where
   -- the run of a thread from its start
   start : (n : ℕ) → Run Goes [] (whole c body n)
@@ -739,7 +789,7 @@ module _ (c : Code) (t : ThreadId) (body : ThreadBody) (found : body_of t c.bodi
         let agree : holds_around here.context ≡ on.holds = holds_agree fault here.context here.at on.phase on.holds _ on.run here.comes in
         record {
           holds = on.holds;
-          its = record { body = body; its = found; after = on.after; locks = on.locks };
+          its = record { body = body; its = found; moves = enough; enough = omega arith; after = on.after; locks = on.locks };
           asks = λ more further. unwinds_next more further ∙ ap (λ hs. slice_get (unwinding fault hs) (length more)) agree;
         }
 
@@ -811,6 +861,50 @@ module _ (c : Code) (t : ThreadId) (body : ThreadBody) (found : body_of t c.bodi
       let is : request_of (whole c body n (replies_in events ++ [])) ≡ next_request c t events = ap (λ rs. request_of (whole c body n rs)) (append-nil (replies_in events)) ∙ sym (next_is events n (omega arith)) in
       subst (AsksAsItWaits (waiting_after Awake events)) is (subst (λ x. AsksAsItWaits x (request_of (whole c body n (replies_in events ++ [])))) on.waits (run_asks on.phase on.holds _ on.run))
 
+  -- After an exit it settles where the entry was at synchronous write.
+  module _ (events : List Event) (l : LockName) (woken : Option ThreadId) (follows : FollowsCode c t (events ++ Act t (Exit l) Done woken ∷ [])) where
+    -- so many moves are enough behind the exit
+    abbrev behind : ℕ
+    behind = enough_for (replies_in (events ++ Act t (Exit l) Done woken ∷ []))
+
+    before_exit : RunsOn Goes [] (whole c body behind) events
+    before_exit = last_run events (Exit l) Done woken follows behind (omega arith)
+
+    leaving_it : Leaving l before_exit.holds (λ rs. whole c body behind (replies_in events ++ rs))
+    unfolding before_exit last_run
+    leaving_it = (last_facts events (Exit l) Done woken follows behind (omega arith)).exits l refl
+
+    -- the next request is what is wanted behind the exit
+    wanted_behind : next_request c t (events ++ Act t (Exit l) Done woken ∷ []) ≡ request_of (whole c body behind (replies_in events ++ Done ∷ []))
+    wanted_behind = next_is (events ++ Act t (Exit l) Done woken ∷ []) behind (omega arith)
+        ∙ ap request_of (sym (last_replies events (Exit l) Done woken follows behind (omega arith) [] ∙ ap (whole c body behind) (append-nil (replies_in (events ++ Act t (Exit l) Done woken ∷ [])))))
+
+    fewer : enough_for (replies_in events) ≤ behind
+    fewer = subst (λ rs. enough_for (replies_in events) ≤ enough_for rs) (sym (replies_both events (Act t (Exit l) Done woken ∷ []))) (enough_front (replies_in events) (Done ∷ []))
+
+    settles_there : SettlesAsEntered c t events (next_request c t (events ++ Act t (Exit l) Done woken ∷ []))
+    settles_there = record {
+      hold = leaving_it.front;
+      others = outer before_exit.holds;
+      its = record {
+        body = body;
+        its = found;
+        moves = behind;
+        enough = fewer;
+        after = subst (HoldsAfter (whole c body behind) [] events) leaving_it.is before_exit.after;
+        locks = ap locks_of (sym leaving_it.is) ∙ before_exit.locks;
+      };
+      settles = λ synchronous. wanted_behind ∙ (settles_left leaving_it.front.synchronous (outer before_exit.holds) _ leaving_it.run).0 synchronous;
+      only_then = λ wanted. (settles_left leaving_it.front.synchronous (outer before_exit.holds) _ leaving_it.run).1 (sym wanted_behind ∙ wanted);
+    }
+
+  -- It settles only behind an exit.
+  behind_exit : (events : List Event) → FollowsCode c t events → next_request c t events ≡ Some Settle → AreBehindExit events
+  behind_exit events follows wanted =
+      let n : ℕ = enough_for (replies_in events) in
+      let on : RunsOn Goes [] (whole c body n) events = ran n events (omega arith) follows in
+      from_start events (on.behind ((facts_there events Settle n (omega arith) follows wanted).settles refl))
+
 -- ---- the laws
 
 -- a thread that asks something is there
@@ -862,3 +956,14 @@ waits_found c t None found (Lost client ∷ events) follows = absurd follows.0
 
 pub waits : (c : Code) (t : ThreadId) (events : List Event) → FollowsCode c t events → AsksAsItWaits (waiting_after Awake events) (next_request c t events)
 waits c t events follows = waits_found c t (body_of t c.bodies) refl events follows
+
+pub settles : (c : Code) (t : ThreadId) (events : List Event) (l : LockName) (woken : Option ThreadId) → FollowsCode c t (events ++ Act t (Exit l) Done woken ∷ [])
+    → SettlesAsEntered c t events (next_request c t (events ++ Act t (Exit l) Done woken ∷ []))
+settles c t events l woken follows =
+    let h : IsThere c t = there c t events (Exit l) (body_of t c.bodies) refl (last_wanted c t events [] (Exit l) Done woken follows) in
+    settles_there c t h.body h.found events l woken follows
+
+pub settles_only : (c : Code) (t : ThreadId) (events : List Event) → FollowsCode c t events → next_request c t events ≡ Some Settle → AreBehindExit events
+settles_only c t events follows wanted =
+    let h : IsThere c t = there c t events Settle (body_of t c.bodies) refl wanted in
+    behind_exit c t h.body h.found events follows wanted

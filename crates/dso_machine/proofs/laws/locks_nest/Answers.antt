@@ -9,3 +9,9 @@ returns-clause-ends c = runs.ends
 
 pub returns-clause-waits : goal.returns-clause-waits
 returns-clause-waits c = runs.waits
+
+pub returns-clause-settles : goal.returns-clause-settles
+returns-clause-settles c = runs.settles
+
+pub returns-clause-settles_only : goal.returns-clause-settles_only
+returns-clause-settles_only c = runs.settles_only
