@@ -12,7 +12,8 @@ ghost use Rattle.dso_base.specs.declared.request.Request.{Request};
 ghost use Rattle.dso_machine.specs.declared.code.Code.{Code};
 ghost use Rattle.dso_machine.specs.declared.code.ThreadBody.{ThreadBody};
 ghost use Rattle.dso_machine.specs.Next.{body_of, next_request, replies_in};
-ghost use Rattle.dso_machine.specs.Unwinding.{AreBehindExit, AsksAsItWaits, Awake, FailsAfter, FollowsCode, SettlesAsEntered, Unwinds, locks_after, outer, waiting_after};
+ghost use Rattle.dso_machine.specs.Unwinding.{AreBehindExit, FailsAfter, FollowsCode, SettlesAsEntered, Unwinds, locks_after, outer};
+ghost use Rattle.dso_machine.specs.WaitingThreads.{AsksAsItWaits, Awake, waiting_after};
 
 /// A fault of a thread is followed by an Exit of each lock that it has, the innermost first, with Settle behind the Exit of each entry
 /// at synchronous write, then by End with that fault, and then by nothing.

@@ -17,7 +17,8 @@ use Rattle.dso_machine.specs.declared.code.ThreadBody.{ThreadBody}
 use Rattle.dso_machine.specs.Next.{body_of, enough_for, next_of, next_request, opening, replies_in, request_of, whole}
 use Rattle.dso_machine.specs.Outcome.{Outcome, Fails}
 use Rattle.dso_machine.specs.Statements.{block, methods}
-use Rattle.dso_machine.specs.Unwinding.{outer, locks_after, with_replies, Awake, waiting_after, waited_on_by, AsksAsItWaits, Hold, in_context, holds_around, locks_of, IsAtFault, FailsAfter, FollowsCode, unwinding, HoldsAfter, Unwinds, SettlesAsEntered, AreBehindExit}
+use Rattle.dso_machine.specs.Unwinding.{outer, locks_after, with_replies, Hold, in_context, holds_around, locks_of, IsAtFault, FailsAfter, FollowsCode, unwinding, HoldsAfter, Unwinds, SettlesAsEntered, AreBehindExit}
+use Rattle.dso_machine.specs.WaitingThreads.{Awake, waiting_after, waited_on_by, AsksAsItWaits}
 use Rattle.dso_machine.proofs.moves.MoreRepliesInTrees.{moves_enough, same_wanted}
 use Rattle.dso_machine.proofs.protocol.Parts.{one_function}
 use Rattle.dso_machine.proofs.unwinding.Tidy.{Goes, Settles, left_at}

@@ -13,7 +13,8 @@ use Rattle.dso_base.specs.declared.value.Value.TheVariants as value
 use Rattle.dso_base.specs.Following.{IsListed}
 use Rattle.dso_machine.specs.Next.{finish, request_of}
 use Rattle.dso_machine.specs.Outcome.{State, Outcome, Wants, Gives, Leaves, Fails, Hears, Over, Stopped, level_of}
-use Rattle.dso_machine.specs.Unwinding.{outer, with_replies, Waiting, Awake, Asleep, Roused, waiting_after_reply, waited_on, waited_on_by, AsksAsItWaits, Hold, hold_at, locks_of, IsAtFault, IsAtEntry, IsAtGrade, holds_after_reply}
+use Rattle.dso_machine.specs.Unwinding.{outer, with_replies, Hold, hold_at, locks_of, IsAtFault, IsAtEntry, IsAtGrade, holds_after_reply}
+use Rattle.dso_machine.specs.WaitingThreads.{Waiting, Awake, Asleep, Roused, waiting_after_reply, waited_on, waited_on_by, AsksAsItWaits}
 use Rattle.dso_machine.proofs.protocol.Parts.{refilled}
 use Rattle.dso_machine.proofs.unwinding.Tidy.{is_simple, Failing, Entering, IsEnd, Phase, Goes, Settles, Waits, left_at, ticked, Tidy}
 

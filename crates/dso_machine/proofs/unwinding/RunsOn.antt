@@ -11,7 +11,8 @@ use Rattle.dso_base.specs.declared.request.Request.TheVariants.{Enter, Exit}
 use Rattle.dso_base.specs.Following.{IsListed}
 use Rattle.dso_machine.specs.Next.{replies_in, request_of}
 use Rattle.dso_machine.specs.Outcome.{Outcome}
-use Rattle.dso_machine.specs.Unwinding.{locks_after_reply, locks_after, waiting_after, Hold, locks_of, holds_after_reply, HoldsAfter, AreBehindExit}
+use Rattle.dso_machine.specs.Unwinding.{locks_after_reply, locks_after, Hold, locks_of, holds_after_reply, HoldsAfter, AreBehindExit}
+use Rattle.dso_machine.specs.WaitingThreads.{waiting_after}
 use Rattle.dso_machine.proofs.unwinding.Tidy.{Phase, Settles}
 use Rattle.dso_machine.proofs.unwinding.Runs.{Run, waiting_in, IsLeft, Stepped, facts}
 
