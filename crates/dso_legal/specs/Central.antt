@@ -20,7 +20,7 @@ use Rattle.dso_law.specs.ServerWaiters.{waiters_of}
 use Rattle.dso_legal.specs.Agreement.{messages}
 use Rattle.dso_legal.specs.Lawful.{IsLawful}
 use Rattle.dso_legal.specs.Committed.{committed, resolved}
-use Rattle.dso_legal.specs.Resolved.{AreResolved, AreFirstResolved}
+use Rattle.dso_legal.specs.Resolved.{AreResolved, IsPrefixResolved}
 use Rattle.dso_legal.specs.Slots.{is_finished}
 use Rattle.dso_legal.specs.WaitsAndLosses.{WithoutWaits, WithoutLosses}
 use Rattle.dso_legal.specs.SoundProgram.{IsSound}
@@ -57,16 +57,16 @@ pub record ClusterStands (p : Settings) (es : List Entry) : Type 0 where
   pub runs : Runs p.shape (committed es) (opening p.shape)
   pub client : (c : ℕ) → is_lost c (entries_of Server es) ≡ false → ClientStands p c es
 
--- What is committed of a journal: a legal history in which each thread follows the program; of each thread the first of
+-- What is committed of a journal: a legal history in which each thread follows the program; of each thread a prefix of
 -- its events, each once and in order, resolved by the server; and, where the journal is finished, all events of each
 -- thread whose client isn't lost.
 pub record CommitsLegally (p : Settings) (next : ThreadId → List Event → Option Request) (es : List Entry) : Type 0 where
   pub legal : IsLegal next (Listed next) p.shape (committed es)
-  pub parts : (t : ThreadId) → AreFirstResolved (events_in t (entries_of (Client t.client) es)) (events_of t (committed es))
+  pub parts : (t : ThreadId) → IsPrefixResolved (events_in t (entries_of (Client t.client) es)) (events_of t (committed es))
   pub whole : is_finished p es ≡ true → (t : ThreadId) → list_any (is_thread t) p.threads ≡ true → is_lost t.client (entries_of Server es) ≡ false
       → AreResolved (events_in t (entries_of (Client t.client) es)) (events_of t (committed es))
 
--- What more is so where nothing is left to the server to choose: of each thread the history has the first of its events
+-- What more is so where nothing is left to the server to choose: of each thread the history has a prefix of its events
 -- just as it made them, and all of them where the journal is finished.
 pub record CommitsAsMade (p : Settings) (es : List Entry) : Type 0 where
   pub parts : (t : ThreadId) → IsPrefix (events_of t (committed es)) (events_in t (entries_of (Client t.client) es))

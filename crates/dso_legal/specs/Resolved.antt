@@ -17,8 +17,8 @@ AreResolved [] [] = Unit {0}
 AreResolved (made ∷ mades) (event ∷ events) = IsResolved made event × AreResolved mades events
 AreResolved mades events = ⊥
 
--- the events of the history are the first of the client's, each resolved so
-pub record AreFirstResolved (mades events : List Event) : Type 0 where
+-- the events of the history are a prefix of the client's, each resolved so
+pub record IsPrefixResolved (mades events : List Event) : Type 0 where
   pub first : List Event
   pub begins : IsPrefix first mades
   pub resolved : AreResolved first events

@@ -186,7 +186,7 @@ pub fn sound_code_is_sound_program()
 {}
 
 /// **The central law.** A lawful journal without waits and losses, of a sound program, commits a legal history, in which each
-/// thread follows the program; the history has of each thread the first of its events, each once and in order, and all of them
+/// thread follows the program; the history has of each thread a prefix of its events, each once and in order, and all of them
 /// where the journal is finished, but for whom the server chose to wake. Clause `as_made`: just as the threads made them.
 pub fn central_law()
     ensures legal { CentralLaw }
