@@ -9,7 +9,7 @@ use Rattle.dso_base.specs.declared.value.Value.{Value}
 use Rattle.dso_base.specs.declared.value.Value.TheVariants as value
 use Rattle.dso_machine.specs.declared.code.Code.{Code}
 use Rattle.dso_machine.specs.declared.code.Method.{Method}
-use Rattle.dso_machine.specs.Outcome.{Environment, Outcome, Gives, Leaves, Fails, Meaning, choose, on_value, look, on_object, moving, level_of, under}
+use Rattle.dso_machine.specs.Outcome.{Environment, Outcome, Gives, Leaves, Fails, Meaning, choose, on_value, look, on_object, moving, under}
 
 -- the number that the list has for the class, the first one
 abbrev pub lookup : List (ℕ × ℕ) → ℕ → Option ℕ
@@ -52,12 +52,12 @@ invoke bodies m this vars = moving (begin bodies m this vars)
 -- a part under a method's named lock, if it has one
 abbrev pub under_name : Option (ℕ × Grade) → Meaning → Meaning
 under_name None m = m
-under_name (Some lock) m = under (Name lock.0) (level_of lock.1) m
+under_name (Some lock) m = under (Name lock.0) lock.1 m
 
 -- a part under the object's monitor, if the method takes it
 abbrev pub under_monitor : Option Grade → ℕ → Meaning → Meaning
 under_monitor None object m = m
-under_monitor (Some grade) object m = under (Mon object) (level_of grade) m
+under_monitor (Some grade) object m = under (Mon object) grade m
 
 -- a method of an object: its locks, the named one first, and then its body
 abbrev pub run_method : MethodMeanings → ℕ → Method → ℕ → List Value → Meaning

@@ -1,7 +1,6 @@
 -- What is left of a thread that runs: what it is about to do, and its continuation, in the words of what the code
 -- means.
 use Rattle.std.specs.Prelude.{◌≡◌, ℕ, ◌+◌, ◌*◌, ◌≤◌, ◌<◌, suc, List, [], ◌∷◌, ◌++◌, length, map, Option, None, Some}
-use Rattle.dso_base.specs.declared.lock.LockName.{LockName}
 use Rattle.dso_base.specs.declared.lock.LockName.TheVariants.{Mon}
 use Rattle.dso_base.specs.declared.request.Reply.{Reply}
 use Rattle.dso_base.specs.declared.request.Request.TheVariants as request
@@ -36,8 +35,8 @@ use Rattle.dso_machine.specs.declared.tree.Stmt.{Stmt}
 use Rattle.dso_machine.specs.Calls.{back_in, begin, invoke, under_monitor, call_in, call_on, arguments}
 use Rattle.dso_machine.specs.Expressions.{field_of, field_in, element_of, element_in, new_array, a_boolean, second, expr}
 use Rattle.dso_machine.specs.Limits.{most_moves}
-use Rattle.dso_machine.specs.Outcome.{Environment, State, Outcome, Gives, Leaves, Fails, Over, Meaning, on_value, on_reply, on_next, on_object, result_of, ask, done, made, got, seen, tell, get, moved, moving, leave, entered}
-use Rattle.dso_machine.specs.Statements.{assign, put_field, put_field_in, put_element, put_element_in, bind_null, put_root, sync, wait, branch, turn, spun, stmt, block, methods}
+use Rattle.dso_machine.specs.Outcome.{Environment, State, Outcome, Gives, Leaves, Fails, Over, Meaning, on_value, on_reply, on_next, on_object, result_of, ask, done, made, got, seen, tell, get, moved, moving, settling, leave, entered}
+use Rattle.dso_machine.specs.Statements.{assign, put_field, put_field_in, put_element, put_element_in, bind_null, put_root, sync, unless_woken, timed_out, ticks, waiting, wait, timed_wait, branch, turn, spun, stmt, block, methods}
 use Rattle.dso_machine.specs.Values.{binary, unary}
 use Rattle.dso_machine.specs.Next.{finish, whole}
 
@@ -48,10 +47,6 @@ alone a = record { now = a; then = None }
 -- a step after which its value is used
 abbrev pub used : Now → OnValue → Step
 used a t = record { now = a; then = Some (task.Then t) }
-
--- a step after which a lock is left
-abbrev pub left : Now → LockName → Step
-left a l = record { now = a; then = Some (task.Leave l) }
 
 -- the environment that a frame of the code stands for
 abbrev pub environment_of : table_frame.Frame → Environment
@@ -110,7 +105,9 @@ module _ (code : Code) (n k : ℕ) where
   -- what is done with a monitor
   abbrev pub used_monitor : Monitor → Value → Meaning
   used_monitor (monitor.Sync grade body) v at = sync grade (block_at body) v at
-  used_monitor monitor.Wait v at = on_object (λ object. wait (Mon object)) v at
+  used_monitor monitor.Wait v at = on_object (λ object. wait 0 (Mon object)) v at
+  used_monitor (monitor.TimedWait b) v at = on_next timed_wait (expr_at b) v at
+  used_monitor (monitor.WaitFor x) v at = timed_wait x v at
   used_monitor monitor.Notify v at = on_object (λ object. tell (request.Notify (Mon object))) v at
   used_monitor monitor.NotifyAll v at = on_object (λ object. tell (request.NotifyAll (Mon object))) v at
 
@@ -146,17 +143,20 @@ module _ (code : Code) (n k : ℕ) where
   heard (reply.Call object callees args) r at = seen (call_in code (methods code n) callees args object) r at
   heard (reply.PutField object f v) r at = seen (put_field_in code.shape f v object) r at
   heard (reply.PutElement object i v) r at = seen (put_element_in i v object) r at
-  heard (reply.Entered l part) r at = entered l (locked_at part) r at
-  heard (reply.Left end) r at = on_value (λ v. ended end) (done r at)
+  heard (reply.Entered l grade part) r at = entered l grade (locked_at part) r at
+  heard (reply.Left grade end) r at = on_value (λ v. settling grade (ended end)) (done r at)
+  heard (reply.Settled end) r at = on_value (λ v. ended end) (done r at)
   heard (reply.Bind root v) r at = on_value (bind_null root v) (got r at)
-  heard (reply.Waited l) r at = on_value (λ v. tell (request.Resume l)) (done r at)
+  heard (reply.Waited l n) r at = on_value (λ v. waiting l n) (done r at)
+  heard (reply.Ticked l n) r at = on_value (λ v. tell (request.Resume l)) (unless_woken (ticks l n) r at)
+  heard (reply.TimedOut l) r at = on_value (λ v. tell (request.Resume l)) (timed_out r at)
   heard (reply.Paused a) r at = on_value (λ v. moved (move_at a)) (done r at)
 
   -- what a task of the continuation makes of a part's outcome
   abbrev pub after_part : Task → Outcome → Outcome
   after_part (task.Then t) o = on_value (used_value t) o
   after_part (task.Back frame) o = back_in (environment_of frame) o
-  after_part (task.Leave l) o = leave l o
+  after_part (task.Leave l grade) o = leave l grade o
 
   -- what the thread is about to do
   abbrev pub meant : Now → Meaning

@@ -1,6 +1,6 @@
 -- What an expression means.
 use Rattle.std.specs.Prelude.{ℕ, nat_lt, nat_le, true, false, ℤ, pos, negsuc, [], cond, length, slice_index_or, Option, None, Some}
-use Rattle.dso_base.specs.declared.lock.Level.TheVariants.{Read}
+use Rattle.dso_base.specs.declared.lock.Grade.TheVariants as grade
 use Rattle.dso_base.specs.declared.lock.LockName.TheVariants.{Name}
 use Rattle.dso_base.specs.declared.op.Op.{Op}
 use Rattle.dso_base.specs.declared.op.Op.TheVariants as op
@@ -63,7 +63,7 @@ element_of x i = on_object (λ object. Fails BadValue) x
 
 -- a root is read, under its lock
 abbrev pub root : ℕ → Meaning
-root r = under (Name r) Read (get 0 r)
+root r = under (Name r) grade.Read (get 0 r)
 
 -- ---- new objects
 

@@ -154,23 +154,30 @@ level_of grade.Read = Read
 level_of grade.Write = Write
 level_of grade.Synchronous = Write
 
--- the lock is left, and then it is as before
-abbrev pub leaving : LockName → Meaning → Meaning
-leaving l m at = on_value (λ v. m) (tell (request.Exit l) at)
+-- a lock was left that was entered at this grade: after an entry at synchronous write the thread settles, and then it is
+-- as before
+abbrev pub settling : Grade → Meaning → Meaning
+settling grade.Read m at = m at
+settling grade.Write m at = m at
+settling grade.Synchronous m at = on_value (λ v. m) (tell request.Settle at)
+
+-- the lock is left that was entered at this grade, and then it is as before
+abbrev pub leaving : LockName → Grade → Meaning → Meaning
+leaving l grade m at = on_value (λ v. settling grade m) (tell (request.Exit l) at)
 
 -- the lock is left at the end of a part, whichever end that is
-abbrev pub leave : LockName → Outcome → Outcome
-leave l (Gives v at) = leaving l (Gives v) at
-leave l (Leaves v at) = leaving l (Leaves v) at
-leave l (Fails fault at) = leaving l (Fails fault) at
-leave l o = o
+abbrev pub leave : LockName → Grade → Outcome → Outcome
+leave l grade (Gives v at) = leaving l grade (Gives v) at
+leave l grade (Leaves v at) = leaving l grade (Leaves v) at
+leave l grade (Fails fault at) = leaving l grade (Fails fault) at
+leave l grade o = o
 
--- a part under a lock that was asked for: one that is Local is not left
-abbrev pub entered : LockName → Meaning → Reply → Meaning
-entered l m Done at = leave l (m at)
-entered l m Local at = m at
-entered l m r at = unwanted r at
+-- a part under a lock that was asked for at this grade: one that is Local is not left
+abbrev pub entered : LockName → Grade → Meaning → Reply → Meaning
+entered l grade m Done at = leave l grade (m at)
+entered l grade m Local at = m at
+entered l grade m r at = unwanted r at
 
--- a part under a lock
-abbrev pub under : LockName → Level → Meaning → Meaning
-under l level m at = on_reply (entered l m) (ask (request.Enter l level) at)
+-- a part under a lock, which is entered at this grade
+abbrev pub under : LockName → Grade → Meaning → Meaning
+under l grade m at = on_reply (entered l grade m) (ask (request.Enter l (level_of grade)) at)

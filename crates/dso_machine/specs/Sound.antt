@@ -103,6 +103,8 @@ mutual
     locked : {room : ℕ} {a : Expr} {grade : Grade} {all : List Stmt} → SoundExpr scope a →
         SoundBlock scope room all → SoundStmt scope (suc room) (s.Sync a grade all)
     wait : {room : ℕ} {a : Expr} → SoundExpr scope a → SoundStmt scope (suc room) (s.Wait a)
+    timed_wait : {room : ℕ} {a b : Expr} → SoundExpr scope a → SoundExpr scope b →
+        SoundStmt scope (suc room) (s.TimedWait a b)
     notify : {room : ℕ} {a : Expr} → SoundExpr scope a → SoundStmt scope (suc room) (s.Notify a)
     notify_all : {room : ℕ} {a : Expr} → SoundExpr scope a → SoundStmt scope (suc room) (s.NotifyAll a)
     print : {room : ℕ} {a : Expr} → SoundExpr scope a → SoundStmt scope (suc room) (s.Print a)

@@ -1,10 +1,12 @@
 -- What a statement means, and what a thread's code comes to.
-use Rattle.std.specs.Prelude.{ℕ, zero, suc, true, false, ℤ, List, [], ◌∷◌, map, slice_get, slice_set, Option, None, Some}
+use Rattle.std.specs.Prelude.{ℕ, zero, suc, true, false, ℤ, pos, List, [], ◌∷◌, map, slice_get, slice_set, Option, None, Some}
 use Rattle.dso_base.specs.declared.lock.Grade.{Grade}
-use Rattle.dso_base.specs.declared.lock.Level.TheVariants.{Write}
+use Rattle.dso_base.specs.declared.lock.Grade.TheVariants as grade
 use Rattle.dso_base.specs.declared.lock.LockName.{LockName}
 use Rattle.dso_base.specs.declared.lock.LockName.TheVariants.{Mon, Name}
 use Rattle.dso_base.specs.declared.request.Fault.TheVariants.{NoSuchField, BadValue, BadIndex}
+use Rattle.dso_base.specs.declared.request.Reply.{Reply}
+use Rattle.dso_base.specs.declared.request.Reply.TheVariants.{Done, Val}
 use Rattle.dso_base.specs.declared.request.Request.TheVariants as request
 use Rattle.dso_base.specs.declared.shape.Shape.{Shape}
 use Rattle.dso_base.specs.declared.value.ClassId.{ClassId}
@@ -22,7 +24,7 @@ use Rattle.dso_machine.specs.declared.tree.Stmt.{Stmt, Stmt-F, fold-Stmt}
 use Rattle.dso_machine.specs.declared.tree.Stmt.TheOpen as s
 use Rattle.dso_machine.specs.Calls.{lookup, MethodMeanings}
 use Rattle.dso_machine.specs.Expressions.{within, expr}
-use Rattle.dso_machine.specs.Outcome.{Gives, Leaves, Fails, Stopped, Meaning, choose, on_value, on_next, tell, get, put, look, on_object, moving, level_of, under}
+use Rattle.dso_machine.specs.Outcome.{Gives, Leaves, Fails, Stopped, Meaning, choose, on_value, on_reply, on_next, ask, unwanted, tell, get, put, look, on_object, moving, under}
 use Rattle.dso_machine.specs.Values.{takes}
 
 -- ---- what is written
@@ -72,7 +74,7 @@ bind_null r v bound at = Gives value.Null at
 
 -- a root is bound, under its lock
 abbrev pub bind : ℕ → Value → Meaning
-bind r v = under (Name r) Write (λ at. on_value (bind_null r v) (get 0 r at))
+bind r v = under (Name r) grade.Write (λ at. on_value (bind_null r v) (get 0 r at))
 
 -- a root is given a value
 abbrev pub put_root : ℕ → Value → Meaning
@@ -82,11 +84,45 @@ put_root r v at = choose (takes kind.Ref v) (bind r v) (Fails BadValue) at
 
 -- statements under the monitor of a value
 abbrev pub sync : Grade → Meaning → Value → Meaning
-sync grade m = on_object (λ object. under (Mon object) (level_of grade) m)
+sync grade m = on_object (λ object. under (Mon object) grade m)
 
--- a thread waits, and then has the lock again
-abbrev pub wait : LockName → Meaning
-wait l at = on_value (λ v. tell (request.Resume l)) (tell (request.Wait l) at)
+-- a tick told the thread whether it was woken: then its ticks are over, else it goes on
+abbrev pub unless_woken : Meaning → Reply → Meaning
+unless_woken m (Val (value.Bool woken)) at = choose woken (Gives value.Null) m at
+unless_woken m r at = unwanted r at
+
+-- the wait is over: it timed out, or the thread was woken before
+abbrev pub timed_out : Reply → Meaning
+timed_out Done at = Gives value.Null at
+timed_out (Val (value.Bool true)) at = Gives value.Null at
+timed_out r at = unwanted r at
+
+-- a thread that waits asks, up to so many times, whether it was woken; where it never was, the wait times out
+abbrev pub ticks : LockName → ℕ → Meaning
+ticks l zero at = on_reply timed_out (ask (request.Timeout l) at)
+ticks l (suc n) at = on_reply (unless_woken (ticks l n)) (ask (request.Tick l) at)
+
+-- after at most so many ticks a thread that waits has the lock again
+abbrev pub ticking : LockName → ℕ → Meaning
+ticking l n at = on_value (λ v. tell (request.Resume l)) (ticks l n at)
+
+-- a thread that waits has the lock again, after at most so many ticks; 0 stands for no limit
+abbrev pub waiting : LockName → ℕ → Meaning
+waiting l zero at = tell (request.Resume l) at
+waiting l (suc n) at = ticking l (suc n) at
+
+-- a thread waits for a notification, or for at most so many ticks, and then has the lock again; 0 stands for no limit
+abbrev pub wait : ℕ → LockName → Meaning
+wait n l at = on_value (λ v. waiting l n) (tell (request.Wait l) at)
+
+-- the value is to be a long that isn't negative
+abbrev pub on_count : (ℕ → Meaning) → Value → Meaning
+on_count f (value.Long (pos n)) at = f n at
+on_count f v at = Fails BadValue at
+
+-- a thread waits on the monitor of a value, for as many ticks as the other one says
+abbrev pub timed_wait : Value → Value → Meaning
+timed_wait x v = on_object (λ object. on_count (λ n. wait n (Mon object)) v) x
 
 -- ---- what is run
 
@@ -131,7 +167,8 @@ stmt_step code bodies n (s.If a yes_block no_block) at =
     on_value (branch (seq yes_block) (seq no_block)) (expr code bodies a at)
 stmt_step code bodies n (s.While a body) at = moving (spun (expr code bodies a) (seq body) n) at
 stmt_step code bodies n (s.Sync a grade body) at = on_value (sync grade (seq body)) (expr code bodies a at)
-stmt_step code bodies n (s.Wait a) at = on_value (on_object (λ object. wait (Mon object))) (expr code bodies a at)
+stmt_step code bodies n (s.Wait a) at = on_value (on_object (λ object. wait 0 (Mon object))) (expr code bodies a at)
+stmt_step code bodies n (s.TimedWait a b) at = on_value (on_next timed_wait (expr code bodies b)) (expr code bodies a at)
 stmt_step code bodies n (s.Notify a) at =
     on_value (on_object (λ object. tell (request.Notify (Mon object)))) (expr code bodies a at)
 stmt_step code bodies n (s.NotifyAll a) at =

@@ -56,6 +56,7 @@ stmt_weight_step (s.If a x y) = expr_weight a + list_weight x + list_weight y + 
 stmt_weight_step (s.While a x) = 4
 stmt_weight_step (s.Sync a grade x) = expr_weight a + list_weight x + 2
 stmt_weight_step (s.Wait a) = expr_weight a + 2
+stmt_weight_step (s.TimedWait a b) = expr_weight a + expr_weight b + 2
 stmt_weight_step (s.Notify a) = expr_weight a + 2
 stmt_weight_step (s.NotifyAll a) = expr_weight a + 2
 stmt_weight_step (s.Print a) = expr_weight a + 2
@@ -79,6 +80,7 @@ write_weight other = 1
 -- the weight of what is done with a monitor
 abbrev pub monitor_weight : Monitor → ℕ
 monitor_weight (monitor.Sync grade x) = block_weight x + 1
+monitor_weight (monitor.TimedWait b) = expr_weight b + 1
 monitor_weight other = 1
 
 -- the weight of what is done with a value
@@ -99,7 +101,7 @@ use_weight other = 1
 abbrev pub task_weight : Task → ℕ
 task_weight (task.Then t) = use_weight t
 task_weight (task.Back frame) = 1
-task_weight (task.Leave l) = 1
+task_weight (task.Leave l grade) = 1
 
 -- the weight of a continuation
 abbrev pub tasks_weight : List Task → ℕ

@@ -76,6 +76,10 @@ pub(crate) enum Monitor {
     /// These statements are under it.
     Sync(Grade, Items<Stmt>),
     Wait,
+    /// The thread waits on it for as many ticks as come next.
+    TimedWait(Expr),
+    /// The thread waits on this object's monitor, for as many ticks as come now.
+    WaitFor(Value),
     Notify,
     NotifyAll,
 }
@@ -137,14 +141,20 @@ pub(crate) enum OnReply {
     PutField(u64, FieldRef, Value),
     /// The element at this index is written.
     PutElement(u64, i64, Value),
-    /// The lock was asked for.
-    Entered(LockName, Locked),
-    /// The lock was left, after a part that ended so.
-    Left(End),
+    /// The lock was asked for, at this grade.
+    Entered(LockName, Grade, Locked),
+    /// The lock was left that was entered at this grade, after a part that ended so.
+    Left(Grade, End),
+    /// The thread settled after it left a lock, after a part that ended so.
+    Settled(End),
     /// The root was read, and is bound to the value if it is null.
     Bind(u32, Value),
-    /// The thread waited on the lock.
-    Waited(LockName),
+    /// The thread waits on the lock, for so many ticks; 0 stands for no limit.
+    Waited(LockName, u64),
+    /// A tick of a thread that waits on the lock, with so many more to come.
+    Ticked(LockName, u64),
+    /// The thread waits on the lock no longer.
+    TimedOut(LockName),
     /// The thread paused before the move.
     Paused(Move),
 }
@@ -156,8 +166,8 @@ pub(crate) enum Task {
     Then(OnValue),
     /// The frame below is the thread's again.
     Back(Frame),
-    /// The lock is left.
-    Leave(LockName),
+    /// The lock is left, which was entered at this grade.
+    Leave(LockName, Grade),
 }
 
 /// What the thread is about to do.

@@ -144,6 +144,14 @@ fn copy_sync(
     Ok(Stmt::Sync(copy_expr(alloc, object)?, grade, body))
 }
 
+/// A wait for so many ticks once more.
+fn copy_timed_wait(alloc: Global, object: &Expr, ticks: &Expr) -> Result<Stmt, NoMemory>
+    ensures { IfOk result (λ copy. copy ≡ Stmt.TimedWait object.now ticks.now) }
+{
+    let object = copy_expr(alloc, object)?;
+    Ok(Stmt::TimedWait(object, copy_expr(alloc, ticks)?))
+}
+
 /// The same statement once more.
 #[cycle(copy_statements)]
 pub(crate) fn copy_stmt(alloc: Global, tree: &Stmt) -> Result<Stmt, NoMemory>
@@ -164,6 +172,7 @@ pub(crate) fn copy_stmt(alloc: Global, tree: &Stmt) -> Result<Stmt, NoMemory>
             copy_sync(alloc, object, *grade, copy_block(alloc, body.as_slice())?)
         }
         Stmt::Wait(object) => Ok(Stmt::Wait(copy_expr(alloc, object)?)),
+        Stmt::TimedWait(object, ticks) => copy_timed_wait(alloc, object, ticks),
         Stmt::Notify(object) => Ok(Stmt::Notify(copy_expr(alloc, object)?)),
         Stmt::NotifyAll(object) => Ok(Stmt::NotifyAll(copy_expr(alloc, object)?)),
         Stmt::Print(value) => Ok(Stmt::Print(copy_expr(alloc, value)?)),

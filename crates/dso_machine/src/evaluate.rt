@@ -9,7 +9,7 @@ ghost use Rattle.dso_machine.specs.Weight.{expr_weight, step_weight};
 use crate::continuation::{Frame, Locked, OnReply, OnValue, Step};
 use crate::stack::Stack;
 use crate::{Code, Expr};
-use dso_base::{ClassId, Level, LockName, Request, Value};
+use dso_base::{ClassId, Grade, Level, LockName, Request, Value};
 
 impl Frame {
     /// The value of a variable.
@@ -48,7 +48,7 @@ pub(crate) fn evaluate(code: &Code, frame: &Frame, expr: Expr) -> Step
         Expr::This => Step::give(frame.this),
         Expr::Root(root) => {
             let lock = LockName::Name(root);
-            let entered = OnReply::Entered(lock, Locked::Read(root));
+            let entered = OnReply::Entered(lock, Grade::Read, Locked::Read(root));
             Step::ask(Request::Enter(lock, Level::Read), entered)
         }
         Expr::Field(object, field) => Step::evaluate(object.into_inner(), OnValue::Field(field)),

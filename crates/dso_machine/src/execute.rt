@@ -32,6 +32,9 @@ pub(crate) fn execute(statement: Stmt) -> Step
             OnValue::Monitor(Monitor::Sync(grade, body)),
         ),
         Stmt::Wait(object) => Step::evaluate(object, OnValue::Monitor(Monitor::Wait)),
+        Stmt::TimedWait(object, ticks) => {
+            Step::evaluate(object, OnValue::Monitor(Monitor::TimedWait(ticks)))
+        }
         Stmt::Notify(object) => Step::evaluate(object, OnValue::Monitor(Monitor::Notify)),
         Stmt::NotifyAll(object) => Step::evaluate(object, OnValue::Monitor(Monitor::NotifyAll)),
         Stmt::Print(value) => Step::evaluate(value, OnValue::Print),

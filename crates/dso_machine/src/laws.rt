@@ -1,4 +1,4 @@
-//! What the machine's definitions say of every thread's run: how it leaves its locks.
+//! What the machine's definitions say of every thread's run: how it leaves its locks, and how it waits.
 
 ghost use Rattle.std.specs.Prelude.{◌≡◌, [], ◌∷◌, ◌++◌, List, Option, Some};
 ghost use Rattle.dso_base.specs.declared.lock.LockName.{LockName};
@@ -12,10 +12,11 @@ ghost use Rattle.dso_base.specs.declared.request.Request.{Request};
 ghost use Rattle.dso_machine.specs.declared.code.Code.{Code};
 ghost use Rattle.dso_machine.specs.declared.code.ThreadBody.{ThreadBody};
 ghost use Rattle.dso_machine.specs.Next.{body_of, next_request, replies_in};
-ghost use Rattle.dso_machine.specs.Unwinding.{FailsAfter, FollowsCode, Unwinds, locks_after, outer};
+ghost use Rattle.dso_machine.specs.Unwinding.{AreBehindExit, FailsAfter, FollowsCode, SettlesAsEntered, Unwinds, locks_after, outer};
+ghost use Rattle.dso_machine.specs.WaitingThreads.{AsksAsItWaits, Awake, waiting_after};
 
-/// A fault of a thread is followed by an Exit of each lock that it has, the innermost first, then by End with that fault, and then by
-/// nothing.
+/// A fault of a thread is followed by an Exit of each lock that it has, the innermost first, with Settle behind the Exit of each entry
+/// at synchronous write, then by End with that fault, and then by nothing.
 ///
 /// `refused` says it of a request that is refused, `failed` of a fault that the code itself makes; by `ended` a thread ends with a fault
 /// only where its code is at it. All hold for every code.
@@ -25,6 +26,7 @@ pub fn faults_unwind()
         → Unwinds code t (events ++ event.Act t q (reply.Refused fault) woken ∷ []) fault }
     ensures failed { (code : Code) (t : ThreadId) (body : ThreadBody) (events : List Event) (fault : Fault)
         → body_of t code.bodies ≡ Some body
+        → FollowsCode code t events
         → FailsAfter code body (replies_in events) fault
         → Unwinds code t events fault }
     ensures ended { (code : Code) (t : ThreadId) (body : ThreadBody) (events : List Event) (fault : Fault)
@@ -35,7 +37,11 @@ pub fn faults_unwind()
 {}
 
 /// A thread leaves its locks in the opposite order of their entries, and ends when it has left all; after a wait it asks for its lock
-/// again before all else. This holds for every code.
+/// again before all else but ticks and one timeout. This holds for every code.
+///
+/// By `waits` Tick, Timeout and Resume come only where the thread waits on that lock, and nothing else comes there; after a Timeout,
+/// and after a Tick that told that the thread was woken, Resume comes next. By `settles` and `settles_only` Settle comes exactly behind
+/// the Exit of an entry at synchronous write.
 pub fn locks_nest()
     ensures exits { (code : Code) (t : ThreadId) (events : List Event) (l : LockName)
         → FollowsCode code t events
@@ -45,7 +51,14 @@ pub fn locks_nest()
         → FollowsCode code t events
         → next_request code t events ≡ Some (request.End fault)
         → locks_after [] events ≡ [] }
-    ensures resumes { (code : Code) (t : ThreadId) (events : List Event) (l : LockName) (woken : Option ThreadId)
-        → FollowsCode code t (events ++ event.Act t (request.Wait l) reply.Done woken ∷ [])
-        → next_request code t (events ++ event.Act t (request.Wait l) reply.Done woken ∷ []) ≡ Some (request.Resume l) }
+    ensures waits { (code : Code) (t : ThreadId) (events : List Event)
+        → FollowsCode code t events
+        → AsksAsItWaits (waiting_after Awake events) (next_request code t events) }
+    ensures settles { (code : Code) (t : ThreadId) (events : List Event) (l : LockName) (woken : Option ThreadId)
+        → FollowsCode code t (events ++ event.Act t (request.Exit l) reply.Done woken ∷ [])
+        → SettlesAsEntered code t events (next_request code t (events ++ event.Act t (request.Exit l) reply.Done woken ∷ [])) }
+    ensures settles_only { (code : Code) (t : ThreadId) (events : List Event)
+        → FollowsCode code t events
+        → next_request code t events ≡ Some request.Settle
+        → AreBehindExit events }
 {}

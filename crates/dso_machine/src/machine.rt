@@ -111,7 +111,9 @@ impl Core {
             },
             Some(Task::Then(then)) => self.hand_on(alloc, then, end),
             Some(Task::Back(frame)) => Ok(self.back(frame, end)),
-            Some(Task::Leave(lock)) => Ok(Now::Ask(Request::Exit(lock), OnReply::Left(end))),
+            Some(Task::Leave(lock, grade)) => {
+                Ok(Now::Ask(Request::Exit(lock), OnReply::Left(grade, end)))
+            }
         }
     }
 

@@ -5,16 +5,16 @@ ghost use Rattle.dso_base.specs.Shape.{kind_of};
 ghost use Rattle.dso_machine.specs.declared.code.Code.{Code};
 ghost use Rattle.dso_machine.specs.declared.continuation.Frame.{Frame};
 ghost use Rattle.dso_machine.specs.declared.continuation.OnReply.{OnReply};
-ghost use Rattle.dso_machine.specs.Outcome.{State, unwanted};
+ghost use Rattle.dso_machine.specs.Outcome.{State, tell, unwanted};
 ghost use Rattle.dso_machine.specs.Continuation.{Takes, locked_at, meant, stepped};
-ghost use Rattle.dso_machine.specs.Statements.{put_fitting};
+ghost use Rattle.dso_machine.specs.Statements.{put_fitting, ticking};
 
 use crate::call::call_seen;
 use crate::continuation::{Call, End, Frame, Locked, Move, Now, OnReply, Step, Task};
 use crate::operators::{level_of, lookup, takes, within};
 use crate::stack::Stack;
 use crate::{Code, FieldRef};
-use dso_base::{ClassId, Fault, Kind, LockName, NoMemory, Reply, Request, Value};
+use dso_base::{ClassId, Fault, Grade, Kind, LockName, NoMemory, Reply, Request, Value};
 
 /// A reply that isn't the one that is wanted: a refusal is its fault.
 pub(crate) fn unwanted(reply: Reply) -> Step
@@ -105,19 +105,71 @@ fn bind(reply: Reply, root: u32, value: Value) -> Step
     }
 }
 
-/// The thread waited on a lock, and is to have it again.
-fn waited(reply: Reply, lock: LockName) -> Step
-    ensures takes { (code : Code) (frame : Frame) → Takes code (OnReply.Waited lock) reply frame result }
+/// A thread that waited on a lock is to have it again.
+fn resume(lock: LockName) -> Step
+    ensures is { (code : Code) (n k : ℕ) (at : State) → stepped code n k result at ≡ tell (Request.Resume lock) at }
+{
+    Step::ask(Request::Resume(lock), OnReply::Done)
+}
+
+/// The next of so many ticks of a thread that waits on a lock, or its timeout where none is left.
+#[tactic(auto, using(crate::proofs::steps::Requests::ticks_on))]
+fn tick(lock: LockName, ticks: u64) -> Step
+    ensures is { (code : Code) (n k : ℕ) (at : State) → stepped code n k result at ≡ ticking lock ticks at }
+{
+    match ticks {
+        0 => Step::ask(Request::Timeout(lock), OnReply::TimedOut(lock)),
+        _ => Step::ask(Request::Tick(lock), OnReply::Ticked(lock, ticks - 1)),
+    }
+}
+
+/// The thread waits on a lock.
+fn waited(reply: Reply, lock: LockName, ticks: u64) -> Step
+    ensures takes { (code : Code) (frame : Frame) → Takes code (OnReply.Waited lock ticks) reply frame result }
 {
     match reply {
-        Reply::Done => Step::ask(Request::Resume(lock), OnReply::Done),
+        Reply::Done if ticks == 0 => resume(lock),
+        Reply::Done => tick(lock, ticks),
         _ => unwanted(reply),
     }
 }
 
-/// A lock was left, after a part that ended so.
-fn left(reply: Reply, end: End) -> Step
-    ensures takes { (code : Code) (frame : Frame) → Takes code (OnReply.Left end) reply frame result }
+/// A tick told a thread that waits on a lock whether it was woken.
+fn ticked(reply: Reply, lock: LockName, ticks: u64) -> Step
+    ensures takes { (code : Code) (frame : Frame) → Takes code (OnReply.Ticked lock ticks) reply frame result }
+{
+    match reply {
+        Reply::Val(Value::Bool(true)) => resume(lock),
+        Reply::Val(Value::Bool(false)) => tick(lock, ticks),
+        _ => unwanted(reply),
+    }
+}
+
+/// A wait is over, since it timed out or since the thread was woken before that.
+fn timed_out(reply: Reply, lock: LockName) -> Step
+    ensures takes { (code : Code) (frame : Frame) → Takes code (OnReply.TimedOut lock) reply frame result }
+{
+    match reply {
+        Reply::Done | Reply::Val(Value::Bool(true)) => resume(lock),
+        _ => unwanted(reply),
+    }
+}
+
+/// A lock was left that was entered at this grade, after a part that ended so.
+#[tactic(auto, using(crate::proofs::steps::Requests::settles_on))]
+fn left(reply: Reply, grade: Grade, end: End) -> Step
+    ensures takes { (code : Code) (frame : Frame) → Takes code (OnReply.Left grade end) reply frame result }
+{
+    match (reply, grade) {
+        (Reply::Done, Grade::Synchronous) => Step::ask(Request::Settle, OnReply::Settled(end)),
+        (Reply::Done, Grade::Read | Grade::Write) => Step::have(end),
+        _ => unwanted(reply),
+    }
+}
+
+/// The thread settled after it left a lock, after a part that ended so.
+fn settled(reply: Reply, end: End) -> Step
+    ensures takes { (code : Code) (frame : Frame) → Takes code (OnReply.Settled end) reply frame result }
 {
     match reply {
         Reply::Done => Step::have(end),
@@ -143,7 +195,7 @@ pub(crate) fn enter_monitor(call: Call) -> Now
         Some(grade) => {
             let lock = LockName::Mon(call.object);
             let request = Request::Enter(lock, level_of(grade));
-            Now::Ask(request, OnReply::Entered(lock, Locked::Body(call)))
+            Now::Ask(request, OnReply::Entered(lock, grade, Locked::Body(call)))
         }
         None => Now::Pace(Move::Body(call)),
     }
@@ -164,13 +216,13 @@ fn begin(locked: Locked) -> Now
 }
 
 /// A lock was asked for. One that is Local is not left.
-fn entered(reply: Reply, lock: LockName, locked: Locked) -> Step
-    ensures takes { (code : Code) (frame : Frame) → Takes code (OnReply.Entered lock locked) reply frame result }
+fn entered(reply: Reply, lock: LockName, grade: Grade, locked: Locked) -> Step
+    ensures takes { (code : Code) (frame : Frame) → Takes code (OnReply.Entered lock grade locked) reply frame result }
 {
     match reply {
         Reply::Done => Step {
             now: begin(locked),
-            then: Some(Task::Leave(lock)),
+            then: Some(Task::Leave(lock, grade)),
         },
         Reply::Local => Step::alone(begin(locked)),
         _ => unwanted(reply),
@@ -246,10 +298,13 @@ pub(crate) fn hear(code: &Code, frame: &Frame, reply: Reply, on: OnReply) -> Res
         OnReply::PutElement(object, index, value) => {
             Ok(put_element_seen(reply, object, index, value))
         }
-        OnReply::Entered(lock, locked) => Ok(entered(reply, lock, locked)),
-        OnReply::Left(end) => Ok(left(reply, end)),
+        OnReply::Entered(lock, grade, locked) => Ok(entered(reply, lock, grade, locked)),
+        OnReply::Left(grade, end) => Ok(left(reply, grade, end)),
+        OnReply::Settled(end) => Ok(settled(reply, end)),
         OnReply::Bind(root, value) => Ok(bind(reply, root, value)),
-        OnReply::Waited(lock) => Ok(waited(reply, lock)),
+        OnReply::Waited(lock, ticks) => Ok(waited(reply, lock, ticks)),
+        OnReply::Ticked(lock, ticks) => Ok(ticked(reply, lock, ticks)),
+        OnReply::TimedOut(lock) => Ok(timed_out(reply, lock)),
         OnReply::Paused(then) => Ok(paused(reply, then)),
     }
 }

@@ -178,7 +178,7 @@ fn write_root(root: u32, value: Value) -> Step
         return Step::fail(Fault::BadValue);
     }
     let lock = LockName::Name(root);
-    let entered = OnReply::Entered(lock, Locked::Bind(root, value));
+    let entered = OnReply::Entered(lock, Grade::Write, Locked::Bind(root, value));
     Step::ask(Request::Enter(lock, Level::Write), entered)
 }
 
@@ -220,7 +220,7 @@ fn synchronize(object: Value, grade: Grade, body: Items<Stmt>) -> Step
     match object_of(object) {
         Ok(object) => {
             let lock = LockName::Mon(object);
-            let entered = OnReply::Entered(lock, Locked::Block(body));
+            let entered = OnReply::Entered(lock, grade, Locked::Block(body));
             Step::ask(Request::Enter(lock, level_of(grade)), entered)
         }
         Err(fault) => Step::fail(fault),
@@ -235,9 +235,24 @@ fn wait(object: Value) -> Step
     match object_of(object) {
         Ok(object) => {
             let lock = LockName::Mon(object);
-            Step::ask(Request::Wait(lock), OnReply::Waited(lock))
+            Step::ask(Request::Wait(lock), OnReply::Waited(lock, 0))
         }
         Err(fault) => Step::fail(fault),
+    }
+}
+
+/// The thread waits on a value's monitor, for as many ticks as the other one says.
+fn timed_wait(object: Value, ticks: Value) -> Step
+    ensures uses { (code : Code) (frame : Frame) → Uses code (OnValue.Monitor (Monitor.WaitFor object)) ticks frame result frame }
+    ensures lighter { step_weight result < 3 }
+{
+    match (object_of(object), ticks) {
+        (Ok(object), Value::Long(ticks)) if 0 <= ticks => {
+            let lock = LockName::Mon(object);
+            Step::ask(Request::Wait(lock), OnReply::Waited(lock, ticks as u64))
+        }
+        (Ok(_), _) => Step::fail(Fault::BadValue),
+        (Err(fault), _) => Step::fail(fault),
     }
 }
 
@@ -306,6 +321,10 @@ fn use_monitor(object: Value, then: Monitor) -> Step
     match then {
         Monitor::Sync(grade, body) => synchronize(object, grade, body),
         Monitor::Wait => wait(object),
+        Monitor::TimedWait(ticks) => {
+            Step::evaluate(ticks, OnValue::Monitor(Monitor::WaitFor(object)))
+        }
+        Monitor::WaitFor(waited) => timed_wait(waited, object),
         Monitor::Notify => notify(object),
         Monitor::NotifyAll => notify_all(object),
     }

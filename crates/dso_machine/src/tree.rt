@@ -30,6 +30,8 @@ pub enum Stmt {
     Sync(Expr, Grade, Items<Stmt>),
     /// The thread waits on an object's monitor.
     Wait(Expr),
+    /// The thread waits on an object's monitor for a notification or for so many ticks: the object, the ticks.
+    TimedWait(Expr, Expr),
     /// A thread that waits on an object's monitor is woken.
     Notify(Expr),
     /// All threads that wait on an object's monitor are woken.

@@ -2,6 +2,7 @@
 use Rattle.std.proofs.Common.{ℕ, List, None, Some, ap}
 use Rattle.std.specs.Prelude.{length, slice_index_or}
 use Rattle.dso_base.specs.declared.lock.Grade.{Grade}
+use Rattle.dso_base.specs.declared.lock.Grade.TheVariants as grade
 use Rattle.dso_base.specs.declared.lock.Level.TheVariants.{Read}
 use Rattle.dso_base.specs.declared.lock.LockName.TheVariants.{Name}
 use Rattle.dso_base.specs.declared.op.Op.{Op}
@@ -40,7 +41,7 @@ module _ (c : Code) (f : Frame) where
   pub begin_This : Opens c (now.Evaluate e.This) f (alone (now.Have (end.Gives f.this)))
   begin_This = record { opens = λ n k m rs. ap (λ g. g (in_frame f m rs)) (is.expr_This c (methods c n)) }
 
-  pub begin_Root : (r : ℕ) → Opens c (now.Evaluate (e.Root r)) f (alone (now.Ask (request.Enter (Name r) Read) (reply.Entered (Name r) (locked.Read r))))
+  pub begin_Root : (r : ℕ) → Opens c (now.Evaluate (e.Root r)) f (alone (now.Ask (request.Enter (Name r) Read) (reply.Entered (Name r) grade.Read (locked.Read r))))
   begin_Root r = record { opens = λ n k m rs. ap (λ g. g (in_frame f m rs)) (is.expr_Root c (methods c n) r) }
 
   pub begin_Field : (a : Expr) (p : FieldRef) → Opens c (now.Evaluate (e.Field a p)) f (used (now.Evaluate a) (then.Field p))
@@ -91,6 +92,9 @@ module _ (c : Code) (f : Frame) where
   pub begin_Wait : (a : Expr) → Executes c (s.Wait a) f (used (now.Evaluate a) (then.Monitor monitor.Wait))
   begin_Wait a = record { executes = λ n m rs. ap (λ g. g (in_frame f m rs)) (is.stmt_Wait c (methods c n) n a) }
 
+  pub begin_TimedWait : (a b : Expr) → Executes c (s.TimedWait a b) f (used (now.Evaluate a) (then.Monitor (monitor.TimedWait b)))
+  begin_TimedWait a b = record { executes = λ n m rs. ap (λ g. g (in_frame f m rs)) (is.stmt_TimedWait c (methods c n) n a b) }
+
   pub begin_Notify : (a : Expr) → Executes c (s.Notify a) f (used (now.Evaluate a) (then.Monitor monitor.Notify))
   begin_Notify a = record { executes = λ n m rs. ap (λ g. g (in_frame f m rs)) (is.stmt_Notify c (methods c n) n a) }
 
@@ -108,4 +112,4 @@ module _ (c : Code) (f : Frame) where
 
 pub ruleset evaluating = (begin_Const, begin_Var, begin_This, begin_Root, begin_Field, begin_Elem, begin_Call, begin_NewObject, begin_NewArray, begin_Unary, begin_Binary)
 
-pub ruleset executing = (begin_Assign, begin_PutField, begin_PutElem, begin_PutRoot, begin_Eval, begin_If, begin_While, begin_Sync, begin_Wait, begin_Notify, begin_NotifyAll, begin_Print, begin_Return_none, begin_Return_some)
+pub ruleset executing = (begin_Assign, begin_PutField, begin_PutElem, begin_PutRoot, begin_Eval, begin_If, begin_While, begin_Sync, begin_Wait, begin_TimedWait, begin_Notify, begin_NotifyAll, begin_Print, begin_Return_none, begin_Return_some)

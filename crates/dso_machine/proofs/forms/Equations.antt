@@ -79,6 +79,9 @@ module _ (c : Code) (w : MethodMeanings) (n : ℕ) where
   pub stmt_Wait : (a : Expr) → stmt c w n (s.Wait a) ≡ stmt_step c w n (sf.Wait a)
   stmt_Wait a = ap (stmt c w n) (sym (s.rolls-Wait a)) ∙ fold-roll-Stmt Meaning (stmt_step c w n) (sf.Wait a)
 
+  pub stmt_TimedWait : (a b : Expr) → stmt c w n (s.TimedWait a b) ≡ stmt_step c w n (sf.TimedWait a b)
+  stmt_TimedWait a b = ap (stmt c w n) (sym (s.rolls-TimedWait a b)) ∙ fold-roll-Stmt Meaning (stmt_step c w n) (sf.TimedWait a b)
+
   pub stmt_Notify : (a : Expr) → stmt c w n (s.Notify a) ≡ stmt_step c w n (sf.Notify a)
   stmt_Notify a = ap (stmt c w n) (sym (s.rolls-Notify a)) ∙ fold-roll-Stmt Meaning (stmt_step c w n) (sf.Notify a)
 

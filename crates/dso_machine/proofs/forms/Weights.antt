@@ -73,6 +73,9 @@ weight_Sync a g x = ap stmt_weight (sym (s.rolls-Sync a g x)) ∙ fold-roll-Stmt
 pub weight_Wait : (a : Expr) → stmt_weight (s.Wait a) ≡ expr_weight a + 2
 weight_Wait a = ap stmt_weight (sym (s.rolls-Wait a)) ∙ fold-roll-Stmt ℕ stmt_weight_step (sf.Wait a)
 
+pub weight_TimedWait : (a b : Expr) → stmt_weight (s.TimedWait a b) ≡ expr_weight a + expr_weight b + 2
+weight_TimedWait a b = ap stmt_weight (sym (s.rolls-TimedWait a b)) ∙ fold-roll-Stmt ℕ stmt_weight_step (sf.TimedWait a b)
+
 pub weight_Notify : (a : Expr) → stmt_weight (s.Notify a) ≡ expr_weight a + 2
 weight_Notify a = ap stmt_weight (sym (s.rolls-Notify a)) ∙ fold-roll-Stmt ℕ stmt_weight_step (sf.Notify a)
 
@@ -85,4 +88,4 @@ weight_Print a = ap stmt_weight (sym (s.rolls-Print a)) ∙ fold-roll-Stmt ℕ s
 pub weight_Return : (a : Option Expr) → stmt_weight (s.Return a) ≡ returned_weight a
 weight_Return a = ap stmt_weight (sym (s.rolls-Return a)) ∙ fold-roll-Stmt ℕ stmt_weight_step (sf.Return a)
 
-pub ruleset weights = (weight_Const, weight_Var, weight_This, weight_Root, weight_Field, weight_Elem, weight_Call, weight_NewObject, weight_NewArray, weight_Unary, weight_Binary, weight_Assign, weight_PutField, weight_PutElem, weight_PutRoot, weight_Eval, weight_If, weight_While, weight_Sync, weight_Wait, weight_Notify, weight_NotifyAll, weight_Print, weight_Return)
+pub ruleset weights = (weight_Const, weight_Var, weight_This, weight_Root, weight_Field, weight_Elem, weight_Call, weight_NewObject, weight_NewArray, weight_Unary, weight_Binary, weight_Assign, weight_PutField, weight_PutElem, weight_PutRoot, weight_Eval, weight_If, weight_While, weight_Sync, weight_Wait, weight_TimedWait, weight_Notify, weight_NotifyAll, weight_Print, weight_Return)

@@ -1,12 +1,13 @@
 -- The moves that are counted are enough: no thread is stopped.
 use Rattle.std.proofs.Common.{◌≡◌, ℕ, zero, suc, ◌+◌, ◌≤◌, true, false, List, [], ◌∷◌, map, Option, None, Some, subst, sym, arith}
-use Rattle.std.specs.Prelude.{ℤ, slice_get}
+use Rattle.std.specs.Prelude.{ℤ, pos, slice_get}
 use Rattle.dso_base.specs.declared.lock.Grade.{Grade}
-use Rattle.dso_base.specs.declared.lock.Level.TheVariants.{Write}
+use Rattle.dso_base.specs.declared.lock.Grade.TheVariants as grade
 use Rattle.dso_base.specs.declared.lock.LockName.{LockName}
 use Rattle.dso_base.specs.declared.lock.LockName.TheVariants.{Mon, Name}
 use Rattle.dso_base.specs.declared.request.Fault.TheVariants.{BadValue}
 use Rattle.dso_base.specs.declared.request.Reply.{Reply}
+use Rattle.dso_base.specs.declared.request.Reply.TheVariants.{Done, Val}
 use Rattle.dso_base.specs.declared.request.Request.{Request}
 use Rattle.dso_base.specs.declared.request.Request.TheVariants as request
 use Rattle.dso_base.specs.declared.shape.Shape.{Shape}
@@ -27,10 +28,10 @@ use Rattle.dso_machine.specs.declared.tree.Stmt.TheFolds.{fold-roll-Stmt, ind-St
 use Rattle.dso_machine.specs.Calls.{lookup, MethodMeanings}
 use Rattle.dso_machine.specs.Expressions.{within, expr}
 use Rattle.dso_machine.specs.Next.{finish, opening, whole, enough_for}
-use Rattle.dso_machine.specs.Outcome.{State, Outcome, Wants, Gives, Leaves, Fails, Hears, Over, Stopped, Meaning, on_value, on_reply, on_next, asked, tell, get, look, on_object, moving, level_of, under}
-use Rattle.dso_machine.specs.Statements.{assign, put_fitting, put_field_at, put_field_in, put_field, put_element_at, put_element_in, put_element, bind_null, bind, put_root, sync, wait, seq, branch, turn, spun, returned, stmt_step, stmt, block, statements_of, methods}
+use Rattle.dso_machine.specs.Outcome.{State, Outcome, Wants, Gives, Leaves, Fails, Hears, Over, Stopped, Meaning, on_value, on_reply, on_next, asked, ask, tell, get, look, on_object, moving, under}
+use Rattle.dso_machine.specs.Statements.{assign, put_fitting, put_field_at, put_field_in, put_field, put_element_at, put_element_in, put_element, bind_null, bind, put_root, sync, unless_woken, timed_out, ticks, waiting, wait, on_count, timed_wait, seq, branch, turn, spun, returned, stmt_step, stmt, block, statements_of, methods}
 use Rattle.dso_machine.specs.Values.{takes}
-use Rattle.dso_machine.proofs.moves.NotStopped.{budget, Good, GoodAt, good_value, good_choose, good_tell, good_get, good_look, good_object, good_moving, good_under, FineWays}
+use Rattle.dso_machine.proofs.moves.NotStopped.{budget, Good, GoodAt, good_value, good_reply, good_choose, good_ask, good_unwanted, good_tell, good_get, good_look, good_object, good_moving, good_under, FineWays}
 use Rattle.dso_machine.proofs.moves.ExpressionsNotStopped.{good_after, good_expr}
 
 -- ---- what is written
@@ -68,7 +69,7 @@ good_bind_null r v value.Null at = good_tell (request.Put 0 r v) at
 good_bind_null r v bound at = omega arith
 
 good_bind : (N r : ℕ) (v : Value) → GoodAt N (bind r v)
-good_bind N r v = good_under N (Name r) Write (λ at. on_value (bind_null r v) (get 0 r at)) (good_after N (bind_null r v) (get 0 r) (λ u h. good_get 0 r u) (λ x u h. good_bind_null r v x u))
+good_bind N r v = good_under N (Name r) grade.Write (λ at. on_value (bind_null r v) (get 0 r at)) (good_after N (bind_null r v) (get 0 r) (λ u h. good_get 0 r u) (λ x u h. good_bind_null r v x u))
 
 good_put_root : (N r : ℕ) (v : Value) → GoodAt N (put_root r v)
 good_put_root N r v at h = good_choose (budget at) (takes kind.Ref v) _ _ at (good_bind N r v at h) (omega arith)
@@ -76,10 +77,34 @@ good_put_root N r v at h = good_choose (budget at) (takes kind.Ref v) _ _ at (go
 -- ---- monitors
 
 good_sync : (N : ℕ) (grade : Grade) (m : Meaning) → GoodAt N m → (x : Value) → GoodAt N (sync grade m x)
-good_sync N grade m fine x at h = good_object (λ o. under (Mon o) (level_of grade) m) x at (λ o. good_under N (Mon o) (level_of grade) m fine at h)
+good_sync N grade m fine x at h = good_object (λ o. under (Mon o) grade m) x at (λ o. good_under N (Mon o) grade m fine at h)
 
-good_wait : (l : LockName) (at : State) → Good (budget at) (wait l at)
-good_wait l at = good_value (budget at) (λ v. tell (request.Resume l)) (tell (request.Wait l) at) (good_tell (request.Wait l) at) (λ v u le. good_tell (request.Resume l) u)
+good_unless_woken : (m : Meaning) (r : Reply) (at : State) → Good (budget at) (m at) → Good (budget at) (unless_woken m r at)
+good_unless_woken m (Val (value.Bool woken)) at g = good_choose (budget at) woken (Gives value.Null) m at (omega arith) g
+good_unless_woken m r at g = good_unwanted r at
+
+good_timed_out : (r : Reply) (at : State) → Good (budget at) (timed_out r at)
+good_timed_out Done at = omega arith
+good_timed_out (Val (value.Bool true)) at = omega arith
+good_timed_out r at = good_unwanted r at
+
+good_ticks : (l : LockName) (n : ℕ) (at : State) → Good (budget at) (ticks l n at)
+good_ticks l zero at = good_reply (budget at) timed_out (ask (request.Timeout l) at) (good_ask (request.Timeout l) at) (λ r u le. good_timed_out r u)
+good_ticks l (suc n) at = good_reply (budget at) (unless_woken (ticks l n)) (ask (request.Tick l) at) (good_ask (request.Tick l) at) (λ r u le. good_unless_woken (ticks l n) r u (good_ticks l n u))
+
+good_waiting : (l : LockName) (n : ℕ) (at : State) → Good (budget at) (waiting l n at)
+good_waiting l zero at = good_tell (request.Resume l) at
+good_waiting l (suc n) at = good_value (budget at) (λ v. tell (request.Resume l)) (ticks l (suc n) at) (good_ticks l (suc n) at) (λ v u le. good_tell (request.Resume l) u)
+
+good_wait : (n : ℕ) (l : LockName) (at : State) → Good (budget at) (wait n l at)
+good_wait n l at = good_value (budget at) (λ v. waiting l n) (tell (request.Wait l) at) (good_tell (request.Wait l) at) (λ v u le. good_waiting l n u)
+
+good_count : (f : ℕ → Meaning) (v : Value) (at : State) → ((n : ℕ) → Good (budget at) (f n at)) → Good (budget at) (on_count f v at)
+good_count f (value.Long (pos n)) at g = g n
+good_count f v at g = omega arith
+
+good_timed_wait : (x v : Value) (at : State) → Good (budget at) (timed_wait x v at)
+good_timed_wait x v at = good_object (λ o. on_count (λ n. wait n (Mon o)) v) x at (λ o. good_count (λ n. wait n (Mon o)) v at (λ n. good_wait n (Mon o) at))
 
 -- ---- what is run
 
@@ -128,7 +153,8 @@ stmt_layer c w n fw (sf.If a x y) at h = good_of c w n fw a (branch (seq (map (s
 stmt_layer c w n fw (sf.While a x) at h = good_moving n (spun (expr c w a) (seq (map (stmt c w n) (map (λ k. k.0) x))) n)
     (λ u hu. good_spun n _ _ (good_expr c w n fw a) (good_seq c w n x) n (omega arith) u (omega arith)) at h
 stmt_layer c w n fw (sf.Sync a grade x) at h = good_of c w n fw a (sync grade (seq (map (stmt c w n) (map (λ k. k.0) x)))) (good_sync n grade _ (good_seq c w n x)) at h
-stmt_layer c w n fw (sf.Wait a) at h = good_of c w n fw a (on_object (λ o. wait (Mon o))) (λ x u hu. good_object (λ o. wait (Mon o)) x u (λ o. good_wait (Mon o) u)) at h
+stmt_layer c w n fw (sf.Wait a) at h = good_of c w n fw a (on_object (λ o. wait 0 (Mon o))) (λ x u hu. good_object (λ o. wait 0 (Mon o)) x u (λ o. good_wait 0 (Mon o) u)) at h
+stmt_layer c w n fw (sf.TimedWait a b) at h = good_of c w n fw a (on_next timed_wait (expr c w b)) (λ x. good_of c w n fw b (timed_wait x) (λ v u hu. good_timed_wait x v u)) at h
 stmt_layer c w n fw (sf.Notify a) at h = good_of c w n fw a (on_object (λ o. tell (request.Notify (Mon o))))
     (λ x u hu. good_object (λ o. tell (request.Notify (Mon o))) x u (λ o. good_tell (request.Notify (Mon o)) u)) at h
 stmt_layer c w n fw (sf.NotifyAll a) at h = good_of c w n fw a (on_object (λ o. tell (request.NotifyAll (Mon o))))

@@ -1,7 +1,7 @@
 -- Expressions are not stopped.
 use Rattle.std.proofs.Common.{ℕ, true, false, List, [], ◌∷◌, ◌++◌, map, Option, None, Some, subst, sym, arith}
 use Rattle.std.specs.Prelude.{ℤ, pos, negsuc, nat_le}
-use Rattle.dso_base.specs.declared.lock.Level.TheVariants.{Read}
+use Rattle.dso_base.specs.declared.lock.Grade.TheVariants as grade
 use Rattle.dso_base.specs.declared.lock.LockName.TheVariants.{Name}
 use Rattle.dso_base.specs.declared.op.Op.{Op}
 use Rattle.dso_base.specs.declared.op.Op.TheVariants as op
@@ -61,7 +61,7 @@ good_element x (value.Long i) at = good_object (λ o. look (element_in i o) o) x
 good_element x i at = good_object (λ o. Fails BadValue) x at (λ o. omega arith)
 
 pub good_root : (N r : ℕ) → GoodAt N (root r)
-good_root N r = good_under N (Name r) Read (get 0 r) (λ u h. good_get 0 r u)
+good_root N r = good_under N (Name r) grade.Read (get 0 r) (λ u h. good_get 0 r u)
 
 pub good_make : (class : ClassId) (size : ℕ) (at : State) → Good (budget at) (make class size at)
 good_make class size at = good_reply (budget at) made (ask (request.New class size) at) (good_ask (request.New class size) at) (λ r u le. good_made r u)

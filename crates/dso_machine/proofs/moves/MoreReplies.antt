@@ -2,7 +2,7 @@
 use Rattle.std.proofs.Common.{◌≡◌, refl, ℕ, ◌+◌, ◌-◌, Bool, true, false, List, [], ◌∷◌, ◌++◌, map, Option, None, Some, subst, sym, ap}
 use Rattle.std.specs.Prelude.{nat_lt, slice_get, Result, Ok, Err}
 use Rattle.dso_base.specs.declared.lock.Grade.{Grade}
-use Rattle.dso_base.specs.declared.lock.Level.{Level}
+use Rattle.dso_base.specs.declared.lock.Grade.TheVariants as grade
 use Rattle.dso_base.specs.declared.lock.LockName.{LockName}
 use Rattle.dso_base.specs.declared.lock.LockName.TheVariants.{Mon, Name}
 use Rattle.dso_base.specs.declared.request.Fault.{Fault}
@@ -20,7 +20,7 @@ use Rattle.dso_machine.specs.declared.tree.Expr.{Expr}
 use Rattle.dso_machine.specs.Calls.{lookup_class, back_in, begin, under_name, under_monitor, run_method, call_method, call_number, call_on, arguments, variables, MethodMeanings}
 use Rattle.dso_machine.specs.Expressions.{make, expr}
 use Rattle.dso_machine.specs.Limits.{most_moves}
-use Rattle.dso_machine.specs.Outcome.{Environment, State, Outcome, Wants, Gives, Leaves, Fails, Hears, Over, Stopped, Meaning, choose, on_value, on_reply, result_of, asked, ask, unwanted, done, made, got, seen, tell, get, look, on_object, moved, paced, moving, level_of, leaving, leave, entered, under}
+use Rattle.dso_machine.specs.Outcome.{Environment, State, Outcome, Wants, Gives, Leaves, Fails, Hears, Over, Stopped, Meaning, choose, on_value, on_reply, result_of, asked, ask, unwanted, done, made, got, seen, tell, get, look, on_object, moved, paced, moving, level_of, settling, leaving, leave, entered, under}
 
 -- the same with more replies behind those that are left
 abbrev pub later : List Reply → State → State
@@ -132,25 +132,30 @@ steady_moving m k s more at = steady_paced (nat_lt at.moves most_moves) m k s mo
 
 -- ---- locks
 
-steady_leaving : (l : LockName) (m : Meaning) → Steady m m → Steady (leaving l m) (leaving l m)
-steady_leaving l m s more at = ext_value more (λ v. m) (λ v. m) (tell (request.Exit l) at) _ (steady_tell (request.Exit l) more at) (λ v. s)
+steady_settling : (grade : Grade) (m : Meaning) → Steady m m → Steady (settling grade m) (settling grade m)
+steady_settling grade.Read m s more at = s more at
+steady_settling grade.Write m s more at = s more at
+steady_settling grade.Synchronous m s more at = ext_value more (λ v. m) (λ v. m) (tell request.Settle at) _ (steady_tell request.Settle more at) (λ v. s)
 
-ext_leave : (more : List Reply) (l : LockName) (o n : Outcome) → Extends more o n → Extends more (leave l o) (leave l n)
-ext_leave more l (Wants q) n e = λ none. ap (leave l) (e none)
-ext_leave more l (Gives v u) n e = subst (λ x. Extends more (leaving l (Gives v) u) (leave l x)) (sym e) (steady_leaving l (Gives v) (λ more at. refl) more u)
-ext_leave more l (Leaves v u) n e = subst (λ x. Extends more (leaving l (Leaves v) u) (leave l x)) (sym e) (steady_leaving l (Leaves v) (λ more at. refl) more u)
-ext_leave more l (Fails f u) n e = subst (λ x. Extends more (leaving l (Fails f) u) (leave l x)) (sym e) (steady_leaving l (Fails f) (λ more at. refl) more u)
-ext_leave more l (Hears r u) n e = ap (leave l) e
-ext_leave more l Over n e = ap (leave l) e
-ext_leave more l Stopped n e = tt
+steady_leaving : (l : LockName) (grade : Grade) (m : Meaning) → Steady m m → Steady (leaving l grade m) (leaving l grade m)
+steady_leaving l grade m s more at = ext_value more (λ v. settling grade m) (λ v. settling grade m) (tell (request.Exit l) at) _ (steady_tell (request.Exit l) more at) (λ v. steady_settling grade m s)
 
-steady_entered : (l : LockName) (m k : Meaning) → Steady m k → (r : Reply) → Steady (entered l m r) (entered l k r)
-steady_entered l m k s Done more at = ext_leave more l (m at) (k (later more at)) (s more at)
-steady_entered l m k s Local more at = s more at
-steady_entered l m k s r more at = steady_unwanted r more at
+ext_leave : (more : List Reply) (l : LockName) (grade : Grade) (o n : Outcome) → Extends more o n → Extends more (leave l grade o) (leave l grade n)
+ext_leave more l grade (Wants q) n e = λ none. ap (leave l grade) (e none)
+ext_leave more l grade (Gives v u) n e = subst (λ x. Extends more (leaving l grade (Gives v) u) (leave l grade x)) (sym e) (steady_leaving l grade (Gives v) (λ more at. refl) more u)
+ext_leave more l grade (Leaves v u) n e = subst (λ x. Extends more (leaving l grade (Leaves v) u) (leave l grade x)) (sym e) (steady_leaving l grade (Leaves v) (λ more at. refl) more u)
+ext_leave more l grade (Fails f u) n e = subst (λ x. Extends more (leaving l grade (Fails f) u) (leave l grade x)) (sym e) (steady_leaving l grade (Fails f) (λ more at. refl) more u)
+ext_leave more l grade (Hears r u) n e = ap (leave l grade) e
+ext_leave more l grade Over n e = ap (leave l grade) e
+ext_leave more l grade Stopped n e = tt
 
-pub steady_under : (l : LockName) (level : Level) (m k : Meaning) → Steady m k → Steady (under l level m) (under l level k)
-steady_under l level m k s more at = ext_reply more (entered l m) (entered l k) (ask (request.Enter l level) at) _ (steady_ask (request.Enter l level) more at) (steady_entered l m k s)
+steady_entered : (l : LockName) (grade : Grade) (m k : Meaning) → Steady m k → (r : Reply) → Steady (entered l grade m r) (entered l grade k r)
+steady_entered l grade m k s Done more at = ext_leave more l grade (m at) (k (later more at)) (s more at)
+steady_entered l grade m k s Local more at = s more at
+steady_entered l grade m k s r more at = steady_unwanted r more at
+
+pub steady_under : (l : LockName) (grade : Grade) (m k : Meaning) → Steady m k → Steady (under l grade m) (under l grade k)
+steady_under l grade m k s more at = ext_reply more (entered l grade m) (entered l grade k) (ask (request.Enter l (level_of grade)) at) _ (steady_ask (request.Enter l (level_of grade)) more at) (steady_entered l grade m k s)
 
 -- ---- calls
 
@@ -173,11 +178,11 @@ steady_begin w x s m this vars more at = ext_back more at.environment _ _
 
 steady_name : (named : Option (ℕ × Grade)) (m k : Meaning) → Steady m k → Steady (under_name named m) (under_name named k)
 steady_name None m k s = s
-steady_name (Some lock) m k s = steady_under (Name lock.0) (level_of lock.1) m k s
+steady_name (Some lock) m k s = steady_under (Name lock.0) lock.1 m k s
 
 steady_monitor : (synced : Option Grade) (o : ℕ) (m k : Meaning) → Steady m k → Steady (under_monitor synced o m) (under_monitor synced o k)
 steady_monitor None o m k s = s
-steady_monitor (Some grade) o m k s = steady_under (Mon o) (level_of grade) m k s
+steady_monitor (Some grade) o m k s = steady_under (Mon o) grade m k s
 
 module _ (c : Code) (w x : MethodMeanings) (s : SteadyWays w x) where
   steady_run : (m : ℕ) (method : Method) (o : ℕ) (args : List Value) → Steady (run_method w m method o args) (run_method x m method o args)

@@ -3,13 +3,14 @@ use Rattle.std.proofs.Common.{◌≡◌, refl, ℕ, zero, suc, ◌+◌, ◌≤�
 use Rattle.std.specs.Prelude.{ℤ, pos, negsuc, nat_le, slice_get}
 use Rattle.std.proofs.lemmas.List.{append-nil, length-append}
 use Rattle.dso_base.specs.declared.lock.Grade.{Grade}
-use Rattle.dso_base.specs.declared.lock.Level.TheVariants.{Read, Write}
+use Rattle.dso_base.specs.declared.lock.Grade.TheVariants as grade
 use Rattle.dso_base.specs.declared.lock.LockName.{LockName}
 use Rattle.dso_base.specs.declared.lock.LockName.TheVariants.{Mon, Name}
 use Rattle.dso_base.specs.declared.op.Op.{Op}
 use Rattle.dso_base.specs.declared.op.Op.TheVariants as op
 use Rattle.dso_base.specs.declared.request.Fault.TheVariants.{NoSuchField, BadValue, BadSize}
 use Rattle.dso_base.specs.declared.request.Reply.{Reply}
+use Rattle.dso_base.specs.declared.request.Reply.TheVariants.{Done, Val}
 use Rattle.dso_base.specs.declared.request.Request.{Request}
 use Rattle.dso_base.specs.declared.request.Request.TheVariants as request
 use Rattle.dso_base.specs.declared.shape.Shape.{Shape}
@@ -33,11 +34,11 @@ use Rattle.dso_machine.specs.Calls.{lookup, call_on, MethodMeanings}
 use Rattle.dso_machine.specs.Expressions.{field_at, field_in, field_of, within, element_at, element_in, element_of, make, new_array, a_boolean, second, expr_step, expr}
 use Rattle.dso_machine.specs.Limits.{most_elements}
 use Rattle.dso_machine.specs.Next.{finish, opening, whole, enough_for, request_of}
-use Rattle.dso_machine.specs.Outcome.{State, Outcome, Wants, Gives, Leaves, Fails, Hears, Over, Stopped, Meaning, on_value, on_reply, result_of, ask, tell, get, put, level_of}
-use Rattle.dso_machine.specs.Statements.{assign, put_fitting, put_field_at, put_field_in, put_field, put_element_at, put_element_in, put_element, bind_null, bind, put_root, sync, wait, seq, branch, turn, spun, returned, stmt_step, stmt, block, statements_of, methods}
+use Rattle.dso_machine.specs.Outcome.{State, Outcome, Wants, Gives, Leaves, Fails, Hears, Over, Stopped, Meaning, on_value, on_reply, result_of, ask, tell, get, put}
+use Rattle.dso_machine.specs.Statements.{assign, put_fitting, put_field_at, put_field_in, put_field, put_element_at, put_element_in, put_element, bind_null, bind, put_root, sync, unless_woken, timed_out, ticks, waiting, wait, on_count, timed_wait, seq, branch, turn, spun, returned, stmt_step, stmt, block, statements_of, methods}
 use Rattle.dso_machine.specs.Values.{binary, unary, takes}
 use Rattle.dso_machine.proofs.moves.Enough.{never_stopped}
-use Rattle.dso_machine.proofs.moves.MoreReplies.{later, Extends, Steady, ext_value, ext_reply, ext_choose, steady_result, steady_ask, steady_tell, steady_get, steady_make, steady_look, steady_object, steady_after, steady_moving, steady_under, SteadyWays, steady_call, Kid, steady_arguments}
+use Rattle.dso_machine.proofs.moves.MoreReplies.{later, Extends, Steady, ext_value, ext_reply, ext_choose, steady_result, steady_ask, steady_unwanted, steady_tell, steady_get, steady_make, steady_look, steady_object, steady_after, steady_moving, steady_under, SteadyWays, steady_call, Kid, steady_arguments}
 
 -- ---- fields and elements
 
@@ -118,7 +119,7 @@ steady_bind_null r v value.Null more at = steady_tell (request.Put 0 r v) more a
 steady_bind_null r v bound more at = refl
 
 steady_bind : (r : ℕ) (v : Value) → Steady (bind r v) (bind r v)
-steady_bind r v = steady_under (Name r) Write _ _ (steady_after (bind_null r v) (bind_null r v) (get 0 r) (get 0 r) (steady_get 0 r) (steady_bind_null r v))
+steady_bind r v = steady_under (Name r) grade.Write _ _ (steady_after (bind_null r v) (bind_null r v) (get 0 r) (get 0 r) (steady_get 0 r) (steady_bind_null r v))
 
 steady_put_root : (r : ℕ) (v : Value) → Steady (put_root r v) (put_root r v)
 steady_put_root r v more at = ext_choose more (takes kind.Ref v) (bind r v) (Fails BadValue) (bind r v) (Fails BadValue) at (steady_bind r v more at) refl
@@ -126,10 +127,34 @@ steady_put_root r v more at = ext_choose more (takes kind.Ref v) (bind r v) (Fai
 -- ---- what is run
 
 steady_sync : (grade : Grade) (m k : Meaning) → Steady m k → (x : Value) → Steady (sync grade m x) (sync grade k x)
-steady_sync grade m k s x = steady_object _ _ (λ o. steady_under (Mon o) (level_of grade) m k s) x
+steady_sync grade m k s x = steady_object _ _ (λ o. steady_under (Mon o) grade m k s) x
 
-steady_wait : (l : LockName) → Steady (wait l) (wait l)
-steady_wait l more at = ext_value more (λ v. tell (request.Resume l)) (λ v. tell (request.Resume l)) (tell (request.Wait l) at) _ (steady_tell (request.Wait l) more at) (λ v. steady_tell (request.Resume l))
+steady_unless_woken : (m : Meaning) → Steady m m → (r : Reply) → Steady (unless_woken m r) (unless_woken m r)
+steady_unless_woken m s (Val (value.Bool woken)) more at = ext_choose more woken (Gives value.Null) m (Gives value.Null) m at refl (s more at)
+steady_unless_woken m s r more at = steady_unwanted r more at
+
+steady_timed_out : (r : Reply) → Steady (timed_out r) (timed_out r)
+steady_timed_out Done more at = refl
+steady_timed_out (Val (value.Bool true)) more at = refl
+steady_timed_out r more at = steady_unwanted r more at
+
+steady_ticks : (l : LockName) (n : ℕ) → Steady (ticks l n) (ticks l n)
+steady_ticks l zero more at = ext_reply more timed_out timed_out (ask (request.Timeout l) at) _ (steady_ask (request.Timeout l) more at) steady_timed_out
+steady_ticks l (suc n) more at = ext_reply more (unless_woken (ticks l n)) (unless_woken (ticks l n)) (ask (request.Tick l) at) _ (steady_ask (request.Tick l) more at) (steady_unless_woken (ticks l n) (steady_ticks l n))
+
+steady_waiting : (l : LockName) (n : ℕ) → Steady (waiting l n) (waiting l n)
+steady_waiting l zero more at = steady_tell (request.Resume l) more at
+steady_waiting l (suc n) more at = ext_value more (λ v. tell (request.Resume l)) (λ v. tell (request.Resume l)) (ticks l (suc n) at) _ (steady_ticks l (suc n) more at) (λ v. steady_tell (request.Resume l))
+
+steady_wait : (n : ℕ) (l : LockName) → Steady (wait n l) (wait n l)
+steady_wait n l more at = ext_value more (λ v. waiting l n) (λ v. waiting l n) (tell (request.Wait l) at) _ (steady_tell (request.Wait l) more at) (λ v. steady_waiting l n)
+
+steady_count : (f : ℕ → Meaning) → ((n : ℕ) → Steady (f n) (f n)) → (v : Value) → Steady (on_count f v) (on_count f v)
+steady_count f s (value.Long (pos n)) more at = s n more at
+steady_count f s v more at = refl
+
+steady_timed_wait : (x v : Value) → Steady (timed_wait x v) (timed_wait x v)
+steady_timed_wait x v = steady_object _ _ (λ o. steady_count (λ n. wait n (Mon o)) (λ n. steady_wait n (Mon o)) v) x
 
 steady_branch : (a b m k : Meaning) → Steady a m → Steady b k → (v : Value) → Steady (branch a b v) (branch m k v)
 steady_branch a b m k s t (value.Bool true) more at = s more at
@@ -159,7 +184,7 @@ module _ (c : Code) (w x : MethodMeanings) (s : SteadyWays w x) where
   layer (ef.Const v) more at = refl
   layer (ef.Var i) more at = refl
   layer ef.This more at = refl
-  layer (ef.Root r) more at = steady_under (Name r) Read (get 0 r) (get 0 r) (steady_get 0 r) more at
+  layer (ef.Root r) more at = steady_under (Name r) grade.Read (get 0 r) (get 0 r) (steady_get 0 r) more at
   layer (ef.Field a f) more at = ext_value more (field_of f) (field_of f) (expr c w a.0 at) _ (a.1 more at) (steady_field f)
   layer (ef.Elem a b) more at = ext_value more _ _ (expr c w a.0 at) _ (a.1 more at) (λ v. steady_after (element_of v) (element_of v) (expr c w b.0) (expr c x b.0) b.1 (steady_element v))
   layer (ef.Call a callees args) more at = ext_value more _ _ (expr c w a.0 at) _ (a.1 more at)
@@ -202,7 +227,8 @@ module _ (c : Code) (w x : MethodMeanings) (s : SteadyWays w x) where
     stmt_layer (sf.If a y z) more at = steady_of a _ _ (steady_branch _ _ _ _ (steady_seq y) (steady_seq z)) more at
     stmt_layer (sf.While a y) more at = steady_moving _ _ (steady_spun (expr c w a) (seq (map (stmt c w k) (map (λ k. k.0) y))) (expr c x a) (seq (map (stmt c x n) (map (λ k. k.0) y))) (steady_expr a) (steady_seq y) k n le) more at
     stmt_layer (sf.Sync a grade y) more at = steady_of a _ _ (steady_sync grade _ _ (steady_seq y)) more at
-    stmt_layer (sf.Wait a) more at = steady_of a _ _ (steady_object _ _ (λ o. steady_wait (Mon o))) more at
+    stmt_layer (sf.Wait a) more at = steady_of a _ _ (steady_object _ _ (λ o. steady_wait 0 (Mon o))) more at
+    stmt_layer (sf.TimedWait a b) more at = steady_of a _ _ (λ x. steady_of b (timed_wait x) (timed_wait x) (steady_timed_wait x)) more at
     stmt_layer (sf.Notify a) more at = steady_of a _ _ (steady_object _ _ (λ o. steady_tell (request.Notify (Mon o)))) more at
     stmt_layer (sf.NotifyAll a) more at = steady_of a _ _ (steady_object _ _ (λ o. steady_tell (request.NotifyAll (Mon o)))) more at
     stmt_layer (sf.Print a) more at = steady_of a _ _ (λ v. steady_tell (request.Print v)) more at
@@ -248,16 +274,20 @@ pub stays_over : (c : Code) (body : ThreadBody) (rs more : List Reply) → whole
 stays_over c body rs more over = subst (λ o. Extends more o (whole c body (enough_for (rs ++ more)) (rs ++ more))) over
     (later_replies c body (enough_for rs) (enough_for (rs ++ more)) (let e : length (rs ++ more) ≡ length rs + length more = length-append rs more in omega arith) rs more)
 
-same_request : (c : Code) (body : ThreadBody) (rs : List Reply) (o n : Outcome) → whole c body (enough_for rs) rs ≡ o → Extends [] o n → request_of n ≡ request_of o
-same_request c body rs (Wants q) n is e = ap request_of (e refl)
-same_request c body rs (Gives v u) n is e = ap request_of e
-same_request c body rs (Leaves v u) n is e = ap request_of e
-same_request c body rs (Fails f u) n is e = ap request_of e
-same_request c body rs (Hears r u) n is e = ap request_of e
-same_request c body rs Over n is e = ap request_of e
-same_request c body rs Stopped n is e = absurd (never_stopped c body rs is)
+-- an outcome that is not stopped wants what comes of more moves
+same_request : (o n : Outcome) → (o ≡ Stopped → ⊥) → Extends [] o n → request_of n ≡ request_of o
+same_request (Wants q) n going e = ap request_of (e refl)
+same_request (Gives v u) n going e = ap request_of e
+same_request (Leaves v u) n going e = ap request_of e
+same_request (Fails f u) n going e = ap request_of e
+same_request (Hears r u) n going e = ap request_of e
+same_request Over n going e = ap request_of e
+same_request Stopped n going e = absurd (going refl)
+
+-- so of a thread, for two numbers of moves of which the less does not stop it
+pub same_wanted : (c : Code) (body : ThreadBody) (k n : ℕ) (rs : List Reply) → k ≤ n → (whole c body k rs ≡ Stopped → ⊥) → request_of (whole c body n rs) ≡ request_of (whole c body k rs)
+same_wanted c body k n rs le going = same_request _ _ going (subst (λ all. Extends [] (whole c body k rs) (whole c body n all)) (append-nil rs) (later_replies c body k n le rs []))
 
 -- any number of moves that is no less gives the same request
 pub moves_enough : (c : Code) (body : ThreadBody) (n : ℕ) (rs : List Reply) → enough_for rs ≤ n → request_of (whole c body n rs) ≡ request_of (whole c body (enough_for rs) rs)
-moves_enough c body n rs le = same_request c body rs _ _ refl
-    (subst (λ all. Extends [] (whole c body (enough_for rs) rs) (whole c body n all)) (append-nil rs) (later_replies c body (enough_for rs) n le rs []))
+moves_enough c body n rs le = same_wanted c body (enough_for rs) n rs le (never_stopped c body rs)

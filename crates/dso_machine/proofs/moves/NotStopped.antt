@@ -3,7 +3,7 @@ use Rattle.std.proofs.Common.{◌≡◌, refl, ℕ, ◌+◌, ◌-◌, ◌*◌, �
 use Rattle.std.specs.Prelude.{nat_lt, slice_get, Result, Ok, Err}
 use Rattle.std.proofs.lemmas.Bool.{ltb-true}
 use Rattle.dso_base.specs.declared.lock.Grade.{Grade}
-use Rattle.dso_base.specs.declared.lock.Level.{Level}
+use Rattle.dso_base.specs.declared.lock.Grade.TheVariants as grade
 use Rattle.dso_base.specs.declared.lock.LockName.{LockName}
 use Rattle.dso_base.specs.declared.lock.LockName.TheVariants.{Mon, Name}
 use Rattle.dso_base.specs.declared.request.Fault.{Fault}
@@ -18,7 +18,7 @@ use Rattle.dso_machine.specs.declared.code.Code.{Code}
 use Rattle.dso_machine.specs.declared.code.Method.{Method}
 use Rattle.dso_machine.specs.Calls.{lookup_class, back_in, begin, invoke, under_name, under_monitor, run_method, call_method, call_number, call_in, call_on, variables, MethodMeanings}
 use Rattle.dso_machine.specs.Limits.{most_moves}
-use Rattle.dso_machine.specs.Outcome.{Environment, State, Outcome, Wants, Gives, Leaves, Fails, Hears, Over, Stopped, Meaning, choose, on_value, on_reply, result_of, asked, ask, unwanted, done, made, got, seen, tell, get, look, on_object, moved, paced, moving, level_of, leaving, leave, entered, under}
+use Rattle.dso_machine.specs.Outcome.{Environment, State, Outcome, Wants, Gives, Leaves, Fails, Hears, Over, Stopped, Meaning, choose, on_value, on_reply, result_of, asked, ask, unwanted, done, made, got, seen, tell, get, look, on_object, moved, paced, moving, level_of, settling, leaving, leave, entered, under}
 
 -- how many moves there may be before the replies are used up
 abbrev pub budget : State → ℕ
@@ -148,26 +148,32 @@ good_moving N m fine at h = good_paced N m fine (nat_lt at.moves most_moves) at 
 
 -- ---- locks
 
-pub good_leaving : (l : LockName) (m : Meaning) (at : State) → ((u : State) → budget u ≤ budget at → Good (budget u) (m u)) → Good (budget at) (leaving l m at)
-good_leaving l m at g = good_value (budget at) (λ v. m) (tell (request.Exit l) at) (good_tell (request.Exit l) at) (λ v u le. g u le)
+good_settling : (grade : Grade) (m : Meaning) (at : State) → ((u : State) → budget u ≤ budget at → Good (budget u) (m u)) → Good (budget at) (settling grade m at)
+good_settling grade.Read m at g = g at (omega arith)
+good_settling grade.Write m at g = g at (omega arith)
+good_settling grade.Synchronous m at g = good_value (budget at) (λ v. m) (tell request.Settle at) (good_tell request.Settle at) (λ v u le. g u le)
 
-pub good_leave : (b : ℕ) (l : LockName) (o : Outcome) → Good b o → Good b (leave l o)
-good_leave b l (Wants q) g = tt
-good_leave b l (Gives v u) g = good_more (budget u) b (leaving l (Gives v) u) g (good_leaving l (Gives v) u (λ w le. omega arith))
-good_leave b l (Leaves v u) g = good_more (budget u) b (leaving l (Leaves v) u) g (good_leaving l (Leaves v) u (λ w le. omega arith))
-good_leave b l (Fails f u) g = good_more (budget u) b (leaving l (Fails f) u) g (good_leaving l (Fails f) u (λ w le. omega arith))
-good_leave b l (Hears r u) g = g
-good_leave b l Over g = tt
-good_leave b l Stopped g = absurd g
+pub good_leaving : (l : LockName) (grade : Grade) (m : Meaning) (at : State) → ((u : State) → budget u ≤ budget at → Good (budget u) (m u)) → Good (budget at) (leaving l grade m at)
+good_leaving l grade m at g = good_value (budget at) (λ v. settling grade m) (tell (request.Exit l) at) (good_tell (request.Exit l) at)
+    (λ v u le. good_settling grade m u (λ w less. g w (omega arith)))
 
-pub good_entered : (l : LockName) (m : Meaning) (r : Reply) (at : State) → Good (budget at) (m at) → Good (budget at) (entered l m r at)
-good_entered l m Done at g = good_leave (budget at) l (m at) g
-good_entered l m Local at g = g
-good_entered l m r at g = good_unwanted r at
+pub good_leave : (b : ℕ) (l : LockName) (grade : Grade) (o : Outcome) → Good b o → Good b (leave l grade o)
+good_leave b l grade (Wants q) g = tt
+good_leave b l grade (Gives v u) g = good_more (budget u) b (leaving l grade (Gives v) u) g (good_leaving l grade (Gives v) u (λ w le. omega arith))
+good_leave b l grade (Leaves v u) g = good_more (budget u) b (leaving l grade (Leaves v) u) g (good_leaving l grade (Leaves v) u (λ w le. omega arith))
+good_leave b l grade (Fails f u) g = good_more (budget u) b (leaving l grade (Fails f) u) g (good_leaving l grade (Fails f) u (λ w le. omega arith))
+good_leave b l grade (Hears r u) g = g
+good_leave b l grade Over g = tt
+good_leave b l grade Stopped g = absurd g
 
-pub good_under : (N : ℕ) (l : LockName) (level : Level) (m : Meaning) → GoodAt N m → GoodAt N (under l level m)
-good_under N l level m fine at h = good_reply (budget at) (entered l m) (ask (request.Enter l level) at) (good_ask (request.Enter l level) at)
-    (λ r u le. good_entered l m r u (fine u (omega arith)))
+pub good_entered : (l : LockName) (grade : Grade) (m : Meaning) (r : Reply) (at : State) → Good (budget at) (m at) → Good (budget at) (entered l grade m r at)
+good_entered l grade m Done at g = good_leave (budget at) l grade (m at) g
+good_entered l grade m Local at g = g
+good_entered l grade m r at g = good_unwanted r at
+
+pub good_under : (N : ℕ) (l : LockName) (grade : Grade) (m : Meaning) → GoodAt N m → GoodAt N (under l grade m)
+good_under N l grade m fine at h = good_reply (budget at) (entered l grade m) (ask (request.Enter l (level_of grade)) at) (good_ask (request.Enter l (level_of grade)) at)
+    (λ r u le. good_entered l grade m r u (fine u (omega arith)))
 
 -- ---- calls
 
@@ -190,11 +196,11 @@ good_invoke N w fw m this vars = good_moving N (begin w m this vars) (λ u le. g
 
 pub good_under_name : (N : ℕ) (named : Option (ℕ × Grade)) (m : Meaning) → GoodAt N m → GoodAt N (under_name named m)
 good_under_name N None m fine = fine
-good_under_name N (Some lock) m fine = good_under N (Name lock.0) (level_of lock.1) m fine
+good_under_name N (Some lock) m fine = good_under N (Name lock.0) lock.1 m fine
 
 pub good_under_monitor : (N : ℕ) (synced : Option Grade) (o : ℕ) (m : Meaning) → GoodAt N m → GoodAt N (under_monitor synced o m)
 good_under_monitor N None o m fine = fine
-good_under_monitor N (Some grade) o m fine = good_under N (Mon o) (level_of grade) m fine
+good_under_monitor N (Some grade) o m fine = good_under N (Mon o) grade m fine
 
 pub good_run : (N : ℕ) (w : MethodMeanings) → FineWays N w → (m : ℕ) (method : Method) (o : ℕ) (args : List Value) → GoodAt N (run_method w m method o args)
 good_run N w fw m method o args = good_under_name N method.named _ (good_under_monitor N method.synced o _ (good_invoke N w fw m (value.Ref o) (variables method.vars args)))

@@ -10,7 +10,7 @@ use Rattle.dso_base.specs.declared.value.Value.TheVariants as value
 use Rattle.dso_machine.specs.declared.code.Code.{Code}
 use Rattle.dso_machine.specs.declared.code.Method.{Method}
 use Rattle.dso_machine.specs.Calls.{lookup_class, variables, back_in, begin, invoke, under_name, under_monitor, run_method, call_method, call_number, call_in, call_on, arguments, MethodMeanings}
-use Rattle.dso_machine.specs.Outcome.{Environment, Outcome, Wants, Gives, Leaves, Fails, Hears, Over, Stopped, Meaning, look, level_of}
+use Rattle.dso_machine.specs.Outcome.{Environment, Outcome, Wants, Gives, Leaves, Fails, Hears, Over, Stopped, Meaning, look}
 use Rattle.dso_machine.proofs.protocol.Protocol.{KnowsValue, Keeper}
 use Rattle.dso_machine.proofs.protocol.Parts.{refilled, Obeys, keeps_on, KnowsAll, KnowsEnvironment, Fine, More, Part, all_later, environment_later, more_then, more_itself, part_later, part_fails, part_value, part_choose}
 use Rattle.dso_machine.proofs.protocol.Requests.{part_look, part_object, part_moving}
@@ -69,12 +69,12 @@ module _ {shape : Shape} (k : Keeper shape) where
     -- a part under a method's named lock, if it has one,
     part_under_name : (g : k.Point) (named : Option (ℕ × Grade)) (m : Meaning) → Part k g m → Part k g (under_name named m)
     part_under_name g None m part = part
-    part_under_name g (Some lock) m part = part_under k g (Name lock.0) (level_of lock.1) m tt part
+    part_under_name g (Some lock) m part = part_under k g (Name lock.0) lock.1 m tt part
 
     -- and under its object's monitor, if it takes it
     part_under_monitor : (g : k.Point) (synced : Option Grade) (object : ℕ) (m : Meaning) → k.Knows g object → Part k g m → Part k g (under_monitor synced object m)
     part_under_monitor g None object m known part = part
-    part_under_monitor g (Some grade) object m known part = part_under k g (Mon object) (level_of grade) m known part
+    part_under_monitor g (Some grade) object m known part = part_under k g (Mon object) grade m known part
 
     -- a method of an object
     part_run : (g : k.Point) (m : ℕ) (method : Method) (object : ℕ) (args : List Value) → k.Knows g object → KnowsAll k.HasText (k.Knows g) args → Part k g (run_method ways m method object args)

@@ -3,7 +3,7 @@ use Rattle.std.proofs.Common.{◌≡◌, refl, ℕ, zero, suc, ◌<◌, Bool, tr
 use Rattle.std.specs.Prelude.{ℤ, pos, negsuc, nat_le, cond, slice_index_or, slice_set, Ok, Err}
 use Rattle.std.specs.Ordering.{int_eq}
 use Rattle.std.proofs.lemmas.Bool.{leb-true}
-use Rattle.dso_base.specs.declared.lock.Level.TheVariants.{Read}
+use Rattle.dso_base.specs.declared.lock.Grade.TheVariants as grade
 use Rattle.dso_base.specs.declared.lock.LockName.TheVariants.{Name}
 use Rattle.dso_base.specs.declared.op.Op.{Op}
 use Rattle.dso_base.specs.declared.op.Op.TheVariants as op
@@ -116,7 +116,7 @@ module _ {shape : Shape} (k : Keeper shape) where
 
   -- a root is read
   part_root : (g : k.Point) (r : ℕ) → Part k g (root r)
-  part_root g r = part_under k g (Name r) Read (get 0 r) tt (part_get k g 0 r (λ h more. k.get_root_asked h r more.awake))
+  part_root g r = part_under k g (Name r) grade.Read (get 0 r) tt (part_get k g 0 r (λ h more. k.get_root_asked h r more.awake))
 
   -- a new array has no more elements than there may be
   part_array : (g : k.Point) (kind : Kind) (v : Value) → Part k g (new_array kind v)

@@ -11,7 +11,7 @@ use Rattle.dso_base.specs.declared.request.Fault.{Fault}
 use Rattle.dso_base.specs.declared.request.Reply.{Reply}
 use Rattle.dso_base.specs.declared.request.Reply.TheVariants.{Done, Made, Val}
 use Rattle.dso_base.specs.declared.request.Request.{Request}
-use Rattle.dso_base.specs.declared.request.Request.TheVariants.{New, Look, Get, Put, Enter, Exit, Wait, Resume, Notify, NotifyAll, Print, End, Pause}
+use Rattle.dso_base.specs.declared.request.Request.TheVariants.{New, Look, Get, Put, Enter, Exit, Wait, Tick, Timeout, Resume, Notify, NotifyAll, Print, End, Pause, Settle}
 use Rattle.dso_base.specs.declared.shape.Shape.{Shape}
 use Rattle.dso_base.specs.declared.value.ClassId.TheVariants.{Plain, Array}
 use Rattle.dso_base.specs.declared.value.Kind.{Kind}
@@ -39,6 +39,8 @@ abbrev pub is_plain : Request → Bool
 is_plain (Enter l level) = false
 is_plain (Exit l) = false
 is_plain (Wait l) = false
+is_plain (Tick l) = false
+is_plain (Timeout l) = false
 is_plain (Resume l) = false
 is_plain (End fault) = false
 is_plain request = true
@@ -54,6 +56,8 @@ pub record Keeper (shape : Shape) : Type 1 where
   pub Knows : Point → ℕ → Type 0
   pub HasText : ℕ → Type 0  -- the text of this number is one that may be named
   pub Awake : Point → Type 0  -- it neither waits nor has ended (with all else that is always so where a thread goes on)
+  pub Asleep : Point → LockName → Point → Type 0  -- at the second one it waits on the lock since the first one, and may still ask for ticks and its timeout
+  pub Roused : Point → LockName → Point → Type 0  -- it waits on it since then, and may ask for it again
   pub Same : Point → Point → Type 0  -- at the second one it holds the same locks as at the first, is as awake, and knows no less
   -- replies are listed ones
   pub listed : (g : Point) (q : Request) (r : Reply) → IsReply g q r → IsListed q r
@@ -78,9 +82,18 @@ pub record Keeper (shape : Shape) : Type 1 where
   pub enter_awake : (g : Point) (l : LockName) (level : Level) → Awake g → IsReply g (Enter l level) Done → Awake (after (Enter l level) Done g)
   pub exit_asked : (g h : Point) (l : LockName) (level : Level) → Awake g → IsReply g (Enter l level) Done → Same (after (Enter l level) Done g) h → Asks h (Exit l)
   pub exit_same : (g h : Point) (l : LockName) (level : Level) → Awake g → IsReply g (Enter l level) Done → Same (after (Enter l level) Done g) h → Same g (after (Exit l) Done h)
-  -- a wait answered Done: the thread may go on, and holds then what it held before
-  pub resume_asked : (g : Point) (l : LockName) → Awake g → IsReply g (Wait l) Done → Asks (after (Wait l) Done g) (Resume l)
-  pub resume_same : (g : Point) (l : LockName) → Awake g → IsReply g (Wait l) Done → Same g (after (Resume l) Done (after (Wait l) Done g))
+  -- a wait answered Done: ticks may be asked for until one tells that the thread was woken, and one timeout after them
+  pub wait_asleep : (g : Point) (l : LockName) → Awake g → IsReply g (Wait l) Done → Asleep g l (after (Wait l) Done g)
+  pub tick_asked : (g h : Point) (l : LockName) → Asleep g l h → Asks h (Tick l)
+  pub tick_asleep : (g h : Point) (l : LockName) → Asleep g l h → IsReply h (Tick l) (Val (value.Bool false)) → Asleep g l (after (Tick l) (Val (value.Bool false)) h)
+  pub tick_roused : (g h : Point) (l : LockName) → Asleep g l h → IsReply h (Tick l) (Val (value.Bool true)) → Roused g l (after (Tick l) (Val (value.Bool true)) h)
+  pub timeout_asked : (g h : Point) (l : LockName) → Asleep g l h → Asks h (Timeout l)
+  pub timeout_roused : (g h : Point) (l : LockName) (r : Reply) → Asleep g l h → IsReply h (Timeout l) r → Roused g l (after (Timeout l) r h)
+  -- with or without them the thread may go on, and holds then what it held before
+  pub asleep_roused : (g h : Point) (l : LockName) → Asleep g l h → Roused g l h
+  pub roused_knows : (g h : Point) (l : LockName) → Roused g l h → (object : ℕ) → Knows g object → Knows h object
+  pub resume_asked : (g h : Point) (l : LockName) → Roused g l h → Asks h (Resume l)
+  pub resume_same : (g h : Point) (l : LockName) → Roused g l h → IsReply h (Resume l) Done → Same g (after (Resume l) Done h)
   -- the end, where the thread holds what it held at its start
   pub end_asked : (g : Point) (fault : Option Fault) → Same start g → Asks g (End fault)
   -- all else that may be asked of values that are known, and of object 0
@@ -97,6 +110,7 @@ pub record Keeper (shape : Shape) : Type 1 where
   pub notify_all_asked : (g : Point) (object : ℕ) → Awake g → Knows g object → Asks g (NotifyAll (Mon object))
   pub print_asked : (g : Point) (v : Value) → Awake g → KnowsValue HasText (Knows g) v → Asks g (Print v)
   pub pause_asked : (g : Point) → Awake g → Asks g Pause
+  pub settle_asked : (g : Point) → Awake g → Asks g Settle
 
 module _ {shape : Shape} (k : Keeper shape) where
   -- the point after events, by the one before them

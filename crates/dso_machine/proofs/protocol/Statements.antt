@@ -1,8 +1,8 @@
 -- Sound statements keep to what may be asked.
 use Rattle.std.proofs.Common.{refl, ℕ, zero, suc, Bool, true, false, List, map, Option, None, Some}
-use Rattle.std.specs.Prelude.{ℤ}
+use Rattle.std.specs.Prelude.{ℤ, pos}
 use Rattle.dso_base.specs.declared.lock.Grade.{Grade}
-use Rattle.dso_base.specs.declared.lock.Level.TheVariants.{Write}
+use Rattle.dso_base.specs.declared.lock.Grade.TheVariants as grade
 use Rattle.dso_base.specs.declared.lock.LockName.TheVariants.{Mon, Name}
 use Rattle.dso_base.specs.declared.request.Fault.TheVariants.{NoSuchField, BadValue, BadIndex}
 use Rattle.dso_base.specs.declared.request.Request.TheVariants as request
@@ -20,11 +20,11 @@ use Rattle.dso_machine.specs.declared.tree.FieldRef.{FieldRef}
 use Rattle.dso_machine.specs.declared.tree.Stmt.{Stmt}
 use Rattle.dso_machine.specs.Calls.{lookup, MethodMeanings}
 use Rattle.dso_machine.specs.Expressions.{within, expr}
-use Rattle.dso_machine.specs.Outcome.{Gives, Leaves, Fails, Meaning, on_value, on_next, tell, get, put, look, on_object, moving, level_of, under}
+use Rattle.dso_machine.specs.Outcome.{Gives, Leaves, Fails, Meaning, on_value, on_next, tell, get, put, look, on_object, moving, under}
 use Rattle.dso_machine.specs.Sound.{Scope, SoundExpr, SoundStmt, SoundBlock}
-use Rattle.dso_machine.specs.Statements.{assign, put_fitting, put_field_at, put_field_in, put_field, put_element_at, put_element_in, put_element, bind_null, bind, put_root, sync, wait, seq, branch, turn, spun, stmt}
+use Rattle.dso_machine.specs.Statements.{assign, put_fitting, put_field_at, put_field_in, put_field, put_element_at, put_element_in, put_element, bind_null, bind, put_root, sync, wait, on_count, timed_wait, seq, branch, turn, spun, stmt}
 use Rattle.dso_machine.specs.Values.{takes}
-use Rattle.dso_machine.proofs.forms.Equations.{stmt_Assign, stmt_PutField, stmt_PutElem, stmt_PutRoot, stmt_Eval, stmt_If, stmt_While, stmt_Sync, stmt_Wait, stmt_Notify, stmt_NotifyAll, stmt_Print, stmt_Return}
+use Rattle.dso_machine.proofs.forms.Equations.{stmt_Assign, stmt_PutField, stmt_PutElem, stmt_PutRoot, stmt_Eval, stmt_If, stmt_While, stmt_Sync, stmt_Wait, stmt_TimedWait, stmt_Notify, stmt_NotifyAll, stmt_Print, stmt_Return}
 use Rattle.dso_machine.proofs.protocol.Protocol.{KnowsValue, Keeper}
 use Rattle.dso_machine.proofs.protocol.Parts.{Obeys, More, Part, value_later, part_later, part_gives, part_leaves, part_fails, part_stopped, part_value, part_choose}
 use Rattle.dso_machine.proofs.protocol.Requests.{part_tell, part_get, part_look, part_object, part_moving}
@@ -91,7 +91,7 @@ module _ {shape : Shape} (k : Keeper shape) where
 
   -- under its lock,
   part_bind : (g : k.Point) (r : ℕ) (v : Value) → KnowsValue k.HasText (k.Knows g) v → Part k g (bind r v)
-  part_bind g r v known = part_under k g (Name r) Write (λ at. on_value (bind_null r v) (get 0 r at)) tt
+  part_bind g r v known = part_under k g (Name r) grade.Write (λ at. on_value (bind_null r v) (get 0 r at)) tt
       (part_value k g (bind_null r v) (get 0 r) (part_get k g 0 r (λ h more. k.get_root_asked h r more.awake)) (λ bound h more bound_known. part_bind_null h r v bound (value_later k g h more.knows v known)))
 
   -- if it takes the value
@@ -102,7 +102,17 @@ module _ {shape : Shape} (k : Keeper shape) where
 
   -- a part under the monitor of a value
   part_sync : (g : k.Point) (grade : Grade) (m : Meaning) (x : Value) → KnowsValue k.HasText (k.Knows g) x → Part k g m → Part k g (sync grade m x)
-  part_sync g grade m x known part = part_object k g (λ object. under (Mon object) (level_of grade) m) x known (λ object object_known. part_under k g (Mon object) (level_of grade) m object_known part)
+  part_sync g grade m x known part = part_object k g (λ object. under (Mon object) grade m) x known (λ object object_known. part_under k g (Mon object) grade m object_known part)
+
+  -- a wait for as many ticks as a value says
+  part_count : (g : k.Point) (f : ℕ → Meaning) (v : Value) → ((n : ℕ) → Part k g (f n)) → Part k g (on_count f v)
+  part_count g f (value.Long (pos n)) part = record { from = λ h u more environment. (part n).from h u more environment }
+  part_count g f v part = record { from = λ h u more environment. (part_fails k g BadValue).from h u more environment }
+
+  -- on the monitor of another one
+  part_timed_wait : (g : k.Point) (x v : Value) → KnowsValue k.HasText (k.Knows g) x → Part k g (timed_wait x v)
+  part_timed_wait g x v known = part_object k g (λ object. on_count (λ n. wait n (Mon object)) v) x known
+      (λ object object_known. part_count g (λ n. wait n (Mon object)) v (λ n. part_wait k n g object object_known))
 
   -- ---- what is run
 
@@ -159,7 +169,9 @@ module _ (c : Code) (k : Keeper c.shape) (ways : MethodMeanings) (methods : Bodi
         (part_spun k (expr c ways a) (seq (map (stmt c ways n) all)) (part_expr c k ways methods count in_method one) (part_block some) n g))
     part_stmt (SoundStmt.locked {a = a} {grade = grade} {all = all} one some) g = part_as k g _ _ (stmt_Sync c ways n a grade all)
         (part_of one (sync grade (seq (map (stmt c ways n) all))) g (λ x h more known. part_sync k h grade _ x known (part_block some h)))
-    part_stmt (SoundStmt.wait {a = a} one) g = part_as k g _ _ (stmt_Wait c ways n a) (part_of_monitor one (λ object. wait (Mon object)) (part_wait k) g)
+    part_stmt (SoundStmt.wait {a = a} one) g = part_as k g _ _ (stmt_Wait c ways n a) (part_of_monitor one (λ object. wait 0 (Mon object)) (part_wait k 0) g)
+    part_stmt (SoundStmt.timed_wait {a = a} {b = b} one other) g = part_as k g _ _ (stmt_TimedWait c ways n a b)
+        (part_of one (on_next timed_wait (expr c ways b)) g (λ x h more known. part_of other (timed_wait x) h (λ v i further v_known. part_timed_wait k i x v (value_later k h i further.knows x known))))
     part_stmt (SoundStmt.notify {a = a} one) g = part_as k g _ _ (stmt_Notify c ways n a) (part_of_monitor one (λ object. tell (request.Notify (Mon object)))
         (λ h object known. part_tell k h (request.Notify (Mon object)) refl (λ i more. k.notify_asked i object more.awake (more.knows object known))) g)
     part_stmt (SoundStmt.notify_all {a = a} one) g = part_as k g _ _ (stmt_NotifyAll c ways n a) (part_of_monitor one (λ object. tell (request.NotifyAll (Mon object)))

@@ -75,13 +75,13 @@ wants : (code : Code) (N : ℕ) (ts : List Task) (q : Request) (o : Outcome) →
 wants code N [] q o h = h
 wants code N (task.Then t ∷ ts) q o h = wants code N ts q o h.1
 wants code N (task.Back frame ∷ ts) q o h = wants code N ts q o h.1
-wants code N (task.Leave l ∷ ts) q o h = wants code N ts q o h.1
+wants code N (task.Leave l grade ∷ ts) q o h = wants code N ts q o h.1
 
 overs : (code : Code) (N : ℕ) (ts : List Task) (o : Outcome) → Completes code N ts Over o → o ≡ Over
 overs code N [] o h = h
 overs code N (task.Then t ∷ ts) o h = overs code N ts o h.1
 overs code N (task.Back frame ∷ ts) o h = overs code N ts o h.1
-overs code N (task.Leave l ∷ ts) o h = overs code N ts o h.1
+overs code N (task.Leave l grade ∷ ts) o h = overs code N ts o h.1
 
 -- what a request that is out comes to
 asks_out : (code : Code) (N : ℕ) (a : Now) (q : Request) (core : Core) (o : Outcome) → asked_by a ≡ Some q → Means code N a core [] o → o ≡ Wants q

@@ -1,5 +1,6 @@
 -- Without replies left nothing is over: what a thread that runs has still to do.
 use Rattle.std.proofs.Common.{◌≡◌, ℕ, List, [], ◌∷◌, ◌++◌, None, Some, refl, sym, ◌∙◌}
+use Rattle.dso_base.specs.declared.lock.Grade.{Grade}
 use Rattle.dso_base.specs.declared.lock.LockName.{LockName}
 use Rattle.dso_base.specs.declared.lock.LockName.TheVariants.{Mon}
 use Rattle.dso_base.specs.declared.request.Reply.{Reply}
@@ -34,14 +35,14 @@ use Rattle.dso_machine.specs.declared.tree.Stmt.{Stmt}
 use Rattle.dso_machine.specs.Calls.{call_on, call_in}
 use Rattle.dso_machine.specs.Expressions.{field_in, element_of, element_in, expr}
 use Rattle.dso_machine.specs.Next.{finish}
-use Rattle.dso_machine.specs.Outcome.{State, Outcome, Wants, Gives, Leaves, Fails, Hears, Over, Stopped, Meaning, on_value, on_reply, on_next, asked, unwanted, done, made, got, seen, tell, get, moved, moving, entered}
+use Rattle.dso_machine.specs.Outcome.{State, Outcome, Wants, Gives, Leaves, Fails, Hears, Over, Stopped, Meaning, on_value, on_reply, on_next, asked, unwanted, done, made, got, seen, tell, get, moved, moving, settling, entered}
 use Rattle.dso_machine.specs.Continuation.{Completes, standing, ended, block_at, loop_at, move_at, body_at, locked_at, arguments_at, written, used_monitor, used_value, heard, after_part, meant, environment_of}
-use Rattle.dso_machine.specs.Statements.{put_field, put_field_in, put_element, put_element_in, bind_null, wait, stmt, block, methods}
+use Rattle.dso_machine.specs.Statements.{put_field, put_field_in, put_element, put_element_in, bind_null, unless_woken, timed_out, ticks, waiting, wait, timed_wait, stmt, block, methods}
 use Rattle.dso_machine.specs.Values.{binary, unary}
 use Rattle.dso_machine.specs.Unwinding.{with_replies}
-use Rattle.dso_machine.proofs.standing.NotOver.{Live, live_from, live_value, live_back, live_leave}
+use Rattle.dso_machine.proofs.standing.NotOver.{Live, live_from, IsLive, live_tidy, live_value, live_back, live_leave, live_settling, live_ticks, live_waiting, live_unless_woken, live_timed_out}
 use Rattle.dso_machine.proofs.unwinding.Tidy.{IsTidy, tidy_after, tidy_fails, tidy_gives, tidy_leaves}
-use Rattle.dso_machine.proofs.unwinding.Parts.{tidy_array, tidy_assign, tidy_begin, tidy_bind_null, tidy_boolean, tidy_branch, tidy_call, tidy_call_in, tidy_done, tidy_element, tidy_element_in, tidy_field, tidy_field_in, tidy_get, tidy_got, tidy_invoke, tidy_made, tidy_monitor, tidy_moved, tidy_moving, tidy_object, tidy_put_element, tidy_put_element_in, tidy_put_field, tidy_put_field_in, tidy_put_root, tidy_result, tidy_second, tidy_seen, tidy_spun, tidy_sync, tidy_tell, tidy_turn, tidy_unwanted, tidy_wait}
+use Rattle.dso_machine.proofs.unwinding.Parts.{tidy_array, tidy_assign, tidy_begin, tidy_bind_null, tidy_boolean, tidy_branch, tidy_call, tidy_call_in, tidy_done, tidy_element, tidy_element_in, tidy_field, tidy_field_in, tidy_get, tidy_got, tidy_invoke, tidy_made, tidy_monitor, tidy_moved, tidy_moving, tidy_object, tidy_put_element, tidy_put_element_in, tidy_put_field, tidy_put_field_in, tidy_put_root, tidy_result, tidy_second, tidy_seen, tidy_spun, tidy_sync, tidy_tell, tidy_turn, tidy_timed_wait, tidy_unwanted, tidy_wait}
 use Rattle.dso_machine.proofs.unwinding.Trees.{tidy_args_on, tidy_block, tidy_expr, tidy_methods, tidy_of, tidy_stmt}
 
 module _ (code : Code) (n k : ℕ) where
@@ -84,7 +85,9 @@ module _ (code : Code) (n k : ℕ) where
   -- what is done with a monitor
   tidy_used : (t : Monitor) (v : Value) → IsTidy (used_monitor code n k t v)
   tidy_used (monitor.Sync grade body) v = tidy_sync grade (block_at code n k body) (tidy_block code (methods code n) (tidy_methods code n) n body) v
-  tidy_used monitor.Wait v = tidy_object (λ o. wait (Mon o)) (λ o. tidy_wait (Mon o)) v
+  tidy_used monitor.Wait v = tidy_object (λ o. wait 0 (Mon o)) (λ o. tidy_wait 0 (Mon o)) v
+  tidy_used (monitor.TimedWait b) v = tidy_of code (methods code n) (tidy_methods code n) b (timed_wait v) (tidy_timed_wait v)
+  tidy_used (monitor.WaitFor x) v = tidy_timed_wait x v
   tidy_used monitor.Notify v = tidy_object (λ o. tell (request.Notify (Mon o))) (λ o. tidy_tell (request.Notify (Mon o)) refl) v
   tidy_used monitor.NotifyAll v = tidy_object (λ o. tell (request.NotifyAll (Mon o))) (λ o. tidy_tell (request.NotifyAll (Mon o)) refl) v
 
@@ -111,10 +114,14 @@ module _ (code : Code) (n k : ℕ) where
   tidy_given (then.Next ss) v = tidy_block code (methods code n) (tidy_methods code n) n ss
 
   -- a part whose lock was asked for
-  live_entered : (l : LockName) (m : Meaning) (u : State) → IsTidy m → (r : Reply) → Live (entered l m r (with_replies [] u))
-  live_entered l m u tidy Done = live_leave l (m (with_replies [] u)) (live_from m tidy u)
-  live_entered l m u tidy Local = live_from m tidy u
-  live_entered l m u tidy r = live_from (unwanted r) (tidy_unwanted r) u
+  live_entered : (l : LockName) (grade : Grade) (m : Meaning) (u : State) → IsTidy m → (r : Reply) → Live (entered l grade m r (with_replies [] u))
+  live_entered l grade m u tidy Done = live_leave l grade (m (with_replies [] u)) (live_from m tidy u)
+  live_entered l grade m u tidy Local = live_from m tidy u
+  live_entered l grade m u tidy r = live_from (unwanted r) (tidy_unwanted r) u
+
+  -- the lock again after a wait
+  live_resume : (l : LockName) → IsLive (tell (request.Resume l))
+  live_resume l = record { at = λ u. tt }
 
   -- what is done with a reply
   pub live_heard : (on : OnReply) (r : Reply) (core : Core) → Live (heard code n k on r (standing core []))
@@ -127,11 +134,15 @@ module _ (code : Code) (n k : ℕ) where
       live_from (seen (call_in code (methods code n) callees args o) r) (tidy_seen (call_in code (methods code n) callees args o) (tidy_call_in code (methods code n) (tidy_methods code n) callees args o) r) (standing core [])
   live_heard (reply.PutField o f v) r core = live_from (seen (put_field_in code.shape f v o) r) (tidy_seen (put_field_in code.shape f v o) (tidy_put_field_in code.shape f v o) r) (standing core [])
   live_heard (reply.PutElement o i v) r core = live_from (seen (put_element_in i v o) r) (tidy_seen (put_element_in i v o) (tidy_put_element_in i v o) r) (standing core [])
-  live_heard (reply.Entered l a) r core = live_entered l (locked_at code n k a) (standing core []) (tidy_locked a) r
-  live_heard (reply.Left e) r core = live_from (λ at. on_value (λ v. ended e) (done r at)) (tidy_after (λ v. ended e) (done r) (tidy_done r) (λ v. tidy_ended e)) (standing core [])
+  live_heard (reply.Entered l grade a) r core = live_entered l grade (locked_at code n k a) (standing core []) (tidy_locked a) r
+  live_heard (reply.Left grade e) r core = live_value (λ v. settling grade (ended e)) (done r (standing core [])) (live_from (done r) (tidy_done r) (standing core []))
+      (λ v. live_settling grade (ended e) (live_tidy (ended e) (tidy_ended e)))
+  live_heard (reply.Settled e) r core = live_from (λ at. on_value (λ v. ended e) (done r at)) (tidy_after (λ v. ended e) (done r) (tidy_done r) (λ v. tidy_ended e)) (standing core [])
   live_heard (reply.Bind root v) r core = live_from (λ at. on_value (bind_null root v) (got r at)) (tidy_after (bind_null root v) (got r) (tidy_got r) (tidy_bind_null root v)) (standing core [])
-  live_heard (reply.Waited l) r core =
-      live_from (λ at. on_value (λ v. tell (request.Resume l)) (done r at)) (tidy_after (λ v. tell (request.Resume l)) (done r) (tidy_done r) (λ v. tidy_tell (request.Resume l) refl)) (standing core [])
+  live_heard (reply.Waited l left) r core = live_value (λ v. waiting l left) (done r (standing core [])) (live_from (done r) (tidy_done r) (standing core [])) (λ v. live_waiting l left)
+  live_heard (reply.Ticked l left) r core = live_value (λ v. tell (request.Resume l)) (unless_woken (ticks l left) r (standing core []))
+      ((live_unless_woken (ticks l left) (live_ticks l left) r).at (standing core [])) (λ v. live_resume l)
+  live_heard (reply.TimedOut l) r core = live_value (λ v. tell (request.Resume l)) (timed_out r (standing core [])) ((live_timed_out r).at (standing core [])) (λ v. live_resume l)
   live_heard (reply.Paused a) r core =
       live_from (λ at. on_value (λ v. moved (move_at code n k a)) (done r at)) (tidy_after (λ v. moved (move_at code n k a)) (done r) (tidy_done r) (λ v. tidy_moved (move_at code n k a) (tidy_move a))) (standing core [])
 
@@ -148,9 +159,9 @@ module _ (code : Code) (n k : ℕ) where
 
   -- what is done after a part
   live_part : (t : Task) (p : Outcome) → Live p → Live (after_part code n k t p)
-  live_part (task.Then t) p live = live_value (used_value code n k t) p live (tidy_given t)
+  live_part (task.Then t) p live = live_value (used_value code n k t) p live (λ v. live_tidy (used_value code n k t v) (tidy_given t v))
   live_part (task.Back frame) p live = live_back (environment_of frame) p live
-  live_part (task.Leave l) p live = live_leave l p live
+  live_part (task.Leave l grade) p live = live_leave l grade p live
 
 -- the end of a thread's code wants its reply where none is left
 end_wants : (q : Request) (at : State) (rs : List Reply) → rs ≡ [] → on_reply (λ r u. Over) (asked q at rs) ≡ Over → ⊥

@@ -1,13 +1,19 @@
 -- Without replies left nothing is over: what a tidy part comes to, and what is made of it.
-use Rattle.std.proofs.Common.{◌≡◌, refl, List, [], ◌∷◌, subst, sym}
+use Rattle.std.proofs.Common.{◌≡◌, refl, ℕ, zero, suc, Bool, true, false, List, [], ◌∷◌, subst, sym}
+use Rattle.dso_base.specs.declared.lock.Grade.{Grade}
+use Rattle.dso_base.specs.declared.lock.Grade.TheVariants as grade
 use Rattle.dso_base.specs.declared.lock.LockName.{LockName}
 use Rattle.dso_base.specs.declared.request.Reply.{Reply}
+use Rattle.dso_base.specs.declared.request.Reply.TheVariants.{Done, Val}
 use Rattle.dso_base.specs.declared.value.Value.{Value}
+use Rattle.dso_base.specs.declared.value.Value.TheVariants as value
 use Rattle.dso_machine.specs.Calls.{back_in}
-use Rattle.dso_machine.specs.Outcome.{Environment, State, Outcome, Wants, Gives, Leaves, Fails, Hears, Over, Stopped, Meaning, on_value, leaving, leave}
-use Rattle.dso_machine.specs.Unwinding.{with_replies}
+use Rattle.dso_machine.specs.Outcome.{Environment, State, Outcome, Wants, Gives, Leaves, Fails, Hears, Over, Stopped, Meaning, choose, on_value, unwanted, settling, leaving, leave}
+use Rattle.dso_machine.specs.Statements.{unless_woken, timed_out, ticks, waiting}
+use Rattle.dso_machine.specs.Unwinding.{with_replies, Hold}
 use Rattle.dso_machine.proofs.protocol.Parts.{refilled}
-use Rattle.dso_machine.proofs.unwinding.Tidy.{IsEnd, Tidy, IsTidy}
+use Rattle.dso_machine.proofs.unwinding.Tidy.{IsEnd, Phase, Tidy, IsTidy}
+use Rattle.dso_machine.proofs.unwinding.Parts.{tidy_unwanted}
 
 -- An outcome that is not over, after which no replies are left.
 abbrev pub Live : Outcome → Type 0
@@ -30,11 +36,15 @@ live_end Over end = end
 live_end Stopped end = tt
 
 -- what a tidy part comes to is live where no replies are left
-live_of : {ls : List LockName} (o : List Reply → Outcome) → Tidy ls o → Live (o [])
+live_of : {p : Phase} {hs : List Hold} (o : List Reply → Outcome) → Tidy p hs o → Live (o [])
 live_of o (Tidy.asks q is simple fails go) = subst Live (sym is) tt
-live_of o (Tidy.enters l level is fails inside other) = subst Live (sym is) tt
-live_of o (Tidy.exits l is go) = subst Live (sym is) tt
-live_of o (Tidy.waits l is again fails go) = subst Live (sym is) tt
+live_of o (Tidy.enters l grade is entry fails inside other) = subst Live (sym is) tt
+live_of o (Tidy.exits h is go) = subst Live (sym is) tt
+live_of o (Tidy.settles is go) = subst Live (sym is) tt
+live_of o (Tidy.waits l is fails asleep other) = subst Live (sym is) tt
+live_of o (Tidy.ticks l is go) = subst Live (sym is) tt
+live_of o (Tidy.times_out l is over woken) = subst Live (sym is) tt
+live_of o (Tidy.resumes l more is go) = subst Live (sym is) tt
 live_of o (Tidy.ends e is end) = subst Live (sym (is [])) (live_end e end)
 live_of o (Tidy.stops is) = subst Live (sym (is [])) tt
 
@@ -42,13 +52,21 @@ live_of o (Tidy.stops is) = subst Live (sym (is [])) tt
 pub live_from : (m : Meaning) → IsTidy m → (u : State) → Live (m (with_replies [] u))
 live_from m tidy u = live_of (λ rs. m (with_replies rs u)) (tidy.from u)
 
+-- a part that is live from each state without replies
+pub record IsLive (m : Meaning) : Type 0 where
+  pub at : (u : State) → Live (m (with_replies [] u))
+
+-- so is a tidy one
+pub live_tidy : (m : Meaning) → IsTidy m → IsLive m
+live_tidy m tidy = record { at = live_from m tidy }
+
 -- what is done with a value is live where no replies are left
-value_at : (f : Value → Meaning) (v : Value) (u : State) (rs : List Reply) → rs ≡ [] → IsTidy (f v) → Live (f v (with_replies rs u))
-value_at f v u [] none tidy = live_from (f v) tidy u
-value_at f v u (r ∷ rs) none tidy = absurd (cc none)
+value_at : (f : Value → Meaning) (v : Value) (u : State) (rs : List Reply) → rs ≡ [] → IsLive (f v) → Live (f v (with_replies rs u))
+value_at f v u [] none live = live.at u
+value_at f v u (r ∷ rs) none live = absurd (cc none)
 
 -- and keeps an outcome live
-pub live_value : (f : Value → Meaning) (o : Outcome) → Live o → ((v : Value) → IsTidy (f v)) → Live (on_value f o)
+pub live_value : (f : Value → Meaning) (o : Outcome) → Live o → ((v : Value) → IsLive (f v)) → Live (on_value f o)
 live_value f (Gives v u) h g = value_at f v u u.replies h (g v)
 live_value f (Wants q) h g = tt
 live_value f (Leaves v u) h g = h
@@ -68,16 +86,46 @@ live_back caller Over h = absurd h
 live_back caller Stopped h = tt
 
 -- where a lock is left without replies, its exit is wanted
-exit_live : (l : LockName) (m : Meaning) (u : State) (rs : List Reply) → rs ≡ [] → Live (leaving l m (with_replies rs u))
-exit_live l m u [] none = tt
-exit_live l m u (r ∷ rs) none = absurd (cc none)
+exit_live : (l : LockName) (grade : Grade) (m : Meaning) (u : State) (rs : List Reply) → rs ≡ [] → Live (leaving l grade m (with_replies rs u))
+exit_live l grade m u [] none = tt
+exit_live l grade m u (r ∷ rs) none = absurd (cc none)
 
 -- and that keeps an outcome live
-pub live_leave : (l : LockName) (o : Outcome) → Live o → Live (leave l o)
-live_leave l (Wants q) h = tt
-live_leave l (Gives v u) h = exit_live l (Gives v) u u.replies h
-live_leave l (Leaves v u) h = exit_live l (Leaves v) u u.replies h
-live_leave l (Fails f u) h = exit_live l (Fails f) u u.replies h
-live_leave l (Hears r u) h = absurd h
-live_leave l Over h = absurd h
-live_leave l Stopped h = tt
+pub live_leave : (l : LockName) (grade : Grade) (o : Outcome) → Live o → Live (leave l grade o)
+live_leave l grade (Wants q) h = tt
+live_leave l grade (Gives v u) h = exit_live l grade (Gives v) u u.replies h
+live_leave l grade (Leaves v u) h = exit_live l grade (Leaves v) u u.replies h
+live_leave l grade (Fails f u) h = exit_live l grade (Fails f) u u.replies h
+live_leave l grade (Hears r u) h = absurd h
+live_leave l grade Over h = absurd h
+live_leave l grade Stopped h = tt
+
+-- a thread that settles asks for that
+pub live_settling : (grade : Grade) (m : Meaning) → IsLive m → IsLive (settling grade m)
+live_settling grade.Read m live = record { at = λ u. live.at u }
+live_settling grade.Write m live = record { at = λ u. live.at u }
+live_settling grade.Synchronous m live = record { at = λ u. tt }
+
+-- one that waits asks for a tick, its timeout or its lock
+pub live_ticks : (l : LockName) (n : ℕ) → IsLive (ticks l n)
+live_ticks l zero = record { at = λ u. tt }
+live_ticks l (suc n) = record { at = λ u. tt }
+
+pub live_waiting : (l : LockName) (n : ℕ) → IsLive (waiting l n)
+live_waiting l zero = record { at = λ u. tt }
+live_waiting l (suc n) = record { at = λ u. tt }
+
+-- so after a tick,
+live_choice : (woken : Bool) (m : Meaning) → IsLive m → IsLive (choose woken (Gives value.Null) m)
+live_choice true m live = record { at = λ u. refl }
+live_choice false m live = record { at = λ u. live.at u }
+
+pub live_unless_woken : (m : Meaning) → IsLive m → (r : Reply) → IsLive (unless_woken m r)
+live_unless_woken m live (Val (value.Bool woken)) = live_choice woken m live
+live_unless_woken m live r = live_tidy (unwanted r) (tidy_unwanted r)
+
+-- and after a timeout
+pub live_timed_out : (r : Reply) → IsLive (timed_out r)
+live_timed_out Done = record { at = λ u. refl }
+live_timed_out (Val (value.Bool true)) = record { at = λ u. refl }
+live_timed_out r = live_tidy (unwanted r) (tidy_unwanted r)

@@ -6,6 +6,7 @@ use Rattle.dso_base.specs.declared.request.Reply.{Reply}
 use Rattle.dso_base.specs.declared.request.Request.{Request}
 use Rattle.dso_base.specs.declared.request.Request.TheVariants as request
 use Rattle.dso_base.specs.declared.request.Fault.{Fault}
+use Rattle.dso_base.specs.declared.lock.Grade.{Grade}
 use Rattle.dso_base.specs.declared.lock.LockName.{LockName}
 use Rattle.dso_base.specs.declared.value.Value.{Value}
 use Rattle.dso_base.specs.declared.value.Value.TheVariants as value
@@ -23,7 +24,7 @@ use Rattle.dso_machine.specs.declared.continuation.Task.{Task}
 use Rattle.dso_machine.specs.declared.continuation.Task.TheVariants as task
 use Rattle.dso_machine.specs.declared.tree.Stmt.{Stmt}
 use Rattle.dso_machine.specs.Next.{finish}
-use Rattle.dso_machine.specs.Outcome.{State, Outcome, Over, on_reply, asked, ask, done}
+use Rattle.dso_machine.specs.Outcome.{State, Outcome, Over, on_reply, asked, ask, done, settling}
 use Rattle.dso_machine.specs.Continuation.{Opens, Executes, Uses, Keeps, Means, Fuel, Completes, standing, meant, meant_with, after_part, ended, with_then}
 use Rattle.dso_machine.proofs.steps.Requests.{on_asked}
 
@@ -94,13 +95,15 @@ module _ (code : Code) where
   back_fails fault frame core = pops _ _ (task.Back frame) core core refl (λ n k p q rs. refl)
 
   -- a lock is left at the end of a part
-  left_after : (n k p q : ℕ) (l : LockName) (e : End) (at : State) → after_part code n k (task.Leave l) (meant code p q (now.Have e) at) ≡ meant code n k (now.Ask (request.Exit l) (reply.Left e)) at
-  left_after n k p q l (end.Gives v) at = sym (on_asked (λ x. ended (end.Gives v)) done (request.Exit l) at at.replies)
-  left_after n k p q l (end.Leaves v) at = sym (on_asked (λ x. ended (end.Leaves v)) done (request.Exit l) at at.replies)
-  left_after n k p q l (end.Fails fault) at = sym (on_asked (λ x. ended (end.Fails fault)) done (request.Exit l) at at.replies)
+  left_after : (n k p q : ℕ) (l : LockName) (grade : Grade) (e : End) (at : State)
+      → after_part code n k (task.Leave l grade) (meant code p q (now.Have e) at) ≡ meant code n k (now.Ask (request.Exit l) (reply.Left grade e)) at
+  left_after n k p q l grade (end.Gives v) at = sym (on_asked (λ x. settling grade (ended (end.Gives v))) done (request.Exit l) at at.replies)
+  left_after n k p q l grade (end.Leaves v) at = sym (on_asked (λ x. settling grade (ended (end.Leaves v))) done (request.Exit l) at at.replies)
+  left_after n k p q l grade (end.Fails fault) at = sym (on_asked (λ x. settling grade (ended (end.Fails fault))) done (request.Exit l) at at.replies)
 
-  pub leaves_lock : (e : End) (l : LockName) (core : Core) → Keeps code (now.Have e) (record core { tasks = task.Leave l ∷ core.tasks }) (now.Ask (request.Exit l) (reply.Left e)) core
-  leaves_lock e l core = pops _ _ (task.Leave l) core core refl (λ n k p q rs. left_after n k p q l e (standing core rs))
+  pub leaves_lock : (e : End) (l : LockName) (grade : Grade) (core : Core)
+      → Keeps code (now.Have e) (record core { tasks = task.Leave l grade ∷ core.tasks }) (now.Ask (request.Exit l) (reply.Left grade e)) core
+  leaves_lock e l grade core = pops _ _ (task.Leave l grade) core core refl (λ n k p q rs. left_after n k p q l grade e (standing core rs))
 
   -- with no task left
   at_none : (N : ℕ) (ts : List Task) (o p q : Outcome) → ts ≡ [] → finish p ≡ finish q → Completes code N ts p o → Completes code N ts q o

@@ -2,8 +2,7 @@
 use Rattle.std.proofs.Common.{◌≡◌, refl, ℕ, zero, suc, ◌+◌, ◌-◌, Bool, true, false, List, [], Option, None, Some}
 use Rattle.std.specs.Prelude.{ℤ, pos, negsuc, nat_lt, nat_le, slice_get, Result, Ok, Err}
 use Rattle.dso_base.specs.declared.lock.Grade.{Grade}
-use Rattle.dso_base.specs.declared.lock.Level.{Level}
-use Rattle.dso_base.specs.declared.lock.Level.TheVariants.{Read, Write}
+use Rattle.dso_base.specs.declared.lock.Grade.TheVariants as grade
 use Rattle.dso_base.specs.declared.lock.LockName.{LockName}
 use Rattle.dso_base.specs.declared.lock.LockName.TheVariants.{Mon, Name}
 use Rattle.dso_base.specs.declared.op.Op.{Op}
@@ -28,11 +27,11 @@ use Rattle.dso_machine.specs.declared.tree.FieldRef.{FieldRef}
 use Rattle.dso_machine.specs.Calls.{lookup, lookup_class, begin, invoke, under_name, under_monitor, run_method, call_method, call_number, call_in, call_on, variables, MethodMeanings}
 use Rattle.dso_machine.specs.Expressions.{field_at, field_in, field_of, within, element_at, element_in, element_of, root, make, new_array, a_boolean, second}
 use Rattle.dso_machine.specs.Limits.{most_elements, most_moves}
-use Rattle.dso_machine.specs.Outcome.{State, Gives, Fails, Meaning, choose, on_value, on_reply, result_of, ask, unwanted, done, made, got, seen, tell, get, put, look, on_object, moved, paced, moving, level_of, entered, under}
-use Rattle.dso_machine.specs.Statements.{assign, put_fitting, put_field_at, put_field_in, put_field, put_element_at, put_element_in, put_element, bind_null, bind, put_root, sync, wait, branch, turn, spun}
+use Rattle.dso_machine.specs.Outcome.{State, Gives, Fails, Meaning, choose, on_value, on_reply, result_of, ask, unwanted, done, made, got, seen, tell, get, put, look, on_object, moved, paced, moving, entered, under}
+use Rattle.dso_machine.specs.Statements.{assign, put_fitting, put_field_at, put_field_in, put_field, put_element_at, put_element_in, put_element, bind_null, bind, put_root, sync, unless_woken, ticks, ticking, waiting, wait, on_count, timed_wait, branch, turn, spun}
 use Rattle.dso_machine.specs.Unwinding.{with_replies}
 use Rattle.dso_machine.specs.Values.{binary, takes}
-use Rattle.dso_machine.proofs.unwinding.Tidy.{is_simple, Failing, Tidy, IsTidy, tidy_gives, tidy_fails, tidy_stopped, tidy_after, tidy_back, tidy_leave}
+use Rattle.dso_machine.proofs.unwinding.Tidy.{is_simple, Failing, Waits, ticked, Tidy, IsTidy, tidy_gives, tidy_fails, tidy_stopped, tidy_after, tidy_back, tidy_leave}
 
 -- one of two parts
 tidy_choice : (b : Bool) (m k : Meaning) → IsTidy m → IsTidy k → IsTidy (choose b m k)
@@ -128,24 +127,49 @@ tidy_moving m s = record { from = λ u. (tidy_paced (nat_lt u.moves most_moves) 
 -- ---- locks
 
 -- a part whose lock was not entered
-tidy_outside : (l : LockName) (m : Meaning) → IsTidy m → (r : Reply) → (r ≡ Done → ⊥) → IsTidy (entered l m r)
-tidy_outside l m s Done unlike = absurd (unlike refl)
-tidy_outside l m s Local unlike = s
-tidy_outside l m s r unlike = tidy_unwanted r
+tidy_outside : (l : LockName) (grade : Grade) (m : Meaning) → IsTidy m → (r : Reply) → (r ≡ Done → ⊥) → IsTidy (entered l grade m r)
+tidy_outside l grade m s Done unlike = absurd (unlike refl)
+tidy_outside l grade m s Local unlike = s
+tidy_outside l grade m s r unlike = tidy_unwanted r
 
 -- a part under a lock
-pub tidy_under : (l : LockName) (level : Level) (m : Meaning) → IsTidy m → IsTidy (under l level m)
-tidy_under l level m s = record {
-  from = λ u. Tidy.enters l level refl (λ fault. at_once fault u) (tidy_leave l (s.from (after_request u))) (λ r unlike. (tidy_outside l m s r unlike).from (after_request u));
+pub tidy_under : (l : LockName) (grade : Grade) (m : Meaning) → IsTidy m → IsTidy (under l grade m)
+tidy_under l grade m s = record {
+  from = λ u. Tidy.enters l grade refl (record { context = []; part = m; at = u; comes = λ rs. refl }) (λ fault. at_once fault u) (tidy_leave l grade (s.from (after_request u)))
+      (λ r unlike. (tidy_outside l grade m s r unlike).from (after_request u));
 }
 
--- what follows a wait
-waited : (l : LockName) (r : Reply) → IsTidy (λ at. on_value (λ v. tell (request.Resume l)) (done r at))
-waited l r = tidy_after (λ v. tell (request.Resume l)) (done r) (tidy_done r) (λ v. tidy_tell (request.Resume l) refl)
+-- a thread that waits asks for the lock again,
+resumes : (l : LockName) (more : Bool) (u : State) → Tidy (Waits l more) [] (λ rs. tell (request.Resume l) (with_replies rs u))
+resumes l more u = Tidy.resumes l more refl ((tidy_gives value.Null).from (after_request u))
+
+-- after a tick that told it that it was woken, and else after more ticks,
+after_tick : (l : LockName) (n : ℕ) → ((u : State) → Tidy (Waits l true) [] (λ rs. ticking l n (with_replies rs u))) → (u : State) (woken : Bool)
+    → Tidy (ticked l woken) [] (λ rs. on_value (λ v. tell (request.Resume l)) (unless_woken (ticks l n) (Val (value.Bool woken)) (with_replies rs u)))
+after_tick l n go u true = resumes l false u
+after_tick l n go u false = go u
+
+-- and after its timeout
+tidy_ticking : (l : LockName) (n : ℕ) (u : State) → Tidy (Waits l true) [] (λ rs. ticking l n (with_replies rs u))
+tidy_ticking l zero u = Tidy.times_out l refl (resumes l false (after_request u)) (resumes l false (after_request u))
+tidy_ticking l (suc n) u = Tidy.ticks l refl (after_tick l n (tidy_ticking l n) (after_request u))
+
+-- so with and without a limit
+tidy_waiting : (l : LockName) (n : ℕ) (u : State) → Tidy (Waits l true) [] (λ rs. waiting l n (with_replies rs u))
+tidy_waiting l zero u = resumes l true u
+tidy_waiting l (suc n) u = tidy_ticking l (suc n) u
+
+-- a wait that was not answered Done
+not_waited : (f : Value → Meaning) (r : Reply) → (r ≡ Done → ⊥) → IsTidy (λ at. on_value f (done r at))
+not_waited f Done unlike = absurd (unlike refl)
+not_waited f (Refused fault) unlike = tidy_fails fault
+not_waited f r unlike = tidy_fails BadValue
 
 -- a thread waits, and then asks for the lock again
-pub tidy_wait : (l : LockName) → IsTidy (wait l)
-tidy_wait l = record { from = λ u. Tidy.waits l refl refl (λ fault. at_once fault u) (λ r. (waited l r).from (after_request u)) }
+pub tidy_wait : (n : ℕ) (l : LockName) → IsTidy (wait n l)
+tidy_wait n l = record {
+  from = λ u. Tidy.waits l refl (λ fault. at_once fault u) (tidy_waiting l n (after_request u)) (λ r unlike. (not_waited (λ v. waiting l n) r unlike).from (after_request u));
+}
 
 -- ---- calls
 
@@ -164,12 +188,12 @@ tidy_invoke w s m this vars = tidy_moving (begin w m this vars) (tidy_begin w s 
 -- a part under a method's named lock, if it has one
 tidy_name : (named : Option (ℕ × Grade)) (m : Meaning) → IsTidy m → IsTidy (under_name named m)
 tidy_name None m s = s
-tidy_name (Some lock) m s = tidy_under (Name lock.0) (level_of lock.1) m s
+tidy_name (Some lock) m s = tidy_under (Name lock.0) lock.1 m s
 
 -- a part under the object's monitor, if the method takes it
 pub tidy_monitor : (synced : Option Grade) (object : ℕ) (m : Meaning) → IsTidy m → IsTidy (under_monitor synced object m)
 tidy_monitor None object m s = s
-tidy_monitor (Some grade) object m s = tidy_under (Mon object) (level_of grade) m s
+tidy_monitor (Some grade) object m s = tidy_under (Mon object) grade m s
 
 module _ (c : Code) (w : MethodMeanings) (s : TidyMethods w) where
   -- a method of an object
@@ -231,7 +255,7 @@ tidy_element x i = tidy_object (λ object. Fails BadValue) (λ object. tidy_fail
 
 -- a root is read, under its lock
 pub tidy_root : (r : ℕ) → IsTidy (root r)
-tidy_root r = tidy_under (Name r) Read (get 0 r) (tidy_get 0 r)
+tidy_root r = tidy_under (Name r) grade.Read (get 0 r) (tidy_get 0 r)
 
 -- a new array
 pub tidy_array : (kind : Kind) (v : Value) → IsTidy (new_array kind v)
@@ -301,13 +325,22 @@ tidy_bind_null r v bound = tidy_gives value.Null
 -- a root, under its lock
 pub tidy_put_root : (r : ℕ) (v : Value) → IsTidy (put_root r v)
 tidy_put_root r v = tidy_choice (takes kind.Ref v) (bind r v) (Fails BadValue)
-    (tidy_under (Name r) Write (λ at. on_value (bind_null r v) (get 0 r at)) (tidy_after (bind_null r v) (get 0 r) (tidy_get 0 r) (tidy_bind_null r v))) (tidy_fails BadValue)
+    (tidy_under (Name r) grade.Write (λ at. on_value (bind_null r v) (get 0 r at)) (tidy_after (bind_null r v) (get 0 r) (tidy_get 0 r) (tidy_bind_null r v))) (tidy_fails BadValue)
 
 -- ---- monitors and what is run
 
 -- statements under the monitor of a value
 pub tidy_sync : (grade : Grade) (m : Meaning) → IsTidy m → (x : Value) → IsTidy (sync grade m x)
-tidy_sync grade m s x = tidy_object (λ object. under (Mon object) (level_of grade) m) (λ object. tidy_under (Mon object) (level_of grade) m s) x
+tidy_sync grade m s x = tidy_object (λ object. under (Mon object) grade m) (λ object. tidy_under (Mon object) grade m s) x
+
+-- a wait for as many ticks as a value says
+tidy_count : (f : ℕ → Meaning) → ((n : ℕ) → IsTidy (f n)) → (v : Value) → IsTidy (on_count f v)
+tidy_count f g (value.Long (pos n)) = g n
+tidy_count f g v = tidy_fails BadValue
+
+-- on the monitor of another one
+pub tidy_timed_wait : (x v : Value) → IsTidy (timed_wait x v)
+tidy_timed_wait x v = tidy_object (λ object. on_count (λ n. wait n (Mon object)) v) (λ object. tidy_count (λ n. wait n (Mon object)) (λ n. tidy_wait n (Mon object)) v) x
 
 -- one way or the other
 pub tidy_branch : (a b : Meaning) → IsTidy a → IsTidy b → (v : Value) → IsTidy (branch a b v)

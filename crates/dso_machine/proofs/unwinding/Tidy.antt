@@ -1,32 +1,45 @@
--- Parts of a program that leave their locks in order, and at a refusal are at its fault.
-use Rattle.std.proofs.Common.{◌≡◌, refl, Bool, true, false, List, [], ◌∷◌, ◌++◌, subst, sym, ap, ◌∙◌}
-use Rattle.dso_base.specs.declared.lock.Level.{Level}
+-- Parts of a program that leave their locks in order, wait as they may, and at a refusal are at its fault.
+use Rattle.std.proofs.Common.{◌≡◌, refl, Bool, true, false, not, List, [], ◌∷◌, ◌++◌, subst, sym, ap, ◌∙◌}
+use Rattle.dso_base.specs.declared.lock.Grade.{Grade}
+use Rattle.dso_base.specs.declared.lock.Grade.TheVariants as grade
 use Rattle.dso_base.specs.declared.lock.LockName.{LockName}
 use Rattle.dso_base.specs.declared.request.Fault.{Fault}
 use Rattle.dso_base.specs.declared.request.Reply.{Reply}
-use Rattle.dso_base.specs.declared.request.Reply.TheVariants.{Done, Refused}
+use Rattle.dso_base.specs.declared.request.Reply.TheVariants.{Done, Val, Refused}
 use Rattle.dso_base.specs.declared.request.Request.{Request}
-use Rattle.dso_base.specs.declared.request.Request.TheVariants.{Enter, Exit, Wait, Resume, End}
+use Rattle.dso_base.specs.declared.request.Request.TheVariants.{Enter, Exit, Wait, Tick, Timeout, Resume, End, Settle}
 use Rattle.dso_base.specs.declared.value.Value.{Value}
+use Rattle.dso_base.specs.declared.value.Value.TheVariants as value
 use Rattle.dso_machine.specs.Calls.{back_in}
-use Rattle.dso_machine.specs.Outcome.{Environment, State, Outcome, Wants, Gives, Leaves, Fails, Hears, Over, Stopped, Meaning, on_value, leave}
-use Rattle.dso_machine.specs.Unwinding.{with_replies, Layer, UsesValue, ReturnsTo, LeavesLock, in_layer, in_context, locks_around}
+use Rattle.dso_machine.specs.Outcome.{Environment, State, Outcome, Wants, Gives, Leaves, Fails, Hears, Over, Stopped, Meaning, on_value, level_of, settling, leave, under}
+use Rattle.dso_machine.specs.Unwinding.{with_replies, Hold, is_synchronous, hold_at, Layer, UsesValue, ReturnsTo, LeavesLock, in_layer, in_context, holds_around, locks_of}
 use Rattle.dso_machine.proofs.protocol.Parts.{refilled, one_function}
 
--- the requests that leave a part's locks as they are, whatever the reply, and that nothing has to follow
+-- the requests that leave a part's locks as they are, whatever the reply, and that nothing has to follow or to come before
 abbrev pub is_simple : Request → Bool
 is_simple (Enter l level) = false
 is_simple (Exit l) = false
 is_simple (Wait l) = false
+is_simple (Tick l) = false
+is_simple (Timeout l) = false
+is_simple (Resume l) = false
 is_simple (End fault) = false
+is_simple Settle = false
 is_simple q = true
 
--- whatever replies are still to come, a part comes to what comes of one that fails, in a context that leaves these locks
-pub record Failing (fault : Fault) (locks : List LockName) (o : List Reply → Outcome) : Type 0 where
+-- whatever replies are still to come, a part comes to what comes of one that fails, in a context that ends these holds
+pub record Failing (fault : Fault) (holds : List Hold) (o : List Reply → Outcome) : Type 0 where
   pub context : List Layer
-  pub held : locks_around context ≡ locks
+  pub held : locks_of (holds_around context) ≡ locks_of holds
   pub at : State
   pub comes : (rs : List Reply) → o rs ≡ in_context context (Fails fault (with_replies rs at))
+
+-- whatever replies are still to come, a part comes to what comes of one under this lock, in a context
+pub record Entering (l : LockName) (grade : Grade) (o : List Reply → Outcome) : Type 0 where
+  pub context : List Layer
+  pub part : Meaning
+  pub at : State
+  pub comes : (rs : List Reply) → o rs ≡ in_context context (under l grade part (with_replies rs at))
 
 -- an end of a part
 abbrev pub IsEnd : Outcome → Type 0
@@ -35,22 +48,45 @@ IsEnd (Leaves v u) = Unit {0}
 IsEnd (Fails fault u) = Unit {0}
 IsEnd o = ⊥
 
--- What comes of the replies where a part has these locks: it leaves the innermost one first, and has none at its end; at a refusal it is
--- at the fault; and it asks for a lock again after it waited.
-pub data Tidy : List LockName → (List Reply → Outcome) → Type 0 where
-  asks : {ls : List LockName} {o : List Reply → Outcome} (q : Request) → o [] ≡ Wants q → is_simple q ≡ true → ((fault : Fault) → Failing fault ls (λ rs. o (Refused fault ∷ rs)))
-      → ((r : Reply) → Tidy ls (λ rs. o (r ∷ rs))) → Tidy ls o
-  enters : {ls : List LockName} {o : List Reply → Outcome} (l : LockName) (level : Level) → o [] ≡ Wants (Enter l level) → ((fault : Fault) → Failing fault ls (λ rs. o (Refused fault ∷ rs)))
-      → Tidy (l ∷ ls) (λ rs. o (Done ∷ rs)) → ((r : Reply) → (r ≡ Done → ⊥) → Tidy ls (λ rs. o (r ∷ rs))) → Tidy ls o
-  exits : {ls : List LockName} {o : List Reply → Outcome} (l : LockName) → o [] ≡ Wants (Exit l) → Tidy ls (λ rs. o (Done ∷ rs)) → Tidy (l ∷ ls) o
-  waits : {ls : List LockName} {o : List Reply → Outcome} (l : LockName) → o [] ≡ Wants (Wait l) → o (Done ∷ []) ≡ Wants (Resume l) → ((fault : Fault) → Failing fault ls (λ rs. o (Refused fault ∷ rs)))
-      → ((r : Reply) → Tidy ls (λ rs. o (r ∷ rs))) → Tidy ls o
-  ends : {o : List Reply → Outcome} (e : Outcome) → ((rs : List Reply) → o rs ≡ refilled rs e) → IsEnd e → Tidy [] o
-  stops : {ls : List LockName} {o : List Reply → Outcome} → ((rs : List Reply) → o rs ≡ Stopped) → Tidy ls o
+-- where a part is in its run: it goes on, it left a lock after which it settles, or it waits on a lock and may have ticks
+-- and its timeout still
+pub data Phase : Type 0 where
+  Goes : Phase
+  Settles : Phase
+  Waits : LockName → Bool → Phase
+
+-- after an exit
+abbrev pub left_at : Bool → Phase
+left_at false = Goes
+left_at true = Settles
+
+-- after a tick
+abbrev pub ticked : LockName → Bool → Phase
+ticked l woken = Waits l (not woken)
+
+-- What comes of the replies where a part has these holds: it leaves the innermost one first, settles after it where that was entered
+-- so, and has none at its end; at a refusal it is at the fault; and it asks for a lock again after it waited.
+pub data Tidy : Phase → List Hold → (List Reply → Outcome) → Type 0 where
+  asks : {hs : List Hold} {o : List Reply → Outcome} (q : Request) → o [] ≡ Wants q → is_simple q ≡ true → ((fault : Fault) → Failing fault hs (λ rs. o (Refused fault ∷ rs)))
+      → ((r : Reply) → Tidy Goes hs (λ rs. o (r ∷ rs))) → Tidy Goes hs o
+  enters : {hs : List Hold} {o : List Reply → Outcome} (l : LockName) (grade : Grade) → o [] ≡ Wants (Enter l (level_of grade)) → Entering l grade o
+      → ((fault : Fault) → Failing fault hs (λ rs. o (Refused fault ∷ rs)))
+      → Tidy Goes (hold_at l grade ∷ hs) (λ rs. o (Done ∷ rs)) → ((r : Reply) → (r ≡ Done → ⊥) → Tidy Goes hs (λ rs. o (r ∷ rs))) → Tidy Goes hs o
+  exits : {hs : List Hold} {o : List Reply → Outcome} (h : Hold) → o [] ≡ Wants (Exit h.lock) → Tidy (left_at h.synchronous) hs (λ rs. o (Done ∷ rs)) → Tidy Goes (h ∷ hs) o
+  settles : {hs : List Hold} {o : List Reply → Outcome} → o [] ≡ Wants Settle → Tidy Goes hs (λ rs. o (Done ∷ rs)) → Tidy Settles hs o
+  waits : {hs : List Hold} {o : List Reply → Outcome} (l : LockName) → o [] ≡ Wants (Wait l) → ((fault : Fault) → Failing fault hs (λ rs. o (Refused fault ∷ rs)))
+      → Tidy (Waits l true) hs (λ rs. o (Done ∷ rs)) → ((r : Reply) → (r ≡ Done → ⊥) → Tidy Goes hs (λ rs. o (r ∷ rs))) → Tidy Goes hs o
+  ticks : {hs : List Hold} {o : List Reply → Outcome} (l : LockName) → o [] ≡ Wants (Tick l) → ((woken : Bool) → Tidy (ticked l woken) hs (λ rs. o (Val (value.Bool woken) ∷ rs)))
+      → Tidy (Waits l true) hs o
+  times_out : {hs : List Hold} {o : List Reply → Outcome} (l : LockName) → o [] ≡ Wants (Timeout l) → Tidy (Waits l false) hs (λ rs. o (Done ∷ rs))
+      → Tidy (Waits l false) hs (λ rs. o (Val (value.Bool true) ∷ rs)) → Tidy (Waits l true) hs o
+  resumes : {hs : List Hold} {o : List Reply → Outcome} (l : LockName) (more : Bool) → o [] ≡ Wants (Resume l) → Tidy Goes hs (λ rs. o (Done ∷ rs)) → Tidy (Waits l more) hs o
+  ends : {o : List Reply → Outcome} (e : Outcome) → ((rs : List Reply) → o rs ≡ refilled rs e) → IsEnd e → Tidy Goes [] o
+  stops : {hs : List Hold} {o : List Reply → Outcome} → ((rs : List Reply) → o rs ≡ Stopped) → Tidy Goes hs o
 
 -- a part that is tidy from each state, where it has no lock yet
 pub record IsTidy (m : Meaning) : Type 0 where
-  pub from : (u : State) → Tidy [] (λ rs. m (with_replies rs u))
+  pub from : (u : State) → Tidy Goes [] (λ rs. m (with_replies rs u))
 
 -- ---- a layer around a part
 
@@ -58,7 +94,7 @@ pub record IsTidy (m : Meaning) : Type 0 where
 pub wants_in : (layer : Layer) (q : Request) → in_layer layer (Wants q) ≡ Wants q
 wants_in (UsesValue f) q = refl
 wants_in (ReturnsTo caller) q = refl
-wants_in (LeavesLock l) q = refl
+wants_in (LeavesLock l grade) q = refl
 
 -- and so in a context
 pub wants_within : (context : List Layer) (q : Request) → in_context context (Wants q) ≡ Wants q
@@ -69,59 +105,85 @@ wants_within (layer ∷ context) q = ap (in_context context) (wants_in layer q) 
 stops_in : (layer : Layer) → in_layer layer Stopped ≡ Stopped
 stops_in (UsesValue f) = refl
 stops_in (ReturnsTo caller) = refl
-stops_in (LeavesLock l) = refl
+stops_in (LeavesLock l grade) = refl
 
--- the locks with that of a layer around them, if it leaves one
-abbrev pub locks_in : List LockName → Layer → List LockName
-locks_in ls (UsesValue f) = ls
-locks_in ls (ReturnsTo caller) = ls
-locks_in ls (LeavesLock l) = ls ++ l ∷ []
+-- the holds with that of a layer around them, if it ends one
+abbrev pub holds_in : List Hold → Layer → List Hold
+holds_in hs (UsesValue f) = hs
+holds_in hs (ReturnsTo caller) = hs
+holds_in hs (LeavesLock l grade) = hs ++ hold_at l grade ∷ []
 
 -- one more layer around a context
 context_more : (context : List Layer) (layer : Layer) (o : Outcome) → in_context (context ++ layer ∷ []) o ≡ in_layer layer (in_context context o)
 context_more [] layer o = refl
 context_more (x ∷ context) layer o = context_more context layer (in_layer x o)
 
--- and its lock
-locks_more : (context : List Layer) (layer : Layer) → locks_around (context ++ layer ∷ []) ≡ locks_in (locks_around context) layer
-locks_more [] (UsesValue f) = refl
-locks_more [] (ReturnsTo caller) = refl
-locks_more [] (LeavesLock l) = refl
-locks_more (UsesValue g ∷ context) layer = locks_more context layer
-locks_more (ReturnsTo back ∷ context) layer = locks_more context layer
-locks_more (LeavesLock k ∷ context) (UsesValue f) = ap (λ ls. k ∷ ls) (locks_more context (UsesValue f))
-locks_more (LeavesLock k ∷ context) (ReturnsTo caller) = ap (λ ls. k ∷ ls) (locks_more context (ReturnsTo caller))
-locks_more (LeavesLock k ∷ context) (LeavesLock l) = ap (λ ls. k ∷ ls) (locks_more context (LeavesLock l))
+-- and its hold
+holds_more : (context : List Layer) (layer : Layer) → holds_around (context ++ layer ∷ []) ≡ holds_in (holds_around context) layer
+holds_more [] (UsesValue f) = refl
+holds_more [] (ReturnsTo caller) = refl
+holds_more [] (LeavesLock l grade) = refl
+holds_more (UsesValue g ∷ context) layer = holds_more context layer
+holds_more (ReturnsTo back ∷ context) layer = holds_more context layer
+holds_more (LeavesLock k at ∷ context) (UsesValue f) = ap (λ hs. hold_at k at ∷ hs) (holds_more context (UsesValue f))
+holds_more (LeavesLock k at ∷ context) (ReturnsTo caller) = ap (λ hs. hold_at k at ∷ hs) (holds_more context (ReturnsTo caller))
+holds_more (LeavesLock k at ∷ context) (LeavesLock l grade) = ap (λ hs. hold_at k at ∷ hs) (holds_more context (LeavesLock l grade))
+
+-- the locks with that of a layer around them
+abbrev locks_in : List LockName → Layer → List LockName
+locks_in ls (UsesValue f) = ls
+locks_in ls (ReturnsTo caller) = ls
+locks_in ls (LeavesLock l grade) = ls ++ l ∷ []
+
+-- they are those of the holds
+locks_of_in : (hs : List Hold) (layer : Layer) → locks_of (holds_in hs layer) ≡ locks_in (locks_of hs) layer
+locks_of_in hs (UsesValue f) = refl
+locks_of_in hs (ReturnsTo caller) = refl
+locks_of_in [] (LeavesLock l grade) = refl
+locks_of_in (h ∷ hs) (LeavesLock l grade) = ap (λ ls. h.lock ∷ ls) (locks_of_in hs (LeavesLock l grade))
 
 -- a part that is at a fault is so in a layer
-failing_in : (layer : Layer) {fault : Fault} {ls : List LockName} {o : List Reply → Outcome} → Failing fault ls o → Failing fault (locks_in ls layer) (λ rs. in_layer layer (o rs))
-failing_in layer {fault} f = record {
+failing_in : (layer : Layer) {fault : Fault} {hs : List Hold} {o : List Reply → Outcome} → Failing fault hs o → Failing fault (holds_in hs layer) (λ rs. in_layer layer (o rs))
+failing_in layer {fault} {hs} f = record {
   context = f.context ++ layer ∷ [];
-  held = locks_more f.context layer ∙ ap (λ ls. locks_in ls layer) f.held;
+  held = ap locks_of (holds_more f.context layer) ∙ locks_of_in (holds_around f.context) layer ∙ ap (λ ls. locks_in ls layer) f.held ∙ sym (locks_of_in hs layer);
   at = f.at;
   comes = λ rs. ap (in_layer layer) (f.comes rs) ∙ sym (context_more f.context layer (Fails fault (with_replies rs f.at)));
 }
 
--- one more lock inside
-more_inside : (layer : Layer) (l : LockName) (ls : List LockName) → locks_in (l ∷ ls) layer ≡ l ∷ locks_in ls layer
-more_inside (UsesValue f) l ls = refl
-more_inside (ReturnsTo caller) l ls = refl
-more_inside (LeavesLock k) l ls = refl
+-- so is one that is at an entry
+entering_in : (layer : Layer) {l : LockName} {grade : Grade} {o : List Reply → Outcome} → Entering l grade o → Entering l grade (λ rs. in_layer layer (o rs))
+entering_in layer {l} {grade} e = record {
+  context = e.context ++ layer ∷ [];
+  part = e.part;
+  at = e.at;
+  comes = λ rs. ap (in_layer layer) (e.comes rs) ∙ sym (context_more e.context layer (under l grade e.part (with_replies rs e.at)));
+}
 
--- the same with locks that are equal
-same_locks : {ls ks : List LockName} {o : List Reply → Outcome} → ls ≡ ks → Tidy ls o → Tidy ks o
-same_locks {ls} {ks} {o} same tidy = subst (λ x. Tidy x o) same tidy
+-- one more hold inside
+more_inside : (layer : Layer) (h : Hold) (hs : List Hold) → holds_in (h ∷ hs) layer ≡ h ∷ holds_in hs layer
+more_inside (UsesValue f) h hs = refl
+more_inside (ReturnsTo caller) h hs = refl
+more_inside (LeavesLock k grade) h hs = refl
 
--- A tidy part in a layer is tidy, if the layer's own lock is left behind each of its ends.
-pub tidy_in : (layer : Layer) {ls : List LockName} {o : List Reply → Outcome} → Tidy ls o → ((e : Outcome) → IsEnd e → Tidy (locks_in [] layer) (λ rs. in_layer layer (refilled rs e)))
-    → Tidy (locks_in ls layer) (λ rs. in_layer layer (o rs))
+-- the same with holds that are equal
+same_holds : {p : Phase} {hs ks : List Hold} {o : List Reply → Outcome} → hs ≡ ks → Tidy p hs o → Tidy p ks o
+same_holds {p} {hs} {ks} {o} same tidy = subst (λ x. Tidy p x o) same tidy
+
+-- A tidy part in a layer is tidy, if the layer's own hold is left behind each of its ends.
+pub tidy_in : (layer : Layer) {p : Phase} {hs : List Hold} {o : List Reply → Outcome} → Tidy p hs o → ((e : Outcome) → IsEnd e → Tidy Goes (holds_in [] layer) (λ rs. in_layer layer (refilled rs e)))
+    → Tidy p (holds_in hs layer) (λ rs. in_layer layer (o rs))
 tidy_in layer (Tidy.asks q is simple fails go) then = Tidy.asks q (ap (in_layer layer) is ∙ wants_in layer q) simple (λ fault. failing_in layer (fails fault)) (λ r. tidy_in layer (go r) then)
-tidy_in layer (Tidy.enters l level is fails inside other) then = Tidy.enters l level (ap (in_layer layer) is ∙ wants_in layer (Enter l level)) (λ fault. failing_in layer (fails fault))
-    (same_locks (more_inside layer l _) (tidy_in layer inside then)) (λ r unlike. tidy_in layer (other r unlike) then)
-tidy_in layer (Tidy.exits l is go) then = same_locks (sym (more_inside layer l _)) (Tidy.exits l (ap (in_layer layer) is ∙ wants_in layer (Exit l)) (tidy_in layer go then))
-tidy_in layer (Tidy.waits l is again fails go) then = Tidy.waits l (ap (in_layer layer) is ∙ wants_in layer (Wait l)) (ap (in_layer layer) again ∙ wants_in layer (Resume l))
-    (λ fault. failing_in layer (fails fault)) (λ r. tidy_in layer (go r) then)
-tidy_in layer (Tidy.ends e is end) then = subst (Tidy (locks_in [] layer)) (one_function _ _ (λ rs. ap (in_layer layer) (sym (is rs)))) (then e end)
+tidy_in layer (Tidy.enters l grade is entry fails inside other) then = Tidy.enters l grade (ap (in_layer layer) is ∙ wants_in layer (Enter l (level_of grade))) (entering_in layer entry)
+    (λ fault. failing_in layer (fails fault)) (same_holds (more_inside layer (hold_at l grade) _) (tidy_in layer inside then)) (λ r unlike. tidy_in layer (other r unlike) then)
+tidy_in layer (Tidy.exits h is go) then = same_holds (sym (more_inside layer h _)) (Tidy.exits h (ap (in_layer layer) is ∙ wants_in layer (Exit h.lock)) (tidy_in layer go then))
+tidy_in layer (Tidy.settles is go) then = Tidy.settles (ap (in_layer layer) is ∙ wants_in layer Settle) (tidy_in layer go then)
+tidy_in layer (Tidy.waits l is fails asleep other) then = Tidy.waits l (ap (in_layer layer) is ∙ wants_in layer (Wait l)) (λ fault. failing_in layer (fails fault)) (tidy_in layer asleep then)
+    (λ r unlike. tidy_in layer (other r unlike) then)
+tidy_in layer (Tidy.ticks l is go) then = Tidy.ticks l (ap (in_layer layer) is ∙ wants_in layer (Tick l)) (λ woken. tidy_in layer (go woken) then)
+tidy_in layer (Tidy.times_out l is over woken) then = Tidy.times_out l (ap (in_layer layer) is ∙ wants_in layer (Timeout l)) (tidy_in layer over then) (tidy_in layer woken then)
+tidy_in layer (Tidy.resumes l more is go) then = Tidy.resumes l more (ap (in_layer layer) is ∙ wants_in layer (Resume l)) (tidy_in layer go then)
+tidy_in layer (Tidy.ends e is end) then = subst (Tidy Goes (holds_in [] layer)) (one_function _ _ (λ rs. ap (in_layer layer) (sym (is rs)))) (then e end)
 tidy_in layer (Tidy.stops is) then = Tidy.stops (λ rs. ap (in_layer layer) (is rs) ∙ stops_in layer)
 
 -- ---- values
@@ -143,7 +205,7 @@ pub tidy_stopped : IsTidy (λ at. Stopped)
 tidy_stopped = record { from = λ u. Tidy.stops (λ rs. refl) }
 
 -- what is made of the value at an end
-value_used : (f : Value → Meaning) → ((v : Value) → IsTidy (f v)) → (e : Outcome) → IsEnd e → Tidy [] (λ rs. on_value f (refilled rs e))
+value_used : (f : Value → Meaning) → ((v : Value) → IsTidy (f v)) → (e : Outcome) → IsEnd e → Tidy Goes [] (λ rs. on_value f (refilled rs e))
 value_used f tidy (Gives v u) end = (tidy v).from u
 value_used f tidy (Leaves v u) end = Tidy.ends (Leaves v u) (λ rs. refl) tt
 value_used f tidy (Fails fault u) end = Tidy.ends (Fails fault u) (λ rs. refl) tt
@@ -157,7 +219,7 @@ pub tidy_after : (f : Value → Meaning) (m : Meaning) → IsTidy m → ((v : Va
 tidy_after f m tidy then = record { from = λ u. tidy_in (UsesValue f) (tidy.from u) (value_used f then) }
 
 -- the environment of the caller at an end
-environment_back : (caller : Environment) (e : Outcome) → IsEnd e → Tidy [] (λ rs. back_in caller (refilled rs e))
+environment_back : (caller : Environment) (e : Outcome) → IsEnd e → Tidy Goes [] (λ rs. back_in caller (refilled rs e))
 environment_back caller (Gives v u) end = Tidy.ends (back_in caller (Gives v u)) (λ rs. refl) tt
 environment_back caller (Leaves v u) end = Tidy.ends (back_in caller (Leaves v u)) (λ rs. refl) tt
 environment_back caller (Fails fault u) end = Tidy.ends (Fails fault u) (λ rs. refl) tt
@@ -167,19 +229,25 @@ environment_back caller Over end = absurd end
 environment_back caller Stopped end = absurd end
 
 -- a body, after which the environment of the caller comes back
-pub tidy_back : (caller : Environment) {o : List Reply → Outcome} → Tidy [] o → Tidy [] (λ rs. back_in caller (o rs))
+pub tidy_back : (caller : Environment) {o : List Reply → Outcome} → Tidy Goes [] o → Tidy Goes [] (λ rs. back_in caller (o rs))
 tidy_back caller tidy = tidy_in (ReturnsTo caller) tidy (environment_back caller)
 
+-- what is done after an exit, of a lock that was entered at this grade
+end_left : (grade : Grade) (m : Meaning) → IsTidy m → (u : State) → Tidy (left_at (is_synchronous grade)) [] (λ rs. settling grade m (with_replies rs u))
+end_left grade.Read m tidy u = tidy.from u
+end_left grade.Write m tidy u = tidy.from u
+end_left grade.Synchronous m tidy u = Tidy.settles refl (tidy.from (record u { moves = 0 }))
+
 -- a lock is left at an end
-lock_left : (l : LockName) (e : Outcome) → IsEnd e → Tidy (l ∷ []) (λ rs. leave l (refilled rs e))
-lock_left l (Gives v u) end = Tidy.exits l refl (Tidy.ends (Gives v (record u { moves = 0 })) (λ rs. refl) tt)
-lock_left l (Leaves v u) end = Tidy.exits l refl (Tidy.ends (Leaves v (record u { moves = 0 })) (λ rs. refl) tt)
-lock_left l (Fails fault u) end = Tidy.exits l refl (Tidy.ends (Fails fault (record u { moves = 0 })) (λ rs. refl) tt)
-lock_left l (Wants q) end = absurd end
-lock_left l (Hears r u) end = absurd end
-lock_left l Over end = absurd end
-lock_left l Stopped end = absurd end
+lock_left : (l : LockName) (grade : Grade) (e : Outcome) → IsEnd e → Tidy Goes (hold_at l grade ∷ []) (λ rs. leave l grade (refilled rs e))
+lock_left l grade (Gives v u) end = Tidy.exits (hold_at l grade) refl (end_left grade (Gives v) (tidy_gives v) (record u { moves = 0 }))
+lock_left l grade (Leaves v u) end = Tidy.exits (hold_at l grade) refl (end_left grade (Leaves v) (tidy_leaves v) (record u { moves = 0 }))
+lock_left l grade (Fails fault u) end = Tidy.exits (hold_at l grade) refl (end_left grade (Fails fault) (tidy_fails fault) (record u { moves = 0 }))
+lock_left l grade (Wants q) end = absurd end
+lock_left l grade (Hears r u) end = absurd end
+lock_left l grade Over end = absurd end
+lock_left l grade Stopped end = absurd end
 
 -- a part, after which its lock is left
-pub tidy_leave : (l : LockName) {o : List Reply → Outcome} → Tidy [] o → Tidy (l ∷ []) (λ rs. leave l (o rs))
-tidy_leave l tidy = tidy_in (LeavesLock l) tidy (lock_left l)
+pub tidy_leave : (l : LockName) (grade : Grade) {o : List Reply → Outcome} → Tidy Goes [] o → Tidy Goes (hold_at l grade ∷ []) (λ rs. leave l grade (o rs))
+tidy_leave l grade tidy = tidy_in (LeavesLock l grade) tidy (lock_left l grade)

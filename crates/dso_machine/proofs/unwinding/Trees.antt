@@ -14,10 +14,10 @@ use Rattle.dso_machine.specs.declared.tree.Stmt.TheOpen as sf
 use Rattle.dso_machine.specs.Calls.{call_on, arguments, MethodMeanings}
 use Rattle.dso_machine.specs.Expressions.{field_of, element_of, new_array, second, expr, expr_step}
 use Rattle.dso_machine.specs.Outcome.{Gives, Leaves, Meaning, on_value, on_next, on_object, result_of, tell}
-use Rattle.dso_machine.specs.Statements.{assign, put_field, put_element, put_root, sync, wait, branch, spun, seq, returned, stmt, stmt_step, block, methods, statements_of}
+use Rattle.dso_machine.specs.Statements.{assign, put_field, put_element, put_root, sync, wait, timed_wait, branch, spun, seq, returned, stmt, stmt_step, block, methods, statements_of}
 use Rattle.dso_machine.specs.Values.{unary}
 use Rattle.dso_machine.proofs.unwinding.Tidy.{IsTidy, tidy_gives, tidy_leaves, tidy_stopped, tidy_after, Tidy}
-use Rattle.dso_machine.proofs.unwinding.Parts.{TidyMethods, tidy_result, tidy_make, tidy_object, tidy_tell, tidy_moving, tidy_wait, tidy_call, tidy_field, tidy_element, tidy_root, tidy_array, tidy_second, tidy_assign, tidy_put_field, tidy_put_element, tidy_put_root, tidy_sync, tidy_branch, tidy_spun}
+use Rattle.dso_machine.proofs.unwinding.Parts.{TidyMethods, tidy_result, tidy_make, tidy_object, tidy_tell, tidy_moving, tidy_wait, tidy_call, tidy_field, tidy_element, tidy_root, tidy_array, tidy_second, tidy_assign, tidy_put_field, tidy_put_element, tidy_put_root, tidy_sync, tidy_timed_wait, tidy_branch, tidy_spun}
 
 -- an expression that is tidy
 abbrev Kid : Code → MethodMeanings → Type 0
@@ -90,7 +90,8 @@ module _ (c : Code) (w : MethodMeanings) (ways : TidyMethods w) where
     stmt_layer (sf.If a x y) = tidy_of a (branch (seq (map (stmt c w n) (map (λ k. k.0) x))) (seq (map (stmt c w n) (map (λ k. k.0) y)))) (tidy_branch _ _ (tidy_seq x) (tidy_seq y))
     stmt_layer (sf.While a x) = tidy_moving (spun (expr c w a) (seq (map (stmt c w n) (map (λ k. k.0) x))) n) (tidy_spun _ _ (tidy_expr a) (tidy_seq x) n)
     stmt_layer (sf.Sync a grade x) = tidy_of a (sync grade (seq (map (stmt c w n) (map (λ k. k.0) x)))) (tidy_sync grade (seq (map (stmt c w n) (map (λ k. k.0) x))) (tidy_seq x))
-    stmt_layer (sf.Wait a) = tidy_monitor_use (λ object. wait (Mon object)) (λ object. tidy_wait (Mon object)) a
+    stmt_layer (sf.Wait a) = tidy_monitor_use (λ object. wait 0 (Mon object)) (λ object. tidy_wait 0 (Mon object)) a
+    stmt_layer (sf.TimedWait a b) = tidy_of a (on_next timed_wait (expr c w b)) (λ x. tidy_of b (timed_wait x) (tidy_timed_wait x))
     stmt_layer (sf.Notify a) = tidy_monitor_use (λ object. tell (request.Notify (Mon object))) (λ object. tidy_tell (request.Notify (Mon object)) refl) a
     stmt_layer (sf.NotifyAll a) = tidy_monitor_use (λ object. tell (request.NotifyAll (Mon object))) (λ object. tidy_tell (request.NotifyAll (Mon object)) refl) a
     stmt_layer (sf.Print a) = tidy_of a (λ v. tell (request.Print v)) (λ v. tidy_tell (request.Print v) refl)
