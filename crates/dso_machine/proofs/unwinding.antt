@@ -3,3 +3,6 @@ pub mod Tidy
 pub mod Parts
 pub mod Trees
 pub mod Runs
+pub mod RunsOn
+pub mod Unwound
+pub mod Laws

@@ -10,3 +10,4 @@ pub mod Statements
 pub mod Unwinding
 pub mod Values
 pub mod Weight
+pub mod WaitingThreads

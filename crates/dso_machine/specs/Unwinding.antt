@@ -1,6 +1,6 @@
 -- What a thread does with its locks: after a fault it leaves those that it has, the innermost first, and ends with the
--- fault; and while it waits, it asks for nothing but its ticks, its timeout and the lock.
-use Rattle.std.specs.Prelude.{◌≡◌, ℕ, ◌≤◌, Bool, true, false, cond, List, [], ◌∷◌, ◌++◌, length, map, slice_get, Option, None, Some}
+-- fault; and it settles behind the exit of an entry at synchronous write.
+use Rattle.std.specs.Prelude.{◌≡◌, ℕ, ◌≤◌, Bool, true, false, cond, List, [], ◌∷◌, ◌++◌, length, map, slice_get, Option, Some}
 use Rattle.dso_base.specs.declared.lock.Grade.{Grade}
 use Rattle.dso_base.specs.declared.lock.Grade.TheVariants as grade
 use Rattle.dso_base.specs.declared.lock.Level.{Level}
@@ -10,11 +10,10 @@ use Rattle.dso_base.specs.declared.request.Event.{Event}
 use Rattle.dso_base.specs.declared.request.Event.TheVariants.{Act, Lost}
 use Rattle.dso_base.specs.declared.request.Fault.{Fault}
 use Rattle.dso_base.specs.declared.request.Reply.{Reply}
-use Rattle.dso_base.specs.declared.request.Reply.TheVariants.{Done, Val}
+use Rattle.dso_base.specs.declared.request.Reply.TheVariants.{Done}
 use Rattle.dso_base.specs.declared.request.Request.{Request}
 use Rattle.dso_base.specs.declared.request.Request.TheVariants.{New, Look, Get, Put, Enter, Exit, Wait, Tick, Timeout, Resume, Notify, NotifyAll, Print, End, Pause, Settle}
 use Rattle.dso_base.specs.declared.value.Value.{Value}
-use Rattle.dso_base.specs.declared.value.Value.TheVariants as value
 use Rattle.dso_base.specs.Following.{Listed, FollowsProgram}
 use Rattle.dso_machine.specs.declared.code.Code.{Code}
 use Rattle.dso_machine.specs.declared.code.ThreadBody.{ThreadBody}
@@ -61,73 +60,6 @@ abbrev pub locks_after : List LockName → List Event → List LockName
 locks_after locks [] = locks
 locks_after locks (Act thread q r woken ∷ events) = locks_after (locks_after_reply q r locks) events
 locks_after locks (Lost client ∷ events) = locks_after locks events
-
--- ---- a thread that waits
-
--- whether a thread waits: it is awake; it waits on the lock; it waits on it still, but was told that it was woken, or its
--- wait timed out
-pub data Waiting : Type 0 where
-  Awake : Waiting
-  Asleep : LockName → Waiting
-  Roused : LockName → Waiting
-
--- so after a request and its reply
-abbrev pub waiting_after_reply : Request → Reply → Waiting → Waiting
-waiting_after_reply (Wait l) Done waiting = Asleep l
-waiting_after_reply (Wait l) r waiting = waiting
-waiting_after_reply (Tick l) (Val (value.Bool true)) waiting = Roused l
-waiting_after_reply (Tick l) r waiting = waiting
-waiting_after_reply (Timeout l) r waiting = Roused l
-waiting_after_reply (Resume l) r waiting = Awake
-waiting_after_reply (New class n) r waiting = waiting
-waiting_after_reply (Look o) r waiting = waiting
-waiting_after_reply (Get o f) r waiting = waiting
-waiting_after_reply (Put o f v) r waiting = waiting
-waiting_after_reply (Enter l level) r waiting = waiting
-waiting_after_reply (Exit l) r waiting = waiting
-waiting_after_reply (Notify l) r waiting = waiting
-waiting_after_reply (NotifyAll l) r waiting = waiting
-waiting_after_reply (Print v) r waiting = waiting
-waiting_after_reply (End fault) r waiting = waiting
-waiting_after_reply Pause r waiting = waiting
-waiting_after_reply Settle r waiting = waiting
-
--- so after a thread's events, by how it was before them
-abbrev pub waiting_after : Waiting → List Event → Waiting
-waiting_after waiting [] = waiting
-waiting_after waiting (Act thread q r woken ∷ events) = waiting_after (waiting_after_reply q r waiting) events
-waiting_after waiting (Lost client ∷ events) = waiting_after waiting events
-
--- the lock on which a thread waits that asks this, None where it asks as one that is awake
-abbrev pub waited_on : Request → Option LockName
-waited_on (Tick l) = Some l
-waited_on (Timeout l) = Some l
-waited_on (Resume l) = Some l
-waited_on (New class n) = None
-waited_on (Look o) = None
-waited_on (Get o f) = None
-waited_on (Put o f v) = None
-waited_on (Enter l level) = None
-waited_on (Exit l) = None
-waited_on (Wait l) = None
-waited_on (Notify l) = None
-waited_on (NotifyAll l) = None
-waited_on (Print v) = None
-waited_on (End fault) = None
-waited_on Pause = None
-waited_on Settle = None
-
--- so of what is asked, if something is
-abbrev pub waited_on_by : Option Request → Option LockName
-waited_on_by None = None
-waited_on_by (Some q) = waited_on q
-
--- A thread that is awake asks for no tick, no timeout and no lock again; one that waits on a lock asks for nothing else,
--- and of that lock; once it was told that it was woken, or its wait timed out, it asks for the lock again.
-abbrev pub AsksAsItWaits : Waiting → Option Request → Type 0
-AsksAsItWaits Awake next = waited_on_by next ≡ None
-AsksAsItWaits (Asleep l) next = waited_on_by next ≡ Some l
-AsksAsItWaits (Roused l) next = next ≡ Some (Resume l)
 
 -- ---- where the code itself is at a fault
 
@@ -229,11 +161,13 @@ HoldsAfter o before (Act thread q r woken ∷ events) after = (grade : Grade) ×
     HoldsAfter (λ rs. o (r ∷ rs)) (holds_after_reply grade q r before) events after
 HoldsAfter o before (Lost client ∷ events) after = HoldsAfter o before events after
 
--- these are the holds of a thread of the code after its events
+-- these are the holds of a thread of the code after its events, by some number of moves that is enough
 pub record HoldsOf (code : Code) (t : ThreadId) (events : List Event) (holds : List Hold) : Type 0 where
   pub body : ThreadBody
   pub its : body_of t code.bodies ≡ Some body
-  pub after : HoldsAfter (whole code body (enough_for (replies_in events))) [] events holds
+  pub moves : ℕ
+  pub enough : enough_for (replies_in events) ≤ moves
+  pub after : HoldsAfter (whole code body moves) [] events holds
   pub locks : locks_of holds ≡ locks_after [] events
 
 -- From these events on, the thread unwinds: after more events its next request is the next one of the unwinding of its
@@ -243,3 +177,21 @@ pub record Unwinds (code : Code) (t : ThreadId) (events : List Event) (fault : F
   pub its : HoldsOf code t events holds
   pub asks : (more : List Event) → FollowsCode code t (events ++ more)
       → next_request code t (events ++ more) ≡ slice_get (unwinding fault holds) (length more)
+
+-- ---- settling
+
+-- After an exit behind these events a thread settles next exactly where that lock's entry was at synchronous write.
+pub record SettlesAsEntered (code : Code) (t : ThreadId) (events : List Event) (next : Option Request) : Type 0 where
+  pub hold : Hold
+  pub others : List Hold
+  pub its : HoldsOf code t events (hold ∷ others)
+  pub settles : hold.synchronous ≡ true → next ≡ Some Settle
+  pub only_then : next ≡ Some Settle → hold.synchronous ≡ true
+
+-- the last of the events is an exit that was answered Done
+pub record AreBehindExit (events : List Event) : Type 0 where
+  pub before : List Event
+  pub thread : ThreadId
+  pub lock : LockName
+  pub woken : Option ThreadId
+  pub is : events ≡ before ++ Act thread (Exit lock) Done woken ∷ []

@@ -35,7 +35,10 @@ fn enter_named(named: Option<(u32, Grade)>, call: Call) -> Now
         Some((lock, grade)) => {
             let lock = LockName::Name(lock);
             let request = Request::Enter(lock, level_of(grade));
-            Now::Ask(request, OnReply::Entered(lock, grade, Locked::Monitor(call)))
+            Now::Ask(
+                request,
+                OnReply::Entered(lock, grade, Locked::Monitor(call)),
+            )
         }
         None => enter_monitor(call),
     }

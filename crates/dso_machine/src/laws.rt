@@ -12,7 +12,8 @@ ghost use Rattle.dso_base.specs.declared.request.Request.{Request};
 ghost use Rattle.dso_machine.specs.declared.code.Code.{Code};
 ghost use Rattle.dso_machine.specs.declared.code.ThreadBody.{ThreadBody};
 ghost use Rattle.dso_machine.specs.Next.{body_of, next_request, replies_in};
-ghost use Rattle.dso_machine.specs.Unwinding.{AsksAsItWaits, Awake, FailsAfter, FollowsCode, Unwinds, locks_after, outer, waiting_after};
+ghost use Rattle.dso_machine.specs.Unwinding.{AreBehindExit, FailsAfter, FollowsCode, SettlesAsEntered, Unwinds, locks_after, outer};
+ghost use Rattle.dso_machine.specs.WaitingThreads.{AsksAsItWaits, Awake, waiting_after};
 
 /// A fault of a thread is followed by an Exit of each lock that it has, the innermost first, with Settle behind the Exit of each entry
 /// at synchronous write, then by End with that fault, and then by nothing.
@@ -39,7 +40,8 @@ pub fn faults_unwind()
 /// again before all else but ticks and one timeout. This holds for every code.
 ///
 /// By `waits` Tick, Timeout and Resume come only where the thread waits on that lock, and nothing else comes there; after a Timeout,
-/// and after a Tick that told that the thread was woken, Resume comes next.
+/// and after a Tick that told that the thread was woken, Resume comes next. By `settles` and `settles_only` Settle comes exactly behind
+/// the Exit of an entry at synchronous write.
 pub fn locks_nest()
     ensures exits { (code : Code) (t : ThreadId) (events : List Event) (l : LockName)
         → FollowsCode code t events
@@ -52,4 +54,11 @@ pub fn locks_nest()
     ensures waits { (code : Code) (t : ThreadId) (events : List Event)
         → FollowsCode code t events
         → AsksAsItWaits (waiting_after Awake events) (next_request code t events) }
+    ensures settles { (code : Code) (t : ThreadId) (events : List Event) (l : LockName) (woken : Option ThreadId)
+        → FollowsCode code t (events ++ event.Act t (request.Exit l) reply.Done woken ∷ [])
+        → SettlesAsEntered code t events (next_request code t (events ++ event.Act t (request.Exit l) reply.Done woken ∷ [])) }
+    ensures settles_only { (code : Code) (t : ThreadId) (events : List Event)
+        → FollowsCode code t events
+        → next_request code t events ≡ Some request.Settle
+        → AreBehindExit events }
 {}
