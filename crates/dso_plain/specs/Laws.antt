@@ -16,7 +16,8 @@ use Rattle.dso_plain.specs.Touches.{TouchesIn, MakesIn, AreActsOf, AreActsOfOthe
 
 -- Two kinds: a run is a run whatever is marked, in which each event finds the marks that it asks for.
 abbrev pub RunsAreChoices : Type 0
-RunsAreChoices = (shape : Shape) (es : List Event) (s : PlainState) → Runs shape es s ↔ (RunsButMarks shape es s × ChoicesFit shape es s)
+RunsAreChoices = (shape : Shape) (es : List Event) (s : PlainState)
+    → Runs shape es s ↔ (RunsButMarks shape es s × ChoicesFit shape es s)
 
 -- Two runs from one state that have nothing to do with each other, whatever is marked: the second is one thread's, the
 -- first is of threads other than that one; their locks do not clash, and they make no common id.
@@ -28,7 +29,8 @@ pub record AreApart (shape : Shape) (t : ThreadId) (others own : List Event) (s 
   pub locks : NoClash (TouchesIn shape others s) (TouchesIn shape own s)
   pub ids : NoCommonId (MakesIn others) (MakesIn own)
 
--- each run can follow the other, whatever is marked, both orders end in the same state, and neither run touches more than it did
+-- each run can follow the other, whatever is marked, both orders end in the same state, and neither run touches more
+-- than it did
 pub record CanSwap (shape : Shape) (others own : List Event) (s : PlainState) : Type 0 where
   pub own_after : RunsButMarks shape own (end_of shape others s)
   pub others_after : RunsButMarks shape others (end_of shape own s)
@@ -43,7 +45,9 @@ Diamond = (shape : Shape) (t : ThreadId) (others own : List Event) (s : PlainSta
 -- Choices: where two runs are apart and nobody times out in them, each finds behind the other the marks that it asks
 -- for. A timeout marks its thread under no lock, and a notification of the other run could have chosen that thread.
 abbrev pub ChoicesSwap : Type 0
-ChoicesSwap = (shape : Shape) (t : ThreadId) (others own : List Event) (s : PlainState) → AreApart shape t others own s → NobodyTimesOut others → NobodyTimesOut own → Runs shape others s → Runs shape own s → Runs shape own (end_of shape others s) × Runs shape others (end_of shape own s)
+ChoicesSwap = (shape : Shape) (t : ThreadId) (others own : List Event) (s : PlainState)
+    → AreApart shape t others own s → NobodyTimesOut others → NobodyTimesOut own → Runs shape others s → Runs shape own s
+    → Runs shape own (end_of shape others s) × Runs shape others (end_of shape own s)
 
 -- Parts: a run of two lists of events in order is a run of the first and, from where that ends, of the second.
 abbrev pub RunsInParts : Type 0
@@ -51,7 +55,8 @@ RunsInParts = (shape : Shape) (first second : List Event) (s : PlainState) → R
 
 -- Parts: so it is of a run whatever is marked.
 abbrev pub RunsButMarksInParts : Type 0
-RunsButMarksInParts = (shape : Shape) (first second : List Event) (s : PlainState) → RunsButMarks shape (first ++ second) s ↔ (RunsButMarks shape first s × RunsButMarks shape second (end_of shape first s))
+RunsButMarksInParts = (shape : Shape) (first second : List Event) (s : PlainState)
+    → RunsButMarks shape (first ++ second) s ↔ (RunsButMarks shape first s × RunsButMarks shape second (end_of shape first s))
 
 -- Parts: a run of two lists of events in order ends where the second does from the end of the first.
 abbrev pub EndsInParts : Type 0
@@ -63,7 +68,8 @@ Past = (shape : Shape) (h : List Event) → RunsButMarks shape h (opening shape)
 
 -- Growth: a run from any state, whatever is marked, lets pasts only grow.
 abbrev pub Growth : Type 0
-Growth = (shape : Shape) (es : List Event) (s : PlainState) → RunsButMarks shape es s → PastsGrow s (end_of shape es s)
+Growth = (shape : Shape) (es : List Event) (s : PlainState)
+    → RunsButMarks shape es s → PastsGrow s (end_of shape es s)
 
 -- Going on: a legal history with more events behind it is legal where these run from its last state and each thread's
 -- events among them follow the program after those that it has.

@@ -25,7 +25,8 @@ pub record LeavesOwn (t : ThreadId) (s r : PlainState) : Type 0 where
 
 -- Own: acts of other threads, whatever is marked, leave a thread's own parts as they were.
 abbrev pub Own : Type 0
-Own = (shape : Shape) (t : ThreadId) (es : List Event) (s : PlainState) → RunsButMarks shape es s → AreActsOfOthers t es → LeavesOwn t s (end_of shape es s)
+Own = (shape : Shape) (t : ThreadId) (es : List Event) (s : PlainState)
+    → RunsButMarks shape es s → AreActsOfOthers t es → LeavesOwn t s (end_of shape es s)
 
 -- a shared object is as it was, and so are the value and the past of its field
 pub record LeavesField (o f : ℕ) (s r : PlainState) : Type 0 where
@@ -33,7 +34,9 @@ pub record LeavesField (o f : ℕ) (s r : PlainState) : Type 0 where
   pub heap : r.heap (o, f) ≡ s.heap (o, f)
   pub past : r.past (o, f) ≡ s.past (o, f)
 
--- Guarded: a run, whatever is marked, that does not touch the guard of a shared object's field at Write leaves the field
--- as it was.
+-- Guarded: a run, whatever is marked, that does not touch the guard of a shared object's field at Write leaves the
+-- field as it was.
 abbrev pub Guarded : Type 0
-Guarded = (shape : Shape) (es : List Event) (s : PlainState) (o f : ℕ) → RunsButMarks shape es s → IsShared o s → (TouchesIn shape es s (guard_in shape s o f) Write → ⊥) → LeavesField o f s (end_of shape es s)
+Guarded = (shape : Shape) (es : List Event) (s : PlainState) (o f : ℕ)
+    → RunsButMarks shape es s → IsShared o s → (TouchesIn shape es s (guard_in shape s o f) Write → ⊥)
+    → LeavesField o f s (end_of shape es s)
