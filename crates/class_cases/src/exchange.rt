@@ -9,7 +9,7 @@ ghost use Rattle.class_cases.specs.Talks.{Talks};
 
 use crate::names::program_of;
 use crate::reply::reply_of;
-use dso_base::{Fault, NoMemory, Reply, Request};
+use dso_base::{Fault, NoMemory, Reply, Request, Value};
 use dso_config::Config;
 use dso_machine::{Code, Thread};
 use std::alloc::{AllocError, Global};
@@ -117,13 +117,25 @@ fn is_listed(request: Request, reply: Reply) -> bool
     match reply {
         Reply::Done => !matches!(
             request,
-            Request::New(..) | Request::Look(_) | Request::Get(..)
+            Request::New(..) | Request::Look(_) | Request::Get(..) | Request::Tick(_)
         ),
         Reply::Made(_) => matches!(request, Request::New(..)),
         Reply::Seen(..) => matches!(request, Request::Look(_)),
-        Reply::Val(_) => matches!(request, Request::Get(..)),
+        Reply::Val(value) => may_tell(request, value),
         Reply::Local => matches!(request, Request::Enter(..)),
         Reply::Refused(fault) => may_refuse(request, fault),
+    }
+}
+
+/// Whether the request may be answered with this value: a field's, or whether a waiting thread was woken.
+fn may_tell(request: Request, value: Value) -> bool
+    ensures { IsTrue result ↔ IsListed request (reply.Val value) }
+{
+    match request {
+        Request::Get(..) => true,
+        Request::Tick(_) => matches!(value, Value::Bool(_)),
+        Request::Timeout(_) => matches!(value, Value::Bool(true)),
+        _ => false,
     }
 }
 

@@ -140,6 +140,8 @@ step_of owner (StmtForm-F.Sync a all) line =
     step (λ known.
     on line (synchronized owner.class owner.method) ∷ (expression owner a).mentions known ++ block all known)
 step_of owner (StmtForm-F.Wait a) line = step (expression owner a).mentions
+step_of owner (StmtForm-F.TimedWait a b) line =
+    step (λ known. (expression owner a).mentions known ++ (expression owner b).mentions known)
 step_of owner (StmtForm-F.Notify a) line = step (expression owner a).mentions
 step_of owner (StmtForm-F.NotifyAll a) line = step (expression owner a).mentions
 step_of owner (StmtForm-F.Print a) line = step (expression owner a).mentions

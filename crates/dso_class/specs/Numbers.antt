@@ -132,6 +132,8 @@ mutual
         → MeansExpr n a b → n.grade ≡ Some grade → MeansBlock n all these
         → MeansStmt n (statement line (s.Sync a all)) (t.Sync b grade these)
     wait : {line : ℕ} {a : ExprTree} {b : Expr} → MeansExpr n a b → MeansStmt n (statement line (s.Wait a)) (t.Wait b)
+    timed_wait : {line : ℕ} {a c : ExprTree} {b d : Expr} → MeansExpr n a b → MeansExpr n c d
+        → MeansStmt n (statement line (s.TimedWait a c)) (t.TimedWait b d)
     notify : {line : ℕ} {a : ExprTree} {b : Expr} → MeansExpr n a b
         → MeansStmt n (statement line (s.Notify a)) (t.Notify b)
     notify_all : {line : ℕ} {a : ExprTree} {b : Expr} → MeansExpr n a b

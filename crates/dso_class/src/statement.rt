@@ -217,6 +217,23 @@ fn lock<'a>(
     Ok((grade, object))
 }
 
+/// A `wait` for so many ticks at most.
+fn timed_wait<'a>(
+    alloc: Global,
+    place: &Place<'_, 'a>,
+    scope: &Scope<'a>,
+    texts: &mut Interner<&'a [u8]>,
+    on: &'a ExprTree,
+    ticks: &'a ExprTree,
+) -> Result<Stmt, NameFault>
+    ensures { Walks place.now texts.old scope.now texts.new scope.now (λ owner known. (mention.expression owner on.now).mentions known ++ (mention.expression owner ticks.now).mentions known)
+        (λ n a. (line : ℕ) → MeansStmt n (program.statement line (s.TimedWait on.now ticks.now)) a) result }
+{
+    let object = value_of(alloc, place, scope, texts, on)?;
+    let ticks = value_of(alloc, place, scope, texts, ticks)?;
+    Ok(Stmt::TimedWait(object, ticks))
+}
+
 /// A `return` with its value, or without one.
 fn returned<'a>(
     alloc: Global,
@@ -281,6 +298,7 @@ pub(crate) fn statement<'a>(
             Ok(Stmt::Sync(object, grade, these))
         }
         StmtForm::Wait(on) => Ok(Stmt::Wait(value_of(alloc, place, scope, texts, on)?)),
+        StmtForm::TimedWait(on, ticks) => timed_wait(alloc, place, scope, texts, on, ticks),
         StmtForm::Notify(on) => Ok(Stmt::Notify(value_of(alloc, place, scope, texts, on)?)),
         StmtForm::NotifyAll(on) => Ok(Stmt::NotifyAll(value_of(alloc, place, scope, texts, on)?)),
         StmtForm::Print(value) => Ok(Stmt::Print(value_of(alloc, place, scope, texts, value)?)),

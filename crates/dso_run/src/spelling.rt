@@ -94,7 +94,9 @@ fn is_plain_statement(tree: &StmtTree) -> bool
     ensures { result ≡ plain_statement tree.now }
 {
     match &tree.form {
-        StmtForm::Assign(target, value) => is_plain(target) && is_plain(value),
+        StmtForm::Assign(first, second) | StmtForm::TimedWait(first, second) => {
+            is_plain(first) && is_plain(second)
+        }
         StmtForm::If(test, these, those) => {
             is_plain(test) && is_plain_body(these.as_slice()) && is_plain_body(those.as_slice())
         }

@@ -26,7 +26,6 @@ statement line form = roll-StmtTree (record { line = line; form = form })
 
 -- the statements of one word and one expression in parentheses
 abbrev pub command_of : Keyword → Option (ExprTree → StmtForm)
-command_of k.Wait = Some s.Wait
 command_of k.Notify = Some s.Notify
 command_of k.NotifyAll = Some s.NotifyAll
 command_of k.Print = Some s.Print
@@ -45,10 +44,16 @@ is_place (ExprForm-F.Field a name) = true
 is_place (ExprForm-F.Elem a b) = true
 is_place other = false
 
--- an expression in parentheses, which take a level
-pub data Parenthesized : ℕ → Tokens → ExprTree → Type 0 where
-  parenthesized : {room : ℕ} {ts : Tokens} {a : ExprTree} (opening closing : Token) → IsMark m.OpenParen opening → IsMark m.CloseParen closing →
-      Whole room ts a → Parenthesized (suc room) (opening ∷ ts ++ closing ∷ []) a
+-- something in parentheses, which take a level
+pub data Parenthesized {A : Type 0} (R : ℕ → Tokens → A → Type 0) : ℕ → Tokens → A → Type 0 where
+  parenthesized : {room : ℕ} {ts : Tokens} {a : A} (opening closing : Token) → IsMark m.OpenParen opening → IsMark m.CloseParen closing →
+      R room ts a → Parenthesized R (suc room) (opening ∷ ts ++ closing ∷ []) a
+
+-- what is waited on and, behind a comma, for how many ticks at most
+pub data Waited : ℕ → Tokens → StmtForm → Type 0 where
+  untimed : {room : ℕ} {ts : Tokens} {a : ExprTree} → Whole room ts a → Waited room ts (s.Wait a)
+  timed : {room : ℕ} {ts us : Tokens} {a b : ExprTree} (comma : Token) → IsMark m.Comma comma →
+      Whole room ts a → Whole room us b → Waited room (ts ++ comma ∷ us) (s.TimedWait a b)
 
 mutual
   -- statements in a row
@@ -73,11 +78,13 @@ mutual
         Whole room ts a → Statement room (ts ++ ending ∷ []) (statement (line_of a) (s.Eval a))
     conditional : {room : ℕ} {ts : Tokens} {a : StmtTree} → Conditional room ts a → Statement room ts a
     guarded : {room : ℕ} {ts us : Tokens} {a : ExprTree} {all : List StmtTree} (word : Token) (which : Keyword) (made : ExprTree → List StmtTree → StmtForm) →
-        IsKeyword which word → guarded_of which ≡ Some made → Parenthesized room ts a → Block room us all →
+        IsKeyword which word → guarded_of which ≡ Some made → Parenthesized Whole room ts a → Block room us all →
         Statement room (word ∷ ts ++ us) (statement word.line (made a all))
     command : {room : ℕ} {ts : Tokens} {a : ExprTree} (word ending : Token) (which : Keyword) (made : ExprTree → StmtForm) →
-        IsKeyword which word → command_of which ≡ Some made → IsMark m.Semicolon ending → Parenthesized room ts a →
+        IsKeyword which word → command_of which ≡ Some made → IsMark m.Semicolon ending → Parenthesized Whole room ts a →
         Statement room (word ∷ ts ++ ending ∷ []) (statement word.line (made a))
+    waiting : {room : ℕ} {ts : Tokens} {form : StmtForm} (word ending : Token) → IsKeyword k.Wait word → IsMark m.Semicolon ending →
+        Parenthesized Waited room ts form → Statement room (word ∷ ts ++ ending ∷ []) (statement word.line form)
     returned : {room : ℕ} (word ending : Token) → IsKeyword k.Return word → IsMark m.Semicolon ending →
         Statement room (word ∷ ending ∷ []) (statement word.line (s.Return None))
     returned_with : {room : ℕ} {ts : Tokens} {a : ExprTree} (word ending : Token) → IsKeyword k.Return word → IsMark m.Semicolon ending →
@@ -85,13 +92,13 @@ mutual
 
   -- An `if`: alone, with an `else` and a block, or with an `else` and an `if` of its own, whose word takes a level.
   pub data Conditional : ℕ → Tokens → StmtTree → Type 0 where
-    alone : {room : ℕ} {ts us : Tokens} {a : ExprTree} {all : List StmtTree} (word : Token) → IsKeyword k.If word → Parenthesized room ts a → Block room us all →
+    alone : {room : ℕ} {ts us : Tokens} {a : ExprTree} {all : List StmtTree} (word : Token) → IsKeyword k.If word → Parenthesized Whole room ts a → Block room us all →
         Conditional room (word ∷ ts ++ us) (statement word.line (s.If a all []))
     otherwise : {room : ℕ} {ts us vs : Tokens} {a : ExprTree} {all others : List StmtTree} (word else' : Token) → IsKeyword k.If word → IsKeyword k.Else else' →
-        Parenthesized room ts a → Block room us all → Block room vs others →
+        Parenthesized Whole room ts a → Block room us all → Block room vs others →
         Conditional room (word ∷ ts ++ (us ++ else' ∷ vs)) (statement word.line (s.If a all others))
     chained : {room : ℕ} {ts us vs : Tokens} {a : ExprTree} {all : List StmtTree} {other : StmtTree} (word else' : Token) → IsKeyword k.If word → IsKeyword k.Else else' →
-        Parenthesized (suc room) ts a → Block (suc room) us all → Conditional room vs other →
+        Parenthesized Whole (suc room) ts a → Block (suc room) us all → Conditional room vs other →
         Conditional (suc room) (word ∷ ts ++ (us ++ else' ∷ vs)) (statement word.line (s.If a all (other ∷ [])))
 
 -- the names of a method's parameters, with commas between them

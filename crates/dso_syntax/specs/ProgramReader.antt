@@ -21,9 +21,9 @@ use Rattle.dso_syntax.specs.Grammar.{Tokens, line_of}
 use Rattle.dso_syntax.specs.ProgramGrammar.{statement, is_place}
 use Rattle.dso_syntax.specs.ExpressionReader.{unexpected, too_wide, Outcome, Parser, and_then, pure, refuse, is_mark, is_keyword, next_mark, next_keyword, take_any, take_mark, take_keyword, enter, leave, open_mark, close_mark, take_name, whole}
 
--- an expression in parentheses
-abbrev pub parenthesized : Parser ExprTree → Parser ExprTree
-parenthesized expr i = and_then (open_mark m.OpenParen i) (λ _ j. and_then (expr j) (λ a l. and_then (close_mark m.CloseParen l) (λ _. pure a)))
+-- something in parentheses
+abbrev pub parenthesized : {A : Type 0} → Parser A → Parser A
+parenthesized inner i = and_then (open_mark m.OpenParen i) (λ _ j. and_then (inner j) (λ a l. and_then (close_mark m.CloseParen l) (λ _. pure a)))
 
 -- items up to the closing brace; the number bounds how many
 abbrev pub until_brace : {A : Type 0} → Parser A → ℕ → Parser (List A)
@@ -42,6 +42,7 @@ pub data Lead : Type 0 where
   conditional : Lead
   guarded : (ExprTree → List StmtTree → StmtForm) → Lead
   command : (ExprTree → StmtForm) → Lead
+  waiting : Lead
   returned : Lead
   plain : Lead
 
@@ -51,7 +52,7 @@ lead_of (Some k.Var) = variable
 lead_of (Some k.If) = conditional
 lead_of (Some k.While) = guarded s.While
 lead_of (Some k.Synchronized) = guarded s.Sync
-lead_of (Some k.Wait) = command s.Wait
+lead_of (Some k.Wait) = waiting
 lead_of (Some k.Notify) = command s.Notify
 lead_of (Some k.NotifyAll) = command s.NotifyAll
 lead_of (Some k.Print) = command s.Print
@@ -66,6 +67,16 @@ behind_expression expr a i =
     then and_then (take_any i) (λ _ j. and_then (expr j) (λ b l. and_then (take_mark m.Semicolon l) (λ _. pure (statement (line_of a) (s.Assign a b)))))
     else refuse i)
     else and_then (take_mark m.Semicolon i) (λ _. pure (statement (line_of a) (s.Eval a)))
+
+-- behind what a `wait` waits on
+abbrev pub behind_waited : Parser ExprTree → ExprTree → Parser StmtForm
+behind_waited expr a i =
+    if is_mark m.Comma (next_mark i.tokens) then and_then (take_any i) (λ _ j. and_then (expr j) (λ b. pure (s.TimedWait a b)))
+    else Ok (s.Wait a, i)
+
+-- what stands in the parentheses of a `wait`
+abbrev pub waited : Parser ExprTree → Parser StmtForm
+waited expr i = and_then (expr i) (behind_waited expr)
 
 -- behind `return`
 abbrev pub behind_return : Parser ExprTree → ℕ → Parser StmtTree
@@ -99,6 +110,7 @@ by_lead expr block n variable i = and_then (take_any i) (λ t. behind_var expr t
 by_lead expr block n conditional i = chain expr block n i
 by_lead expr block n (guarded made) i = and_then (take_any i) (λ t j. and_then (parenthesized expr j) (λ a l. and_then (block l) (λ all. pure (statement t.line (made a all)))))
 by_lead expr block n (command made) i = and_then (take_any i) (λ t j. and_then (parenthesized expr j) (λ a l. and_then (take_mark m.Semicolon l) (λ _. pure (statement t.line (made a)))))
+by_lead expr block n waiting i = and_then (take_any i) (λ t j. and_then (parenthesized (waited expr) j) (λ form l. and_then (take_mark m.Semicolon l) (λ _. pure (statement t.line form))))
 by_lead expr block n returned i = and_then (take_any i) (λ t. behind_return expr t.line)
 by_lead expr block n plain i = and_then (expr i) (behind_expression expr)
 

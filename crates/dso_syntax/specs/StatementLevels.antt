@@ -2,6 +2,8 @@
 -- name of its own.
 use Rattle.std.specs.Prelude.{ℕ, zero, suc, if◌then◌else◌, List, [], ◌∷◌, Ok}
 use Rattle.dso_syntax.specs.declared.token.Keyword.TheVariants as k
+use Rattle.dso_syntax.specs.declared.token.Mark.TheVariants as m
+use Rattle.dso_syntax.specs.declared.token.Token.{Token}
 use Rattle.dso_syntax.specs.declared.tree.ExprTree.{ExprTree}
 use Rattle.dso_syntax.specs.declared.tree.StmtTree.{StmtTree}
 use Rattle.dso_syntax.specs.declared.tree.StmtForm.{StmtForm}
@@ -14,15 +16,15 @@ use Rattle.dso_syntax.specs.declared.blockless.Guarding.{Guarding}
 use Rattle.dso_syntax.specs.declared.blockless.Guarding.TheVariants as guarding
 use Rattle.dso_syntax.specs.declared.blockless.Else.{Else}
 use Rattle.dso_syntax.specs.declared.blockless.Else.TheVariants as part
-use Rattle.dso_syntax.specs.ExpressionReader.{Parser, and_then, pure, refuse, is_keyword, next_keyword, take_any, take_keyword, take_name, enter, leave}
+use Rattle.dso_syntax.specs.ExpressionReader.{Parser, and_then, pure, refuse, is_mark, is_keyword, next_mark, next_keyword, take_any, take_mark, take_keyword, take_name, enter, leave, open_mark, close_mark}
 use Rattle.dso_syntax.specs.TextLimits.{most_levels}
 use Rattle.dso_syntax.specs.ProgramReader.{Lead}
+use Rattle.dso_syntax.specs.ProgramGrammar as program
 use Rattle.dso_syntax.specs.ProgramReader as reader
 use Rattle.dso_syntax.specs.ExpressionLevels as levels
 
 -- the form of a statement of one word and an expression
 abbrev pub command_form : Command → ExprTree → StmtForm
-command_form command.Wait = s.Wait
 command_form command.Notify = s.Notify
 command_form command.NotifyAll = s.NotifyAll
 command_form command.Print = s.Print
@@ -39,6 +41,21 @@ expr = levels.whole (suc most_levels)
 -- an expression in parentheses
 abbrev pub parenthesized : Parser ExprTree
 parenthesized = reader.parenthesized expr
+
+-- the end of a `wait`, from the closing parenthesis on
+abbrev pub wait_end : Parser Token
+wait_end i = and_then (close_mark m.CloseParen i) (λ _. take_mark m.Semicolon)
+
+-- behind what a `wait` waits on, up to its end
+abbrev pub behind_waited : ℕ → ExprTree → Parser StmtTree
+behind_waited line a i =
+    if is_mark m.Comma (next_mark i.tokens)
+    then and_then (take_any i) (λ _ j. and_then (expr j) (λ b l. and_then (wait_end l) (λ _. pure (program.statement line (s.TimedWait a b)))))
+    else and_then (wait_end i) (λ _. pure (program.statement line (s.Wait a)))
+
+-- a `wait`
+abbrev pub waiting : Parser StmtTree
+waiting i = and_then (take_any i) (λ t j. and_then (open_mark m.OpenParen j) (λ _ l. and_then (expr l) (behind_waited t.line)))
 
 -- the line of the next token, and an expression in parentheses behind it
 abbrev pub guard : Parser (ℕ × ExprTree)

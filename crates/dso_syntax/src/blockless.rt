@@ -14,7 +14,7 @@ use crate::cursor::{
 use crate::expression::whole;
 use crate::limits::{MOST_LEVELS, PARSER_LEVELS};
 use crate::stop::Stop;
-use crate::token::{Keyword, Mark};
+use crate::token::{Keyword, Mark, Token};
 use crate::tree::{ExprForm, ExprTree, StmtForm, StmtTree};
 use dso_base::Items;
 use std::alloc::{AllocFailed, Global};
@@ -22,7 +22,6 @@ use std::alloc::{AllocFailed, Global};
 /// A statement of one word and an expression in parentheses.
 #[derive(Clone, Copy)]
 pub enum Command {
-    Wait,
     Notify,
     NotifyAll,
     Print,
@@ -34,7 +33,6 @@ impl Command {
         ensures { result ≡ blocks.command_form self a }
     {
         match self {
-            Command::Wait => StmtForm::Wait(a),
             Command::Notify => StmtForm::Notify(a),
             Command::NotifyAll => StmtForm::NotifyAll(a),
             Command::Print => StmtForm::Print(a),
@@ -155,6 +153,51 @@ pub fn command_statement<'t>(
     let (_, rest) = take_mark(Mark::Semicolon, rest)?;
     let form = command.form(a);
     Ok((StmtTree { line, form }, rest))
+}
+
+/// A `wait`, with or without a number of ticks.
+pub fn waiting<'t>(alloc: Global, rest: Rest<'t>) -> Result<(StmtTree, Rest<'t>), Stop<'t>>
+    requires { rest.room ≤ MOST_LEVELS }
+    ensures gives { Gives (λ a. a) result (blocks.waiting (input rest.entry)) }
+    ensures room { IfOk result (λ p. p.1.room ≡ rest.entry.room) }
+{
+    let (word, rest) = take_any(rest)?;
+    let (_, rest) = open_mark(Mark::OpenParen, rest)?;
+    let (a, rest) = expression(alloc, rest)?;
+    behind_waited(alloc, word.line, a, rest)
+}
+
+/// What stands behind what a `wait` waits on: its number of ticks, if there is one, and its end.
+fn behind_waited<'t>(
+    alloc: Global,
+    line: u32,
+    a: ExprTree,
+    rest: Rest<'t>,
+) -> Result<(StmtTree, Rest<'t>), Stop<'t>>
+    requires { rest.room ≤ MOST_LEVELS }
+    ensures gives { Gives (λ a. a) result (blocks.behind_waited line a (input rest.entry)) }
+    ensures room { IfOk result (λ p. p.1.room ≡ rest.entry.room + 1) }
+{
+    if !is_mark(Mark::Comma, rest.tokens) {
+        let (_, rest) = wait_end(rest)?;
+        let form = StmtForm::Wait(a);
+        return Ok((StmtTree { line, form }, rest));
+    }
+    let (_, rest) = take_any(rest)?;
+    let (ticks, rest) = expression(alloc, rest)?;
+    let (_, rest) = wait_end(rest)?;
+    let form = StmtForm::TimedWait(a, ticks);
+    Ok((StmtTree { line, form }, rest))
+}
+
+/// The end of a `wait`, from the closing parenthesis on.
+fn wait_end<'t>(rest: Rest<'t>) -> Result<(&'t Token, Rest<'t>), Stop<'t>>
+    requires { rest.room ≤ MOST_LEVELS }
+    ensures gives { Gives (λ t. t.now) result (blocks.wait_end (input rest.entry)) }
+    ensures room { IfOk result (λ p. p.1.room ≡ rest.entry.room + 1) }
+{
+    let (_, rest) = close_mark(Mark::CloseParen, rest)?;
+    take_mark(Mark::Semicolon, rest)
 }
 
 /// A new variable.

@@ -9,7 +9,7 @@ ghost use Rattle.dso_syntax.specs.Gives.{Gives, input};
 
 use crate::blockless::{
     Command, Else, Guarding, alone, command_statement, condition, else_part, guard,
-    led_by_expression, returned, variable,
+    led_by_expression, returned, variable, waiting,
 };
 use crate::cursor::{Rest, close_mark, is_mark, next_keyword, open_mark};
 use crate::limits::{MOST_LEVELS, PARSER_LEVELS};
@@ -70,7 +70,7 @@ fn statements<'t>(
 }
 
 /// One statement.
-#[tactic(auto, using(crate::proofs::parser::StatementReturns::statement_variable, crate::proofs::parser::StatementReturns::statement_if, crate::proofs::parser::StatementReturns::statement_guarded, crate::proofs::parser::StatementReturns::statement_command, crate::proofs::parser::StatementReturns::statement_returned, crate::proofs::parser::StatementReturns::statement_plain))]
+#[tactic(auto, using(crate::proofs::parser::StatementReturns::statement_variable, crate::proofs::parser::StatementReturns::statement_if, crate::proofs::parser::StatementReturns::statement_guarded, crate::proofs::parser::StatementReturns::statement_command, crate::proofs::parser::StatementReturns::statement_waiting, crate::proofs::parser::StatementReturns::statement_returned, crate::proofs::parser::StatementReturns::statement_plain))]
 #[cycle(statement)]
 fn statement<'t>(
     alloc: Global,
@@ -87,7 +87,7 @@ fn statement<'t>(
         Some(Keyword::If) => conditional(alloc, levels, levels, rest),
         Some(Keyword::While) => guarded(alloc, levels, Guarding::While, rest),
         Some(Keyword::Synchronized) => guarded(alloc, levels, Guarding::Sync, rest),
-        Some(Keyword::Wait) => command_statement(alloc, Command::Wait, rest),
+        Some(Keyword::Wait) => waiting(alloc, rest),
         Some(Keyword::Notify) => command_statement(alloc, Command::Notify, rest),
         Some(Keyword::NotifyAll) => command_statement(alloc, Command::NotifyAll, rest),
         Some(Keyword::Print) => command_statement(alloc, Command::Print, rest),

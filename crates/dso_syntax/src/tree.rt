@@ -60,7 +60,8 @@ pub struct StmtTree {
     pub form: StmtForm,
 }
 
-/// What a statement is. An absent `else` is an empty list, an `else if` the list of that one statement.
+/// What a statement is. An absent `else` is an empty list, an `else if` the list of that one statement. A `TimedWait` has
+/// what is waited on and for how many ticks at most.
 #[cycle(statements)]
 #[derive(Debug, Drop)]
 pub enum StmtForm {
@@ -71,6 +72,7 @@ pub enum StmtForm {
     While(ExprTree, Items<StmtTree>),
     Sync(ExprTree, Items<StmtTree>),
     Wait(ExprTree),
+    TimedWait(ExprTree, ExprTree),
     Notify(ExprTree),
     NotifyAll(ExprTree),
     Print(ExprTree),

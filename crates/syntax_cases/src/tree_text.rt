@@ -125,6 +125,7 @@ fn statement_word(form: &StmtForm) -> &'static str {
         StmtForm::While(_, _) => "while",
         StmtForm::Sync(_, _) => "synchronized",
         StmtForm::Wait(_) => "wait",
+        StmtForm::TimedWait(_, _) => "timedWait",
         StmtForm::Notify(_) => "notify",
         StmtForm::NotifyAll(_) => "notifyAll",
         StmtForm::Print(_) => "print",
@@ -141,7 +142,7 @@ fn statement(out: &mut String, tree: &StmtTree) -> Result<(), AllocError> {
             ident(out, name)?;
             expression(out, a)?;
         }
-        StmtForm::Assign(a, b) => {
+        StmtForm::Assign(a, b) | StmtForm::TimedWait(a, b) => {
             expression(out, a)?;
             expression(out, b)?;
         }

@@ -15,7 +15,7 @@ use Rattle.dso_syntax.specs.declared.tree.StmtForm.{StmtForm}
 use Rattle.dso_syntax.specs.declared.tree.StmtForm.TheVariants as s
 use Rattle.dso_syntax.specs.Grammar.{Tokens, line_of}
 use Rattle.dso_syntax.specs.ProgramGrammar as p
-use Rattle.dso_syntax.specs.ProgramGrammar.{statement, command_of, guarded_of, Body, Block, Statement, Conditional, Declared, Members, Tops}
+use Rattle.dso_syntax.specs.ProgramGrammar.{statement, command_of, guarded_of, Parenthesized, Waited, Body, Block, Statement, Conditional, Declared, Members, Tops}
 use Rattle.dso_class.specs.Assignable.{assigns_of, assigns, AreAssignable, MemberAssigns, ItemAssigns, ItemsAssign}
 use Rattle.dso_class.specs.ValidInput.{IsValidInput}
 use Rattle.dso_class.proofs.grammar.Operators.{join}
@@ -40,11 +40,15 @@ guarded_assigns other made line a all is these = absurd (none-some made is)
 
 -- a statement of one word and an expression assigns to nothing
 told_assigns : (which : Keyword) (made : ExprTree → StmtForm) (line : ℕ) (a : ExprTree) → command_of which ≡ Some made → assigns (statement line (made a)) ≡ true
-told_assigns k.Wait made line a is = subst (λ make. assigns (statement line (make a)) ≡ true) (same_Some s.Wait made is) (folds.at_Wait assigns_of (λ tree. tree.form) line a)
 told_assigns k.Notify made line a is = subst (λ make. assigns (statement line (make a)) ≡ true) (same_Some s.Notify made is) (folds.at_Notify assigns_of (λ tree. tree.form) line a)
 told_assigns k.NotifyAll made line a is = subst (λ make. assigns (statement line (make a)) ≡ true) (same_Some s.NotifyAll made is) (folds.at_NotifyAll assigns_of (λ tree. tree.form) line a)
 told_assigns k.Print made line a is = subst (λ make. assigns (statement line (make a)) ≡ true) (same_Some s.Print made is) (folds.at_Print assigns_of (λ tree. tree.form) line a)
 told_assigns other made line a is = absurd (none-some made is)
+
+-- nor does a `wait`
+waiting_assigns : (line : ℕ) {room : ℕ} {ts : Tokens} {form : StmtForm} → Parenthesized Waited room ts form → assigns (statement line form) ≡ true
+waiting_assigns line (p.parenthesized opening closing opens closes (p.untimed {a = a} d)) = folds.at_Wait assigns_of (λ tree. tree.form) line a
+waiting_assigns line (p.parenthesized opening closing opens closes (p.timed {a = a} {b = b} comma is d d')) = folds.at_TimedWait assigns_of (λ tree. tree.form) line a b
 
 mutual
   -- each statement and block of the grammar does
@@ -62,6 +66,7 @@ mutual
   statement_assigns (p.conditional d) = conditional_assigns d
   statement_assigns (p.guarded {a = a} {all = all} word which made is known d body) = guarded_assigns which made word.line a all known (block_assigns body)
   statement_assigns (p.command {a = a} word ending which made is known is_ending d) = told_assigns which made word.line a known
+  statement_assigns (p.waiting word ending is is_ending d) = waiting_assigns word.line d
   statement_assigns (p.returned word ending is is_ending) = folds.at_Return assigns_of (λ tree. tree.form) word.line None
   statement_assigns (p.returned_with {a = a} word ending is is_ending d) = folds.at_Return assigns_of (λ tree. tree.form) word.line (Some a)
 

@@ -22,7 +22,7 @@ use Rattle.dso_syntax.specs.declared.tree.StmtForm.TheVariants as s
 use Rattle.dso_syntax.specs.Grammar as g
 use Rattle.dso_syntax.specs.Grammar.{Tokens, expression, line_of, operator_of, sign_of, plain_of, Binary, Unary, Postfix, Primary, Whole, Arguments, Listed}
 use Rattle.dso_syntax.specs.ProgramGrammar as p
-use Rattle.dso_syntax.specs.ProgramGrammar.{statement, command_of, guarded_of, Parenthesized, Body, Block, Statement, Conditional, Members, Tops}
+use Rattle.dso_syntax.specs.ProgramGrammar.{statement, command_of, guarded_of, Parenthesized, Waited, Body, Block, Statement, Conditional, Members, Tops}
 use Rattle.dso_syntax.proofs.prefixes.OneLevelMore.{lift_block}
 use Rattle.dso_machine.specs.Sound.{is_unary}
 use Rattle.dso_class.specs.Words.{Word}
@@ -142,7 +142,7 @@ mutual
   listed_are (g.more {a = a} {all = all} comma is d rest) = join (operators a) (list_all (λ one. one) (map operators all)) (whole_is d) (listed_are rest)
 
 -- an expression in parentheses has right operators
-asked_is : {room : ℕ} {ts : Tokens} {a : ExprTree} → Parenthesized room ts a → operators a ≡ true
+asked_is : {room : ℕ} {ts : Tokens} {a : ExprTree} → Parenthesized Whole room ts a → operators a ≡ true
 asked_is (p.parenthesized opening closing opens closes d) = whole_is d
 
 -- ---- statements
@@ -170,8 +170,6 @@ guarded_fits other made line a all room is one these = absurd (none-some made is
 
 -- a statement of one word and an expression fits where its part does
 told_fits : (which : Keyword) (made : ExprTree → StmtForm) (line : ℕ) (a : ExprTree) (room : ℕ) → command_of which ≡ Some made → operators a ≡ true → fits (statement line (made a)) (suc room) ≡ true
-told_fits k.Wait made line a room is one =
-    subst (λ make. fits (statement line (make a)) (suc room) ≡ true) (same_Some s.Wait made is) (ap (λ f. f (suc room)) (folds.at_Wait fits_of (λ tree. tree.form) line a) ∙ one)
 told_fits k.Notify made line a room is one =
     subst (λ make. fits (statement line (make a)) (suc room) ≡ true) (same_Some s.Notify made is) (ap (λ f. f (suc room)) (folds.at_Notify fits_of (λ tree. tree.form) line a) ∙ one)
 told_fits k.NotifyAll made line a room is one =
@@ -179,6 +177,12 @@ told_fits k.NotifyAll made line a room is one =
 told_fits k.Print made line a room is one =
     subst (λ make. fits (statement line (make a)) (suc room) ≡ true) (same_Some s.Print made is) (ap (λ f. f (suc room)) (folds.at_Print fits_of (λ tree. tree.form) line a) ∙ one)
 told_fits other made line a room is one = absurd (none-some made is)
+
+-- a `wait` fits
+waiting_fits : (line at : ℕ) {room : ℕ} {ts : Tokens} {form : StmtForm} → Parenthesized Waited room ts form → fits (statement line form) (suc at) ≡ true
+waiting_fits line at (p.parenthesized opening closing opens closes (p.untimed {a = a} d)) = ap (λ f. f (suc at)) (folds.at_Wait fits_of (λ tree. tree.form) line a) ∙ whole_is d
+waiting_fits line at (p.parenthesized opening closing opens closes (p.timed {a = a} {b = b} comma is d d')) =
+    ap (λ f. f (suc at)) (folds.at_TimedWait fits_of (λ tree. tree.form) line a b) ∙ join (operators a) (operators b) (whole_is d) (whole_is d')
 
 mutual
   -- each statement and block of the grammar fits into its room
@@ -197,6 +201,7 @@ mutual
   statement_is (p.conditional d) = conditional_is d
   statement_is (p.guarded {room = room} {a = a} {all = all} word which made is known d body) = guarded_fits which made word.line a all room known (asked_is d) (block_is body)
   statement_is (p.command {room = room} {a = a} word ending which made is known is_ending d) = told_fits which made word.line a room known (asked_is d)
+  statement_is (p.waiting {room = room} word ending is is_ending d) = waiting_fits word.line room d
   statement_is (p.returned {room = room} word ending is is_ending) = ap (λ f. f (suc room)) (folds.at_Return fits_of (λ tree. tree.form) word.line None)
   statement_is (p.returned_with {room = room} {a = a} word ending is is_ending d) = ap (λ f. f (suc room)) (folds.at_Return fits_of (λ tree. tree.form) word.line (Some a)) ∙ whole_is d
 

@@ -259,6 +259,15 @@ module _ (owner : Owner) (known : List Word) where
     quiet = quiet_in (p.statement line (s.Wait a)) (suc room) _ (folds.at_Wait (step_of owner) (λ tree. tree.form tree.line) line a) good;
   }
 
+  -- the object of a timed wait and its ticks are good
+  pub good_timed_wait : (line room : ℕ) (a b : ExprTree) → IsGoodStmt owner known (suc room) (p.statement line (s.TimedWait a b)) → IsGood owner known a × IsGood owner known b
+  good_timed_wait line room a b good =
+      let right = both (operators a) (operators b) (right_in (p.statement line (s.TimedWait a b)) (suc room) _ (folds.at_TimedWait fits_of (λ tree. tree.form) line a b) good) in
+      let quiet = quiet_in (p.statement line (s.TimedWait a b)) (suc room) _ (folds.at_TimedWait (step_of owner) (λ tree. tree.form tree.line) line a b) good in (
+        record { right = right.0; quiet = quiet_left owner ((expression owner a).mentions known) ((expression owner b).mentions known) quiet },
+        record { right = right.1; quiet = quiet_right owner ((expression owner a).mentions known) ((expression owner b).mentions known) quiet },
+      )
+
   -- the object of a `notify` is good
   pub good_notify : (line room : ℕ) (a : ExprTree) → IsGoodStmt owner known (suc room) (p.statement line (s.Notify a)) → IsGood owner known a
   good_notify line room a good = record {

@@ -38,6 +38,7 @@ fits_of (StmtForm-F.If a all others) (suc room) = operators a && (all_fit all ro
 fits_of (StmtForm-F.While a all) (suc room) = operators a && all_fit all room
 fits_of (StmtForm-F.Sync a all) (suc room) = operators a && all_fit all room
 fits_of (StmtForm-F.Wait a) (suc room) = operators a
+fits_of (StmtForm-F.TimedWait a b) (suc room) = operators a && operators b
 fits_of (StmtForm-F.Notify a) (suc room) = operators a
 fits_of (StmtForm-F.NotifyAll a) (suc room) = operators a
 fits_of (StmtForm-F.Print a) (suc room) = operators a

@@ -53,6 +53,9 @@ at_sync owner tree a all known is = ap (λ one. one.mentions known) (ap (stateme
 pub at_wait : (owner : Owner) (tree : StmtTree) (a : ExprTree) (known : List Word) → (out-StmtTree tree).form ≡ s.Wait a → (statement owner tree).mentions known ≡ (expression owner a).mentions known
 at_wait owner tree a known is = ap (λ one. one.mentions known) (ap (statement owner) (stmt_is tree (s.Wait a) is) ∙ folds.at_Wait (step_of owner) (λ tree. tree.form tree.line) (out-StmtTree tree).line a)
 
+pub at_timed_wait : (owner : Owner) (tree : StmtTree) (a : ExprTree) (b : ExprTree) (known : List Word) → (out-StmtTree tree).form ≡ s.TimedWait a b → (statement owner tree).mentions known ≡ (expression owner a).mentions known ++ (expression owner b).mentions known
+at_timed_wait owner tree a b known is = ap (λ one. one.mentions known) (ap (statement owner) (stmt_is tree (s.TimedWait a b) is) ∙ folds.at_TimedWait (step_of owner) (λ tree. tree.form tree.line) (out-StmtTree tree).line a b)
+
 pub at_notify : (owner : Owner) (tree : StmtTree) (a : ExprTree) (known : List Word) → (out-StmtTree tree).form ≡ s.Notify a → (statement owner tree).mentions known ≡ (expression owner a).mentions known
 at_notify owner tree a known is = ap (λ one. one.mentions known) (ap (statement owner) (stmt_is tree (s.Notify a) is) ∙ folds.at_Notify (step_of owner) (λ tree. tree.form tree.line) (out-StmtTree tree).line a)
 

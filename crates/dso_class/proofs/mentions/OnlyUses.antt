@@ -236,6 +236,7 @@ form_in_body owner (StmtForm-F.While a all) line known = pass_append is_in_body 
 form_in_body owner (StmtForm-F.Sync a all) line known =
     pass_append is_in_body ((expression owner a).mentions known) _ (expression_in_body owner a known) (steps_in_body owner all known)
 form_in_body owner (StmtForm-F.Wait a) line known = expression_in_body owner a known
+form_in_body owner (StmtForm-F.TimedWait a b) line known = pass_append is_in_body ((expression owner a).mentions known) _ (expression_in_body owner a known) (expression_in_body owner b known)
 form_in_body owner (StmtForm-F.Notify a) line known = expression_in_body owner a known
 form_in_body owner (StmtForm-F.NotifyAll a) line known = expression_in_body owner a known
 form_in_body owner (StmtForm-F.Print a) line known = expression_in_body owner a known

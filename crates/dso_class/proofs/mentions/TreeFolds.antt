@@ -113,6 +113,10 @@ module _ {A B : Type 0} (f : StmtForm-F A B → A) (g : StmtTree-F A B → B) wh
       fold-StmtTree A B f g (statement line (s.Wait a)) ≡ g (record { line = line; form = f (StmtForm-F.Wait a) })
   at_Wait line a = statement_by line (s.Wait a) (f (StmtForm-F.Wait a)) (ap (fold-StmtForm A B f g) (sym (s.rolls-Wait a)) ∙ fold-roll-StmtForm A B f g (StmtForm-F.Wait a))
 
+  pub at_TimedWait : (line : ℕ) (a : ExprTree) (b : ExprTree) →
+      fold-StmtTree A B f g (statement line (s.TimedWait a b)) ≡ g (record { line = line; form = f (StmtForm-F.TimedWait a b) })
+  at_TimedWait line a b = statement_by line (s.TimedWait a b) (f (StmtForm-F.TimedWait a b)) (ap (fold-StmtForm A B f g) (sym (s.rolls-TimedWait a b)) ∙ fold-roll-StmtForm A B f g (StmtForm-F.TimedWait a b))
+
   pub at_Notify : (line : ℕ) (a : ExprTree) →
       fold-StmtTree A B f g (statement line (s.Notify a)) ≡ g (record { line = line; form = f (StmtForm-F.Notify a) })
   at_Notify line a = statement_by line (s.Notify a) (f (StmtForm-F.Notify a)) (ap (fold-StmtForm A B f g) (sym (s.rolls-Notify a)) ∙ fold-roll-StmtForm A B f g (StmtForm-F.Notify a))

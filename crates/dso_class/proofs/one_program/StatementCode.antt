@@ -8,7 +8,7 @@ use Rattle.dso_syntax.specs.declared.tree.StmtTree.{StmtTree}
 use Rattle.dso_syntax.specs.Grammar.{expression}
 use Rattle.dso_class.specs.Numbers.{Numbers, MeansStmt, MeansBlock}
 use Rattle.dso_class.proofs.one_program.Expressions.{name_no_field, name_no_element, field_no_element, same_name, same_field, same_element}
-use Rattle.dso_class.proofs.one_program.Statements.{shape_of, same_assign, same_if, same_while, same_sync}
+use Rattle.dso_class.proofs.one_program.Statements.{shape_of, same_assign, same_if, same_while, same_sync, same_timed_wait}
 use Rattle.dso_class.proofs.one_program.ExpressionCode.{IsToldApart, of_three, one_expr, one_root, one_reference, class_means_nothing, numbered}
 
 module _ (n : Numbers) (apart : IsToldApart n) where
@@ -82,6 +82,10 @@ module _ (n : Numbers) (apart : IsToldApart n) where
     one_stmt (MeansStmt.locked means graded these) other same = absurd (cc (ap shape_of same))
     one_stmt (MeansStmt.wait means) (MeansStmt.wait too) same = ap t.Wait (one_expr n apart means too (cc (ap shape_of same)))
     one_stmt (MeansStmt.wait means) other same = absurd (cc (ap shape_of same))
+    one_stmt (MeansStmt.timed_wait {line = line} {a = a} {c = c} means ticks) (MeansStmt.timed_wait {line = at} {a = d} {c = f} too others) same =
+        let parts = same_timed_wait line at a d c f same in
+        ap₂ t.TimedWait (one_expr n apart means too parts.0) (one_expr n apart ticks others parts.1)
+    one_stmt (MeansStmt.timed_wait means ticks) other same = absurd (cc (ap shape_of same))
     one_stmt (MeansStmt.notify means) (MeansStmt.notify too) same = ap t.Notify (one_expr n apart means too (cc (ap shape_of same)))
     one_stmt (MeansStmt.notify means) other same = absurd (cc (ap shape_of same))
     one_stmt (MeansStmt.notify_all means) (MeansStmt.notify_all too) same = ap t.NotifyAll (one_expr n apart means too (cc (ap shape_of same)))

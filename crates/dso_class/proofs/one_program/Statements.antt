@@ -40,6 +40,10 @@ while_parts same = (cc same, cc same)
 sync_parts : {a b : ExprTree} {all these : List StmtTree} → ◌≡◌ {A = Shape} (StmtForm-F.Sync a all) (StmtForm-F.Sync b these) → (a ≡ b) × (all ≡ these)
 sync_parts same = (cc same, cc same)
 
+-- timed waits that are one have the same parts
+timed_wait_parts : {a b c d : ExprTree} → ◌≡◌ {A = Shape} (StmtForm-F.TimedWait a c) (StmtForm-F.TimedWait b d) → (a ≡ b) × (c ≡ d)
+timed_wait_parts same = (cc same, cc same)
+
 -- statements of assignment that are one have the same parts
 pub same_assign : (line at : ℕ) (a b c d : ExprTree) → statement line (s.Assign a c) ≡ statement at (s.Assign b d) → (a ≡ b) × (c ≡ d)
 same_assign line at a b c d same = assign_parts (same_shape line at (StmtForm-F.Assign a c) (StmtForm-F.Assign b d) (s.rolls-Assign a c) (s.rolls-Assign b d) same)
@@ -56,3 +60,8 @@ same_while line at a b all these same = while_parts (same_shape line at (StmtFor
 -- statements with a lock that are one have the same parts
 pub same_sync : (line at : ℕ) (a b : ExprTree) (all these : List StmtTree) → statement line (s.Sync a all) ≡ statement at (s.Sync b these) → (a ≡ b) × (all ≡ these)
 same_sync line at a b all these same = sync_parts (same_shape line at (StmtForm-F.Sync a all) (StmtForm-F.Sync b these) (s.rolls-Sync a all) (s.rolls-Sync b these) same)
+
+-- statements of a timed wait that are one have the same parts
+pub same_timed_wait : (line at : ℕ) (a b c d : ExprTree) → statement line (s.TimedWait a c) ≡ statement at (s.TimedWait b d) → (a ≡ b) × (c ≡ d)
+same_timed_wait line at a b c d same =
+    timed_wait_parts (same_shape line at (StmtForm-F.TimedWait a c) (StmtForm-F.TimedWait b d) (s.rolls-TimedWait a c) (s.rolls-TimedWait b d) same)

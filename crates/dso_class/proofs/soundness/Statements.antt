@@ -93,6 +93,9 @@ module _ (source : Source) (code : Code) (is : IsCode source code) (owner : Owne
         let parts = good.good_sync owner known line room a all fine in
         SoundStmt.locked (sound_expr known one parts.0) (sound_block known room these parts.1)
     sound_stmt known room (MeansStmt.wait {line = line} {a = a} one) fine = SoundStmt.wait (sound_expr known one (good.good_wait owner known line room a fine))
+    sound_stmt known room (MeansStmt.timed_wait {line = line} {a = a} {c = c} one other) fine =
+        let parts = good.good_timed_wait owner known line room a c fine in
+        SoundStmt.timed_wait (sound_expr known one parts.0) (sound_expr known other parts.1)
     sound_stmt known room (MeansStmt.notify {line = line} {a = a} one) fine = SoundStmt.notify (sound_expr known one (good.good_notify owner known line room a fine))
     sound_stmt known room (MeansStmt.notify_all {line = line} {a = a} one) fine = SoundStmt.notify_all (sound_expr known one (good.good_notify_all owner known line room a fine))
     sound_stmt known room (MeansStmt.print {line = line} {a = a} one) fine = SoundStmt.print (sound_expr known one (good.good_print owner known line room a fine))

@@ -47,6 +47,7 @@ plain_statement_form (StmtForm-F.If a all others) =
 plain_statement_form (StmtForm-F.While a all) = plain_expression a && list_all (λ b. b) all
 plain_statement_form (StmtForm-F.Sync a all) = plain_expression a && list_all (λ b. b) all
 plain_statement_form (StmtForm-F.Wait a) = plain_expression a
+plain_statement_form (StmtForm-F.TimedWait a b) = plain_expression a && plain_expression b
 plain_statement_form (StmtForm-F.Notify a) = plain_expression a
 plain_statement_form (StmtForm-F.NotifyAll a) = plain_expression a
 plain_statement_form (StmtForm-F.Print a) = plain_expression a

@@ -12,13 +12,13 @@ use Rattle.dso_syntax.specs.declared.tree.StmtForm.{StmtForm}
 use Rattle.dso_syntax.specs.declared.tree.StmtForm.TheVariants as s
 use Rattle.dso_syntax.specs.declared.tree.ExprTree.{ExprTree, out-ExprTree}
 use Rattle.dso_syntax.specs.declared.tree.ExprForm.{out-ExprForm}
-use Rattle.dso_syntax.specs.Grammar.{Tokens, IsMark, IsKeyword, IsName, line_of, kind_of, top_rank}
+use Rattle.dso_syntax.specs.Grammar.{Tokens, IsMark, IsKeyword, IsName, line_of, kind_of, top_rank, Whole}
 use Rattle.dso_syntax.specs.ProgramGrammar as p
-use Rattle.dso_syntax.specs.ProgramGrammar.{statement, command_of, guarded_of, is_place, Parenthesized, Body, Block, Statement, Conditional, Names, Parameters, Declared, Members, Top, Tops}
+use Rattle.dso_syntax.specs.ProgramGrammar.{statement, command_of, guarded_of, is_place, Parenthesized, Waited, Body, Block, Statement, Conditional, Names, Parameters, Declared, Members, Top, Tops}
 use Rattle.dso_syntax.specs.ExpressionReader.{Parser, and_then, refuse, is_mark, is_keyword, next_mark, next_keyword, mark_of, keyword_of, whole}
-use Rattle.dso_syntax.specs.ProgramReader.{parenthesized, until_brace, braced, conditional, guarded, command, lead_of, behind_expression, behind_then, chain, by_lead, one_statement, block, field, start_of}
+use Rattle.dso_syntax.specs.ProgramReader.{parenthesized, until_brace, braced, conditional, guarded, command, lead_of, behind_expression, behind_waited, waited, behind_then, chain, by_lead, one_statement, block, field, start_of}
 use Rattle.dso_syntax.proofs.completeness.ReadSteps.{at, Ends, Starts, whole_starts}
-use Rattle.dso_syntax.proofs.completeness.ReadExpressions.{inner_read, ends_close, regroup}
+use Rattle.dso_syntax.proofs.completeness.ReadExpressions.{inner_read, ends_comma, ends_close, regroup}
 
 -- what may stand behind a whole expression
 ends_semicolon : (t : Token) (rest : Tokens) → IsMark m.Semicolon t → Ends top_rank (t ∷ rest)
@@ -61,7 +61,7 @@ command_lead k.Var made is = absurd (none-some made is)
 command_lead k.If made is = absurd (none-some made is)
 command_lead k.Else made is = absurd (none-some made is)
 command_lead k.While made is = absurd (none-some made is)
-command_lead k.Wait made is = (ap command (same_Some s.Wait made is), refl)
+command_lead k.Wait made is = absurd (none-some made is)
 command_lead k.Notify made is = (ap command (same_Some s.Notify made is), refl)
 command_lead k.NotifyAll made is = (ap command (same_Some s.NotifyAll made is), refl)
 command_lead k.Print made is = (ap command (same_Some s.Print made is), refl)
@@ -126,12 +126,13 @@ statement_opens (p.evaluated ending is_ending d) = by_expression (ending ∷ [])
 statement_opens (p.conditional d) = conditional_opens d
 statement_opens (p.guarded {ts = ts} {us = us} word which made is_word is_made cs bs) = by_word which word (ts ++ us) is_word (guarded_lead which made is_made).1
 statement_opens (p.command {ts = ts} word ending which made is_word is_made is_ending cs) = by_word which word (ts ++ ending ∷ []) is_word (command_lead which made is_made).1
+statement_opens (p.waiting {ts = ts} word ending is_word is_ending cs) = by_word k.Wait word (ts ++ ending ∷ []) is_word refl
 statement_opens (p.returned word ending is_word is_ending) = by_word k.Return word (ending ∷ []) is_word refl
 statement_opens (p.returned_with {ts = ts} word ending is_word is_ending d) = by_word k.Return word (ts ++ ending ∷ []) is_word refl
 
 -- ---- single steps, with any reader of expressions and of blocks
 
-asked_step : (expr : Parser ExprTree) (room : ℕ) (opening closing : Token) (ts rest : Tokens) (a : ExprTree) → IsMark m.OpenParen opening → IsMark m.CloseParen closing
+asked_step : {A : Type 0} (expr : Parser A) (room : ℕ) (opening closing : Token) (ts rest : Tokens) (a : A) → IsMark m.OpenParen opening → IsMark m.CloseParen closing
     → expr (at (ts ++ closing ∷ rest) room) ≡ Ok (a, at (closing ∷ rest) room) → parenthesized expr (at (opening ∷ ts ++ closing ∷ rest) (suc room)) ≡ Ok (a, at rest (suc room))
 asked_step expr room opening closing ts rest a opens closes read = rw (opens, read, closes) refl
 
@@ -164,6 +165,19 @@ told_step : (expr : Parser ExprTree) (block : Parser (List StmtTree)) (n room : 
     → IsKeyword which word → command_of which ≡ Some made → IsMark m.Semicolon ending → parenthesized expr (at (ts ++ (ending ∷ rest)) room) ≡ Ok (a, at (ending ∷ rest) room)
     → one_statement expr block n (at (word ∷ ts ++ (ending ∷ rest)) room) ≡ Ok (statement word.line (made a), at rest room)
 told_step expr block n room word ending which made ts rest a is_word is_made is_ending read = rw (is_word, (command_lead which made is_made).0, read, is_ending) refl
+
+timed_step : (expr : Parser ExprTree) (room : ℕ) (comma : Token) (us rest : Tokens) (a b : ExprTree) → IsMark m.Comma comma → expr (at (us ++ rest) room) ≡ Ok (b, at rest room)
+    → behind_waited expr a (at (comma ∷ us ++ rest) room) ≡ Ok (s.TimedWait a b, at rest room)
+timed_step expr room comma us rest a b is_comma read = rw (is_comma, read) refl
+
+untimed_step : (expr : Parser ExprTree) (room : ℕ) (closing : Token) (rest : Tokens) (a : ExprTree) → IsMark m.CloseParen closing
+    → behind_waited expr a (at (closing ∷ rest) room) ≡ Ok (s.Wait a, at (closing ∷ rest) room)
+untimed_step expr room closing rest a closes = rw closes refl
+
+waiting_step : (expr : Parser ExprTree) (block : Parser (List StmtTree)) (n room : ℕ) (word ending : Token) (ts rest : Tokens) (form : StmtForm)
+    → IsKeyword k.Wait word → IsMark m.Semicolon ending → parenthesized (waited expr) (at (ts ++ (ending ∷ rest)) room) ≡ Ok (form, at (ending ∷ rest) room)
+    → one_statement expr block n (at (word ∷ ts ++ (ending ∷ rest)) room) ≡ Ok (statement word.line form, at rest room)
+waiting_step expr block n room word ending ts rest form is_word is_ending read = rw (is_word, read, is_ending) refl
 
 returned_step : (expr : Parser ExprTree) (block : Parser (List StmtTree)) (n room : ℕ) (word ending : Token) (rest : Tokens) → IsKeyword k.Return word → IsMark m.Semicolon ending
     → one_statement expr block n (at (word ∷ ending ∷ rest) room) ≡ Ok (statement word.line (s.Return None), at rest room)
@@ -227,10 +241,24 @@ reader n = whole (suc n)
 regroup_three : (ts us vs rest : Tokens) (room : ℕ) → at ((ts ++ (us ++ vs)) ++ rest) room ≡ at (ts ++ (us ++ (vs ++ rest))) room
 regroup_three ts us vs rest room = regroup ts (us ++ vs) rest room ∙ ap (λ z. at (ts ++ z) room) (append_assoc us vs rest)
 
-asked_read : (n : ℕ) {room : ℕ} {ts : Tokens} {a : ExprTree} → Parenthesized room ts a → (rest : Tokens) → room ≤ n → parenthesized (reader n) (at (ts ++ rest) room) ≡ Ok (a, at rest room)
+asked_read : (n : ℕ) {room : ℕ} {ts : Tokens} {a : ExprTree} → Parenthesized Whole room ts a → (rest : Tokens) → room ≤ n → parenthesized (reader n) (at (ts ++ rest) room) ≡ Ok (a, at rest room)
 asked_read n (p.parenthesized {room = room} {ts = ts} {a = a} opening closing opens closes d) rest bound =
     ap (parenthesized (reader n)) (regroup (opening ∷ ts) (closing ∷ []) rest (suc room))
     ∙ asked_step (reader n) room opening closing ts rest a opens closes (inner_read (suc n) d (closing ∷ rest) (omega arith) (ends_close closing rest closes))
+
+waited_read : (n : ℕ) {room : ℕ} {ts : Tokens} {form : StmtForm} → Waited room ts form → (closing : Token) (rest : Tokens) → room ≤ n → IsMark m.CloseParen closing
+    → waited (reader n) (at (ts ++ closing ∷ rest) room) ≡ Ok (form, at (closing ∷ rest) room)
+waited_read n (p.untimed {room = room} {a = a} d) closing rest bound closes =
+    ap (λ o. and_then o (behind_waited (reader n))) (inner_read (suc n) d (closing ∷ rest) (omega arith) (ends_close closing rest closes)) ∙ untimed_step (reader n) room closing rest a closes
+waited_read n (p.timed {room = room} {ts = ts} {us = us} {a = a} {b = b} comma is_comma d e) closing rest bound closes =
+    ap (waited (reader n)) (regroup ts (comma ∷ us) (closing ∷ rest) room)
+    ∙ ap (λ o. and_then o (behind_waited (reader n))) (inner_read (suc n) d (comma ∷ us ++ closing ∷ rest) (omega arith) (ends_comma comma (us ++ closing ∷ rest) is_comma))
+    ∙ timed_step (reader n) room comma us (closing ∷ rest) a b is_comma (inner_read (suc n) e (closing ∷ rest) (omega arith) (ends_close closing rest closes))
+
+waiting_read : (n : ℕ) {room : ℕ} {ts : Tokens} {form : StmtForm} → Parenthesized Waited room ts form → (rest : Tokens) → room ≤ n → parenthesized (waited (reader n)) (at (ts ++ rest) room) ≡ Ok (form, at rest room)
+waiting_read n (p.parenthesized {room = room} {ts = ts} {a = form} opening closing opens closes d) rest bound =
+    ap (parenthesized (waited (reader n))) (regroup (opening ∷ ts) (closing ∷ []) rest (suc room))
+    ∙ asked_step (waited (reader n)) room opening closing ts rest form opens closes (waited_read n d closing rest (omega arith) closes)
 
 block_no_if : {room : ℕ} {ts : Tokens} {all : List StmtTree} → Block room ts all → (rest : Tokens) → is_keyword k.If (next_keyword (ts ++ rest)) ≡ false
 block_no_if (p.block opening closing opens closes d) rest = rw opens refl
@@ -289,6 +317,9 @@ mutual
   statement_read n depth (p.command {room = room} {ts = ts} {a = a} word ending which made is_word is_made is_ending cs) rest bound deep no_else =
       ap (one_statement (reader n) (block (reader n) depth) depth) (regroup (word ∷ ts) (ending ∷ []) rest room)
       ∙ told_step (reader n) (block (reader n) depth) depth room word ending which made ts rest a is_word is_made is_ending (asked_read n cs (ending ∷ rest) bound)
+  statement_read n depth (p.waiting {room = room} {ts = ts} {form = form} word ending is_word is_ending cs) rest bound deep no_else =
+      ap (one_statement (reader n) (block (reader n) depth) depth) (regroup (word ∷ ts) (ending ∷ []) rest room)
+      ∙ waiting_step (reader n) (block (reader n) depth) depth room word ending ts rest form is_word is_ending (waiting_read n cs (ending ∷ rest) bound)
   statement_read n depth (p.returned {room = room} word ending is_word is_ending) rest bound deep no_else = returned_step (reader n) (block (reader n) depth) depth room word ending rest is_word is_ending
   statement_read n depth (p.returned_with {room = room} {ts = ts} {a = a} word ending is_word is_ending d) rest bound deep no_else =
       ap (one_statement (reader n) (block (reader n) depth) depth) (regroup (word ∷ ts) (ending ∷ []) rest room)

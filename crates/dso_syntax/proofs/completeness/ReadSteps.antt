@@ -16,7 +16,7 @@ use Rattle.dso_syntax.specs.declared.tree.ExprForm.TheVariants as e
 use Rattle.dso_syntax.specs.Grammar as g
 use Rattle.dso_syntax.specs.Grammar.{Tokens, expression, line_of, kind_of, operator_of, sign_of, plain_of, top_rank, IsMark, IsName, IsKeyword, Binary, Unary, Postfix, Primary, Whole, Arguments, Listed}
 use Rattle.dso_syntax.specs.ProgramReader.{lead_of, plain}
-use Rattle.dso_syntax.specs.ExpressionReader.{Input, Parser, mark_of, keyword_of, is_mark, is_keyword, next_mark, take_mark, open_mark, close_mark, take_name, of_rank, operator_at, sign_at, arguments, suffixes, made, operations}
+use Rattle.dso_syntax.specs.ExpressionReader.{Input, Parser, mark_of, keyword_of, is_mark, is_keyword, next_mark, of_rank, operator_at, sign_at, arguments, suffixes, made, operations}
 
 -- these tokens with this room
 abbrev pub at : Tokens → ℕ → Input

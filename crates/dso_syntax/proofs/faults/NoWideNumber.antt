@@ -9,12 +9,13 @@ use Rattle.dso_syntax.specs.declared.tree.Ident.{Ident}
 use Rattle.dso_syntax.specs.declared.tree.ExprTree.{ExprTree}
 use Rattle.dso_syntax.specs.declared.tree.ExprForm.{ExprForm}
 use Rattle.dso_syntax.specs.declared.tree.StmtTree.{StmtTree}
+use Rattle.dso_syntax.specs.declared.tree.StmtForm.{StmtForm}
 use Rattle.dso_syntax.specs.declared.tree.Item.{Item}
 use Rattle.dso_syntax.specs.declared.tree.Member.{Member}
 use Rattle.dso_syntax.specs.Grammar as g
 use Rattle.dso_syntax.specs.Grammar.{Tokens, plain_of, Binary, Unary, Postfix, Primary, Whole, Arguments, Listed}
 use Rattle.dso_syntax.specs.ProgramGrammar as p
-use Rattle.dso_syntax.specs.ProgramGrammar.{Parenthesized, Body, Block, Statement, Conditional, Names, Parameters, Declared, Members, Top, Tops}
+use Rattle.dso_syntax.specs.ProgramGrammar.{Parenthesized, Waited, Body, Block, Statement, Conditional, Names, Parameters, Declared, Members, Top, Tops}
 
 -- whether the form is a number that is too wide
 abbrev pub wide_form : Form → Bool
@@ -85,8 +86,15 @@ mutual
   n_listed (g.last d) = n_whole d
   n_listed (g.more comma is d rest) = both (n_whole d) (both (one comma is refl) (n_listed rest))
 
-n_asked : {room : ℕ} {ts : Tokens} {a : ExprTree} → Parenthesized room ts a → Narrow ts
+n_asked : {room : ℕ} {ts : Tokens} {a : ExprTree} → Parenthesized Whole room ts a → Narrow ts
 n_asked (p.parenthesized opening closing opens closes d) = both (one opening opens refl) (both (n_whole d) (one closing closes refl))
+
+n_waited : {room : ℕ} {ts : Tokens} {form : StmtForm} → Waited room ts form → Narrow ts
+n_waited (p.untimed d) = n_whole d
+n_waited (p.timed comma is d e) = both (n_whole d) (both (one comma is refl) (n_whole e))
+
+n_waiting : {room : ℕ} {ts : Tokens} {form : StmtForm} → Parenthesized Waited room ts form → Narrow ts
+n_waiting (p.parenthesized opening closing opens closes d) = both (one opening opens refl) (both (n_waited d) (one closing closes refl))
 
 mutual
   n_body : {room : ℕ} {ts : Tokens} {all : List StmtTree} → Body room ts all → Narrow ts
@@ -104,6 +112,7 @@ mutual
   n_statement (p.conditional d) = n_conditional d
   n_statement (p.guarded word which made is known d body) = both (one word is refl) (both (n_asked d) (n_block body))
   n_statement (p.command word ending which made is known is_ending d) = both (one word is refl) (both (n_asked d) (one ending is_ending refl))
+  n_statement (p.waiting word ending is is_ending d) = both (one word is refl) (both (n_waiting d) (one ending is_ending refl))
   n_statement (p.returned word ending is is_ending) = both (one word is refl) (one ending is_ending refl)
   n_statement (p.returned_with word ending is is_ending d) = both (one word is refl) (both (n_whole d) (one ending is_ending refl))
 

@@ -16,7 +16,7 @@ use Rattle.dso_syntax.specs.declared.tree.ExprForm.{out-ExprForm}
 use Rattle.dso_syntax.specs.Grammar.{Tokens, line_of}
 use Rattle.dso_syntax.specs.ProgramGrammar.{statement, is_place}
 use Rattle.dso_syntax.specs.ExpressionReader.{Input, StopCause, unexpected, too_wide, Outcome, Parser, and_then, pure, refuse, is_mark, is_keyword, next_mark, next_keyword, take_any, take_mark, take_keyword, enter, leave, open_mark, close_mark, take_name, whole}
-use Rattle.dso_syntax.specs.ProgramReader.{parenthesized, until_brace, braced, Lead, variable, conditional, guarded, command, returned, plain, lead_of, behind_expression, behind_return, behind_var, behind_then, chain, by_lead, one_statement, block, names, parameters, method, Start, field, static, synchronized, named, start_of, next_line, by_start, one_member, number_by, number_from, one_item, items_from, program}
+use Rattle.dso_syntax.specs.ProgramReader.{parenthesized, until_brace, braced, Lead, variable, conditional, guarded, command, waiting, returned, plain, lead_of, behind_expression, behind_waited, waited, behind_return, behind_var, behind_then, chain, by_lead, one_statement, block, names, parameters, method, Start, field, static, synchronized, named, start_of, next_line, by_start, one_member, number_by, number_from, one_item, items_from, program}
 use Rattle.dso_syntax.proofs.completeness.ReadSteps.{at}
 use Rattle.dso_syntax.proofs.soundness.SoundSteps.{err_is}
 use Rattle.dso_syntax.proofs.lockstep.LockstepSteps.{Setting, Twin, itself, narrower, left_of, right_of, Passed, Sides, same, fails, passed, Both, refused, both_then, both_on, alike_mark, alike_keyword, alike_line, alike_through, two_ways, looser, within, both_pure, both_refuse, both_any, both_enter, both_leave, both_mark, both_keyword, both_open, both_close, both_name, second_stops, nowhere, rooms}
@@ -65,9 +65,22 @@ braced_both S F P Q deep = record { both = λ M N most. rooms S F {P = braced P}
 
 -- ---- statements
 
-paren_both : (S : Setting) (F : ℕ) (P Q : Parser ExprTree) → Deep S F P Q → (M N : ℕ) → M ≤ suc F → Both S M N M N (parenthesized P) (parenthesized Q)
-paren_both S F P Q deep M N most = rooms S F {P = parenthesized P} {Q = parenthesized Q} (λ K less. both_then S {K = K} {L = N} (looser S (both_open S m.OpenParen)) (λ _. both_then S {K = K} {L = N} (looser S (deep.both K N less))
+inside_both : {A : Type 0} (S : Setting) (F : ℕ) (P Q : Parser A) (N : ℕ) → ((K : ℕ) → K ≤ F → Both S K N K N P Q) → (M : ℕ) → M ≤ suc F → Both S M N M N (parenthesized P) (parenthesized Q)
+inside_both S F P Q N inner M most = rooms S F {P = parenthesized P} {Q = parenthesized Q} (λ K less. both_then S {K = K} {L = N} (looser S (both_open S m.OpenParen)) (λ _. both_then S {K = K} {L = N} (inner K less)
     (λ a. both_then S {K = suc K} {L = N} (looser S (both_close S m.CloseParen)) (λ _. both_pure S a)))) M most
+
+paren_both : (S : Setting) (F : ℕ) (P Q : Parser ExprTree) → Deep S F P Q → (M N : ℕ) → M ≤ suc F → Both S M N M N (parenthesized P) (parenthesized Q)
+paren_both S F P Q deep M N most = inside_both S F P Q N (λ K less. looser S (deep.both K N less)) M most
+
+behind_waited_both : (S : Setting) (F : ℕ) (P Q : Parser ExprTree) → Deep S F P Q → (a : ExprTree) (M N : ℕ) → M ≤ F → Both S M N M N (behind_waited P a) (behind_waited Q a)
+behind_waited_both S F P Q deep a M N most = both_on S (λ ts. is_mark m.Comma (next_mark ts))
+    {P = λ x i. cond x (and_then (take_any i) (λ _ j. and_then (P j) (λ b. pure (s.TimedWait a b)))) (Ok (s.Wait a, i))}
+    {Q = λ x i. cond x (and_then (take_any i) (λ _ j. and_then (Q j) (λ b. pure (s.TimedWait a b)))) (Ok (s.Wait a, i))}
+    (alike_through S (is_mark m.Comma) (alike_mark S))
+    (two_ways S (both_then S {K = M} {L = N} (looser S (both_any S)) (λ _. both_then S {K = M} {L = N} (looser S (deep.both M N most)) (λ b. both_pure S (s.TimedWait a b)))) (both_pure S (s.Wait a)))
+
+waited_both : (S : Setting) (F : ℕ) (P Q : Parser ExprTree) → Deep S F P Q → (M N : ℕ) → M ≤ F → Both S M N M N (waited P) (waited Q)
+waited_both S F P Q deep M N most = both_then S {K = M} {L = N} (looser S (deep.both M N most)) (λ a. behind_waited_both S F P Q deep a M N most)
 
 semicolon_both : (S : Setting) (M N : ℕ) {A : Type 0} (a : A) → Both S M N M N (λ i. and_then (take_mark m.Semicolon i) (λ _. pure a)) (λ i. and_then (take_mark m.Semicolon i) (λ _. pure a))
 semicolon_both S M N a = both_then S {K = M} {L = N} (looser S (both_mark S m.Semicolon)) (λ _. both_pure S a)
@@ -142,6 +155,7 @@ lead_both S F G P Q A B deep body n other M N count most bound conditional = cha
 lead_both S F G P Q A B deep body n other M N count most bound (guarded made) = both_then S {K = M} {L = N} (both_any S) (λ t. both_then S {K = M} {L = N} (paren_both S F P Q deep M N (omega (arith, most)))
     (λ a. both_then S {K = M} {L = N} (looser S (body.both M N bound)) (λ all. both_pure S (statement t.line (made a all)))))
 lead_both S F G P Q A B deep body n other M N count most bound (command made) = both_then S {K = M} {L = N} (both_any S) (λ t. both_then S {K = M} {L = N} (paren_both S F P Q deep M N (omega (arith, most))) (λ a. semicolon_both S M N (statement t.line (made a))))
+lead_both S F G P Q A B deep body n other M N count most bound waiting = both_then S {K = M} {L = N} (both_any S) (λ t. both_then S {K = M} {L = N} (inside_both S F (waited P) (waited Q) N (λ K less. waited_both S F P Q deep K N less) M (omega (arith, most))) (λ form. semicolon_both S M N (statement t.line form)))
 lead_both S F G P Q A B deep body n other M N count most bound returned = both_then S {K = M} {L = N} (both_any S) (λ t. behind_return_both S F P Q deep t.line M N most)
 lead_both S F G P Q A B deep body n other M N count most bound plain = both_then S {K = M} {L = N} (deep.both M N most) (λ a. behind_expression_both S F P Q deep a M N most)
 

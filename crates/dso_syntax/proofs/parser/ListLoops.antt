@@ -5,7 +5,7 @@ use Rattle.dso_syntax.specs.declared.stop.Stop.TheVariants as stop
 use Rattle.dso_syntax.specs.declared.token.Token.{Token}
 use Rattle.dso_syntax.specs.declared.token.Mark.TheVariants as m
 use Rattle.dso_syntax.specs.declared.tree.ExprTree.{ExprTree}
-use Rattle.dso_syntax.specs.ExpressionReader.{Input, Outcome, Parser, unexpected, and_then, pure, listed, is_mark, next_mark, take_any}
+use Rattle.dso_syntax.specs.ExpressionReader.{Input, Outcome, Parser, and_then, pure, listed, is_mark, next_mark, take_any}
 use Rattle.dso_syntax.specs.ProgramReader.{until_brace}
 use Rattle.dso_syntax.specs.Gives.{Fails}
 

@@ -13,10 +13,10 @@ use Rattle.dso_syntax.specs.declared.blockless.Guarding.{Guarding}
 use Rattle.dso_syntax.specs.declared.blockless.Else.{Else}
 use Rattle.dso_syntax.specs.declared.blockless.Else.TheVariants as part
 use Rattle.dso_syntax.specs.ProgramGrammar.{statement as made_statement}
-use Rattle.dso_syntax.specs.ExpressionReader.{Input, Outcome, Parser, unexpected, and_then, pure, next_keyword, is_keyword, take_any, take_keyword, open_mark, close_mark, enter, leave}
+use Rattle.dso_syntax.specs.ExpressionReader.{Input, Outcome, Parser, unexpected, and_then, pure, next_mark, next_keyword, is_mark, is_keyword, take_any, take_mark, take_keyword, open_mark, close_mark, enter, leave}
 use Rattle.dso_syntax.specs.ProgramReader as reader
 use Rattle.dso_syntax.specs.Gives.{Gives, Fails}
-use Rattle.dso_syntax.specs.StatementLevels.{expr, parenthesized, guard, condition, else_part, simple, guarding_of, block, statement, guarded, chain, other_of, chained, otherwise}
+use Rattle.dso_syntax.specs.StatementLevels.{expr, parenthesized, wait_end, behind_waited, waiting, guard, condition, else_part, simple, guarding_of, block, statement, guarded, chain, other_of, chained, otherwise}
 use Rattle.dso_syntax.proofs.parser.ExpressionReturns.{stops_first}
 
 -- what a function of the parser answers
@@ -69,6 +69,51 @@ pub block_goes : (n : ℕ) (t u : Token) (all : List StmtTree) (i j l q : Input)
     → close_mark m.CloseBrace l ≡ Ok (u, q) → block n i ≡ Ok (all, q)
 block_goes n t u all i j l q h opens read closes = block_read n t all i j l h opens read ∙ ap (λ o. and_then o (λ _. pure all)) closes
 
+-- ---- a `wait`
+
+-- the closing parenthesis of a `wait`, behind its form
+abbrev closed : StmtForm → Parser StmtForm
+closed form i = and_then (close_mark m.CloseParen i) (λ _. pure form)
+
+-- the semicolon of a `wait`, behind its form
+abbrev ended : ℕ → StmtForm → Parser StmtTree
+ended line form i = and_then (take_mark m.Semicolon i) (λ _. pure (made_statement line form))
+
+waiting_is : (i : Input) → simple reader.waiting i ≡ waiting i
+waiting_is i = by_word (take_any i)
+  where
+    by_close : (line : ℕ) (form : StmtForm) (o : Outcome Token) → and_then (and_then o (λ _. pure form)) (ended line) ≡ and_then (and_then o (λ _. take_mark m.Semicolon)) (λ _. pure (made_statement line form))
+    by_close line form (Ok p) = refl
+    by_close line form (Err why) = refl
+
+    by_ticks : (line : ℕ) (a : ExprTree) (o : Outcome ExprTree) → and_then (and_then (and_then o (λ b. pure (s.TimedWait a b))) closed) (ended line)
+        ≡ and_then o (λ b l. and_then (wait_end l) (λ _. pure (made_statement line (s.TimedWait a b))))
+    by_ticks line a (Ok p) = by_close line (s.TimedWait a p.0) (close_mark m.CloseParen p.1)
+    by_ticks line a (Err why) = refl
+
+    by_comma : (line : ℕ) (a : ExprTree) (o : Outcome Token) → and_then (and_then (and_then o (λ _ j. and_then (expr j) (λ b. pure (s.TimedWait a b)))) closed) (ended line)
+        ≡ and_then o (λ _ j. and_then (expr j) (λ b l. and_then (wait_end l) (λ _. pure (made_statement line (s.TimedWait a b)))))
+    by_comma line a (Ok p) = by_ticks line a (expr p.1)
+    by_comma line a (Err why) = refl
+
+    by_test : (line : ℕ) (a : ExprTree) (j : Input) (test : Bool)
+        → and_then (and_then (cond {A = Outcome StmtForm} test (and_then (take_any j) (λ _ j. and_then (expr j) (λ b. pure (s.TimedWait a b)))) (Ok (s.Wait a, j))) closed) (ended line)
+        ≡ cond {A = Outcome StmtTree} test (and_then (take_any j) (λ _ j. and_then (expr j) (λ b l. and_then (wait_end l) (λ _. pure (made_statement line (s.TimedWait a b)))))) (and_then (wait_end j) (λ _. pure (made_statement line (s.Wait a))))
+    by_test line a j true = by_comma line a (take_any j)
+    by_test line a j false = by_close line (s.Wait a) (close_mark m.CloseParen j)
+
+    by_expression : (line : ℕ) (o : Outcome ExprTree) → and_then (and_then (and_then o (reader.behind_waited expr)) closed) (ended line) ≡ and_then o (behind_waited line)
+    by_expression line (Ok p) = by_test line p.0 p.1 (is_mark m.Comma (next_mark p.1.tokens))
+    by_expression line (Err why) = refl
+
+    by_open : (line : ℕ) (o : Outcome Token) → and_then (and_then o (λ _ j. and_then (reader.waited expr j) closed)) (ended line) ≡ and_then o (λ _ j. and_then (expr j) (behind_waited line))
+    by_open line (Ok p) = by_expression line (expr p.1)
+    by_open line (Err why) = refl
+
+    by_word : (o : Outcome Token) → and_then o (λ t j. and_then (reader.parenthesized (reader.waited expr) j) (ended t.line)) ≡ and_then o (λ t j. and_then (open_mark m.OpenParen j) (λ _ l. and_then (expr l) (behind_waited t.line)))
+    by_word (Ok p) = by_open p.0.line (open_mark m.OpenParen p.1)
+    by_word (Err why) = refl
+
 -- ---- statements by their first words
 
 statement_is : (n : ℕ) (i : Input) (lead : reader.Lead) → reader.lead_of (next_keyword i.tokens) ≡ lead → statement n i ≡ reader.by_lead expr (block n) n lead i
@@ -89,6 +134,9 @@ statement_variable r n i is gives = gives_other r (statement n i) _ (statement_i
 pub statement_command : (r : Read StmtTree) (n : ℕ) (made : ExprTree → StmtForm) (i : Input) → reader.lead_of (next_keyword i.tokens) ≡ reader.command made
     → Gives (λ a. a) r (simple (reader.command made) i) → Gives (λ a. a) r (statement n i)
 statement_command r n made i is gives = gives_other r (statement n i) _ (statement_is n i (reader.command made) is) gives
+
+pub statement_waiting : (r : Read StmtTree) (n : ℕ) (i : Input) → reader.lead_of (next_keyword i.tokens) ≡ reader.waiting → Gives (λ a. a) r (waiting i) → Gives (λ a. a) r (statement n i)
+statement_waiting r n i is gives = gives_other r (statement n i) _ (statement_is n i reader.waiting is ∙ waiting_is i) gives
 
 pub statement_returned : (r : Read StmtTree) (n : ℕ) (i : Input) → reader.lead_of (next_keyword i.tokens) ≡ reader.returned → Gives (λ a. a) r (simple reader.returned i) → Gives (λ a. a) r (statement n i)
 statement_returned r n i is gives = gives_other r (statement n i) _ (statement_is n i reader.returned is) gives

@@ -2,13 +2,14 @@
 use Rattle.std.proofs.Common.{ℕ, suc}
 use Rattle.dso_syntax.specs.declared.tree.ExprTree.{ExprTree}
 use Rattle.dso_syntax.specs.declared.tree.StmtTree.{StmtTree}
+use Rattle.dso_syntax.specs.declared.tree.StmtForm.{StmtForm}
 use Rattle.dso_syntax.specs.declared.tree.Item.{Item}
 use Rattle.dso_syntax.specs.declared.tree.Member.{Member}
 use Rattle.std.specs.Prelude.{List}
 use Rattle.dso_syntax.specs.Grammar as g
 use Rattle.dso_syntax.specs.Grammar.{Tokens, Binary, Unary, Postfix, Primary, Whole, Arguments, Listed}
 use Rattle.dso_syntax.specs.ProgramGrammar as p
-use Rattle.dso_syntax.specs.ProgramGrammar.{Parenthesized, Body, Block, Statement, Conditional, Declared, Members, Top, Tops}
+use Rattle.dso_syntax.specs.ProgramGrammar.{Parenthesized, Waited, Body, Block, Statement, Conditional, Declared, Members, Top, Tops}
 
 mutual
   pub lift_binary : {rank room left : ℕ} {ts : Tokens} {a : ExprTree} → Binary rank room left ts a → Binary rank (suc room) (suc left) ts a
@@ -43,8 +44,15 @@ mutual
   lift_listed (g.last d) = g.last (lift_whole d)
   lift_listed (g.more comma is d rest) = g.more comma is (lift_whole d) (lift_listed rest)
 
-pub lift_asked : {room : ℕ} {ts : Tokens} {a : ExprTree} → Parenthesized room ts a → Parenthesized (suc room) ts a
+pub lift_asked : {room : ℕ} {ts : Tokens} {a : ExprTree} → Parenthesized Whole room ts a → Parenthesized Whole (suc room) ts a
 lift_asked (p.parenthesized opening closing opens closes d) = p.parenthesized opening closing opens closes (lift_whole d)
+
+pub lift_waited : {room : ℕ} {ts : Tokens} {form : StmtForm} → Waited room ts form → Waited (suc room) ts form
+lift_waited (p.untimed d) = p.untimed (lift_whole d)
+lift_waited (p.timed comma is d e) = p.timed comma is (lift_whole d) (lift_whole e)
+
+pub lift_waiting : {room : ℕ} {ts : Tokens} {form : StmtForm} → Parenthesized Waited room ts form → Parenthesized Waited (suc room) ts form
+lift_waiting (p.parenthesized opening closing opens closes d) = p.parenthesized opening closing opens closes (lift_waited d)
 
 mutual
   pub lift_body : {room : ℕ} {ts : Tokens} {all : List StmtTree} → Body room ts all → Body (suc room) ts all
@@ -61,6 +69,7 @@ mutual
   lift_statement (p.conditional d) = p.conditional (lift_conditional d)
   lift_statement (p.guarded word which made is known d body) = p.guarded word which made is known (lift_asked d) (lift_block body)
   lift_statement (p.command word ending which made is known is_ending d) = p.command word ending which made is known is_ending (lift_asked d)
+  lift_statement (p.waiting word ending is is_ending d) = p.waiting word ending is is_ending (lift_waiting d)
   lift_statement (p.returned word ending is is_ending) = p.returned word ending is is_ending
   lift_statement (p.returned_with word ending is is_ending d) = p.returned_with word ending is is_ending (lift_whole d)
 

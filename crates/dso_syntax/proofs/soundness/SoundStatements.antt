@@ -14,9 +14,9 @@ use Rattle.dso_syntax.specs.declared.tree.ExprTree.{ExprTree, out-ExprTree}
 use Rattle.dso_syntax.specs.declared.tree.ExprForm.{out-ExprForm}
 use Rattle.dso_syntax.specs.Grammar.{Tokens, IsMark, IsKeyword, line_of, Whole}
 use Rattle.dso_syntax.specs.ProgramGrammar as p
-use Rattle.dso_syntax.specs.ProgramGrammar.{statement, command_of, guarded_of, is_place, Parenthesized, Body, Block, Statement, Conditional, Names, Parameters, Declared, Members, Top, Tops, IsProgram}
+use Rattle.dso_syntax.specs.ProgramGrammar.{statement, command_of, guarded_of, is_place, Parenthesized, Waited, Body, Block, Statement, Conditional, Names, Parameters, Declared, Members, Top, Tops, IsProgram}
 use Rattle.dso_syntax.specs.ExpressionReader.{Input, Outcome, Parser, and_then, pure, refuse, is_mark, is_keyword, next_mark, next_keyword, keyword_of, take_any, take_mark, take_keyword, enter, leave, open_mark, close_mark, take_name}
-use Rattle.dso_syntax.specs.ProgramReader.{parenthesized, until_brace, braced, lead_of, behind_expression, behind_return, behind_var, behind_then, chain, by_lead, one_statement, block}
+use Rattle.dso_syntax.specs.ProgramReader.{parenthesized, until_brace, braced, lead_of, behind_expression, behind_waited, waited, behind_return, behind_var, behind_then, chain, by_lead, one_statement, block}
 use Rattle.dso_syntax.proofs.completeness.ReadSteps.{at}
 use Rattle.dso_syntax.proofs.soundness.SoundSteps.{ok_is, err_is, steps, Took, took_any, mark_took, keyword_took, open_took, close_took, name_took, form_mark, form_keyword}
 use Rattle.dso_syntax.proofs.soundness.SoundExpressions.{Came, Sounds, entered}
@@ -29,21 +29,25 @@ SoundOf {A} R parser = (i : Input) (a : A) (j : Input) → parser i ≡ Ok (a, j
 pub finished : {A : Type 0} (R : ℕ → Tokens → A → Type 0) (i : Input) (a b : A) (l j : Input) → Came (λ ts. R i.room ts a) i i.room l → ◌≡◌ {A = Outcome A} (Ok (a, l)) (Ok (b, j)) → Came (λ ts. R i.room ts b) i i.room j
 finished {A} R i a b l j came read = subst (λ (p : A × Input). Came (λ ts. R i.room ts p.0) i i.room p.1) (ok_is (a, l) (b, j) read) came
 
--- an expression in parentheses
-pub asked_came : (expr : Parser ExprTree) → Sounds expr → SoundOf Parenthesized (parenthesized expr)
-asked_came expr sound i a j read =
-    let one = steps (open_mark m.OpenParen i) (λ _ j. and_then (expr j) (λ a l. and_then (close_mark m.CloseParen l) (λ _. pure a))) a j read in
+-- something in parentheses
+pub inside_came : {A : Type 0} (R : ℕ → Tokens → A → Type 0) (inner : Parser A) → SoundOf R inner → SoundOf (Parenthesized R) (parenthesized inner)
+inside_came R inner sound i a j read =
+    let one = steps (open_mark m.OpenParen i) (λ _ j. and_then (inner j) (λ a l. and_then (close_mark m.CloseParen l) (λ _. pure a))) a j read in
     let opening = open_took m.OpenParen i one.value one.between one.first in
-    let two = steps (expr one.between) (λ a l. and_then (close_mark m.CloseParen l) (λ _. pure a)) a j one.second in
-    let inner = sound one.between two.value two.between two.first in
+    let two = steps (inner one.between) (λ a l. and_then (close_mark m.CloseParen l) (λ _. pure a)) a j one.second in
+    let within = sound one.between two.value two.between two.first in
     let three = steps (close_mark m.CloseParen two.between) (λ _. pure two.value) a j two.second in
     let closing = close_took m.CloseParen two.between three.value three.between three.first in
-    finished Parenthesized i two.value a three.between j (record {
-      tokens = one.value ∷ inner.tokens ++ three.value ∷ [];
-      is = opening.is ∙ ap (λ z. one.value ∷ z) (inner.is ∙ ap (λ z. inner.tokens ++ z) closing.is ∙ sym (append_assoc inner.tokens (three.value ∷ []) three.between.tokens));
-      reads = subst (λ r. Parenthesized r (one.value ∷ inner.tokens ++ three.value ∷ []) two.value) (sym opening.room_is) (p.parenthesized one.value three.value opening.holds closing.holds inner.reads);
-      room_is = closing.room_is ∙ ap suc inner.room_is ∙ sym opening.room_is;
+    finished (Parenthesized R) i two.value a three.between j (record {
+      tokens = one.value ∷ within.tokens ++ three.value ∷ [];
+      is = opening.is ∙ ap (λ z. one.value ∷ z) (within.is ∙ ap (λ z. within.tokens ++ z) closing.is ∙ sym (append_assoc within.tokens (three.value ∷ []) three.between.tokens));
+      reads = subst (λ r. Parenthesized R r (one.value ∷ within.tokens ++ three.value ∷ []) two.value) (sym opening.room_is) (p.parenthesized one.value three.value opening.holds closing.holds within.reads);
+      room_is = closing.room_is ∙ ap suc within.room_is ∙ sym opening.room_is;
     }) three.second
+
+-- an expression in parentheses
+pub asked_came : (expr : Parser ExprTree) → Sounds expr → SoundOf (Parenthesized Whole) (parenthesized expr)
+asked_came expr sound = inside_came Whole expr sound
 
 -- items in a row
 pub record Rows {A : Type 0} (R : ℕ → Tokens → A → Type 0) (L : ℕ → Tokens → List A → Type 0) : Type 0 where
@@ -193,7 +197,7 @@ guarded_came expr block sound sound_block which made is_made i b j known read =
     finished Statement i (statement one.value.line (made two.value three.value)) b three.between j (record {
       tokens = one.value ∷ test.tokens ++ body.tokens;
       is = word.is ∙ ap (λ z. one.value ∷ z) (test.is ∙ ap (λ z. test.tokens ++ z) body.is ∙ sym (append_assoc test.tokens body.tokens three.between.tokens));
-      reads = p.guarded one.value which made word.holds is_made (subst (λ r. Parenthesized r test.tokens two.value) word.room_is test.reads) (subst (λ r. Block r body.tokens three.value) (test.room_is ∙ word.room_is) body.reads);
+      reads = p.guarded one.value which made word.holds is_made (subst (λ r. Parenthesized Whole r test.tokens two.value) word.room_is test.reads) (subst (λ r. Block r body.tokens three.value) (test.room_is ∙ word.room_is) body.reads);
       room_is = body.room_is ∙ test.room_is ∙ word.room_is;
     }) three.second
 
@@ -205,7 +209,45 @@ command_came expr sound which made is_made i b j known read =
     let two = steps (parenthesized expr one.between) (λ a l. and_then (take_mark m.Semicolon l) (λ _. pure (statement one.value.line (made a)))) b j one.second in
     let test = asked_came expr sound one.between two.value two.between two.first in
     semicolon_came i two.between (statement one.value.line (made two.value)) b j (one.value ∷ test.tokens) (word.is ∙ ap (λ z. one.value ∷ z) test.is) (test.room_is ∙ word.room_is) Statement
-    (λ ending is_ending. p.command one.value ending which made word.holds is_made is_ending (subst (λ r. Parenthesized r test.tokens two.value) word.room_is test.reads)) two.second
+    (λ ending is_ending. p.command one.value ending which made word.holds is_made is_ending (subst (λ r. Parenthesized Whole r test.tokens two.value) word.room_is test.reads)) two.second
+
+-- ---- a `wait`
+
+timed_came : (expr : Parser ExprTree) → Sounds expr → (i l : Input) (a : ExprTree) (b : StmtForm) (j : Input) → Came (λ ts. Whole i.room ts a) i i.room l → is_mark m.Comma (next_mark l.tokens) ≡ true
+    → and_then (take_any l) (λ _ j. and_then (expr j) (λ b. pure (s.TimedWait a b))) ≡ Ok (b, j) → Came (λ ts. Waited i.room ts b) i i.room j
+timed_came expr sound i l a b j came is_comma read =
+    let one = steps (take_any l) (λ _ j. and_then (expr j) (λ b. pure (s.TimedWait a b))) b j read in
+    let comma = took_any (IsMark m.Comma) l.room l.tokens one.value one.between (λ t rest same. form_mark m.Comma t.form (ap (λ z. is_mark m.Comma (next_mark z)) (sym same) ∙ is_comma)) one.first in
+    let two = steps (expr one.between) (λ b. pure (s.TimedWait a b)) b j one.second in
+    let inner = sound one.between two.value two.between two.first in
+    let room : one.between.room ≡ i.room = comma.room_is ∙ came.room_is in
+    finished Waited i (s.TimedWait a two.value) b two.between j (record {
+      tokens = came.tokens ++ one.value ∷ inner.tokens;
+      is = came.is ∙ ap (λ z. came.tokens ++ z) (comma.is ∙ ap (λ z. one.value ∷ z) inner.is) ∙ sym (append_assoc came.tokens (one.value ∷ inner.tokens) two.between.tokens);
+      reads = p.timed one.value comma.holds came.reads (subst (λ r. Whole r inner.tokens two.value) room inner.reads);
+      room_is = inner.room_is ∙ room;
+    }) two.second
+
+waited_pick : (expr : Parser ExprTree) → Sounds expr → (i l : Input) (a : ExprTree) (b : StmtForm) (j : Input) → Came (λ ts. Whole i.room ts a) i i.room l → (test : Bool) → is_mark m.Comma (next_mark l.tokens) ≡ test
+    → cond {A = Outcome StmtForm} test (and_then (take_any l) (λ _ j. and_then (expr j) (λ b. pure (s.TimedWait a b)))) (Ok (s.Wait a, l)) ≡ Ok (b, j) → Came (λ ts. Waited i.room ts b) i i.room j
+waited_pick expr sound i l a b j came true is read = timed_came expr sound i l a b j came is read
+waited_pick expr sound i l a b j came false is read = finished Waited i (s.Wait a) b l j (record { tokens = came.tokens; is = came.is; reads = p.untimed came.reads; room_is = came.room_is }) read
+
+-- what a `wait` has in its parentheses
+pub waited_came : (expr : Parser ExprTree) → Sounds expr → SoundOf Waited (waited expr)
+waited_came expr sound i b j read =
+    let one = steps (expr i) (behind_waited expr) b j read in
+    waited_pick expr sound i one.between one.value b j (sound i one.value one.between one.first) (is_mark m.Comma (next_mark one.between.tokens)) refl one.second
+
+waiting_came : (expr : Parser ExprTree) → Sounds expr → (i : Input) (b : StmtTree) (j : Input) → next_keyword i.tokens ≡ Some k.Wait
+    → and_then (take_any i) (λ t j. and_then (parenthesized (waited expr) j) (λ form l. and_then (take_mark m.Semicolon l) (λ _. pure (statement t.line form)))) ≡ Ok (b, j) → StatementOf i b j
+waiting_came expr sound i b j known read =
+    let one = steps (take_any i) (λ t j. and_then (parenthesized (waited expr) j) (λ form l. and_then (take_mark m.Semicolon l) (λ _. pure (statement t.line form)))) b j read in
+    let word = word_took k.Wait i one.value one.between known one.first in
+    let two = steps (parenthesized (waited expr) one.between) (λ form l. and_then (take_mark m.Semicolon l) (λ _. pure (statement one.value.line form))) b j one.second in
+    let inside = inside_came Waited (waited expr) (waited_came expr sound) one.between two.value two.between two.first in
+    semicolon_came i two.between (statement one.value.line two.value) b j (one.value ∷ inside.tokens) (word.is ∙ ap (λ z. one.value ∷ z) inside.is) (inside.room_is ∙ word.room_is) Statement
+    (λ ending is_ending. p.waiting one.value ending word.holds is_ending (subst (λ r. Parenthesized Waited r inside.tokens two.value) word.room_is inside.reads)) two.second
 
 -- ---- conditionals
 
@@ -215,7 +257,7 @@ pub record Tested (i : Input) (word : Token) (a : ExprTree) (all : List StmtTree
   pub body : Tokens
   pub is : i.tokens ≡ word ∷ test ++ (body ++ l.tokens)
   pub if_word : IsKeyword k.If word
-  pub suffixes : Parenthesized i.room test a
+  pub suffixes : Parenthesized Whole i.room test a
   pub does : Block i.room body all
   pub room_is : l.room ≡ i.room
 
@@ -262,7 +304,7 @@ chained_came next sound i l q word other a all b j tested took read =
       tokens = word ∷ tested.test ++ (tested.body ++ other ∷ inner.tokens);
       is = with_else i l word other a all tested inner.tokens one.between.tokens (took.is ∙ ap (λ z. other ∷ z) (level.is ∙ inner.is));
       reads = subst (λ r. Conditional r (word ∷ tested.test ++ (tested.body ++ other ∷ inner.tokens)) (statement word.line (s.If a all (one.value ∷ [])))) (sym room)
-          (p.chained word other tested.if_word took.holds (subst (λ r. Parenthesized r tested.test a) room tested.suffixes) (subst (λ r. Block r tested.body all) room tested.does) inner.reads);
+          (p.chained word other tested.if_word took.holds (subst (λ r. Parenthesized Whole r tested.test a) room tested.suffixes) (subst (λ r. Block r tested.body all) room tested.does) inner.reads);
       room_is = ap suc inner.room_is ∙ sym room;
     }) one.second
 
@@ -294,7 +336,7 @@ if_came expr block next sound sound_block sound_next i b j read =
       body = body.tokens;
       is = word.is ∙ ap (λ z. one.value ∷ z) (test.is ∙ ap (λ z. test.tokens ++ z) body.is);
       if_word = word.holds;
-      suffixes = subst (λ r. Parenthesized r test.tokens two.value) word.room_is test.reads;
+      suffixes = subst (λ r. Parenthesized Whole r test.tokens two.value) word.room_is test.reads;
       does = subst (λ r. Block r body.tokens three.value) (test.room_is ∙ word.room_is) body.reads;
       room_is = body.room_is ∙ test.room_is ∙ word.room_is;
     }) (is_keyword k.Else (next_keyword three.between.tokens)) refl three.second
@@ -315,7 +357,7 @@ by_keyword expr block n sound sound_block i b j (Some k.Var) known read = let on
 by_keyword expr block n sound sound_block i b j (Some k.If) known read = let came = chain_came expr block sound sound_block n i b j read in record { tokens = came.tokens; is = came.is; reads = p.conditional came.reads; room_is = came.room_is }
 by_keyword expr block n sound sound_block i b j (Some k.Else) known read = plain_came expr sound i b j read
 by_keyword expr block n sound sound_block i b j (Some k.While) known read = guarded_came expr block sound sound_block k.While s.While refl i b j known read
-by_keyword expr block n sound sound_block i b j (Some k.Wait) known read = command_came expr sound k.Wait s.Wait refl i b j known read
+by_keyword expr block n sound sound_block i b j (Some k.Wait) known read = waiting_came expr sound i b j known read
 by_keyword expr block n sound sound_block i b j (Some k.Notify) known read = command_came expr sound k.Notify s.Notify refl i b j known read
 by_keyword expr block n sound sound_block i b j (Some k.NotifyAll) known read = command_came expr sound k.NotifyAll s.NotifyAll refl i b j known read
 by_keyword expr block n sound sound_block i b j (Some k.Print) known read = command_came expr sound k.Print s.Print refl i b j known read

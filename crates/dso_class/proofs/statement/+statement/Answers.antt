@@ -13,7 +13,7 @@ use Rattle.dso_class.specs.StatementWalk.{known_after}
 use Rattle.dso_class.specs.BodyWalk.{owner_in, known_in, met_in}
 use Rattle.dso_class.proofs.walks.Blocks.{one_more, known_more, first_of, means_more, each_assignable}
 use Rattle.dso_class.proofs.walks.Knowing.{at_known, forgotten, stack_grows, stack_higher, stack_back}
-use Rattle.dso_class.proofs.mentions.OfStatements.{of_stmt, at_var, at_assign, at_eval, at_if, at_while, at_sync, at_wait, at_notify, at_notify_all, at_print, at_return}
+use Rattle.dso_class.proofs.mentions.OfStatements.{of_stmt, at_var, at_assign, at_eval, at_if, at_while, at_sync, at_wait, at_timed_wait, at_notify, at_notify_all, at_print, at_return}
 use Rattle.dso_class.proofs.walks.BodyParts.{second_of_three, third_of_three, three_made, within_fails, first_fails, second_fails, both_made, only_fails, one_made, none_made, only_tail}
 use Rattle.dso_class.proofs.statement.+statement.Goals as goal
 
@@ -34,6 +34,15 @@ statement-returns-in-Assign-clause-walks t c source before place has =
     let form = c.in-Assign.is in
     only_tail c.assigned.result (at_assign owner tree c.in-Assign.target c.in-Assign.value known form)
     (λ n a means. of_stmt n tree (s.Assign c.in-Assign.target c.in-Assign.value) a form (means (out-StmtTree tree).line)) (c.assigned.ensures source before place has)
+
+pub statement-returns-in-TimedWait-clause-walks : goal.statement-returns-in-TimedWait-clause-walks
+statement-returns-in-TimedWait-clause-walks t c source before place has =
+    let tree = c.args.tree.now in
+    let owner = owner_in c.args.place.now in
+    let known = known_in c.args.scope.now in
+    let form = c.in-TimedWait.is in
+    only_tail c.timed_wait.result (at_timed_wait owner tree c.in-TimedWait.on c.in-TimedWait.ticks known form)
+    (λ n a means. of_stmt n tree (s.TimedWait c.in-TimedWait.on c.in-TimedWait.ticks) a form (means (out-StmtTree tree).line)) (c.timed_wait.ensures source before place has)
 
 pub statement-returns-in_err-value_of-in-Eval-clause-walks : goal.statement-returns-in_err-value_of-in-Eval-clause-walks
 statement-returns-in_err-value_of-in-Eval-clause-walks t c source before place has =
