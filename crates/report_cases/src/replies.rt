@@ -55,9 +55,7 @@ pub(crate) fn is_listed(request: Request, reply: Reply) -> bool
         Request::Enter(..) => is_enter_reply(reply),
         Request::Wait(_) => is_monitor_reply(reply),
         Request::Tick(_) => matches!(reply, Reply::Val(Value::Bool(_))),
-        Request::Timeout(_) => {
-            matches!(reply, Reply::Done | Reply::Val(Value::Bool(true)))
-        }
+        Request::Timeout(_) => matches!(reply, Reply::Done | Reply::Val(Value::Bool(true))),
         Request::Notify(_) => is_monitor_reply(reply),
         Request::NotifyAll(_) => is_monitor_reply(reply),
         _ => matches!(reply, Reply::Done),
