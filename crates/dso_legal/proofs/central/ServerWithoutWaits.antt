@@ -65,15 +65,16 @@ module _ (p : Settings) (next : ThreadId → List Event → Option Request) wher
   pub first_is_calm : (c : ℕ) (m : Up) (es : List Entry) → AllFollow p next es → WithoutWaits es → IsFirst m (up_in_flight c es) → IsCalmUp m
   first_is_calm c m es follow calm first = first_of_calm m (up_in_flight c es) first (calm_ways c es follow calm)
 
--- a record of no notifications that isn't of a timeout wakes nobody
+-- an ending that is no timeout wakes nobody
+pub none_late : (t : ThreadId) (end : Ending) (lists : LockName → List ThreadId) → IsInTime end → wakes_timed_out t end lists ≡ []
+none_late t (ending.Exit l) lists in_time = refl
+none_late t (ending.Wait l) lists in_time = refl
+none_late t (ending.End fault) lists in_time = refl
+none_late t (ending.Timeout l) lists in_time = absurd in_time
+
+-- so does a record of no notifications with such an ending
 wakes_nobody : (txn : Txn) (lists : LockName → List ThreadId) → IsCalmUp (up.Commit txn) → wakes_of txn lists ≡ []
-wakes_nobody txn lists calm = ap (λ notes. wakes notes lists ++ wakes_timed_out txn.thread txn.ending (lists_noted notes lists)) calm.0 ∙ in_time txn.thread txn.ending calm.1
-  where
-    in_time : (t : ThreadId) (end : Ending) → IsInTime end → wakes_timed_out t end lists ≡ []
-    in_time t (ending.Exit l) calm = refl
-    in_time t (ending.Wait l) calm = refl
-    in_time t (ending.End fault) calm = refl
-    in_time t (ending.Timeout l) calm = absurd calm
+wakes_nobody txn lists calm = ap (λ notes. wakes notes lists ++ wakes_timed_out txn.thread txn.ending (lists_noted notes lists)) calm.0 ∙ none_late txn.thread txn.ending lists calm.1
 
 -- For a record its client is told that it was taken, each other one the sets of objects that it holds; and nobody is woken.
 pub told_of_record : (p : Settings) (next : ThreadId → List Event → Option Request) (c d : ℕ) (txn : Txn) (e : Entry) (es : List Entry) → AllFollow p next es → WithoutWaits es → ServerFollows p next e es

@@ -1,6 +1,7 @@
 -- A part of the machine asks what a course asks, whatever the replies are: here for each kind of request.
-use Rattle.std.proofs.Common.{◌≡◌, refl, sym, ap, ℕ, Bool, true, false, List, [], ◌∷◌, fold, None}
-use Rattle.dso_base.specs.declared.lock.Level.{Level}
+use Rattle.std.proofs.Common.{◌≡◌, refl, sym, ◌∙◌, ap, ℕ, Bool, true, false, List, [], ◌∷◌, fold, None}
+use Rattle.dso_base.specs.declared.lock.Grade.{Grade}
+use Rattle.dso_base.specs.declared.lock.Grade.TheVariants as grade
 use Rattle.dso_base.specs.declared.lock.LockName.{LockName}
 use Rattle.dso_base.specs.declared.request.Event.{Event}
 use Rattle.dso_base.specs.declared.request.Event.TheVariants.{Act, Lost}
@@ -15,7 +16,7 @@ use Rattle.dso_base.specs.declared.value.Value.{Value}
 use Rattle.dso_base.specs.declared.value.Value.TheVariants as value
 use Rattle.dso_machine.specs.Expressions.{make}
 use Rattle.dso_machine.specs.Next.{finish, request_of, replies_in}
-use Rattle.dso_machine.specs.Outcome.{Environment, State, Outcome, Wants, Gives, Fails, Meaning, tell, get, look, leave, under}
+use Rattle.dso_machine.specs.Outcome.{Environment, State, Outcome, Wants, Gives, Fails, Meaning, tell, get, look, level_of, settling, leave, under}
 use Rattle.dso_run.proofs.first_path.Course.{Course, Over, Asks, asked, answered, after}
 use Rattle.dso_run.proofs.first_path.Counting.{ends, fails, if_done, if_counter, if_field, if_made, if_value, if_entered, released, stops}
 
@@ -100,40 +101,53 @@ module _ (around : Outcome → Outcome) (passes : (q : Request) → around (Want
     get_follows o field rest goes (Refused fault ∷ replies) = faults fault replies
     get_follows o field rest goes (reply ∷ replies) = faults BadValue replies
 
--- a part under a lock, which is left at its end where the thread holds it
-abbrev pub leave_held : Bool → LockName → Outcome → Outcome
-leave_held true l outcome = leave l outcome
-leave_held false l outcome = outcome
+-- a part under a lock that was entered at this grade, which is left at its end where the thread holds it
+abbrev pub leave_held : Bool → LockName → Grade → Outcome → Outcome
+leave_held true l grade outcome = leave l grade outcome
+leave_held false l grade outcome = outcome
 
 -- it passes on what is wanted
-pub leave_passes : (held : Bool) (l : LockName) (q : Request) → leave_held held l (Wants q) ≡ Wants q
-leave_passes true l q = refl
-leave_passes false l q = refl
+pub leave_passes : (held : Bool) (l : LockName) (grade : Grade) (q : Request) → leave_held held l grade (Wants q) ≡ Wants q
+leave_passes true l grade q = refl
+leave_passes false l grade q = refl
+
+-- after an entry at this grade the thread doesn't settle
+abbrev pub NeedsNoSettling : Grade → Type 0
+NeedsNoSettling grade.Read = Unit {0}
+NeedsNoSettling grade.Write = Unit {0}
+NeedsNoSettling grade.Synchronous = ⊥
+
+-- so it goes on at once
+goes_on : (grade : Grade) (m : Meaning) (state : State) → NeedsNoSettling grade → settling grade m state ≡ m state
+goes_on grade.Read m state brief = refl
+goes_on grade.Write m state brief = refl
+goes_on grade.Synchronous m state brief = absurd brief
 
 module _ (around : Outcome → Outcome) (passes : (q : Request) → around (Wants q) ≡ Wants q) (faults : (environment : Environment) → FaultFollows around passes environment 0 fails) where
   -- a part under a lock
-  pub under_follows : (environment : Environment) (moves : ℕ) (l : LockName) (level : Level) (m : Meaning) (rest : Bool → Course)
-      → ((held : Bool) → Follows (λ replies. around (leave_held held l (m (at environment 0 replies)))) (rest held))
-      → Follows (λ replies. around (under l level m (at environment moves replies))) (Asks (request.Enter l level) (if_entered rest))
-  under_follows environment moves l level m rest goes [] = ap request_of (passes (request.Enter l level))
-  under_follows environment moves l level m rest goes (Done ∷ replies) = goes true replies
-  under_follows environment moves l level m rest goes (Local ∷ replies) = goes false replies
-  under_follows environment moves l level m rest goes (Refused fault ∷ replies) = faults environment fault replies
-  under_follows environment moves l level m rest goes (reply ∷ replies) = faults environment BadValue replies
+  pub under_follows : (environment : Environment) (moves : ℕ) (l : LockName) (grade : Grade) (m : Meaning) (rest : Bool → Course)
+      → ((held : Bool) → Follows (λ replies. around (leave_held held l grade (m (at environment 0 replies)))) (rest held))
+      → Follows (λ replies. around (under l grade m (at environment moves replies))) (Asks (request.Enter l (level_of grade)) (if_entered rest))
+  under_follows environment moves l grade m rest goes [] = ap request_of (passes (request.Enter l (level_of grade)))
+  under_follows environment moves l grade m rest goes (Done ∷ replies) = goes true replies
+  under_follows environment moves l grade m rest goes (Local ∷ replies) = goes false replies
+  under_follows environment moves l grade m rest goes (Refused fault ∷ replies) = faults environment fault replies
+  under_follows environment moves l grade m rest goes (reply ∷ replies) = faults environment BadValue replies
 
   -- the end of such a part by a fault,
-  pub stop_follows : (held : Bool) (l : LockName) (environment : Environment) (fault : Fault) → Follows (λ replies. around (leave_held held l (Fails fault (at environment 0 replies)))) (stops held l fault)
-  stop_follows false l environment fault replies = faults environment fault replies
-  stop_follows true l environment fault [] = ap request_of (passes (request.Exit l))
-  stop_follows true l environment fault (Done ∷ replies) = faults environment fault replies
-  stop_follows true l environment fault (Refused other ∷ replies) = faults environment other replies
-  stop_follows true l environment fault (reply ∷ replies) = faults environment BadValue replies
+  pub stop_follows : (held : Bool) (l : LockName) (grade : Grade) → NeedsNoSettling grade → (environment : Environment) (fault : Fault)
+      → Follows (λ replies. around (leave_held held l grade (Fails fault (at environment 0 replies)))) (stops held l fault)
+  stop_follows false l grade brief environment fault replies = faults environment fault replies
+  stop_follows true l grade brief environment fault [] = ap request_of (passes (request.Exit l))
+  stop_follows true l grade brief environment fault (Done ∷ replies) = ap (λ outcome. request_of (around outcome)) (goes_on grade (Fails fault) (at environment 0 replies) brief) ∙ faults environment fault replies
+  stop_follows true l grade brief environment fault (Refused other ∷ replies) = faults environment other replies
+  stop_follows true l grade brief environment fault (reply ∷ replies) = faults environment BadValue replies
 
   -- and with a value
-  pub release_follows : (held : Bool) (l : LockName) (environment : Environment) (v : Value) (rest : Course) → Follows (λ replies. around (Gives v (at environment 0 replies))) rest
-      → Follows (λ replies. around (leave_held held l (Gives v (at environment 0 replies)))) (released held l rest)
-  release_follows false l environment v rest goes replies = goes replies
-  release_follows true l environment v rest goes [] = ap request_of (passes (request.Exit l))
-  release_follows true l environment v rest goes (Done ∷ replies) = goes replies
-  release_follows true l environment v rest goes (Refused other ∷ replies) = faults environment other replies
-  release_follows true l environment v rest goes (reply ∷ replies) = faults environment BadValue replies
+  pub release_follows : (held : Bool) (l : LockName) (grade : Grade) → NeedsNoSettling grade → (environment : Environment) (v : Value) (rest : Course) → Follows (λ replies. around (Gives v (at environment 0 replies))) rest
+      → Follows (λ replies. around (leave_held held l grade (Gives v (at environment 0 replies)))) (released held l rest)
+  release_follows false l grade brief environment v rest goes replies = goes replies
+  release_follows true l grade brief environment v rest goes [] = ap request_of (passes (request.Exit l))
+  release_follows true l grade brief environment v rest goes (Done ∷ replies) = ap (λ outcome. request_of (around outcome)) (goes_on grade (Gives v) (at environment 0 replies) brief) ∙ goes replies
+  release_follows true l grade brief environment v rest goes (Refused other ∷ replies) = faults environment other replies
+  release_follows true l grade brief environment v rest goes (reply ∷ replies) = faults environment BadValue replies

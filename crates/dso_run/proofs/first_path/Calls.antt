@@ -298,15 +298,15 @@ module _ {named : Bool} {numbers : List ℤ} (n : ℤ) (rest : Course) (v : ℤ)
   }
 
   abbrev entry_12 : Entry
-  entry_12 = Storing.it named numbers t_11 r_11 w_11 es_11 now_11 (put_of v n ∷ []) (value.Long (sum v n) ∷ []) (ending.Exit (Mon 1)) (suc w_10.client) [] (sum v n) refl fits refl
+  entry_12 = Storing.it named numbers t_11 r_11 w_11 es_11 now_11 (put_of v n ∷ []) (value.Long (sum v n) ∷ []) (ending.Exit (Mon 1)) (suc w_10.client) [] (sum v n) refl fits refl tt
 
   step_12 : Step named numbers es_11 entry_12
   step_12 = up_after_act named numbers t_11 r_11 w_11 es_11 now_11 entry_12 (may_act settings 1 (next_after (next named numbers) es_11) the_thread (own es_11)) _ _ refl refl refl
-      (Storing.is_next named numbers t_11 r_11 w_11 es_11 now_11 (put_of v n ∷ []) (value.Long (sum v n) ∷ []) (ending.Exit (Mon 1)) (suc w_10.client) [] (sum v n) refl fits refl) refl
-      (Storing.may_follow named numbers t_11 r_11 w_11 es_11 now_11 (put_of v n ∷ []) (value.Long (sum v n) ∷ []) (ending.Exit (Mon 1)) (suc w_10.client) [] (sum v n) refl fits refl) (going now_11 refl) refl refl refl
+      (Storing.is_next named numbers t_11 r_11 w_11 es_11 now_11 (put_of v n ∷ []) (value.Long (sum v n) ∷ []) (ending.Exit (Mon 1)) (suc w_10.client) [] (sum v n) refl fits refl tt) refl
+      (Storing.may_follow named numbers t_11 r_11 w_11 es_11 now_11 (put_of v n ∷ []) (value.Long (sum v n) ∷ []) (ending.Exit (Mon 1)) (suc w_10.client) [] (sum v n) refl fits refl tt) (going now_11 refl) refl refl refl
 
   now_12 : Now named numbers (between rest (Some (class.Plain 0, 1))) (all_taken (sum v n) (suc s) record_11) (acknowledged (suc s) (suc (max a (suc w_10.client))) (suc w_10.client) (suc (max a (suc w_10.client)))) (entry_12 ∷ es_11)
-  now_12 = Storing.still named numbers t_11 r_11 w_11 es_11 now_11 (put_of v n ∷ []) (value.Long (sum v n) ∷ []) (ending.Exit (Mon 1)) (suc w_10.client) [] (sum v n) refl fits refl
+  now_12 = Storing.still named numbers t_11 r_11 w_11 es_11 now_11 (put_of v n ∷ []) (value.Long (sum v n) ∷ []) (ending.Exit (Mon 1)) (suc w_10.client) [] (sum v n) refl fits refl tt
 
   -- The call is made, and from its end on the run goes on.
   pub called_inside : ((next_txn : Txn) (next_k next_c next_a : ℕ) (later : List Entry)

@@ -1,7 +1,8 @@
 -- The machine's requests on the counter's code are those of its course.
 use Rattle.std.proofs.Common.{◌≡◌, refl, sym, ◌∙◌, ap, ℕ, zero, suc, ◌+◌, ◌*◌, Bool, true, false, not, cond, eqb, subst, List, [], ◌∷◌, map, length, ℤ, pos, None, Some, arith}
 use Rattle.std.proofs.Math.Path.{fun_ext}
-use Rattle.dso_base.specs.declared.lock.Level.TheVariants.{Read, Write}
+use Rattle.dso_base.specs.declared.lock.Grade.TheVariants as grade
+use Rattle.dso_base.specs.declared.lock.Level.TheVariants.{Write}
 use Rattle.dso_base.specs.declared.lock.LockName.TheVariants.{Mon, Name}
 use Rattle.dso_base.specs.declared.request.Event.{Event}
 use Rattle.dso_base.specs.declared.request.Fault.{Fault}
@@ -65,13 +66,13 @@ module _ (named : Bool) (around : Outcome → Outcome) (passes : (q : Request) �
 
   -- what is around the method's body
   abbrev outside : Outcome → Outcome
-  outside outcome = around (leave_held held (Mon o) (back_in caller outcome))
+  outside outcome = around (leave_held held (Mon o) grade.Write (back_in caller outcome))
 
   wants : (q : Request) → outside (Wants q) ≡ Wants q
-  wants q = ap around (leave_passes held (Mon o) q) ∙ passes q
+  wants q = ap around (leave_passes held (Mon o) grade.Write q) ∙ passes q
 
   stop : (fault : Fault) → Follows (λ replies. outside (Fails fault (at environment 0 replies))) (stops held (Mon o) fault)
-  stop = stop_follows around passes faults held (Mon o) environment
+  stop = stop_follows around passes faults held (Mon o) grade.Write tt environment
 
   -- `print(this.F)`, and the method's end
   prints_follows : Follows (λ replies. outside (seq (form.prints named ∷ []) (at environment 0 replies))) (counting.prints named held o rest)
@@ -79,7 +80,7 @@ module _ (named : Bool) (around : Outcome → Outcome) (passes : (q : Request) �
       named (field_in (the_field named) o) o (counting.prints_value held o rest) (counting.gets_value held o rest)
       (field_follows named (λ outcome. outside (on_value (λ v. seq []) (on_value (λ v. tell (request.Print v)) outcome))) wants environment (stops held (Mon o)) stop o (counting.prints_value held o rest)
       (λ v. tell_follows (λ outcome. outside (on_value (λ v. seq []) outcome)) wants environment 0 (stops held (Mon o)) stop (request.Print v) (released held (Mon o) rest)
-      (release_follows around passes faults held (Mon o) caller value.Null rest goes)))
+      (release_follows around passes faults held (Mon o) grade.Write tt caller value.Null rest goes)))
 
   -- the sum is put
   puts_follows : (v : Value) → Follows (λ replies. outside (on_value (λ v. seq (form.prints named ∷ [])) (on_value (form.put_sum named (value.Ref o)) (form.add_variable v (at environment 0 replies))))) (counting.puts_sum named held o n rest v)
@@ -109,7 +110,7 @@ module _ (named : Bool) (numbers : List ℤ) where
   -- the method on an object of any class
   method_follows : (o : ℕ) (n : ℤ) (ns : List ℤ) → Follows (λ replies. then_calls ns (Gives value.Null (at (thread_environment (value.Ref o)) 0 replies))) (counting.calls_all named o ns) → (class : ClassId) (size : ℕ)
       → Follows (λ replies. then_calls ns (call_in (counter_code named numbers) (form.ways named) ((0, 0) ∷ []) (value.Long n ∷ []) o class size (at (thread_environment (value.Ref o)) 0 replies))) (if_counter fails (counting.runs_method named o n (counting.calls_all named o ns)) (Seen class size))
-  method_follows o n ns goes (Plain zero) size = under_follows (then_calls ns) (λ q. refl) (λ environment fault. fault_follows fault environment 0) (thread_environment (value.Ref o)) 0 (Mon o) Write _ _
+  method_follows o n ns goes (Plain zero) size = under_follows (then_calls ns) (λ q. refl) (λ environment fault. fault_follows fault environment 0) (thread_environment (value.Ref o)) 0 (Mon o) grade.Write _ _
       (λ held. adds_follows named (then_calls ns) (λ q. refl) (λ environment fault. fault_follows fault environment 0) (thread_environment (value.Ref o)) o n 62 (counting.calls_all named o ns) goes held 1)
   method_follows o n ns goes (Plain (suc c)) size =
       subst (λ place. Follows (λ replies. then_calls ns (call_number (counter_code named numbers) (form.ways named) o (value.Long n ∷ []) place (at (thread_environment (value.Ref o)) 0 replies))) (fails NoSuchField)) (sym (no_place c))
@@ -139,13 +140,13 @@ module _ (named : Bool) (numbers : List ℤ) where
   abbrev then_reads : List ℤ → Outcome → Outcome
   then_reads ns outcome = finish (on_value (λ v. seq (map (form.call named (counter_code named numbers)) ns)) (on_value (assign 0) outcome))
 
-  read_follows : (ns : List ℤ) (held : Bool) → Follows (λ replies. then_reads ns (leave_held held (Name 0) (get 0 0 (at (thread_environment value.Null) 0 replies)))) (counting.gets_root (counting.calls_on named ns) held)
-  read_follows ns held = get_follows (λ outcome. then_reads ns (leave_held held (Name 0) outcome)) (λ q. ap (then_reads ns) (leave_passes held (Name 0) q)) (thread_environment value.Null) 0 (stops held (Name 0))
-      (stop_follows (then_reads ns) (λ q. refl) (λ environment fault. fault_follows fault environment 0) held (Name 0) (thread_environment value.Null)) 0 0 (λ v. released held (Name 0) (counting.calls_on named ns v))
-      (λ v. release_follows (then_reads ns) (λ q. refl) (λ environment fault. fault_follows fault environment 0) held (Name 0) (thread_environment value.Null) v (counting.calls_on named ns v) (calls_on_follow ns v))
+  read_follows : (ns : List ℤ) (held : Bool) → Follows (λ replies. then_reads ns (leave_held held (Name 0) grade.Read (get 0 0 (at (thread_environment value.Null) 0 replies)))) (counting.gets_root (counting.calls_on named ns) held)
+  read_follows ns held = get_follows (λ outcome. then_reads ns (leave_held held (Name 0) grade.Read outcome)) (λ q. ap (then_reads ns) (leave_passes held (Name 0) grade.Read q)) (thread_environment value.Null) 0 (stops held (Name 0))
+      (stop_follows (then_reads ns) (λ q. refl) (λ environment fault. fault_follows fault environment 0) held (Name 0) grade.Read tt (thread_environment value.Null)) 0 0 (λ v. released held (Name 0) (counting.calls_on named ns v))
+      (λ v. release_follows (then_reads ns) (λ q. refl) (λ environment fault. fault_follows fault environment 0) held (Name 0) grade.Read tt (thread_environment value.Null) v (counting.calls_on named ns v) (calls_on_follow ns v))
 
   reads_follow : (ns : List ℤ) → Follows (λ replies. finish (seq (form.reads ∷ map (form.call named (counter_code named numbers)) ns) (at (thread_environment value.Null) 0 replies))) (counting.reads_root (counting.calls_on named ns))
-  reads_follow ns = under_follows (then_reads ns) (λ q. refl) (λ environment fault. fault_follows fault environment 0) (thread_environment value.Null) 0 (Name 0) Read (get 0 0) (counting.gets_root (counting.calls_on named ns)) (read_follows ns)
+  reads_follow ns = under_follows (then_reads ns) (λ q. refl) (λ environment fault. fault_follows fault environment 0) (thread_environment value.Null) 0 (Name 0) grade.Read (get 0 0) (counting.gets_root (counting.calls_on named ns)) (read_follows ns)
 
   -- what follows the first statement
   abbrev then_all : List ℤ → Outcome → Outcome
@@ -153,24 +154,24 @@ module _ (named : Bool) (numbers : List ℤ) where
 
   -- the root is bound where it is null
   null_follows : (ns : List ℤ) (o : ℕ) (held : Bool) (v : Value)
-      → Follows (λ replies. then_all ns (leave_held held (Name 0) (bind_null 0 (value.Ref o) v (at (thread_environment value.Null) 0 replies)))) (counting.binds_null held o (counting.reads_root (counting.calls_on named ns)) v)
-  null_follows ns o held value.Null = tell_follows (λ outcome. then_all ns (leave_held held (Name 0) outcome)) (λ q. ap (then_all ns) (leave_passes held (Name 0) q)) (thread_environment value.Null) 0 (stops held (Name 0))
-      (stop_follows (then_all ns) (λ q. refl) (λ environment fault. fault_follows fault environment 0) held (Name 0) (thread_environment value.Null)) (request.Put 0 0 (value.Ref o)) (released held (Name 0) (counting.reads_root (counting.calls_on named ns)))
-      (release_follows (then_all ns) (λ q. refl) (λ environment fault. fault_follows fault environment 0) held (Name 0) (thread_environment value.Null) value.Null (counting.reads_root (counting.calls_on named ns)) (reads_follow ns))
-  null_follows ns o held v = release_follows (then_all ns) (λ q. refl) (λ environment fault. fault_follows fault environment 0) held (Name 0) (thread_environment value.Null) value.Null (counting.reads_root (counting.calls_on named ns)) (reads_follow ns)
+      → Follows (λ replies. then_all ns (leave_held held (Name 0) grade.Write (bind_null 0 (value.Ref o) v (at (thread_environment value.Null) 0 replies)))) (counting.binds_null held o (counting.reads_root (counting.calls_on named ns)) v)
+  null_follows ns o held value.Null = tell_follows (λ outcome. then_all ns (leave_held held (Name 0) grade.Write outcome)) (λ q. ap (then_all ns) (leave_passes held (Name 0) grade.Write q)) (thread_environment value.Null) 0 (stops held (Name 0))
+      (stop_follows (then_all ns) (λ q. refl) (λ environment fault. fault_follows fault environment 0) held (Name 0) grade.Write tt (thread_environment value.Null)) (request.Put 0 0 (value.Ref o)) (released held (Name 0) (counting.reads_root (counting.calls_on named ns)))
+      (release_follows (then_all ns) (λ q. refl) (λ environment fault. fault_follows fault environment 0) held (Name 0) grade.Write tt (thread_environment value.Null) value.Null (counting.reads_root (counting.calls_on named ns)) (reads_follow ns))
+  null_follows ns o held v = release_follows (then_all ns) (λ q. refl) (λ environment fault. fault_follows fault environment 0) held (Name 0) grade.Write tt (thread_environment value.Null) value.Null (counting.reads_root (counting.calls_on named ns)) (reads_follow ns)
 
   -- so under the root's lock
   under_lock_follows : (ns : List ℤ) (o : ℕ) (held : Bool)
-      → Follows (λ replies. then_all ns (leave_held held (Name 0) (on_value (bind_null 0 (value.Ref o)) (get 0 0 (at (thread_environment value.Null) 0 replies))))) (counting.binds_under (counting.reads_root (counting.calls_on named ns)) o held)
-  under_lock_follows ns o held = get_follows (λ outcome. then_all ns (leave_held held (Name 0) (on_value (bind_null 0 (value.Ref o)) outcome))) (λ q. ap (then_all ns) (leave_passes held (Name 0) q)) (thread_environment value.Null) 0
-      (stops held (Name 0)) (stop_follows (then_all ns) (λ q. refl) (λ environment fault. fault_follows fault environment 0) held (Name 0) (thread_environment value.Null)) 0 0
+      → Follows (λ replies. then_all ns (leave_held held (Name 0) grade.Write (on_value (bind_null 0 (value.Ref o)) (get 0 0 (at (thread_environment value.Null) 0 replies))))) (counting.binds_under (counting.reads_root (counting.calls_on named ns)) o held)
+  under_lock_follows ns o held = get_follows (λ outcome. then_all ns (leave_held held (Name 0) grade.Write (on_value (bind_null 0 (value.Ref o)) outcome))) (λ q. ap (then_all ns) (leave_passes held (Name 0) grade.Write q)) (thread_environment value.Null) 0
+      (stops held (Name 0)) (stop_follows (then_all ns) (λ q. refl) (λ environment fault. fault_follows fault environment 0) held (Name 0) grade.Write tt (thread_environment value.Null)) 0 0
       (counting.binds_null held o (counting.reads_root (counting.calls_on named ns))) (null_follows ns o held)
 
   -- the root is bound to an object, where it isn't object 0
   bind_follows : (ns : List ℤ) (o : ℕ) (none : Bool) → Follows (λ replies. then_all ns (choose (not none) (bind 0 (value.Ref o)) (Fails BadValue) (at (thread_environment value.Null) 0 replies)))
       (cond none (fails BadValue) (Asks (request.Enter (Name 0) Write) (if_entered (counting.binds_under (counting.reads_root (counting.calls_on named ns)) o))))
   bind_follows ns o true = fault_follows BadValue (thread_environment value.Null) 0
-  bind_follows ns o false = under_follows (then_all ns) (λ q. refl) (λ environment fault. fault_follows fault environment 0) (thread_environment value.Null) 0 (Name 0) Write (λ at. on_value (bind_null 0 (value.Ref o)) (get 0 0 at))
+  bind_follows ns o false = under_follows (then_all ns) (λ q. refl) (λ environment fault. fault_follows fault environment 0) (thread_environment value.Null) 0 (Name 0) grade.Write (λ at. on_value (bind_null 0 (value.Ref o)) (get 0 0 at))
       (counting.binds_under (counting.reads_root (counting.calls_on named ns)) o) (under_lock_follows ns o)
 
   -- all statements of the thread

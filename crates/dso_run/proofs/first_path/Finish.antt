@@ -113,7 +113,7 @@ module _ {named : Bool} {numbers : List ℤ} (look : Option (ClassId × ℕ)) (v
   }
 
   abbrev entry_3 : Entry
-  entry_3 = Storing.it named numbers t_1 r_2 w_2 es_2 now_2 [] [] (ending.End None) (suc c) [] v refl fits refl
+  entry_3 = Storing.it named numbers t_1 r_2 w_2 es_2 now_2 [] [] (ending.End None) (suc c) [] v refl fits refl tt
 
   abbrev es_3 : List Entry
   es_3 = entry_3 ∷ es_2
@@ -126,11 +126,11 @@ module _ {named : Bool} {numbers : List ℤ} (look : Option (ClassId × ℕ)) (v
 
   step_3 : Step named numbers es_2 entry_3
   step_3 = up_after_down named numbers t_1 r_2 w_2 es_2 now_2 entry_3 (may_act settings 1 (next_after (next named numbers) es_2) the_thread (own es_2)) _ _ refl refl
-      (Storing.is_next named numbers t_1 r_2 w_2 es_2 now_2 [] [] (ending.End None) (suc c) [] v refl fits refl) refl
-      (Storing.may_follow named numbers t_1 r_2 w_2 es_2 now_2 [] [] (ending.End None) (suc c) [] v refl fits refl) (finished_is named numbers t_1 r_2 w_2 es_2 now_2) refl refl refl
+      (Storing.is_next named numbers t_1 r_2 w_2 es_2 now_2 [] [] (ending.End None) (suc c) [] v refl fits refl tt) refl
+      (Storing.may_follow named numbers t_1 r_2 w_2 es_2 now_2 [] [] (ending.End None) (suc c) [] v refl fits refl tt) (finished_is named numbers t_1 r_2 w_2 es_2 now_2) refl refl refl
 
   now_3 : Now named numbers t_1 r_3 w_3 es_3
-  now_3 = Storing.still named numbers t_1 r_2 w_2 es_2 now_2 [] [] (ending.End None) (suc c) [] v refl fits refl
+  now_3 = Storing.still named numbers t_1 r_2 w_2 es_2 now_2 [] [] (ending.End None) (suc c) [] v refl fits refl tt
 
   -- and the client takes its acknowledgement
   abbrev entry_4 : Entry

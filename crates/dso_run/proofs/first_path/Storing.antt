@@ -4,6 +4,7 @@ use Rattle.std.specs.Prelude.{max}
 use Rattle.dso_base.specs.declared.journal.Entry.{Entry}
 use Rattle.dso_base.specs.declared.journal.Input.TheVariants as input
 use Rattle.dso_base.specs.declared.journal.Node.TheVariants.{Server, Client}
+use Rattle.dso_base.specs.declared.journal.Sent.{Sent}
 use Rattle.dso_base.specs.declared.journal.Sent.TheVariants.{ToClient}
 use Rattle.dso_base.specs.declared.message.Down.{Down}
 use Rattle.dso_base.specs.declared.message.Down.TheVariants as down
@@ -13,12 +14,15 @@ use Rattle.dso_base.specs.declared.record.Ending.{Ending}
 use Rattle.dso_base.specs.declared.record.Set.{Set}
 use Rattle.dso_base.specs.declared.record.Txn.{Txn}
 use Rattle.dso_base.specs.declared.value.Value.{Value}
-use Rattle.dso_law.specs.Entries.{entries_of}
+use Rattle.dso_law.specs.Entries.{unsent, entries_of}
 use Rattle.dso_law.specs.Channels.{Letter, last_clock, up_in_flight, down_in_flight, IsFirst, first_clock}
 use Rattle.dso_law.specs.FitsUp.{FitsRecord}
 use Rattle.dso_law.specs.ServerReadings.{counted, is_end}
 use Rattle.dso_law.specs.Store.{body_by_sets}
 use Rattle.dso_law.specs.ServerStep.{HeardStep, HeardOrLost}
+use Rattle.dso_law.specs.ServerWaiters.{waiters_of}
+use Rattle.dso_legal.proofs.central.ClientWithoutWaits.{IsInTime}
+use Rattle.dso_legal.proofs.central.ServerWithoutWaits.{none_late}
 use Rattle.dso_legal.specs.Lawful.{MayFollow}
 use Rattle.dso_legal.specs.Slots.{TakesUp}
 use Rattle.dso_run.specs.first_path.Counter.{settings}
@@ -46,7 +50,7 @@ module _ (named : Bool) (numbers : List ℤ) (t : ThreadStage) (r : RecordStage)
     (sets : List Set) (outs : List Value) (ending : Ending) (clock : ℕ) (ups : List (Letter Up)) (stored : ℤ)
     (comes : w.up ≡ record { message = up.Commit (plain_txn (suc r.taken) sets outs ending); clock = clock } ∷ ups)
     (fits : FitsRecord settings 1 (plain_txn (suc r.taken) sets outs ending) (entries_of Server es))
-    (stores : body_by_sets 1 sets (Some (counter r.stored)) ≡ Some (counter stored)) where
+    (stores : body_by_sets 1 sets (Some (counter r.stored)) ≡ Some (counter stored)) (in_time : IsInTime ending) where
   abbrev txn : Txn
   txn = plain_txn (suc r.taken) sets outs ending
 
@@ -60,7 +64,7 @@ module _ (named : Bool) (numbers : List ℤ) (t : ThreadStage) (r : RecordStage)
   first = subst (λ (letters : List (Letter Up)). IsFirst (up.Commit txn) letters) (sym way_is) refl
 
   heard : HeardStep settings 1 (up.Commit txn) it (counted (entries_of Server es))
-  heard = record { fits = subst (λ (entries : List Entry). FitsRecord settings 1 txn entries) (sym now.server.all_count) fits; sends = refl }
+  heard = record { fits = subst (λ (entries : List Entry). FitsRecord settings 1 txn entries) (sym now.server.all_count) fits; sends = ap (λ (woken : List Sent). ToClient 1 (down.Ack txn.seq) ∷ woken) (sym (none_late txn.thread ending (λ l. waiters_of l (unsent it ∷ counted (entries_of Server es))) in_time)) }
 
   pub may_follow : MayFollow settings (next named numbers) it es
   may_follow = record {
