@@ -44,12 +44,12 @@ IsListed Pause Done = Unit {0}
 IsListed Settle Done = Unit {0}
 IsListed request reply = ⊥
 
--- so for a next request, if there is one
+-- the reply is listed for the next request; none is where there is no request
 abbrev pub IsListedFor : Option Request → Reply → Type 0
 IsListedFor None reply = ⊥
 IsListedFor (Some request) reply = IsListed request reply
 
--- so for what a thread asks next after its events
+-- the reply is listed for what a thread asks next after its events
 abbrev pub Listed : (ThreadId → List Event → Option Request) → ThreadId → List Event → Reply → Type 0
 Listed next t events reply = IsListedFor (next t events) reply
 

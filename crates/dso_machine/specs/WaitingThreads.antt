@@ -16,7 +16,7 @@ pub data Waiting : Type 0 where
   Asleep : LockName → Waiting
   Roused : LockName → Waiting
 
--- so after a request and its reply
+-- whether a thread waits after a request and its reply
 abbrev pub waiting_after_reply : Request → Reply → Waiting → Waiting
 waiting_after_reply (Wait l) Done waiting = Asleep l
 waiting_after_reply (Wait l) r waiting = waiting
@@ -37,7 +37,7 @@ waiting_after_reply (End fault) r waiting = waiting
 waiting_after_reply Pause r waiting = waiting
 waiting_after_reply Settle r waiting = waiting
 
--- so after a thread's events, by how it was before them
+-- whether it waits after its events, by how it was before them
 abbrev pub waiting_after : Waiting → List Event → Waiting
 waiting_after waiting [] = waiting
 waiting_after waiting (Act thread q r woken ∷ events) = waiting_after (waiting_after_reply q r waiting) events
@@ -62,7 +62,7 @@ waited_on (End fault) = None
 waited_on Pause = None
 waited_on Settle = None
 
--- so of what is asked, if something is
+-- the lock that is waited on by what is asked, if something is
 abbrev pub waited_on_by : Option Request → Option LockName
 waited_on_by None = None
 waited_on_by (Some q) = waited_on q

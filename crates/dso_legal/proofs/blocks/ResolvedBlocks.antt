@@ -40,7 +40,7 @@ same_thread_acts t made event is = ap (is_act_of t) is.same ∙ by made
     by (Act u request reply woken) = refl
     by (Lost client) = refl
 
--- so of each thread's events
+-- each thread's events are resolved where all are
 pub resolved_of : (t : ThreadId) (mades events : List Event) → AreResolved mades events → AreResolved (events_of t mades) (events_of t events)
 resolved_of t [] [] are = tt
 resolved_of t [] (event ∷ events) are = absurd are

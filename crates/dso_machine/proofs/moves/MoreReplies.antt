@@ -37,7 +37,7 @@ Extends more (Hears r u) o = o ≡ Hears r (later more u)
 Extends more Over o = o ≡ Over
 Extends more Stopped o = Unit {0}
 
--- so of two parts, from each state
+-- from each state the second part goes on as the first does, whatever is heard later
 abbrev pub Steady : Meaning → Meaning → Type 0
 Steady m k = (more : List Reply) (at : State) → Extends more (m at) (k (later more at))
 

@@ -174,7 +174,7 @@ steady_spun test body more_test more_body s t (suc k) (suc n) le more at = ext_v
 
 -- ---- expressions
 
--- so of parts that are two others
+-- two parts that are two steady ones are steady
 both_are : (m n k l : Meaning) → m ≡ n → k ≡ l → Steady n l → Steady m k
 both_are m n k l p q s = subst (λ f. Steady f k) (sym p) (subst (λ f. Steady n f) (sym q) s)
 
@@ -263,12 +263,12 @@ ext_finish more (Hears r u) n e = ap finish e
 ext_finish more Over n e = ap finish e
 ext_finish more Stopped n e = tt
 
--- so of a thread: once it is over, it stays so
+-- what a thread comes to goes on with later replies
 pub later_replies : (c : Code) (body : ThreadBody) (k n : ℕ) → k ≤ n → (rs more : List Reply) → Extends more (whole c body k rs) (whole c body n (rs ++ more))
 later_replies c body k n le rs more = ext_finish more (block c (methods c k) k body.body (opening body.vars rs)) _
     (steady_block c (methods c k) (methods c n) (steady_methods c k n le) k n le body.body more (opening body.vars rs))
 
--- so of its next request: whatever is heard after its end, it asks nothing more
+-- a thread that is over stays so: whatever is heard after its end, it asks nothing more
 pub stays_over : (c : Code) (body : ThreadBody) (rs more : List Reply) → whole c body (enough_for rs) rs ≡ Over
     → whole c body (enough_for (rs ++ more)) (rs ++ more) ≡ Over
 stays_over c body rs more over = subst (λ o. Extends more o (whole c body (enough_for (rs ++ more)) (rs ++ more))) over
@@ -284,7 +284,7 @@ same_request (Hears r u) n going e = ap request_of e
 same_request Over n going e = ap request_of e
 same_request Stopped n going e = absurd (going refl)
 
--- so of a thread, for two numbers of moves of which the less does not stop it
+-- a thread asks the same for two numbers of moves of which the less does not stop it
 pub same_wanted : (c : Code) (body : ThreadBody) (k n : ℕ) (rs : List Reply) → k ≤ n → (whole c body k rs ≡ Stopped → ⊥) → request_of (whole c body n rs) ≡ request_of (whole c body k rs)
 same_wanted c body k n rs le going = same_request _ _ going (subst (λ all. Extends [] (whole c body k rs) (whole c body n all)) (append-nil rs) (later_replies c body k n le rs []))
 

@@ -34,7 +34,7 @@ Good b (Hears r u) = budget u ≤ b
 Good b Over = Unit {0}
 Good b Stopped = ⊥
 
--- so of a part, where fewer moves than N are left
+-- where fewer moves than N are left, what a part comes to is good
 abbrev pub GoodAt : ℕ → Meaning → Type 0
 GoodAt N m = (at : State) → budget at < N → Good (budget at) (m at)
 

@@ -71,7 +71,7 @@ known_at has_text knows [] i known = tt
 known_at has_text knows (v ∷ vs) zero known = known.0
 known_at has_text knows (v ∷ vs) (suc i) known = known_at has_text knows vs i known.1
 
--- so with another one set
+-- the values stay known with a known one set
 pub known_set : (has_text knows : ℕ → Type 0) (vs : List Value) (i : ℕ) (v : Value) → KnowsAll has_text knows vs → KnowsValue has_text knows v → KnowsAll has_text knows (slice_set vs i v)
 known_set has_text knows [] i v known here = tt
 known_set has_text knows (x ∷ vs) zero v known here = (here, known.1)

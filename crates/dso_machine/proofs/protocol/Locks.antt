@@ -66,7 +66,7 @@ module _ {shape : Shape} (k : Keeper shape) where
     kept_outside : (h : k.Point) (v : Value) (u : State) → Kept k inside h v u.environment → (i : k.Point) → k.Same g i → ((object : ℕ) → k.Knows h object → k.Knows i object) → Kept k g i v u.environment
     kept_outside h v u kept i same knows = record { same = same; value = value_later k h i knows v kept.value; environment = environment_later k h i knows u.environment kept.environment }
 
-    -- so at each end of the part
+    -- at each end of the part its lock is left
     leaves_at_end : (e : Outcome) (h : k.Point) → Fine k inside e h → Obeys k (Fine k g) h (λ rs. leave l grade (refilled rs e))
     leaves_at_end (Gives v u) h fine = leaves_lock (Fine k g) (Gives v) h u fine.same (λ i same knows. Obeys.ends (Gives v (asked_at u)) (λ rs. refl) (kept_outside h v u fine i same knows))
     leaves_at_end (Leaves v u) h fine = leaves_lock (Fine k g) (Leaves v) h u fine.same (λ i same knows. Obeys.ends (Leaves v (asked_at u)) (λ rs. refl) (kept_outside h v u fine i same knows))

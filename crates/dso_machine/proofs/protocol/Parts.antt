@@ -71,7 +71,7 @@ module _ {shape : Shape} (k : Keeper shape) where
     pub value : KnowsValue k.HasText (k.Knows h) v
     pub environment : KnowsEnvironment h held
 
-  -- so of the end of a part that began at the first point
+  -- a part that began at the first point ends in order at the second
   abbrev pub Fine : k.Point → Outcome → k.Point → Type 0
   Fine g (Gives v u) h = Kept g h v u.environment
   Fine g (Leaves v u) h = Kept g h v u.environment
@@ -128,7 +128,7 @@ module _ {shape : Shape} (k : Keeper shape) where
   fine_from g h same (Hears r u) i fine = absurd fine
   fine_from g h same Over i fine = absurd fine
 
-  -- so of what keeps to what may be asked
+  -- what keeps to what may be asked does so from a point of which the same is known
   pub keeps_from : (g h i : k.Point) → k.Same g h → (o : List Reply → Outcome) → Obeys k (Fine k h) i o → Obeys k (Fine k g) i o
   keeps_from g h i same o keeps = keeps_so k (Fine k h) (Fine k g) keeps (fine_from g h same)
 

@@ -144,7 +144,7 @@ module _ (c : Code) (k : Keeper c.shape) (ways : MethodMeanings) (methods : Bodi
   part_of : {a : Expr} → SoundExpr scope a → (f : Value → Meaning) (g : k.Point) → ((v : Value) (h : k.Point) → More k g h → KnowsValue k.HasText (k.Knows h) v → Part k h (f v)) → Part k g (λ at. on_value f (expr c ways a at))
   part_of {a} sound f g then = part_value k g f (expr c ways a) (part_expr c k ways methods count in_method sound g) then
 
-  -- so with a request on the monitor of an object
+  -- a part that asks for the monitor of an object keeps to what may be asked
   part_of_monitor : {a : Expr} → SoundExpr scope a → (f : ℕ → Meaning) → ((g : k.Point) (object : ℕ) → k.Knows g object → Part k g (f object)) → (g : k.Point) → Part k g (λ at. on_value (on_object f) (expr c ways a at))
   part_of_monitor sound f then g = part_of sound (on_object f) g (λ v h more known. part_object k h f v known (λ object object_known. then h object object_known))
 

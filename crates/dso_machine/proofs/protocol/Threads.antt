@@ -31,14 +31,14 @@ use Rattle.dso_machine.proofs.moves.MoreRepliesInTrees.{moves_enough}
 all_of : {X : Type 0} (P : X → Type 0) (xs : List X) (i : ℕ) (x : X) → slice_get xs i ≡ Some x → All P xs → P x
 all_of P xs i x is all = subst P (get_or_from_slice_get xs i x x is) (all i x (slice_get_within xs i x is))
 
--- so of one of two
+-- what holds of both holds of the one that is taken
 one_of : {X : Type 0} (P : X → Type 0) (b : Bool) (first : X) (others : Option X) (x : X) → P first → (others ≡ Some x → P x) → cond b (Some first) others ≡ Some x → P x
 one_of P true first others x here rest is =
     let same : first ≡ x = cc is in
     subst P same here
 one_of P false first others x here rest is = rest is
 
--- so of what a thread runs
+-- what holds of all bodies holds of a thread's
 body_sound : (P : ThreadBody → Type 0) (t : ThreadId) (body : ThreadBody) (bodies : List ThreadBody) → All P bodies → body_of t bodies ≡ Some body → P body
 body_sound P t body [] all is = absurd (cc is)
 body_sound P t body (first ∷ rest) all is = one_of P (is_thread t first.thread) first (body_of t rest) body (All-head P first rest all) (body_sound P t body rest (All-tail P first rest all)) is
@@ -116,7 +116,7 @@ module _ (c : Code) (k : Keeper c.shape) (sound : IsSound c) where
   FollowsOf o g (Act t q r woken ∷ events) = (request_of (o []) ≡ Some q) × k.IsReply g q r × FollowsOf (λ rs. o (r ∷ rs)) (k.after q r g) events
   FollowsOf o g (Lost client ∷ events) = ⊥
 
-  -- so what is wanted after such events may be asked
+  -- what is wanted after such events may be asked
   asks_after : (events : List Event) (g : k.Point) (o : List Reply → Outcome) (q : Request) → Obeys k Ended g o → FollowsOf o g events → request_of (o (replies_in events)) ≡ Some q
       → k.Asks (through k g events) q
   asks_after [] g o q keeps follows wanted = asks_next g o q keeps wanted
@@ -158,7 +158,7 @@ module _ (c : Code) (k : Keeper c.shape) (sound : IsSound c) (t : ThreadId) (bod
       asks_after c k sound events k.start (λ rs. whole c body n rs) q (keeps_whole c k sound body (body_sound (IsSoundBody c) t body c.bodies sound.bodies found) n)
       (follows_of n events [] k.start (omega arith) follows) (sym (next_is events n (omega arith)) ∙ wanted)
 
--- so of what was found, where it asks something
+-- what a thread's body asks keeps to what may be asked
 keeps_found : (c : Code) (k : Keeper c.shape) → IsSound c → (t : ThreadId) (body : Option ThreadBody) → body_of t c.bodies ≡ body → KeepsTo c k t
 keeps_found c k sound t (Some body) found = keeps_there c k sound t body found
 keeps_found c k sound t None found = λ events q follows wanted. absurd (cc (sym (ap (next_of c (replies_in events)) found) ∙ wanted))

@@ -76,7 +76,7 @@ stands_on code body a core b next past kept same st = record {
   means = λ N rs. kept.keeps N rs _ (st.means N rs);
 }
 
--- so after a move
+-- after a move a thread stands for the same replies
 pub stands_moved : (code : Code) (body : ThreadBody) (a : Now) (core : Core) (b : Now) (next : Core) (past : List Reply) → MakesMove code a core b next → next.moves ≡ core.moves + 1
     → core.moves < most_moves → StandsAt code body a core past → StandsAt code body b next past
 stands_moved code body a core b next past makes more few st = record {

@@ -115,7 +115,7 @@ pub live_waiting : (l : LockName) (n : ℕ) → IsLive (waiting l n)
 live_waiting l zero = record { at = λ u. tt }
 live_waiting l (suc n) = record { at = λ u. tt }
 
--- so after a tick,
+-- a thread goes on after a tick, too:
 live_choice : (woken : Bool) (m : Meaning) → IsLive m → IsLive (choose woken (Gives value.Null) m)
 live_choice true m live = record { at = λ u. refl }
 live_choice false m live = record { at = λ u. live.at u }

@@ -120,7 +120,7 @@ tidy_paced : (few : Bool) (m : Meaning) → IsTidy m → IsTidy (paced few m)
 tidy_paced true m s = record { from = λ u. (tidy_moved m s).from u }
 tidy_paced false m s = record { from = λ u. (tidy_after (λ v. moved m) (tell request.Pause) (tidy_tell request.Pause refl) (λ v. tidy_moved m s)).from u }
 
--- so for any number of moves
+-- a part is tidy behind a move
 pub tidy_moving : (m : Meaning) → IsTidy m → IsTidy (moving m)
 tidy_moving m s = record { from = λ u. (tidy_paced (nat_lt u.moves most_moves) m s).from u }
 
@@ -154,7 +154,7 @@ tidy_ticking : (l : LockName) (n : ℕ) (u : State) → Tidy (Waits l true) [] (
 tidy_ticking l zero u = Tidy.times_out l refl (resumes l false (after_request u)) (resumes l false (after_request u))
 tidy_ticking l (suc n) u = Tidy.ticks l refl (after_tick l n (tidy_ticking l n) (after_request u))
 
--- so with and without a limit
+-- a wait is tidy with and without a limit
 tidy_waiting : (l : LockName) (n : ℕ) (u : State) → Tidy (Waits l true) [] (λ rs. waiting l n (with_replies rs u))
 tidy_waiting l zero u = resumes l true u
 tidy_waiting l (suc n) u = tidy_ticking l (suc n) u

@@ -368,7 +368,7 @@ body_facts {p} {hs} w o (Tidy.resumes l more wants go) is q wanted = subst (Fact
 body_facts w o (Tidy.ends e comes end) is q wanted = at_body_end w e (λ rs. is rs ∙ ap finish (comes rs)) end q wanted
 body_facts w o (Tidy.stops comes) is q wanted = absurd (wants_none (w []) q (ap request_of (is [] ∙ ap finish (comes []))) wanted)
 
--- so of a run
+-- what holds of what a run asks
 pub facts : (p : Phase) (hs : List Hold) (w : List Reply → Outcome) → Run p hs w → (q : Request) → request_of (w []) ≡ Some q → Facts p hs w q
 facts p hs w (Run.within o tidy is) q wanted = body_facts w o tidy is q wanted
 facts p hs w (Run.over is) q wanted = absurd (wants_none (w []) q (ap request_of (is [])) wanted)
@@ -406,7 +406,7 @@ body_asks w o (Tidy.resumes l more wants go) is = subst (AsksAsItWaits (waiting_
 body_asks w o (Tidy.ends e comes end) is = ap (λ x. waited_on_by (request_of x)) (is [] ∙ ap finish (comes [])) ∙ end_awake e end
 body_asks w o (Tidy.stops comes) is = ap (λ x. waited_on_by (request_of x)) (is [] ∙ ap finish (comes []))
 
--- so of a run
+-- a run asks as its thread waits
 pub run_asks : (p : Phase) (hs : List Hold) (w : List Reply → Outcome) → Run p hs w → AsksAsItWaits (waiting_in p) (request_of (w []))
 run_asks p hs w (Run.within o tidy is) = body_asks w o tidy is
 run_asks p hs w (Run.over is) = ap (λ x. waited_on_by (request_of x)) (is [])

@@ -96,7 +96,7 @@ wants_in (UsesValue f) q = refl
 wants_in (ReturnsTo caller) q = refl
 wants_in (LeavesLock l grade) q = refl
 
--- and so in a context
+-- in a context a request is still what is wanted
 pub wants_within : (context : List Layer) (q : Request) → in_context context (Wants q) ≡ Wants q
 wants_within [] q = refl
 wants_within (layer ∷ context) q = ap (in_context context) (wants_in layer q) ∙ wants_within context q

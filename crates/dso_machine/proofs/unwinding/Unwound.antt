@@ -86,7 +86,7 @@ module _ (fault : Fault) (context : List Layer) (agree : (at : State) (p : Phase
       goes_not : Goes ≡ Settles → ⊥
       goes_not same = cc same
 
-  -- so at each grade
+  -- whatever the grade, the run tells it and the holds around
   agree_left : (g : Grade) (at : State) (synchronous : Bool) (hs : List Hold) (w : List Reply → Outcome) → Run (left_at synchronous) hs w → SettlesTo fault g context at w
       → (synchronous ≡ is_synchronous g) × (holds_around context ≡ hs)
   agree_left grade.Read at synchronous hs w run comes = agree_plain at synchronous hs w run comes
@@ -158,7 +158,7 @@ IsUnwound (Wants q) = Unit {0}
 IsUnwound (Fails fault u) = Unit {0}
 IsUnwound o = ⊥
 
--- so after a request that is answered Done, or not,
+-- a part behind a request is unwound, answered Done or not,
 pub done_unwound : (m : Meaning) → ((u : State) → IsUnwound (m u)) → (r : Reply) (u : State) → IsUnwound (on_value (λ v. m) (done r u))
 done_unwound m then Done u = then u
 done_unwound m then (Refused fault) u = tt
@@ -197,7 +197,7 @@ pub end_goes : (q : Request) (u : State) (rs : List Reply) → on_reply (λ r at
 end_goes q u [] e = cc e
 end_goes q u (r ∷ rs) e = cc e
 
--- so it is not stopped
+-- what is unwound is not stopped
 pub unwound_goes : (o : Outcome) → IsUnwound o → finish o ≡ Stopped → ⊥
 unwound_goes (Wants q) h e = cc e
 unwound_goes (Fails fault u) h e = end_goes (End (Some fault)) u u.replies e

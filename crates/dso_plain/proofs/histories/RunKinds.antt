@@ -15,7 +15,7 @@ use Rattle.dso_plain.specs.History.{Runs, RunsButMarks, ChoicesFit}
 pub possible_but_marks : (shape : Shape) (t : ThreadId) (request : Request) (reply : Reply) (woken : Option ThreadId) (s : PlainState) → IsPossible shape t request reply woken s → IsPossibleButMarks shape t request reply s
 possible_but_marks shape t request reply woken s p = record { connected = p.connected; going = p.going; awake = p.awake; answers = p.answers }
 
--- so it is of an event
+-- an event that is possible is possible whatever is marked
 pub may_but_marks : (shape : Shape) (e : Event) (s : PlainState) → May shape e s → MayButMarks shape e s
 may_but_marks shape (Act t request reply woken) s m = possible_but_marks shape t request reply woken s m
 may_but_marks shape (Lost client) s m = m

@@ -134,7 +134,7 @@ tried_after next last.Acted es = first_made (takes_down es) (first_made (takes_u
 tried_after next last.TookDown es = first_made (takes_up es) (first_made (acts next es) (takes_down es))
 tried_after next last.Other es = first_made (acts next es) (first_made (takes_down es) (takes_up es))
 
--- so after the last entry
+-- the entry that is tried for the slot after the last entry
 abbrev pub tried : (ThreadId → List Event → Option Request) → Option Slot → List Entry → Option Entry
 tried next slot es = tried_after next (last_done slot) es
 
