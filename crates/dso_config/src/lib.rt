@@ -3,7 +3,13 @@
 #![tactic(auto)]
 
 mod config;
+mod fault;
+mod forms;
+mod keys;
 mod pattern;
+mod rules;
+mod spelling;
 
 pub use config::{AutoEntry, Config, GuardEntry, NamedEntry, RootEntry};
+pub use fault::{ConfigFault, Section, Spot};
 pub use pattern::Pattern;
