@@ -49,7 +49,7 @@ pub record Says (table : Members) (config : Config) : Type 0 where
   pub losses : IsSectionOrEmpty (loss_rules config.clients) table config.losses
   pub breaks : IsSectionOrEmpty (break_rules config.clients) table config.breaks
 
--- what is wrong with the sections that are for so many clients
+-- what is wrong with the sections that name one of so many clients
 abbrev pub triggers_fault : Members → ℕ → Option ConfigFault
 triggers_fault table clients =
     first_fault (

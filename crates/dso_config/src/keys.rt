@@ -1,7 +1,8 @@
 //! What stands at the keys of a table.
 
-ghost use Rattle.std.specs.Prelude.{◌≡◌, ◌≤◌, IfOk, IfErr, option_copied, option_and_then};
-ghost use Rattle.toml.specs.View.{table_view};
+ghost use Rattle.std.specs.Prelude.{◌≡◌, ◌≤◌, IfOk, IfErr, option_copied, option_map, option_and_then};
+ghost use Rattle.toml.specs.View.{table_view, view};
+ghost use Rattle.toml.specs.Data.{get_member};
 ghost use Rattle.dso_config.specs.Keys as spec;
 ghost use Rattle.dso_config.specs.Keys.{IsSaid, IsTold, value_fault};
 ghost use Rattle.dso_config.specs.declared.fault.ConfigFault.TheVariants as fault;
@@ -49,11 +50,18 @@ pub fn has_known_keys(table: &Table, section: Section) -> bool
     true
 }
 
+/// The value at a key, None where the key is absent.
+pub fn value_at<'a>(table: &'a Table, key: &str) -> Option<&'a Value>
+    ensures { option_map (λ value. view value.now) result ≡ get_member key.now (table_view table.now) }
+{
+    table.get(key)
+}
+
 /// The text at a key, None where there is none.
 pub fn text_at<'a>(table: &'a Table, key: &str) -> Option<&'a str>
     ensures { option_copied result ≡ spec.text_at key.now (table_view table.now) }
 {
-    match table.get(key) {
+    match value_at(table, key) {
         Some(value) => value.as_str(),
         None => None,
     }
@@ -63,7 +71,7 @@ pub fn text_at<'a>(table: &'a Table, key: &str) -> Option<&'a str>
 pub fn number_at(table: &Table, key: &str) -> Option<i64>
     ensures { result ≡ spec.number_at key.now (table_view table.now) }
 {
-    match table.get(key) {
+    match value_at(table, key) {
         Some(value) => value.as_integer(),
         None => None,
     }

@@ -3,11 +3,13 @@
 #![tactic(auto)]
 
 mod config;
+mod document;
 mod fault;
 mod forms;
 mod keys;
 mod pattern;
 mod rules;
+mod section;
 mod spelling;
 
 pub use config::{AutoEntry, Config, GuardEntry, NamedEntry, RootEntry};

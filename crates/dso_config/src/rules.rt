@@ -46,11 +46,13 @@ pub struct NamedLocks;
 pub struct Guards;
 
 /// `[[lose]]` of a cluster of so many clients
+#[derive(Clone, Copy)]
 pub struct Losses {
     pub clients: u8,
 }
 
 /// `[[break]]` of a cluster of so many clients
+#[derive(Clone, Copy)]
 pub struct Breaks {
     pub clients: u8,
 }
