@@ -82,3 +82,24 @@ fn configuration(alloc: Global, table: &Table) -> Result<Config, ConfigFault>
         breaks,
     })
 }
+
+/// The configuration that a text says, which is read as TOML.
+///
+/// `NoMemory` is answered where an allocation was refused, and only there. Every other text that says no configuration is
+/// refused with its fault: `TooLong` for a text of over 1,048,576 bytes, `NotToml` for one that is no TOML, and else the
+/// first fault of its table. The time grows as the length of the text, and in a section of roots, losses or breaks as the
+/// square of its entries, of which there are 1024 at most.
+pub fn read_config(alloc: Global, text: &[u8]) -> Result<Config, ConfigFault>
+    ensures ok { IfOk result (IsConfigurationOf text.now) }
+    ensures in_range { IfOk result IsInRange }
+    ensures refused { IfErr result (λ wrong. wrong ≢ fault.NoMemory → IsFaultOf text.now wrong) }
+{
+    if text.len() > MOST_BYTES {
+        return Err(ConfigFault::TooLong);
+    }
+    match toml::table_from_slice(alloc, text) {
+        Ok(table) => configuration(alloc, &table),
+        Err(refused) if refused.is_memory() => Err(ConfigFault::NoMemory),
+        Err(_) => Err(ConfigFault::NotToml),
+    }
+}

@@ -12,6 +12,7 @@ mod rules;
 mod section;
 mod spelling;
 
+pub use document::read_config;
 pub use config::{AutoEntry, Config, GuardEntry, NamedEntry, RootEntry};
 pub use fault::{ConfigFault, Section, Spot};
 pub use pattern::Pattern;
