@@ -1,2 +1,5 @@
+pub mod ExactRules
+pub mod ExactSections
+pub mod OneAnswer
 pub mod Ranges
 pub mod SectionFaults
