@@ -3,3 +3,4 @@ pub mod ExactSections
 pub mod OneAnswer
 pub mod Ranges
 pub mod SectionFaults
+pub mod Written

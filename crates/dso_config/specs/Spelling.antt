@@ -1,11 +1,9 @@
 -- How names, patterns and levels are written.
-use Rattle.std.specs.Prelude.{ℕ, Bool, true, false, ◌&&◌, ◌||◌, ◌==◌, nat_lt, List, [], ◌∷◌, length, Option, Some, None, if◌then◌else◌, codes, bytes_eq, option_and_then}
+use Rattle.std.specs.Prelude.{◌≡◌, ℕ, Bool, true, false, ◌&&◌, ◌||◌, ◌==◌, nat_lt, List, [], ◌∷◌, ◌++◌, length, Option, Some, None, if◌then◌else◌, codes, bytes_eq, IsTrue, ⊤}
 use Rattle.std.specs.Char.{is_ascii_alphabetic, is_ascii_digit}
 use Rattle.std.specs.List.{list_all, before_first, after_first}
 use Rattle.dso_base.specs.declared.lock.Grade.{Grade}
 use Rattle.dso_base.specs.declared.lock.Grade.TheVariants as grade
-use Rattle.dso_config.specs.declared.config.GuardEntry.{GuardEntry}
-use Rattle.dso_config.specs.declared.config.RootEntry.{RootEntry}
 use Rattle.dso_config.specs.declared.pattern.Pattern.{Pattern}
 use Rattle.dso_config.specs.declared.pattern.Pattern.TheVariants as pattern
 
@@ -53,3 +51,26 @@ grade_of text =
     else if bytes_eq text (codes "write") then Some grade.Write
     else if bytes_eq text (codes "synchronous-write") then Some grade.Synchronous
     else None
+
+-- how a pattern is written
+abbrev pub written : Pattern → List ℕ
+written pattern.All = codes "*.*"
+written (pattern.Class class) = class ++ codes ".*"
+written (pattern.Method class member) = class ++ (codes "." ++ member)
+
+-- the names of a pattern are names
+abbrev pub HasNames : Pattern → Type 0
+HasNames pattern.All = ⊤
+HasNames (pattern.Class class) = IsTrue (is_name class)
+HasNames (pattern.Method class member) = IsTrue (is_name class) × IsTrue (is_name member)
+
+-- the text is the pattern as it is written
+pub record IsPattern (text : List ℕ) (pattern : Pattern) : Type 0 where
+  pub is : text ≡ written pattern
+  pub named : HasNames pattern
+
+-- how a level is written
+abbrev pub written_grade : Grade → List ℕ
+written_grade grade.Read = codes "read"
+written_grade grade.Write = codes "write"
+written_grade grade.Synchronous = codes "synchronous-write"
