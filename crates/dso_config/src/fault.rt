@@ -30,34 +30,34 @@ pub struct Spot {
 #[derive(Clone, Copy, Debug, PartialEq, Eq, Error)]
 pub enum ConfigFault {
     /// The text is no TOML.
-    #[error("the configuration is not TOML")]
+    #[error("the text is not TOML")]
     NotToml,
     /// A key that there is not.
-    #[error("unknown key {0}")]
+    #[error("{0}: unknown key")]
     UnknownKey(Spot),
     /// A key is missing, or its value is of another kind.
-    #[error("a missing value or one of the wrong kind {0}")]
+    #[error("{0}: a value is missing or of another kind")]
     WrongKind(Spot),
     /// A number out of its range, an unknown level, a client that there is not, or entry 1025 of a section.
-    #[error("a value out of range {0}")]
+    #[error("{0}: a value is out of range")]
     OutOfRange(Spot),
     /// A method that is neither `Class.method` nor `Class.*` nor `*.*`.
-    #[error("a malformed method pattern {0}")]
+    #[error("{0}: not a method pattern")]
     BadMethodPattern(Spot),
     /// A guard's field that is neither `Class.field` nor `Class.*`, or its lock that is no name.
-    #[error("a malformed guard {0}")]
+    #[error("{0}: not a guard")]
     BadGuard(Spot),
     /// A root named twice, a client lost twice, or a client cut off twice after one message.
-    #[error("a repetition of an earlier entry {0}")]
+    #[error("{0}: repeats an earlier entry")]
     Twice(Spot),
     /// The text has over 1,048,576 bytes.
-    #[error("the configuration is longer than 1048576 bytes")]
+    #[error("the text is longer than 1048576 bytes")]
     TooLong,
     /// A root's field that is no `Class.field`, or a lock's name that is no name.
-    #[error("a malformed name {0}")]
+    #[error("{0}: not a name")]
     BadName(Spot),
     /// The configuration asks for a form that is not built yet. [`read_config`](crate::read_config) never answers it.
-    #[error("the configuration asks for something that is not built yet")]
+    #[error("the configuration asks for what is not built yet")]
     NotBuilt,
     /// An allocation was refused.
     #[error("out of memory")]
@@ -92,14 +92,14 @@ impl Spot {
     };
 }
 
-/// `at the top`, `in [[root]]`, or `in entry 3 of [[root]]`.
+/// `the top`, `[[root]]`, or `entry 3 of [[root]]`.
 impl fmt::Display for Spot {
     fn fmt<W: fmt::Write>(&self, f: &mut fmt::Formatter<W>) -> fmt::Result {
         let key = self.section.key();
         match (self.section, self.entry) {
-            (Section::Top, _) => f.write_str("at the top"),
-            (_, 0) => write!(f, "in [[{key}]]"),
-            (_, entry) => write!(f, "in entry {entry} of [[{key}]]"),
+            (Section::Top, _) => f.write_str("the top"),
+            (_, 0) => write!(f, "[[{key}]]"),
+            (_, entry) => write!(f, "entry {entry} of [[{key}]]"),
         }
     }
 }
