@@ -11,7 +11,11 @@ const MOST_TOLD: usize = 8;
 
 /// Writes a configuration.
 pub fn configuration(out: &mut String, config: &Config) -> Result<(), AllocError> {
-    write!(out, "clients={} resident={}", config.clients, config.resident)?;
+    write!(
+        out,
+        "clients={} resident={}",
+        config.clients, config.resident
+    )?;
     out.push_str(" root=")?;
     match &config.roots {
         Some(entries) => roots(out, entries.as_slice())?,

@@ -43,13 +43,13 @@ value-exact spot other form (Some x) = record {
 pub both-exact : {A B C : Type 0} (make : A → B → C) (a : Option A) (b : Option B) (f g : Option ConfigFault) → IsExact a f → IsExact b g → IsExact (both make a b) (first_fault (f ∷ g ∷ []))
 both-exact make a b f g first second = record {
   right = λ c is.
-    let parts = both-parts make a b c is in
-    rw (first.right parts.0 parts.2, second.right parts.1 parts.3);
+      let parts = both-parts make a b c is in
+      rw (first.right parts.0 parts.2, second.right parts.1 parts.3);
   there = λ none.
-    let parts = two-none f g none in
-    let x = first.there parts.0 in
-    let y = second.there parts.1 in
-    (make x.0 y.0, rw (x.1, y.1));
+      let parts = two-none f g none in
+      let x = first.there parts.0 in
+      let y = second.there parts.1 in
+      (make x.0 y.0, rw (x.1, y.1));
 }
 
 -- rules by which each table says an entry or is wrong, and never both
@@ -80,17 +80,17 @@ autolocks-exact = record { at = locking-exact }
 pub named-exact : AreExact named_rules
 named-exact = record {
   at = λ spot table.
-    both-exact (λ name locking. record { name = name; method = locking.method; grade = locking.grade }) _ _ _ _
-    (text-exact spot (fault.BadName spot) name_of (codes "name") table)
-    (locking-exact spot table);
+      both-exact (λ name locking. record { name = name; method = locking.method; grade = locking.grade }) _ _ _ _
+      (text-exact spot (fault.BadName spot) name_of (codes "name") table)
+      (locking-exact spot table);
 }
 
 pub guards-exact : AreExact guard_rules
 guards-exact = record {
   at = λ spot table.
-    both-exact (λ fields lock. record { class = fields.0; field = fields.1; lock = lock }) _ _ _ _
-    (text-exact spot (fault.BadGuard spot) guarded_of (codes "field") table)
-    (text-exact spot (fault.BadGuard spot) name_of (codes "lock") table);
+      both-exact (λ fields lock. record { class = fields.0; field = fields.1; lock = lock }) _ _ _ _
+      (text-exact spot (fault.BadGuard spot) guarded_of (codes "field") table)
+      (text-exact spot (fault.BadGuard spot) name_of (codes "lock") table);
 }
 
 trigger-exact : (clients : ℕ) (spot : Spot) (table : Members) → IsExact (trigger_at clients table) (trigger_fault clients spot table)

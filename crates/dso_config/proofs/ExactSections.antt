@@ -44,6 +44,7 @@ entry-parts rules value entry is = by_table (as_table value) refl is where
       → (table : Members) × (as_table value ≡ Some table) × (has_known_keys rules.section table ≡ true) × (rules.entry table ≡ Some entry)
   by_known table true at keys told = (table, at, keys, told)
   by_known table false at keys told = cc
+
   by_table : (found : Option Members) → as_table value ≡ found
       → option_and_then rules.entry (option_and_then (λ table. if has_known_keys rules.section table then Some table else None) found) ≡ Some entry
       → (table : Members) × (as_table value ≡ Some table) × (has_known_keys rules.section table ≡ true) × (rules.entry table ≡ Some entry)
@@ -106,7 +107,7 @@ items-there {E} rules exact before (value ∷ items) few none =
     let parts = cons-none _ _ none in
     let entry = item-there rules exact before value parts.0 in
     let rest_none : items_fault rules (before ++ entry.0 ∷ []) items ≡ None =
-      sym (ap (λ found. items_fault rules (before ++ option_to_list found) items) entry.2) ∙ (cons-none _ _ parts.1).0 in
+    sym (ap (λ found. items_fault rules (before ++ option_to_list found) items) entry.2) ∙ (cons-none _ _ parts.1).0 in
     let room : length before < most_entries = grind (arith, nat_tests, entry.1) in
     let room_behind : length (before ++ entry.0 ∷ []) ≤ most_entries = omega (arith, length-append {A = E}) in
     let rest = items-there rules exact (before ++ entry.0 ∷ []) items room_behind rest_none in
@@ -124,9 +125,9 @@ new-each rules [] entry new = λ k d within. absurd (omega arith)
 new-each rules (first ∷ before) entry new =
     let parts = neither (rules.repeats entry first) (list_any (rules.repeats entry) before) new in
     All-cons (λ earlier. rules.repeats entry earlier ≡ false) first before parts.0 (new-each rules before entry parts.1) where
-  neither : (a b : Bool) → not (a || b) ≡ true → (a ≡ false) × (not b ≡ true)
-  neither true b is = cc
-  neither false b is = (refl, is)
+      neither : (a b : Bool) → not (a || b) ≡ true → (a ≡ false) × (not b ≡ true)
+      neither true b is = cc
+      neither false b is = (refl, is)
 
 -- entries that stand apart are each new
 pub apart-new : {E : Type 0} (rules : Rules E) (before all : List E) → AllPairs (λ earlier entry. rules.repeats entry earlier ≡ false) (before ++ all) → EachIsNew rules before all
@@ -134,8 +135,8 @@ apart-new rules before [] apart = tt
 apart-new {E} rules before (entry ∷ all) apart =
     let R : E → E → Type 0 = λ earlier next. rules.repeats next earlier ≡ false in
     let none : All (λ earlier. rules.repeats entry earlier ≡ false) before = λ k d within.
-      let pair = apart k (length before) d within (omega (arith, length-append {A = E})) in
-      rw (get_or_append_left before (entry ∷ all) d k within, get_or-append_seam before entry all d) at pair in
+    let pair = apart k (length before) d within (omega (arith, length-append {A = E})) in
+    rw (get_or_append_left before (entry ∷ all) d k within, get_or-append_seam before entry all d) at pair in
     (new-from rules before entry none, apart-new rules (before ++ entry ∷ []) all (subst (AllPairs R) (sym (append_assoc before (entry ∷ []) all)) apart))
 
 -- each new entry stands apart from those before it
@@ -161,7 +162,7 @@ section-there rules exact (Some value) none =
     let parts = cons-none _ _ none in
     let items = found-there _ (as_array value) parts.0 in
     let right : items_fault rules [] (listed items.0) ≡ None =
-      sym (ap (option_and_then (λ items. items_fault rules [] (listed items))) items.1) ∙ (cons-none _ _ parts.1).0 in
+    sym (ap (option_and_then (λ items. items_fault rules [] (listed items))) items.1) ∙ (cons-none _ _ parts.1).0 in
     let all = items-there rules exact [] (listed items.0) (omega arith) right in
     (Some all.0, said value items.0 all.0 items.1 (record { each = all.1; few = omega (arith, all.2); new = new-apart rules [] all.0 (λ i j d below within. absurd (omega arith)) all.3 }))
 

@@ -30,8 +30,10 @@ or_empty-right rules exact table all section = section-right rules exact (value_
 -- what is wrong with the sections of triggers is none where they say theirs
 triggers-right : (table : Members) (config : Config) → Says table config → triggers_fault table config.clients ≡ None
 triggers-right table config says =
-    rw (or_empty-right (loss_rules config.clients) (losses-exact config.clients) table config.losses says.losses,
-    or_empty-right (break_rules config.clients) (breaks-exact config.clients) table config.breaks says.breaks)
+    rw (
+      or_empty-right (loss_rules config.clients) (losses-exact config.clients) table config.losses says.losses,
+      or_empty-right (break_rules config.clients) (breaks-exact config.clients) table config.breaks says.breaks,
+    )
 
 -- nothing is wrong with a table that says a configuration
 pub table-right : (table : Members) (config : Config) → Says table config → table_fault table ≡ None
@@ -72,18 +74,28 @@ table-there table none =
     let losses = or_empty-there (loss_rules clients.0) (losses-exact clients.0) table triggers.0 in
     let breaks = or_empty-there (break_rules clients.0) (breaks-exact clients.0) table triggers.1 in
     let config : Config = record {
-      clients = clients.0; resident = resident.0; roots = roots.0; autolocks = autolocks.0; named = named.0;
-      guards = guards.0; losses = losses.0; breaks = breaks.0 } in
-    (config, record {
-      known = unless-there (fault.UnknownKey top) (has_known_keys section.Top table) known.0;
-      clients = clients.1;
-      resident = resident.1;
-      roots = record { says = roots.1 };
-      autolocks = record { says = autolocks.1 };
-      named = record { says = named.1 };
-      guards = guards.1;
-      losses = losses.1;
-      breaks = breaks.1 })
+      clients = clients.0;
+      resident = resident.0;
+      roots = roots.0;
+      autolocks = autolocks.0;
+      named = named.0;
+      guards = guards.0;
+      losses = losses.0;
+      breaks = breaks.0;
+    } in (
+      config,
+      record {
+        known = unless-there (fault.UnknownKey top) (has_known_keys section.Top table) known.0;
+        clients = clients.1;
+        resident = resident.1;
+        roots = record { says = roots.1 };
+        autolocks = record { says = autolocks.1 };
+        named = record { says = named.1 };
+        guards = guards.1;
+        losses = losses.1;
+        breaks = breaks.1;
+      },
+    )
 
 -- a section that may be absent says one list of entries
 or_empty-one : {E : Type 0} (rules : Rules E) (table : Members) (all others : List E) → IsSectionOrEmpty rules table all → IsSectionOrEmpty rules table others → all ≡ others
@@ -103,8 +115,15 @@ says-one table config other says said =
     let losses = or_empty-one (loss_rules config.clients) table config.losses other.losses says.losses their_losses in
     let breaks = or_empty-one (break_rules config.clients) table config.breaks other.breaks says.breaks their_breaks in
     λ i. record {
-      clients = clients i; resident = resident i; roots = roots i; autolocks = autolocks i; named = named i;
-      guards = guards i; losses = losses i; breaks = breaks i }
+      clients = clients i;
+      resident = resident i;
+      roots = roots i;
+      autolocks = autolocks i;
+      named = named i;
+      guards = guards i;
+      losses = losses i;
+      breaks = breaks i;
+    }
 
 -- a text is one table
 toml-one : (text : List ℕ) (table other : Members) → IsToml text table → IsToml text other → table ≡ other
@@ -151,12 +170,15 @@ some_answer text = by_length (nat_le (length text) most_bytes) refl where
       let says = table-there table is in
       inl (says.0, record { short = short; table = table; toml = toml; says = says.1 })
   by_fault short table toml (Some wrong) is = inr (wrong, in_table wrong table short toml is)
+
   by_reading : length text ≤ most_bytes → IsUtf8 text → (found : Option Members) → parse_document text ≡ found → HasAnswer text
   by_reading short utf8 None is = inr (fault.NotToml, not_toml short (λ table toml. cc (is, toml.reads)))
   by_reading short utf8 (Some table) is = by_fault short table (record { is_text = utf8; reads = is }) (table_fault table) refl
+
   by_utf8 : length text ≤ most_bytes → (test : Bool) → is_utf8 text ≡ test → HasAnswer text
   by_utf8 short true is = by_reading short (IsUtf8-from_is_utf8 text is) (parse_document text) refl
   by_utf8 short false is = inr (fault.NotToml, not_toml short (λ table toml. cc (is, is_utf8-from_IsUtf8 text toml.is_text)))
+
   by_length : (test : Bool) → nat_le (length text) most_bytes ≡ test → HasAnswer text
   by_length true is = by_utf8 (grind (arith, nat_tests)) (is_utf8 text) refl
   by_length false is = inr (fault.TooLong, too_long (grind (arith, nat_tests)))

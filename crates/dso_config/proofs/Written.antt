@@ -113,12 +113,14 @@ in-written text class member p before after is = by_class (is_name class) refl i
       let same : pattern.Method class member ≡ p = cc in
       subst (IsPattern text) same (method-written text class member before after named is)
   by_member false named is told = cc
+
   by_star : (star : Bool) → is_name class ≡ true → bytes_eq member (codes "*") ≡ star
       → (if star then Some (pattern.Class class) else if is_name member then Some (pattern.Method class member) else None) ≡ Some p → IsPattern text p
   by_star true named is told =
       let same : pattern.Class class ≡ p = cc in
       subst (IsPattern text) same (class-written text class member before after named is)
   by_star false named is told = by_member (is_name member) named refl told
+
   by_class : (named : Bool) → is_name class ≡ named
       → (if named then (if bytes_eq member (codes "*") then Some (pattern.Class class) else if is_name member then Some (pattern.Method class member) else None) else None) ≡ Some p
       → IsPattern text p
@@ -150,13 +152,16 @@ grade-written text g is = by_read (bytes_eq text (codes "read")) refl is where
   of word level is said told =
       let same : level ≡ g = cc in
       (bytes_eq-Decides text word).0 is ∙ sym said ∙ ap written_grade same
+
   by_synchronous : (test : Bool) → bytes_eq text (codes "synchronous-write") ≡ test → (if test then Some grade.Synchronous else None) ≡ Some g → text ≡ written_grade g
   by_synchronous true is told = of (codes "synchronous-write") grade.Synchronous is refl told
   by_synchronous false is told = cc
+
   by_write : (test : Bool) → bytes_eq text (codes "write") ≡ test
       → (if test then Some grade.Write else if bytes_eq text (codes "synchronous-write") then Some grade.Synchronous else None) ≡ Some g → text ≡ written_grade g
   by_write true is told = of (codes "write") grade.Write is refl told
   by_write false is told = by_synchronous (bytes_eq text (codes "synchronous-write")) refl told
+
   by_read : (test : Bool) → bytes_eq text (codes "read") ≡ test
       → (if test then Some grade.Read else if bytes_eq text (codes "write") then Some grade.Write else if bytes_eq text (codes "synchronous-write") then Some grade.Synchronous else None) ≡ Some g
       → text ≡ written_grade g

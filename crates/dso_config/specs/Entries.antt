@@ -65,18 +65,18 @@ locking_fault spot table =
 
 -- `[[autolock]]`: a method pattern and a level
 abbrev pub autolock_rules : Rules AutoEntry
-autolock_rules = record { section = section.Autolock; entry = locking_at; fault = locking_fault; repeats = never; }
+autolock_rules = record { section = section.Autolock; entry = locking_at; fault = locking_fault; repeats = never }
 
 -- `[[named_lock]]`: a name, a method pattern and a level
 abbrev pub named_rules : Rules NamedEntry
 named_rules = record {
   section = section.NamedLock;
   entry = λ table.
-    both (λ name locking. record { name = name; method = locking.method; grade = locking.grade })
-    (option_and_then name_of (text_at (codes "name") table))
-    (locking_at table);
+      both (λ name locking. record { name = name; method = locking.method; grade = locking.grade })
+      (option_and_then name_of (text_at (codes "name") table))
+      (locking_at table);
   fault = λ spot table.
-    first_fault (value_fault spot (fault.BadName spot) name_of (text_at (codes "name") table) ∷ locking_fault spot table ∷ []);
+      first_fault (value_fault spot (fault.BadName spot) name_of (text_at (codes "name") table) ∷ locking_fault spot table ∷ []);
   repeats = never;
 }
 
@@ -94,14 +94,14 @@ abbrev pub guard_rules : Rules GuardEntry
 guard_rules = record {
   section = section.Guard;
   entry = λ table.
-    both (λ fields lock. record { class = fields.0; field = fields.1; lock = lock })
-    (option_and_then guarded_of (text_at (codes "field") table))
-    (option_and_then name_of (text_at (codes "lock") table));
+      both (λ fields lock. record { class = fields.0; field = fields.1; lock = lock })
+      (option_and_then guarded_of (text_at (codes "field") table))
+      (option_and_then name_of (text_at (codes "lock") table));
   fault = λ spot table.
-    first_fault (
-    value_fault spot (fault.BadGuard spot) guarded_of (text_at (codes "field") table)
-    ∷ value_fault spot (fault.BadGuard spot) name_of (text_at (codes "lock") table)
-    ∷ []);
+      first_fault (
+      value_fault spot (fault.BadGuard spot) guarded_of (text_at (codes "field") table)
+      ∷ value_fault spot (fault.BadGuard spot) name_of (text_at (codes "lock") table)
+      ∷ []);
   repeats = never;
 }
 

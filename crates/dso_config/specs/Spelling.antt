@@ -37,7 +37,7 @@ abbrev pub pattern_in : List ℕ → List ℕ → Option Pattern
 pattern_in class member =
     if is_name class
     then (if bytes_eq member (codes "*") then Some (pattern.Class class)
-        else if is_name member then Some (pattern.Method class member) else None)
+    else if is_name member then Some (pattern.Method class member) else None)
     else None
 
 -- a pattern: `*.*`, `Class.*` or `Class.method`

@@ -8,10 +8,9 @@ ghost use Rattle.dso_config.specs.InRange.{IsInRange, most_clients, most_residen
 ghost use Rattle.dso_config.specs.Keys.{IsSaid, IsTold};
 ghost use Rattle.dso_config.specs.declared.fault.ConfigFault.TheVariants as fault;
 
-use crate::keys;
 use crate::rules::{Autolocks, Breaks, Guards, Losses, NamedLocks, Roots};
 use crate::section::{section, section_or_empty};
-use crate::{Config, ConfigFault, Section, Spot};
+use crate::{Config, ConfigFault, Section, Spot, keys};
 use std::alloc::Global;
 use toml::Table;
 

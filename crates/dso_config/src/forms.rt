@@ -7,9 +7,7 @@ ghost use Rattle.dso_config.specs.Keys.{IsSaid, IsTold, text_at, value_fault};
 ghost use Rattle.dso_config.specs.Spelling.{pattern_of, grade_of, name_of};
 ghost use Rattle.dso_config.specs.declared.fault.ConfigFault.TheVariants as fault;
 
-use crate::keys;
-use crate::spelling;
-use crate::{AutoEntry, ConfigFault, GuardEntry, Pattern, RootEntry, Spot};
+use crate::{AutoEntry, ConfigFault, GuardEntry, Pattern, RootEntry, Spot, keys, spelling};
 use dso_base::{Grade, NoMemory, Trigger, Word};
 use std::alloc::Global;
 use toml::Table;
@@ -18,7 +16,13 @@ use toml::Table;
 const LATEST_MESSAGE: u64 = 1_000_000;
 
 /// The name at a key; the other fault where a text there is no name.
-pub fn name_at(alloc: Global, table: &Table, key: &str, other: ConfigFault, spot: Spot) -> Result<Word, ConfigFault>
+pub fn name_at(
+    alloc: Global,
+    table: &Table,
+    key: &str,
+    other: ConfigFault,
+    spot: Spot,
+) -> Result<Word, ConfigFault>
     ensures ok { IfOk result (IsSaid (option_and_then name_of (text_at key.now (table_view table.now)))
         (value_fault spot other name_of (text_at key.now (table_view table.now)))) }
     ensures err { IfErr result (IsTold (value_fault spot other name_of (text_at key.now (table_view table.now)))) }
@@ -28,7 +32,13 @@ pub fn name_at(alloc: Global, table: &Table, key: &str, other: ConfigFault, spot
 }
 
 /// The pattern at a key; the other fault where a text there is no pattern.
-fn pattern_at(alloc: Global, table: &Table, key: &str, other: ConfigFault, spot: Spot) -> Result<Pattern, ConfigFault>
+fn pattern_at(
+    alloc: Global,
+    table: &Table,
+    key: &str,
+    other: ConfigFault,
+    spot: Spot,
+) -> Result<Pattern, ConfigFault>
     ensures ok { IfOk result (IsSaid (option_and_then pattern_of (text_at key.now (table_view table.now)))
         (value_fault spot other pattern_of (text_at key.now (table_view table.now)))) }
     ensures err { IfErr result (IsTold (value_fault spot other pattern_of (text_at key.now (table_view table.now)))) }
@@ -52,7 +62,13 @@ pub fn locking(alloc: Global, table: &Table, spot: Spot) -> Result<AutoEntry, Co
     ensures ok { IfOk result (IsSaid (locking_at (table_view table.now)) (locking_fault spot (table_view table.now))) }
     ensures err { IfErr result (IsTold (locking_fault spot (table_view table.now))) }
 {
-    let method = pattern_at(alloc, table, "method", ConfigFault::BadMethodPattern(spot), spot)?;
+    let method = pattern_at(
+        alloc,
+        table,
+        "method",
+        ConfigFault::BadMethodPattern(spot),
+        spot,
+    )?;
     let grade = grade_at(table, spot)?;
     Ok(AutoEntry { method, grade })
 }
@@ -116,7 +132,15 @@ pub fn trigger(table: &Table, clients: u8, spot: Spot) -> Result<Trigger, Config
     ensures ok { IfOk result (IsSaid (trigger_at clients (table_view table.now)) (trigger_fault clients spot (table_view table.now))) }
     ensures err { IfErr result (IsTold (trigger_fault clients spot (table_view table.now))) }
 {
-    let client = keys::number(keys::number_at(table, "client"), 1, u64::from(clients), spot)?;
+    let client = keys::number(
+        keys::number_at(table, "client"),
+        1,
+        u64::from(clients),
+        spot,
+    )?;
     let after = keys::number(keys::number_at(table, "after"), 0, LATEST_MESSAGE, spot)?;
-    Ok(Trigger { client: client as u8, after })
+    Ok(Trigger {
+        client: client as u8,
+        after,
+    })
 }

@@ -13,8 +13,8 @@ mod rules;
 mod section;
 mod spelling;
 
-pub use document::read_config;
 pub use config::{AutoEntry, Config, GuardEntry, NamedEntry, RootEntry};
+pub use document::read_config;
 pub use fault::{ConfigFault, Section, Spot};
 pub use laws::{one_answer, read_as_written};
 pub use pattern::Pattern;

@@ -5,8 +5,7 @@ ghost use Rattle.toml.specs.View.{table_view};
 ghost use Rattle.dso_config.specs.Entries.{Rules, root_rules, autolock_rules, named_rules, guard_rules, loss_rules, break_rules};
 ghost use Rattle.dso_config.specs.Keys.{IsSaid, IsTold};
 
-use crate::forms;
-use crate::{AutoEntry, ConfigFault, GuardEntry, NamedEntry, RootEntry, Section, Spot};
+use crate::{AutoEntry, ConfigFault, GuardEntry, NamedEntry, RootEntry, Section, Spot, forms};
 use dso_base::Trigger;
 use std::alloc::Global;
 use toml::Table;
@@ -71,7 +70,8 @@ impl SectionRules for Roots {
     }
 
     fn repeats(&self, entry: &RootEntry, earlier: &RootEntry) -> bool {
-        entry.class.as_slice() == earlier.class.as_slice() && entry.field.as_slice() == earlier.field.as_slice()
+        entry.class.as_slice() == earlier.class.as_slice()
+            && entry.field.as_slice() == earlier.field.as_slice()
     }
 }
 
@@ -105,7 +105,11 @@ impl SectionRules for NamedLocks {
     fn read(&self, alloc: Global, table: &Table, spot: Spot) -> Result<NamedEntry, ConfigFault> {
         let name = forms::name_at(alloc, table, "name", ConfigFault::BadName(spot), spot)?;
         let AutoEntry { method, grade } = forms::locking(alloc, table, spot)?;
-        Ok(NamedEntry { name, method, grade })
+        Ok(NamedEntry {
+            name,
+            method,
+            grade,
+        })
     }
 
     fn repeats(&self, _entry: &NamedEntry, _earlier: &NamedEntry) -> bool {
@@ -163,6 +167,6 @@ impl SectionRules for Breaks {
     }
 
     fn repeats(&self, entry: &Trigger, earlier: &Trigger) -> bool {
-        entry.client == earlier.client && entry.after == earlier.after
+        entry.after == earlier.after && entry.client == earlier.client
     }
 }

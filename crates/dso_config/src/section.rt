@@ -7,9 +7,8 @@ ghost use Rattle.dso_config.specs.Keys.{IsSaid, IsTold};
 ghost use Rattle.dso_config.specs.Sections as spec;
 ghost use Rattle.dso_config.specs.Sections.{AreEntries, SaysEntries, IsSection, IsSectionOrEmpty, section_fault};
 
-use crate::keys;
 use crate::rules::SectionRules;
-use crate::{ConfigFault, Spot};
+use crate::{ConfigFault, Spot, keys};
 use dso_base::Items;
 use std::alloc::Global;
 use toml::{Table, Value};
@@ -32,7 +31,12 @@ fn is_new<R: SectionRules>(rules: &R, before: &[R::Entry], entry: &R::Entry) -> 
 }
 
 /// The entry that an item says behind these entries.
-fn item<R: SectionRules>(alloc: Global, rules: &R, before: &[R::Entry], value: &Value) -> Result<R::Entry, ConfigFault>
+fn item<R: SectionRules>(
+    alloc: Global,
+    rules: &R,
+    before: &[R::Entry],
+    value: &Value,
+) -> Result<R::Entry, ConfigFault>
     requires { length before.now ≤ most_entries }
     ensures ok { IfOk result (IsSaid (spec.entry_of (R.rules rules.now) (view value.now)) (spec.item_fault (R.rules rules.now) before.now (view value.now))) }
     ensures few { IfOk result (λ _. length before.now < most_entries) }
@@ -58,7 +62,11 @@ fn item<R: SectionRules>(alloc: Global, rules: &R, before: &[R::Entry], value: &
 }
 
 /// The entries that the items say, one each.
-fn entries<R: SectionRules>(alloc: Global, rules: &R, values: &[Value]) -> Result<Items<R::Entry>, ConfigFault>
+fn entries<R: SectionRules>(
+    alloc: Global,
+    rules: &R,
+    values: &[Value],
+) -> Result<Items<R::Entry>, ConfigFault>
     ensures ok { IfOk result (AreEntries (R.rules rules.now) (map view values.now)) }
     ensures right { IfOk result (λ _. spec.items_fault (R.rules rules.now) [] (map view values.now) ≡ None) }
     ensures err { IfErr result (IsTold (spec.items_fault (R.rules rules.now) [] (map view values.now))) }
@@ -72,7 +80,11 @@ fn entries<R: SectionRules>(alloc: Global, rules: &R, values: &[Value]) -> Resul
 }
 
 /// The entries that the value at a section's key says.
-fn said<R: SectionRules>(alloc: Global, rules: &R, value: &Value) -> Result<Items<R::Entry>, ConfigFault>
+fn said<R: SectionRules>(
+    alloc: Global,
+    rules: &R,
+    value: &Value,
+) -> Result<Items<R::Entry>, ConfigFault>
     ensures ok { IfOk result (λ all. SaysEntries (R.rules rules.now) (Some (view value.now)) (Some all)) }
     ensures right { IfOk result (λ _. spec.value_fault (R.rules rules.now) (Some (view value.now)) ≡ None) }
     ensures err { IfErr result (IsTold (spec.value_fault (R.rules rules.now) (Some (view value.now)))) }
@@ -92,7 +104,11 @@ fn value_of<'a, R: SectionRules>(rules: &R, table: &'a Table) -> Option<&'a Valu
 }
 
 /// The entries of a table's section, None where the section is absent.
-pub fn section<R: SectionRules>(alloc: Global, rules: &R, table: &Table) -> Result<Option<Items<R::Entry>>, ConfigFault>
+pub fn section<R: SectionRules>(
+    alloc: Global,
+    rules: &R,
+    table: &Table,
+) -> Result<Option<Items<R::Entry>>, ConfigFault>
     ensures ok { IfOk result (IsSection (R.rules rules.now) (table_view table.now)) }
     ensures right { IfOk result (λ _. section_fault (R.rules rules.now) (table_view table.now) ≡ None) }
     ensures err { IfErr result (IsTold (section_fault (R.rules rules.now) (table_view table.now))) }
@@ -104,7 +120,11 @@ pub fn section<R: SectionRules>(alloc: Global, rules: &R, table: &Table) -> Resu
 }
 
 /// The entries of a table's section, none where the section is absent.
-pub fn section_or_empty<R: SectionRules>(alloc: Global, rules: &R, table: &Table) -> Result<Items<R::Entry>, ConfigFault>
+pub fn section_or_empty<R: SectionRules>(
+    alloc: Global,
+    rules: &R,
+    table: &Table,
+) -> Result<Items<R::Entry>, ConfigFault>
     ensures ok { IfOk result (IsSectionOrEmpty (R.rules rules.now) (table_view table.now)) }
     ensures right { IfOk result (λ _. section_fault (R.rules rules.now) (table_view table.now) ≡ None) }
     ensures err { IfErr result (IsTold (section_fault (R.rules rules.now) (table_view table.now))) }
