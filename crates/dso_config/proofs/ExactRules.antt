@@ -1,7 +1,7 @@
 -- What a table says and what is wrong with it exclude each other, and one of the two there is.
-use Rattle.std.proofs.Common.{codes, ◌≡◌, ℕ, Bool, true, false, List, [], ◌∷◌, Option, Some, None, refl}
+use Rattle.std.proofs.Common.{codes, ◌≡◌, ℕ, List, [], ◌∷◌, Option, Some, None, refl}
 use Rattle.std.specs.Option.{option_and_then}
-use Rattle.toml.specs.Data.{Data, Members}
+use Rattle.toml.specs.Data.{Members}
 use Rattle.dso_config.specs.declared.fault.ConfigFault.{ConfigFault}
 use Rattle.dso_config.specs.declared.fault.ConfigFault.TheVariants as fault
 use Rattle.dso_config.specs.declared.fault.Spot.{Spot}

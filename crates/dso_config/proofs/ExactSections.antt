@@ -1,6 +1,5 @@
 -- What a section says and what is wrong with it exclude each other, and one of the two there is.
-use Rattle.std.proofs.Common.{◌≡◌, ◌≤◌, ◌<◌, ◌+◌, ℕ, suc, Bool, true, false, not, ◌||◌, nat_lt, if◌then◌else◌, List, [], ◌∷◌, ◌++◌, length, get_or, map, Option, Some, None, refl, ap, sym, subst, ◌∙◌, arith, rules, append_assoc, append-nil, length-append}
-use Rattle.std.proofs.lemmas.Bool.{false≢true}
+use Rattle.std.proofs.Common.{◌≡◌, ◌≤◌, ◌<◌, ◌+◌, suc, Bool, true, false, not, ◌||◌, nat_lt, if◌then◌else◌, List, [], ◌∷◌, ◌++◌, length, map, Option, Some, None, refl, ap, sym, subst, ◌∙◌, arith, rules, append_assoc, append-nil, length-append}
 use Rattle.std.proofs.lemmas.Bool.Decides.{nat_tests}
 use Rattle.std.proofs.lemmas.List.Elements.{All-cons}
 use Rattle.std.proofs.lemmas.List.Folds.{list_any_none}
@@ -9,16 +8,16 @@ use Rattle.std.proofs.lemmas.List.{get_or_append_left}
 use Rattle.std.proofs.Math.Seq.{get_or-append_seam}
 use Rattle.std.specs.List.{All, AllPairs, list_any}
 use Rattle.std.specs.Option.{option_and_then, option_to_list}
-use Rattle.toml.specs.Data.{Data, Items, Members, as_array, as_table}
+use Rattle.toml.specs.Data.{Data, Members, as_array, as_table}
 use Rattle.dso_config.specs.declared.fault.ConfigFault.{ConfigFault}
 use Rattle.dso_config.specs.declared.fault.ConfigFault.TheVariants as fault
 use Rattle.dso_config.specs.declared.fault.Section.{Section}
 use Rattle.dso_config.specs.declared.fault.Spot.{Spot}
 use Rattle.dso_config.specs.Entries.{Rules}
-use Rattle.dso_config.specs.InRange.{entries, most_entries}
-use Rattle.dso_config.specs.Keys.{first_fault, has_known_keys, unless, unless_found}
-use Rattle.dso_config.specs.Sections.{AreEntries, SaysEntries, absent, said, entry_of, is_new, item_fault, items_fault, known_table, listed, value_fault}
-use Rattle.dso_config.proofs.ExactRules.{AreExact, IsExact, two-none, found-right, found-there}
+use Rattle.dso_config.specs.InRange.{most_entries}
+use Rattle.dso_config.specs.Keys.{first_fault, has_known_keys, unless}
+use Rattle.dso_config.specs.Sections.{SaysEntries, absent, said, entry_of, is_new, item_fault, items_fault, known_table, listed, value_fault}
+use Rattle.dso_config.proofs.ExactRules.{AreExact, found-there}
 
 -- each of these entries says nothing that one before it said
 abbrev pub EachIsNew : {E : Type 0} → Rules E → List E → List E → Type 0

@@ -1,5 +1,5 @@
 -- A text has one configuration or one fault.
-use Rattle.std.proofs.Common.{codes, ◌≡◌, ◌≤◌, ◌<◌, ◌⊎◌, inl, inr, ℕ, Bool, true, false, nat_le, List, [], ◌∷◌, length, Option, Some, None, IsUtf8, refl, ap, sym, subst, ◌∙◌, arith}
+use Rattle.std.proofs.Common.{codes, ◌≡◌, ◌≤◌, inl, inr, ℕ, Bool, true, false, nat_le, List, length, Option, Some, None, IsUtf8, refl, ap, sym, subst, ◌∙◌, arith}
 use Rattle.std.proofs.lemmas.Bool.Decides.{nat_tests}
 use Rattle.std.proofs.lemmas.Str.{IsUtf8-from_is_utf8, is_utf8-from_IsUtf8}
 use Rattle.std.specs.Option.{option_and_then}
@@ -10,11 +10,11 @@ use Rattle.dso_config.specs.declared.config.Config.{Config}
 use Rattle.dso_config.specs.declared.fault.ConfigFault.{ConfigFault}
 use Rattle.dso_config.specs.declared.fault.ConfigFault.TheVariants as fault
 use Rattle.dso_config.specs.declared.fault.Section.TheVariants as section
-use Rattle.dso_config.specs.Configuration.{top, setting, setting_fault, clients_of, resident_of, Says, triggers_fault, table_fault, most_bytes, IsToml, IsConfigurationOf, IsFaultOf, too_long, not_toml, in_table, HasAnswer}
+use Rattle.dso_config.specs.Configuration.{top, setting, setting_fault, Says, triggers_fault, table_fault, most_bytes, IsToml, IsConfigurationOf, IsFaultOf, too_long, not_toml, in_table, HasAnswer}
 use Rattle.dso_config.specs.Entries.{Rules, root_rules, autolock_rules, named_rules, guard_rules, loss_rules, break_rules}
 use Rattle.dso_config.specs.InRange.{entries, most_clients, most_resident}
-use Rattle.dso_config.specs.Keys.{first_fault, has_known_keys, in_range, unless}
-use Rattle.dso_config.specs.Sections.{IsSection, IsSectionOrEmpty, SaysEntries, section_fault, value_of}
+use Rattle.dso_config.specs.Keys.{has_known_keys, in_range}
+use Rattle.dso_config.specs.Sections.{IsSectionOrEmpty, section_fault, value_of}
 use Rattle.dso_config.proofs.ExactRules.{AreExact, IsExact, value-exact, two-none, roots-exact, autolocks-exact, named-exact, guards-exact, losses-exact, breaks-exact}
 use Rattle.dso_config.proofs.ExactSections.{cons-none, unless-there, section-right, section-there, section-one}
 

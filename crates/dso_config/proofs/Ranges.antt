@@ -1,5 +1,5 @@
 -- What a text says is in range.
-use Rattle.std.proofs.Common.{codes, ◌≡◌, ◌≢◌, ◌≤◌, ◌<◌, ℕ, ℤ, pos, negsuc, Bool, true, false, not, nat_eq, nat_le, ◌&&◌, List, [], ◌∷◌, length, get_or, map, Option, Some, None, refl, sym, subst, ◌∙◌, arith, rules}
+use Rattle.std.proofs.Common.{codes, ◌≡◌, ◌≢◌, ◌≤◌, ℕ, ℤ, pos, negsuc, true, false, nat_le, ◌&&◌, List, [], ◌∷◌, length, map, Option, Some, None, refl, sym, subst, ◌∙◌, arith, rules}
 use Rattle.std.proofs.lemmas.Bool.{and_parts, false≢true}
 use Rattle.std.proofs.lemmas.Bool.Decides.{nat_tests}
 use Rattle.std.proofs.lemmas.List.Elements.{All-cons}
@@ -16,7 +16,7 @@ use Rattle.dso_config.specs.Configuration.{Says, setting}
 use Rattle.dso_config.specs.Entries.{Rules, root_rules, loss_rules, break_rules, trigger_at}
 use Rattle.dso_config.specs.InRange.{IsInRange, IsTrigger, entries, most_entries, latest_message}
 use Rattle.dso_config.specs.Keys.{number_at, in_range, both}
-use Rattle.dso_config.specs.Sections.{SaysEntries, absent, said, IsSection, IsSectionOrEmpty, AreEntries, entry_of, known_table, value_of}
+use Rattle.dso_config.specs.Sections.{SaysEntries, absent, said, IsSection, IsSectionOrEmpty, AreEntries, entry_of, known_table}
 
 -- a number that is told is in its range
 pub in_range-within : (least most : ℕ) (number : ℤ) (n : ℕ) → in_range least most number ≡ Some n → (least ≤ n) × (n ≤ most)

@@ -1,6 +1,6 @@
 -- What is wrong with a section's value, by what the value is.
 use Rattle.std.proofs.Common.{◌≡◌, Result, Ok, Err, IfOk, List, [], ◌∷◌, map, Option, Some, None, refl, ap, sym, subst, ◌∙◌, option_map, Bor, Vec, Global}
-use Rattle.toml.specs.Data.{Data, Items, as_array}
+use Rattle.toml.specs.Data.{Data, as_array}
 use Rattle.toml.specs.View.{view, items_view, array_view}
 use Rattle.toml.specs.declared.value.Value.{Value}
 use Rattle.dso_config.specs.declared.fault.ConfigFault.{ConfigFault}

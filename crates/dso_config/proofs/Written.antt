@@ -1,5 +1,5 @@
 -- A text is read as what is written so.
-use Rattle.std.proofs.Common.{codes, ◌≡◌, ◌+◌, ◌↔◌, ℕ, suc, Bool, true, false, not, ◌&&◌, ◌||◌, ◌==◌, nat_lt, if◌then◌else◌, List, [], ◌∷◌, ◌++◌, length, take, drop, Option, Some, None, refl, ap, sym, subst, ◌∙◌, arith}
+use Rattle.std.proofs.Common.{codes, ◌≡◌, ◌+◌, ◌↔◌, ℕ, suc, Bool, true, false, ◌==◌, if◌then◌else◌, List, [], ◌∷◌, ◌++◌, Some, None, refl, ap, sym, subst, ◌∙◌, arith}
 use Rattle.std.proofs.lemmas.Bool.{and_parts, false≢true}
 use Rattle.std.proofs.lemmas.Bool.Decides.{nat_tests}
 use Rattle.std.proofs.lemmas.Slice.Eq.{bytes_eq-Decides}
@@ -9,7 +9,7 @@ use Rattle.dso_base.specs.declared.lock.Grade.{Grade}
 use Rattle.dso_base.specs.declared.lock.Grade.TheVariants as grade
 use Rattle.dso_config.specs.declared.pattern.Pattern.{Pattern}
 use Rattle.dso_config.specs.declared.pattern.Pattern.TheVariants as pattern
-use Rattle.dso_config.specs.Spelling.{is_letter, is_word, is_dot, is_name, longest_name, pattern_in, pattern_of, grade_of, written, IsPattern, written_grade}
+use Rattle.dso_config.specs.Spelling.{is_letter, is_word, is_dot, is_name, pattern_in, pattern_of, grade_of, IsPattern, written_grade}
 
 -- a byte that is told to be a dot is one
 dot-is : (b : ℕ) → is_dot b ≡ true → b ≡ 46

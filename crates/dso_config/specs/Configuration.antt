@@ -1,5 +1,6 @@
 -- What a text says as a configuration, and what is wrong with it.
-use Rattle.std.specs.Prelude.{◌≡◌, ◌≤◌, ◌<◌, ◌⊎◌, ℕ, List, [], ◌∷◌, length, Option, Some, None, IsTrue, IsUtf8, codes, option_and_then}
+use Rattle.std.specs.Prelude.{◌≡◌, ◌≤◌, ◌<◌, ◌⊎◌, ℕ, List, [], ◌∷◌, length, Option, Some, None, IsTrue, IsUtf8}
+use Rattle.std.specs.Prelude.{codes, option_and_then}
 use Rattle.toml.specs.Data.{Data, Members, get_member, as_integer}
 use Rattle.toml.specs.Parse.{parse_document}
 use Rattle.dso_config.specs.declared.config.Config.{Config}
@@ -87,7 +88,11 @@ pub record IsConfigurationOf (text : List ℕ) (config : Config) : Type 0 where
 pub data IsFaultOf (text : List ℕ) : ConfigFault → Type 0 where
   too_long : most_bytes < length text → IsFaultOf text fault.TooLong
   not_toml : length text ≤ most_bytes → ((table : Members) → IsToml text table → ⊥) → IsFaultOf text fault.NotToml
-  in_table : (wrong : ConfigFault) (table : Members) → length text ≤ most_bytes → IsToml text table → table_fault table ≡ Some wrong → IsFaultOf text wrong
+  in_table : (wrong : ConfigFault) (table : Members)
+      → length text ≤ most_bytes
+      → IsToml text table
+      → table_fault table ≡ Some wrong
+      → IsFaultOf text wrong
 
 -- the text says a configuration, or something is wrong with it
 abbrev pub HasAnswer : List ℕ → Type 0

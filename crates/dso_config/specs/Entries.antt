@@ -1,8 +1,8 @@
 -- The entries of each section: what each says, what is wrong with it, and when it says something twice.
-use Rattle.std.specs.Prelude.{ℕ, Bool, false, ◌&&◌, nat_eq, List, [], ◌∷◌, Option, Some, None, codes, bytes_eq, option_and_then}
+use Rattle.std.specs.Prelude.{ℕ, Bool, false, ◌&&◌, nat_eq, List, [], ◌∷◌, Option, Some, None, codes, bytes_eq}
+use Rattle.std.specs.Prelude.{option_and_then}
 use Rattle.toml.specs.Data.{Members}
 use Rattle.dso_base.specs.declared.journal.Trigger.{Trigger}
-use Rattle.dso_base.specs.declared.lock.Grade.{Grade}
 use Rattle.dso_config.specs.declared.config.AutoEntry.{AutoEntry}
 use Rattle.dso_config.specs.declared.config.GuardEntry.{GuardEntry}
 use Rattle.dso_config.specs.declared.config.NamedEntry.{NamedEntry}
@@ -76,7 +76,10 @@ named_rules = record {
       (option_and_then name_of (text_at (codes "name") table))
       (locking_at table);
   fault = λ spot table.
-      first_fault (value_fault spot (fault.BadName spot) name_of (text_at (codes "name") table) ∷ locking_fault spot table ∷ []);
+      first_fault (
+      value_fault spot (fault.BadName spot) name_of (text_at (codes "name") table)
+      ∷ locking_fault spot table
+      ∷ []);
   repeats = never;
 }
 

@@ -1,7 +1,8 @@
 -- What stands at a key of a table, and what is wrong with it.
-use Rattle.std.specs.Prelude.{◌≡◌, ◌≢◌, ℕ, ℤ, pos, negsuc, Bool, true, false, ◌&&◌, nat_le, List, [], ◌∷◌, Option, Some, None, if◌then◌else◌, codes, bytes_eq, option_and_then}
+use Rattle.std.specs.Prelude.{◌≡◌, ◌≢◌, ℕ, ℤ, pos, negsuc, Bool, true, false, ◌&&◌, nat_le, List, [], ◌∷◌, Option}
+use Rattle.std.specs.Prelude.{Some, None, if◌then◌else◌, codes, bytes_eq, option_and_then}
 use Rattle.std.specs.List.{list_any}
-use Rattle.toml.specs.Data.{Data, Members, no_members, member, get_member, as_str, as_integer, as_table}
+use Rattle.toml.specs.Data.{Members, no_members, member, get_member, as_str, as_integer}
 use Rattle.dso_config.specs.declared.fault.ConfigFault.{ConfigFault}
 use Rattle.dso_config.specs.declared.fault.ConfigFault.TheVariants as fault
 use Rattle.dso_config.specs.declared.fault.Section.{Section}
@@ -21,7 +22,8 @@ key_of section.Break = codes "break"
 -- the keys that there are at the top and in an entry of each section
 abbrev pub keys_of : Section → List (List ℕ)
 keys_of section.Top =
-    codes "clients" ∷ codes "resident" ∷ codes "root" ∷ codes "autolock" ∷ codes "named_lock" ∷ codes "guard" ∷ codes "lose" ∷ codes "break" ∷ []
+    codes "clients" ∷ codes "resident" ∷ codes "root" ∷ codes "autolock" ∷ codes "named_lock" ∷ codes "guard"
+    ∷ codes "lose" ∷ codes "break" ∷ []
 keys_of section.Root = codes "field" ∷ []
 keys_of section.Autolock = codes "method" ∷ codes "level" ∷ []
 keys_of section.NamedLock = codes "name" ∷ codes "method" ∷ codes "level" ∷ []

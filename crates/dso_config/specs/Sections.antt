@@ -1,5 +1,6 @@
 -- A section of a configuration: the entries that it says, or what is wrong with it.
-use Rattle.std.specs.Prelude.{◌≡◌, ◌≤◌, ℕ, suc, Bool, true, false, not, nat_lt, nat_le, AllPairs, List, [], ◌∷◌, ◌++◌, map, length, Option, Some, None, option_and_then, option_to_list, if◌then◌else◌}
+use Rattle.std.specs.Prelude.{◌≡◌, ◌≤◌, suc, Bool, false, not, nat_lt, AllPairs, List, [], ◌∷◌, ◌++◌, map, length}
+use Rattle.std.specs.Prelude.{Option, Some, None, option_and_then, option_to_list, if◌then◌else◌}
 use Rattle.std.specs.List.{list_any}
 use Rattle.toml.specs.Data.{Data, Items, no_items, item, Members, get_member, as_array, as_table}
 use Rattle.dso_config.specs.declared.fault.ConfigFault.{ConfigFault}
@@ -44,7 +45,8 @@ item_fault rules before value =
 abbrev pub items_fault : {E : Type 0} → Rules E → List E → List Data → Option ConfigFault
 items_fault rules before [] = None
 items_fault rules before (value ∷ rest) =
-    first_fault (item_fault rules before value ∷ items_fault rules (before ++ option_to_list (entry_of rules value)) rest ∷ [])
+    let known = before ++ option_to_list (entry_of rules value) in
+    first_fault (item_fault rules before value ∷ items_fault rules known rest ∷ [])
 
 -- the section as a whole
 abbrev pub whole : {E : Type 0} → Rules E → Spot
@@ -76,7 +78,10 @@ pub record AreEntries {E : Type 0} (rules : Rules E) (items : List Data) (all : 
 -- what the value at a section's key says: these entries, or nothing where the key is absent
 pub data SaysEntries {E : Type 0} (rules : Rules E) : Option Data → Option (List E) → Type 0 where
   absent : SaysEntries rules None None
-  said : (value : Data) (items : Items) (all : List E) → as_array value ≡ Some items → AreEntries rules (listed items) all → SaysEntries rules (Some value) (Some all)
+  said : (value : Data) (items : Items) (all : List E)
+      → as_array value ≡ Some items
+      → AreEntries rules (listed items) all
+      → SaysEntries rules (Some value) (Some all)
 
 -- the section of a table says these entries
 pub record IsSection {E : Type 0} (rules : Rules E) (table : Members) (said : Option (List E)) : Type 0 where

@@ -1,5 +1,6 @@
 -- How names, patterns and levels are written.
-use Rattle.std.specs.Prelude.{◌≡◌, ℕ, Bool, true, false, ◌&&◌, ◌||◌, ◌==◌, nat_lt, List, [], ◌∷◌, ◌++◌, length, Option, Some, None, if◌then◌else◌, codes, bytes_eq, IsTrue, ⊤}
+use Rattle.std.specs.Prelude.{◌≡◌, ℕ, Bool, false, ◌&&◌, ◌||◌, ◌==◌, nat_lt, List, [], ◌∷◌, ◌++◌, length, Option}
+use Rattle.std.specs.Prelude.{Some, None, if◌then◌else◌, codes, bytes_eq, IsTrue, ⊤}
 use Rattle.std.specs.Char.{is_ascii_alphabetic, is_ascii_digit}
 use Rattle.std.specs.List.{list_all, before_first, after_first}
 use Rattle.dso_base.specs.declared.lock.Grade.{Grade}
@@ -42,7 +43,10 @@ pattern_in class member =
 
 -- a pattern: `*.*`, `Class.*` or `Class.method`
 abbrev pub pattern_of : List ℕ → Option Pattern
-pattern_of text = if bytes_eq text (codes "*.*") then Some pattern.All else pattern_in (before_first is_dot text) (after_first is_dot text)
+pattern_of text =
+    if bytes_eq text (codes "*.*")
+    then Some pattern.All
+    else pattern_in (before_first is_dot text) (after_first is_dot text)
 
 -- a level: `read`, `write` or `synchronous-write`
 abbrev pub grade_of : List ℕ → Option Grade

@@ -132,13 +132,10 @@ pub fn trigger(table: &Table, clients: u8, spot: Spot) -> Result<Trigger, Config
     ensures ok { IfOk result (IsSaid (trigger_at clients (table_view table.now)) (trigger_fault clients spot (table_view table.now))) }
     ensures err { IfErr result (IsTold (trigger_fault clients spot (table_view table.now))) }
 {
-    let client = keys::number(
-        keys::number_at(table, "client"),
-        1,
-        u64::from(clients),
-        spot,
-    )?;
-    let after = keys::number(keys::number_at(table, "after"), 0, LATEST_MESSAGE, spot)?;
+    let client = keys::number_at(table, "client");
+    let client = keys::number(client, 1, u64::from(clients), spot)?;
+    let after = keys::number_at(table, "after");
+    let after = keys::number(after, 0, LATEST_MESSAGE, spot)?;
     Ok(Trigger {
         client: client as u8,
         after,

@@ -1,4 +1,4 @@
-use Rattle.std.proofs.Common.{◌≡◌, ◌≢◌, ◌≤◌, ℕ, List, Result, Ok, Err, IfOk, IfErr, Some, length, arith}
+use Rattle.std.proofs.Common.{◌≢◌, ◌≤◌, ℕ, List, Result, Ok, Err, IfOk, IfErr, length, arith}
 use Rattle.toml.specs.Data.{Members}
 use Rattle.toml.specs.View.{table_view}
 use Rattle.dso_config.specs.declared.config.Config.{Config}

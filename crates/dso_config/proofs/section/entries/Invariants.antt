@@ -1,6 +1,5 @@
-use Rattle.std.proofs.Common.{◌≡◌, ◌≤◌, [], length, take, drop, map, Some}
+use Rattle.std.proofs.Common.{◌≡◌, [], take, drop, map}
 use Rattle.toml.specs.View.{view}
-use Rattle.dso_config.specs.InRange.{most_entries}
 use Rattle.dso_config.specs.Sections.{AreEntries, items_fault}
 use Rattle.dso_config.proofs.section.entries.Given as goal
 

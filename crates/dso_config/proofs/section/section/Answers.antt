@@ -1,4 +1,4 @@
-use Rattle.std.proofs.Common.{◌≡◌, ◌∙◌, option_map, ap, sym}
+use Rattle.std.proofs.Common.{◌∙◌, option_map, ap, sym}
 use Rattle.toml.specs.View.{view}
 use Rattle.dso_config.proofs.SectionFaults.{says_absent}
 use Rattle.dso_config.proofs.section.section.Goals as goal
