@@ -6,7 +6,7 @@ use Rattle.dso_config.specs.declared.fault.ConfigFault.{ConfigFault}
 use Rattle.dso_config.specs.declared.fault.ConfigFault.TheVariants as fault
 use Rattle.dso_config.specs.declared.fault.Spot.{Spot}
 use Rattle.dso_config.specs.Entries.{Rules, root_rules, autolock_rules, named_rules, guard_rules, loss_rules, break_rules, root_of, guarded_of, locking_at, locking_fault, trigger_at, trigger_fault}
-use Rattle.dso_config.specs.Keys.{text_at, number_at, in_range, first_fault, both, value_fault, unless_found}
+use Rattle.dso_config.specs.Keys.{text_at, number_at, in_range, form_at, form_fault, number_in, number_fault, first_fault, both, value_fault, unless_found}
 use Rattle.dso_config.specs.InRange.{latest_message}
 use Rattle.dso_config.specs.Spelling.{pattern_of, grade_of, name_of}
 use Rattle.dso_config.proofs.Ranges.{both-parts}
@@ -58,11 +58,11 @@ pub record AreExact {E : Type 0} (rules : Rules E) : Type 0 where
 
 -- the text and the number at a key
 text-exact : {A : Type 0} (spot : Spot) (other : ConfigFault) (form : List ℕ → Option A) (key : List ℕ) (table : Members)
-    → IsExact (option_and_then form (text_at key table)) (value_fault spot other form (text_at key table))
+    → IsExact (form_at form key table) (form_fault spot other form key table)
 text-exact spot other form key table = value-exact spot other form (text_at key table)
 
 number-exact : (spot : Spot) (least most : ℕ) (key : List ℕ) (table : Members)
-    → IsExact (option_and_then (in_range least most) (number_at key table)) (value_fault spot (fault.OutOfRange spot) (in_range least most) (number_at key table))
+    → IsExact (number_in least most key table) (number_fault spot least most key table)
 number-exact spot least most key table = value-exact spot (fault.OutOfRange spot) (in_range least most) (number_at key table)
 
 pub roots-exact : AreExact root_rules

@@ -34,9 +34,15 @@ setting_fault most (Some value) = value_fault top (fault.OutOfRange top) (in_ran
 abbrev pub clients_of : Members → Option ℕ
 clients_of table = setting 1 most_clients (get_member (codes "clients") table)
 
+abbrev pub clients_fault : Members → Option ConfigFault
+clients_fault table = setting_fault most_clients (get_member (codes "clients") table)
+
 -- how many objects a client keeps, 4096 where the key is absent
 abbrev pub resident_of : Members → Option ℕ
 resident_of table = setting 4096 most_resident (get_member (codes "resident") table)
+
+abbrev pub resident_fault : Members → Option ConfigFault
+resident_fault table = setting_fault most_resident (get_member (codes "resident") table)
 
 -- the table has no unknown key, and its keys say this configuration
 pub record Says (table : Members) (config : Config) : Type 0 where
@@ -63,8 +69,8 @@ abbrev pub table_fault : Members → Option ConfigFault
 table_fault table =
     first_fault (
     unless (fault.UnknownKey top) (has_known_keys section.Top table)
-    ∷ setting_fault most_clients (get_member (codes "clients") table)
-    ∷ setting_fault most_resident (get_member (codes "resident") table)
+    ∷ clients_fault table
+    ∷ resident_fault table
     ∷ section_fault root_rules table
     ∷ section_fault autolock_rules table
     ∷ section_fault named_rules table

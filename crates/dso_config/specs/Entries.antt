@@ -15,7 +15,7 @@ use Rattle.dso_config.specs.declared.fault.Spot.{Spot}
 use Rattle.dso_config.specs.declared.pattern.Pattern.{Pattern}
 use Rattle.dso_config.specs.declared.pattern.Pattern.TheVariants as pattern
 use Rattle.dso_config.specs.InRange.{latest_message}
-use Rattle.dso_config.specs.Keys.{text_at, number_at, in_range, both, first_fault, value_fault}
+use Rattle.dso_config.specs.Keys.{form_at, form_fault, number_in, number_fault, both, first_fault}
 use Rattle.dso_config.specs.Spelling.{pattern_of, grade_of, name_of}
 
 -- The rules of a section: which it is; the entry that a table of its keys says, where it says one; what is wrong with
@@ -44,8 +44,8 @@ root_of text = option_and_then static_field (pattern_of text)
 abbrev pub root_rules : Rules RootEntry
 root_rules = record {
   section = section.Root;
-  entry = λ table. option_and_then root_of (text_at (codes "field") table);
-  fault = λ spot table. value_fault spot (fault.BadName spot) root_of (text_at (codes "field") table);
+  entry = λ table. form_at root_of (codes "field") table;
+  fault = λ spot table. form_fault spot (fault.BadName spot) root_of (codes "field") table;
   repeats = λ entry earlier. bytes_eq entry.class earlier.class && bytes_eq entry.field earlier.field;
 }
 
@@ -53,14 +53,14 @@ root_rules = record {
 abbrev pub locking_at : Members → Option AutoEntry
 locking_at table =
     both (λ method grade. record { method = method; grade = grade })
-    (option_and_then pattern_of (text_at (codes "method") table))
-    (option_and_then grade_of (text_at (codes "level") table))
+    (form_at pattern_of (codes "method") table)
+    (form_at grade_of (codes "level") table)
 
 abbrev pub locking_fault : Spot → Members → Option ConfigFault
 locking_fault spot table =
     first_fault (
-    value_fault spot (fault.BadMethodPattern spot) pattern_of (text_at (codes "method") table)
-    ∷ value_fault spot (fault.OutOfRange spot) grade_of (text_at (codes "level") table)
+    form_fault spot (fault.BadMethodPattern spot) pattern_of (codes "method") table
+    ∷ form_fault spot (fault.OutOfRange spot) grade_of (codes "level") table
     ∷ [])
 
 -- `[[autolock]]`: a method pattern and a level
@@ -73,11 +73,11 @@ named_rules = record {
   section = section.NamedLock;
   entry = λ table.
       both (λ name locking. record { name = name; method = locking.method; grade = locking.grade })
-      (option_and_then name_of (text_at (codes "name") table))
+      (form_at name_of (codes "name") table)
       (locking_at table);
   fault = λ spot table.
       first_fault (
-      value_fault spot (fault.BadName spot) name_of (text_at (codes "name") table)
+      form_fault spot (fault.BadName spot) name_of (codes "name") table
       ∷ locking_fault spot table
       ∷ []);
   repeats = never;
@@ -98,12 +98,12 @@ guard_rules = record {
   section = section.Guard;
   entry = λ table.
       both (λ fields lock. record { class = fields.0; field = fields.1; lock = lock })
-      (option_and_then guarded_of (text_at (codes "field") table))
-      (option_and_then name_of (text_at (codes "lock") table));
+      (form_at guarded_of (codes "field") table)
+      (form_at name_of (codes "lock") table);
   fault = λ spot table.
       first_fault (
-      value_fault spot (fault.BadGuard spot) guarded_of (text_at (codes "field") table)
-      ∷ value_fault spot (fault.BadGuard spot) name_of (text_at (codes "lock") table)
+      form_fault spot (fault.BadGuard spot) guarded_of (codes "field") table
+      ∷ form_fault spot (fault.BadGuard spot) name_of (codes "lock") table
       ∷ []);
   repeats = never;
 }
@@ -112,14 +112,14 @@ guard_rules = record {
 abbrev pub trigger_at : ℕ → Members → Option Trigger
 trigger_at clients table =
     both (λ client after. record { client = client; after = after })
-    (option_and_then (in_range 1 clients) (number_at (codes "client") table))
-    (option_and_then (in_range 0 latest_message) (number_at (codes "after") table))
+    (number_in 1 clients (codes "client") table)
+    (number_in 0 latest_message (codes "after") table)
 
 abbrev pub trigger_fault : ℕ → Spot → Members → Option ConfigFault
 trigger_fault clients spot table =
     first_fault (
-    value_fault spot (fault.OutOfRange spot) (in_range 1 clients) (number_at (codes "client") table)
-    ∷ value_fault spot (fault.OutOfRange spot) (in_range 0 latest_message) (number_at (codes "after") table)
+    number_fault spot 1 clients (codes "client") table
+    ∷ number_fault spot 0 latest_message (codes "after") table
     ∷ [])
 
 -- `[[lose]]` of a cluster of so many clients: each client once

@@ -80,6 +80,22 @@ abbrev pub value_fault : {X A : Type 0} → Spot → ConfigFault → (X → Opti
 value_fault spot other_form form value =
     first_fault (unless_found (fault.WrongKind spot) value ∷ unless_found other_form (option_and_then form value) ∷ [])
 
+-- the text at a key, read in some form
+abbrev pub form_at : {A : Type 0} → (List ℕ → Option A) → List ℕ → Members → Option A
+form_at form key table = option_and_then form (text_at key table)
+
+-- what is wrong with the text at a key: there is none, or it has another form
+abbrev pub form_fault : {A : Type 0} → Spot → ConfigFault → (List ℕ → Option A) → List ℕ → Members → Option ConfigFault
+form_fault spot other_form form key table = value_fault spot other_form form (text_at key table)
+
+-- the number at a key, in a range
+abbrev pub number_in : ℕ → ℕ → List ℕ → Members → Option ℕ
+number_in least most key table = option_and_then (in_range least most) (number_at key table)
+
+-- what is wrong with the number at a key: there is none, or it is out of range
+abbrev pub number_fault : Spot → ℕ → ℕ → List ℕ → Members → Option ConfigFault
+number_fault spot least most key table = value_fault spot (fault.OutOfRange spot) (in_range least most) (number_at key table)
+
 -- it is said so, and nothing is wrong
 pub record IsSaid {A : Type 0} (value : Option A) (wrong : Option ConfigFault) (said : A) : Type 0 where
   pub is : value ≡ Some said

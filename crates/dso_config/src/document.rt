@@ -1,10 +1,11 @@
 //! A whole configuration.
 
-ghost use Rattle.std.specs.Prelude.{◌≡◌, ◌≢◌, ◌≤◌, Some, None, IfOk, IfErr, codes, option_map};
-ghost use Rattle.toml.specs.Data.{as_integer, get_member};
-ghost use Rattle.toml.specs.View.{table_view, view};
-ghost use Rattle.dso_config.specs.Configuration.{IsConfigurationOf, IsFaultOf, Says, setting, setting_fault, clients_of, resident_of, table_fault};
-ghost use Rattle.dso_config.specs.InRange.{IsInRange, most_clients, most_resident};
+ghost use Rattle.std.specs.Prelude.{◌≢◌, ◌≤◌, IfOk, IfErr};
+ghost use Rattle.toml.specs.Data.{get_member};
+ghost use Rattle.toml.specs.View.{table_view};
+ghost use Rattle.dso_config.specs.Configuration.{IsConfigurationOf, IsFaultOf, Says, setting, setting_fault, clients_of, clients_fault, resident_of, resident_fault};
+ghost use Rattle.dso_config.specs.Configuration.{table_fault};
+ghost use Rattle.dso_config.specs.InRange.{IsInRange};
 ghost use Rattle.dso_config.specs.Keys.{IsSaid, IsTold};
 ghost use Rattle.dso_config.specs.declared.fault.ConfigFault.TheVariants as fault;
 
@@ -27,7 +28,8 @@ const MOST_RESIDENT: u64 = 1_000_000;
 fn setting(table: &Table, key: &str, default: u64, most: u64) -> Result<u64, ConfigFault>
     requires least { 1 ≤ default }
     requires most { default ≤ most }
-    ensures ok { IfOk result (IsSaid (setting default most (get_member key.now (table_view table.now))) (setting_fault most (get_member key.now (table_view table.now)))) }
+    ensures ok { IfOk result (IsSaid (setting default most (get_member key.now (table_view table.now)))
+        (setting_fault most (get_member key.now (table_view table.now)))) }
     ensures least { IfOk result (λ number. 1 ≤ number) }
     ensures most { IfOk result (λ number. number ≤ most) }
     ensures err { IfErr result (IsTold (setting_fault most (get_member key.now (table_view table.now)))) }
@@ -40,16 +42,16 @@ fn setting(table: &Table, key: &str, default: u64, most: u64) -> Result<u64, Con
 
 /// How many clients there are.
 fn clients(table: &Table) -> Result<u8, ConfigFault>
-    ensures ok { IfOk result (IsSaid (clients_of (table_view table.now)) (setting_fault most_clients (get_member (codes "clients") (table_view table.now)))) }
-    ensures err { IfErr result (IsTold (setting_fault most_clients (get_member (codes "clients") (table_view table.now)))) }
+    ensures ok { IfOk result (IsSaid (clients_of (table_view table.now)) (clients_fault (table_view table.now))) }
+    ensures err { IfErr result (IsTold (clients_fault (table_view table.now))) }
 {
     Ok(setting(table, "clients", 1, MOST_CLIENTS)? as u8)
 }
 
 /// How many objects a client keeps.
 fn resident(table: &Table) -> Result<u32, ConfigFault>
-    ensures ok { IfOk result (IsSaid (resident_of (table_view table.now)) (setting_fault most_resident (get_member (codes "resident") (table_view table.now)))) }
-    ensures err { IfErr result (IsTold (setting_fault most_resident (get_member (codes "resident") (table_view table.now)))) }
+    ensures ok { IfOk result (IsSaid (resident_of (table_view table.now)) (resident_fault (table_view table.now))) }
+    ensures err { IfErr result (IsTold (resident_fault (table_view table.now))) }
 {
     Ok(setting(table, "resident", 4096, MOST_RESIDENT)? as u32)
 }

@@ -1,9 +1,9 @@
 //! The values of an entry's keys, each of its kind and form.
 
-ghost use Rattle.std.specs.Prelude.{◌≡◌, ◌≤◌, IfOk, IfErr, codes, option_and_then, option_map};
+ghost use Rattle.std.specs.Prelude.{◌≡◌, IfOk, IfErr, codes};
 ghost use Rattle.toml.specs.View.{table_view};
 ghost use Rattle.dso_config.specs.Entries.{guard_rules, guarded_of, locking_at, locking_fault, root_of, trigger_at, trigger_fault};
-ghost use Rattle.dso_config.specs.Keys.{IsSaid, IsTold, text_at, value_fault};
+ghost use Rattle.dso_config.specs.Keys.{IsSaid, IsTold, form_at, form_fault};
 ghost use Rattle.dso_config.specs.Spelling.{pattern_of, grade_of, name_of};
 ghost use Rattle.dso_config.specs.declared.fault.ConfigFault.TheVariants as fault;
 
@@ -23,9 +23,9 @@ pub fn name_at(
     other: ConfigFault,
     spot: Spot,
 ) -> Result<Word, ConfigFault>
-    ensures ok { IfOk result (IsSaid (option_and_then name_of (text_at key.now (table_view table.now)))
-        (value_fault spot other name_of (text_at key.now (table_view table.now)))) }
-    ensures err { IfErr result (IsTold (value_fault spot other name_of (text_at key.now (table_view table.now)))) }
+    ensures ok { IfOk result (IsSaid (form_at name_of key.now (table_view table.now))
+        (form_fault spot other name_of key.now (table_view table.now))) }
+    ensures err { IfErr result (IsTold (form_fault spot other name_of key.now (table_view table.now))) }
 {
     let text = keys::text_at(table, key).ok_or(ConfigFault::WrongKind(spot))?;
     spelling::name(alloc, text)?.ok_or(other)
@@ -39,9 +39,9 @@ fn pattern_at(
     other: ConfigFault,
     spot: Spot,
 ) -> Result<Pattern, ConfigFault>
-    ensures ok { IfOk result (IsSaid (option_and_then pattern_of (text_at key.now (table_view table.now)))
-        (value_fault spot other pattern_of (text_at key.now (table_view table.now)))) }
-    ensures err { IfErr result (IsTold (value_fault spot other pattern_of (text_at key.now (table_view table.now)))) }
+    ensures ok { IfOk result (IsSaid (form_at pattern_of key.now (table_view table.now))
+        (form_fault spot other pattern_of key.now (table_view table.now))) }
+    ensures err { IfErr result (IsTold (form_fault spot other pattern_of key.now (table_view table.now))) }
 {
     let text = keys::text_at(table, key).ok_or(ConfigFault::WrongKind(spot))?;
     spelling::pattern(alloc, text)?.ok_or(other)
@@ -49,9 +49,9 @@ fn pattern_at(
 
 /// The level at `level`.
 fn grade_at(table: &Table, spot: Spot) -> Result<Grade, ConfigFault>
-    ensures ok { IfOk result (IsSaid (option_and_then grade_of (text_at (codes "level") (table_view table.now)))
-        (value_fault spot (fault.OutOfRange spot) grade_of (text_at (codes "level") (table_view table.now)))) }
-    ensures err { IfErr result (IsTold (value_fault spot (fault.OutOfRange spot) grade_of (text_at (codes "level") (table_view table.now)))) }
+    ensures ok { IfOk result (IsSaid (form_at grade_of (codes "level") (table_view table.now))
+        (form_fault spot (fault.OutOfRange spot) grade_of (codes "level") (table_view table.now))) }
+    ensures err { IfErr result (IsTold (form_fault spot (fault.OutOfRange spot) grade_of (codes "level") (table_view table.now))) }
 {
     let text = keys::text_at(table, "level").ok_or(ConfigFault::WrongKind(spot))?;
     spelling::grade(text).ok_or(ConfigFault::OutOfRange(spot))
@@ -59,7 +59,8 @@ fn grade_at(table: &Table, spot: Spot) -> Result<Grade, ConfigFault>
 
 /// The method pattern and the level of an entry.
 pub fn locking(alloc: Global, table: &Table, spot: Spot) -> Result<AutoEntry, ConfigFault>
-    ensures ok { IfOk result (IsSaid (locking_at (table_view table.now)) (locking_fault spot (table_view table.now))) }
+    ensures ok { IfOk result (IsSaid (locking_at (table_view table.now))
+        (locking_fault spot (table_view table.now))) }
     ensures err { IfErr result (IsTold (locking_fault spot (table_view table.now))) }
 {
     let method = pattern_at(
@@ -85,9 +86,9 @@ fn root(alloc: Global, text: &str) -> Result<Option<RootEntry>, NoMemory>
 
 /// The static field at `field`.
 pub fn root_at(alloc: Global, table: &Table, spot: Spot) -> Result<RootEntry, ConfigFault>
-    ensures ok { IfOk result (IsSaid (option_and_then root_of (text_at (codes "field") (table_view table.now)))
-        (value_fault spot (fault.BadName spot) root_of (text_at (codes "field") (table_view table.now)))) }
-    ensures err { IfErr result (IsTold (value_fault spot (fault.BadName spot) root_of (text_at (codes "field") (table_view table.now)))) }
+    ensures ok { IfOk result (IsSaid (form_at root_of (codes "field") (table_view table.now))
+        (form_fault spot (fault.BadName spot) root_of (codes "field") (table_view table.now))) }
+    ensures err { IfErr result (IsTold (form_fault spot (fault.BadName spot) root_of (codes "field") (table_view table.now))) }
 {
     let text = keys::text_at(table, "field").ok_or(ConfigFault::WrongKind(spot))?;
     root(alloc, text)?.ok_or(ConfigFault::BadName(spot))
@@ -109,9 +110,9 @@ fn fields(alloc: Global, text: &str) -> Result<Option<Guarded>, NoMemory>
 
 /// The fields at `field`.
 fn fields_at(alloc: Global, table: &Table, spot: Spot) -> Result<Guarded, ConfigFault>
-    ensures ok { IfOk result (IsSaid (option_and_then guarded_of (text_at (codes "field") (table_view table.now)))
-        (value_fault spot (fault.BadGuard spot) guarded_of (text_at (codes "field") (table_view table.now)))) }
-    ensures err { IfErr result (IsTold (value_fault spot (fault.BadGuard spot) guarded_of (text_at (codes "field") (table_view table.now)))) }
+    ensures ok { IfOk result (IsSaid (form_at guarded_of (codes "field") (table_view table.now))
+        (form_fault spot (fault.BadGuard spot) guarded_of (codes "field") (table_view table.now))) }
+    ensures err { IfErr result (IsTold (form_fault spot (fault.BadGuard spot) guarded_of (codes "field") (table_view table.now))) }
 {
     let text = keys::text_at(table, "field").ok_or(ConfigFault::WrongKind(spot))?;
     fields(alloc, text)?.ok_or(ConfigFault::BadGuard(spot))
@@ -119,7 +120,8 @@ fn fields_at(alloc: Global, table: &Table, spot: Spot) -> Result<Guarded, Config
 
 /// The fields and the lock of a guard.
 pub fn guard(alloc: Global, table: &Table, spot: Spot) -> Result<GuardEntry, ConfigFault>
-    ensures ok { IfOk result (IsSaid (guard_rules.entry (table_view table.now)) (guard_rules.fault spot (table_view table.now))) }
+    ensures ok { IfOk result (IsSaid (guard_rules.entry (table_view table.now))
+        (guard_rules.fault spot (table_view table.now))) }
     ensures err { IfErr result (IsTold (guard_rules.fault spot (table_view table.now))) }
 {
     let (class, field) = fields_at(alloc, table, spot)?;
@@ -129,7 +131,8 @@ pub fn guard(alloc: Global, table: &Table, spot: Spot) -> Result<GuardEntry, Con
 
 /// The client, one of so many, and the message after which it is lost or cut off.
 pub fn trigger(table: &Table, clients: u8, spot: Spot) -> Result<Trigger, ConfigFault>
-    ensures ok { IfOk result (IsSaid (trigger_at clients (table_view table.now)) (trigger_fault clients spot (table_view table.now))) }
+    ensures ok { IfOk result (IsSaid (trigger_at clients (table_view table.now))
+        (trigger_fault clients spot (table_view table.now))) }
     ensures err { IfErr result (IsTold (trigger_fault clients spot (table_view table.now))) }
 {
     let client = keys::number_at(table, "client");

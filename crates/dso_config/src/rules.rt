@@ -24,7 +24,8 @@ pub trait SectionRules {
 
     /// The entry that a table says which has no key but the section's, or what is wrong with the table, at this spot.
     fn read(&self, alloc: Global, table: &Table, spot: Spot) -> Result<Self::Entry, ConfigFault>
-        ensures ok { IfOk result (IsSaid ((rules self.now).entry (table_view table.now)) ((rules self.now).fault spot (table_view table.now))) }
+        ensures ok { IfOk result (IsSaid ((rules self.now).entry (table_view table.now))
+            ((rules self.now).fault spot (table_view table.now))) }
         ensures err { IfErr result (IsTold ((rules self.now).fault spot (table_view table.now))) };
 
     /// Whether an entry says again what an earlier one said.

@@ -38,7 +38,8 @@ fn item<R: SectionRules>(
     value: &Value,
 ) -> Result<R::Entry, ConfigFault>
     requires { length before.now ≤ most_entries }
-    ensures ok { IfOk result (IsSaid (spec.entry_of (R.rules rules.now) (view value.now)) (spec.item_fault (R.rules rules.now) before.now (view value.now))) }
+    ensures ok { IfOk result (IsSaid (spec.entry_of (R.rules rules.now) (view value.now))
+        (spec.item_fault (R.rules rules.now) before.now (view value.now))) }
     ensures few { IfOk result (λ _. length before.now < most_entries) }
     ensures new { IfOk result (λ entry. IsTrue (spec.is_new (R.rules rules.now) before.now entry)) }
     ensures err { IfErr result (IsTold (spec.item_fault (R.rules rules.now) before.now (view value.now))) }
