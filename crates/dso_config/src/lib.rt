@@ -3,7 +3,18 @@
 #![tactic(auto)]
 
 mod config;
+mod document;
+mod fault;
+mod forms;
+mod keys;
+mod laws;
 mod pattern;
+mod rules;
+mod section;
+mod spelling;
 
 pub use config::{AutoEntry, Config, GuardEntry, NamedEntry, RootEntry};
+pub use document::read_config;
+pub use fault::{ConfigFault, Section, Spot};
+pub use laws::{one_answer, read_as_written};
 pub use pattern::Pattern;

@@ -1,0 +1,6 @@
+pub mod ExactRules
+pub mod ExactSections
+pub mod OneAnswer
+pub mod Ranges
+pub mod SectionFaults
+pub mod Written
