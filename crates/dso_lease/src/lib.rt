@@ -1,13 +1,8 @@
-// A library with one function.
+//! The leases of one client: which locks it asked for, which it has, and which entries they admit.
 #![tactic(auto)]
 
-ghost use Rattle.std.specs.Prelude.{◌≡◌};
-ghost use Rattle.dso_lease.specs.Echo.{echo_of};
+mod leases;
+mod standing;
 
-// The `ensures` clause is the contract: what `echo` returns is `echo_of` of its argument, a definition
-// in `specs/Echo.antt`, which a caller's clause can cite too.
-pub fn echo(x: usize) -> usize
-    ensures { result ≡ echo_of x }
-{
-    x
-}
+pub use leases::Leases;
+pub use standing::{Lease, Standing, Want};
