@@ -1,13 +1,11 @@
-// A library with one function.
+//! The locks that the threads of one client hold.
 #![tactic(auto)]
 
-ghost use Rattle.std.specs.Prelude.{◌≡◌};
-ghost use Rattle.dso_hold.specs.Echo.{echo_of};
+mod entries;
+mod held;
+mod hold;
+mod rows;
+mod tables;
 
-// The `ensures` clause is the contract: what `echo` returns is `echo_of` of its argument, a definition
-// in `specs/Echo.antt`, which a caller's clause can cite too.
-pub fn echo(x: usize) -> usize
-    ensures { result ≡ echo_of x }
-{
-    x
-}
+pub use held::{Enter, Held};
+pub use hold::Hold;
