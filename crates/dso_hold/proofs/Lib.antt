@@ -1,0 +1,5 @@
+pub mod RowsInPlace
+pub mod Places
+pub mod Indexes
+pub mod Exclusion
+pub mod EntryAnswers

@@ -1,0 +1,11 @@
+//! The locks that the threads of one client hold.
+#![tactic(auto)]
+
+mod entries;
+mod held;
+mod hold;
+mod rows;
+mod tables;
+
+pub use held::{Enter, Held};
+pub use hold::Hold;

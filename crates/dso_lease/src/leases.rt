@@ -1,0 +1,185 @@
+//! The leases of one client.
+ghost use Rattle.std.specs.Prelude.{◌≡◌, None, Some, is_some, true, OnOk, OnErr, IfOk};
+ghost use Rattle.std.specs.Bool.{OnTrue, OnFalse};
+ghost use Rattle.std.specs.Option.{option_map};
+ghost use Rattle.dso_lookup.specs.Maps.{look};
+ghost use Rattle.dso_lease.specs.Leases.{lock_order, standing_in, with_standing, answer, after_want, entered, recalled, granted_at, is_asked, is_leased, is_returned, level_of, was_entered, is_closing, is_admitted};
+
+use crate::standing::{Lease, Standing, Want};
+use dso_base::{Level, LockName, NoMemory};
+use std::alloc::Global;
+use std::collections::BTreeMap;
+
+/// The locks that a client asked for or has a lease of. Contracts see how each lock stands (`standing_in`): asked for,
+/// leased, or neither.
+///
+/// Each call costs the logarithm of the number of these locks.
+#[derive(Drop)]
+pub struct Leases {
+    locks: BTreeMap<LockName, Standing>,
+}
+
+/// Changes how a lock stands that is not idle. It takes no memory.
+fn stand(locks: &mut BTreeMap<LockName, Standing>, lock: LockName, standing: Standing)
+    requires { is_some (look lock_order locks.old lock) ≡ true }
+    ensures { look lock_order locks.new ≡ with_standing lock (Some standing) (look lock_order locks.old) }
+{
+    if let Some(place) = locks.get_mut(&lock) {
+        *place = standing;
+    }
+}
+
+impl Leases {
+    /// No lease, and nothing asked for.
+    pub fn new(alloc: Global) -> Leases
+        ensures { standing_in result ≡ (λ _. None) }
+    {
+        Leases {
+            locks: BTreeMap::new(alloc),
+        }
+    }
+
+    /// A thread wants to enter the lock at the level, as an inner entry where it holds the lock already.
+    ///
+    /// `Held` exactly where a lease of at least the level admits this entry: any inner one, and an outer one where the
+    /// lease isn't closing or wasn't entered since its grant. `Ask` exactly where there is no lease and none was asked
+    /// for; it is asked for now. `Waiting` exactly where it was asked for before. `Closing` exactly where there is a
+    /// lease that admits no such entry; a lease for reading is closing from here on where the level is `Write`.
+    ///
+    /// It answers `NoMemory` where an allocation was refused, which can be only where there is no lease and none was
+    /// asked for; nothing is changed then.
+    pub fn want(&mut self, lock: LockName, level: Level, inner: bool) -> Result<Want, NoMemory>
+        ensures answer { IfOk result (λ want. want ≡ answer level inner (standing_in self.old lock)) }
+        ensures stands { OnOk result (standing_in self.new ≡ with_standing lock (Some (after_want level (standing_in self.old lock))) (standing_in self.old)) }
+        ensures refused { OnErr result (standing_in self.old lock ≡ None) }
+        ensures err { OnErr result (standing_in self.new ≡ standing_in self.old) }
+    {
+        match self.standing(lock) {
+            None => {
+                self.locks.insert(lock, Standing::Asked)?;
+                Ok(Want::Ask(level))
+            }
+            Some(standing) => {
+                stand(&mut self.locks, lock, standing.wanted(level));
+                Ok(standing.answer(level, inner))
+            }
+        }
+    }
+
+    /// A thread entered the lock: its lease, where there is one, was entered since its grant. It takes no memory.
+    pub fn entered(&mut self, lock: LockName)
+        ensures { standing_in self.new ≡ with_standing lock (option_map entered (standing_in self.old lock)) (standing_in self.old) }
+    {
+        if let Some(standing) = self.standing(lock) {
+            stand(&mut self.locks, lock, standing.entered());
+        }
+    }
+
+    /// The lock was granted: it is leased at the level, not entered and not closing. False, with nothing changed,
+    /// exactly where it wasn't asked for. It takes no memory.
+    pub fn granted(&mut self, lock: LockName, level: Level) -> bool
+        ensures asked { result ≡ is_asked (standing_in self.old lock) }
+        ensures leased { OnTrue result (standing_in self.new ≡ with_standing lock (Some (granted_at level)) (standing_in self.old)) }
+        ensures unchanged { OnFalse result (standing_in self.new ≡ standing_in self.old) }
+    {
+        if !self.is_asked(lock) {
+            return false;
+        }
+        let lease = Lease {
+            level,
+            is_entered: false,
+            is_closing: false,
+        };
+        stand(&mut self.locks, lock, Standing::Leased(lease));
+        true
+    }
+
+    /// The lease was recalled: it is closing. False, with nothing changed, exactly where there is no lease. It takes no
+    /// memory.
+    pub fn recalled(&mut self, lock: LockName) -> bool
+        ensures leased { result ≡ is_leased (standing_in self.old lock) }
+        ensures closing { OnTrue result (standing_in self.new ≡ with_standing lock (option_map recalled (standing_in self.old lock)) (standing_in self.old)) }
+        ensures unchanged { OnFalse result (standing_in self.new ≡ standing_in self.old) }
+    {
+        match self.standing(lock) {
+            Some(standing @ Standing::Leased(_)) => {
+                stand(&mut self.locks, lock, standing.recalled());
+                true
+            }
+            _ => false,
+        }
+    }
+
+    /// Gives the lease up. True exactly where it is closing and entered and the lock is free, held by no thread of the
+    /// client; the lock is idle then. False changes nothing. It takes no memory.
+    pub fn try_return(&mut self, lock: LockName, is_free: bool) -> bool
+        ensures due { result ≡ is_returned is_free (standing_in self.old lock) }
+        ensures gone { OnTrue result (standing_in self.new ≡ with_standing lock None (standing_in self.old)) }
+        ensures unchanged { OnFalse result (standing_in self.new ≡ standing_in self.old) }
+    {
+        match self.standing(lock) {
+            Some(standing) if standing.is_due(is_free) => {
+                self.locks.remove(&lock);
+                true
+            }
+            _ => false,
+        }
+    }
+
+    /// How the lock stands, None where it is neither leased nor asked for. It takes no memory.
+    pub fn standing(&self, lock: LockName) -> Option<Standing>
+        ensures { result ≡ standing_in self.now lock }
+    {
+        self.locks.get(&lock).copied()
+    }
+
+    /// The level of the lease, None where there is none. It takes no memory.
+    pub fn lease(&self, lock: LockName) -> Option<Level>
+        ensures { result ≡ level_of (standing_in self.now lock) }
+    {
+        match self.standing(lock) {
+            Some(Standing::Leased(lease)) => Some(lease.level),
+            _ => None,
+        }
+    }
+
+    /// Whether the lock was asked for, and not granted since. It takes no memory.
+    pub fn is_asked(&self, lock: LockName) -> bool
+        ensures { result ≡ is_asked (standing_in self.now lock) }
+    {
+        match self.standing(lock) {
+            Some(Standing::Asked) => true,
+            _ => false,
+        }
+    }
+
+    /// Whether there is a lease that was entered since its grant. It takes no memory.
+    pub fn is_entered(&self, lock: LockName) -> bool
+        ensures { result ≡ was_entered (standing_in self.now lock) }
+    {
+        match self.standing(lock) {
+            Some(Standing::Leased(lease)) => lease.is_entered,
+            _ => false,
+        }
+    }
+
+    /// Whether there is a lease that is closing. It takes no memory.
+    pub fn is_closing(&self, lock: LockName) -> bool
+        ensures { result ≡ is_closing (standing_in self.now lock) }
+    {
+        match self.standing(lock) {
+            Some(Standing::Leased(lease)) => lease.is_closing,
+            _ => false,
+        }
+    }
+
+    /// Whether there is a lease that admits the entry, as [`Leases::want`] tells with `Held`. It takes no memory.
+    pub fn admits(&self, lock: LockName, level: Level, inner: bool) -> bool
+        ensures { result ≡ is_admitted level inner (standing_in self.now lock) }
+    {
+        match self.standing(lock) {
+            Some(Standing::Leased(lease)) => lease.admits(level, inner),
+            _ => false,
+        }
+    }
+}

@@ -1,0 +1,6 @@
+//! Lists of waiting threads.
+#![tactic(auto)]
+
+mod wait_list;
+
+pub use wait_list::WaitList;

@@ -1,0 +1,87 @@
+//! The list of holds: `enter 1.1 m5 read 1`, `exit 1.1 m5 1`, `level 1.1 m5`, `count 1.1 m5`, `conflict 1.1 m5 read`,
+//! `any 1.1`, `free m5`, `random 7 500`.
+
+use crate::plain_holds;
+use crate::words::{count, debugged, first_of, level, lock, shown, thread};
+use dso_base::{Level, LockName, NoMemory, ThreadId};
+use dso_hold::Hold;
+use std::alloc::Global;
+
+/// The answer to the call.
+pub fn told(alloc: Global, holds: &mut Hold, text: &str) -> Result<String, NoMemory> {
+    let (word, rest) = first_of(text);
+    match word {
+        "free" => free(alloc, holds, rest),
+        "random" => plain_holds::compared(alloc, rest),
+        _ => of_thread(alloc, holds, word, rest),
+    }
+}
+
+/// Whether no thread holds the lock.
+fn free(alloc: Global, holds: &Hold, text: &str) -> Result<String, NoMemory> {
+    match lock(text) {
+        Some(lock) => shown(alloc, holds.free(lock)),
+        None => shown(alloc, "no such lock"),
+    }
+}
+
+/// The answer to a call on a thread.
+fn of_thread(alloc: Global, holds: &mut Hold, word: &str, text: &str) -> Result<String, NoMemory> {
+    let (first, rest) = first_of(text);
+    let (second, rest) = first_of(rest);
+    match (thread(first), lock(second)) {
+        (Some(thread), Some(lock)) => of_both(alloc, holds, word, thread, lock, rest),
+        (Some(thread), None) if word == "any" => shown(alloc, holds.any(thread)),
+        _ => shown(alloc, "no such call"),
+    }
+}
+
+/// The answer to a call on a thread and a lock.
+fn of_both(
+    alloc: Global,
+    holds: &mut Hold,
+    word: &str,
+    thread: ThreadId,
+    name: LockName,
+    text: &str,
+) -> Result<String, NoMemory> {
+    let (first, second) = first_of(text);
+    match (word, level(first), count(first), count(second)) {
+        ("enter", Some(level), _, Some(count)) => entered(alloc, holds, thread, name, level, count),
+        ("exit", _, Some(count), _) => shown(alloc, holds.exit(thread, name, count)),
+        ("level", _, _, _) => debugged(alloc, holds.level_of(thread, name)),
+        ("count", _, _, _) => shown(alloc, holds.count(thread, name)),
+        ("conflict", Some(level), _, _) => conflict(alloc, holds, thread, name, level),
+        _ => shown(alloc, "no such call"),
+    }
+}
+
+/// The answer to an entry, where the condition of the call holds.
+fn entered(
+    alloc: Global,
+    holds: &mut Hold,
+    thread: ThreadId,
+    lock: LockName,
+    level: Level,
+    count: u32,
+) -> Result<String, NoMemory> {
+    if count == 0 || count > 1000 || holds.count(thread, lock) > 1_000_000 {
+        return shown(alloc, "no such count");
+    }
+    let answer = holds.enter(alloc, thread, lock, level, count)?;
+    debugged(alloc, answer)
+}
+
+/// The first thread in conflict, for a thread that doesn't hold the lock.
+fn conflict(
+    alloc: Global,
+    holds: &Hold,
+    thread: ThreadId,
+    lock: LockName,
+    level: Level,
+) -> Result<String, NoMemory> {
+    match holds.level_of(thread, lock) {
+        Some(_) => shown(alloc, "held"),
+        None => debugged(alloc, holds.conflict(thread, lock, level)),
+    }
+}

@@ -1,0 +1,26 @@
+//! Rows of calls of the parts of a client, with what each answers.
+//!
+//! A row of the input is a sentence, `: `, and a command; it is printed as the sentence, `: `, and the answer. Any other
+//! line is printed as it stands, and all parts are new from there on. The commands are told in `parts.rt`.
+#![tactic(auto)]
+
+mod holds;
+mod ids;
+mod leases;
+mod parts;
+mod plain_holds;
+mod plain_leases;
+mod waits;
+mod words;
+
+use parts::Parts;
+use std::io;
+
+fn main(rt: HostRuntime) -> io::Result<()> {
+    let mut parts = Parts::new(rt.alloc());
+    for line in rt.lines(rt.alloc()) {
+        let answer = parts.answered(rt.alloc(), line?.as_str())?;
+        println!(rt; "{answer}")?;
+    }
+    Ok(())
+}
