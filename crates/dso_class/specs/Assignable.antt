@@ -1,5 +1,5 @@
 -- Which statements assign only to what may be assigned to: a variable, a field or an element.
-use Rattle.std.specs.Prelude.{◌≡◌, Bool, true, ◌&&◌, List, [], ◌∷◌, map, All}
+use Rattle.std.specs.Prelude.{◌≡◌, Bool, true, ◌&&◌, List, map, All}
 use Rattle.std.specs.List.{list_all}
 use Rattle.dso_syntax.specs.declared.tree.ExprTree.{ExprTree, out-ExprTree}
 use Rattle.dso_syntax.specs.declared.tree.ExprForm.{out-ExprForm}
