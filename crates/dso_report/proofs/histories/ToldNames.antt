@@ -1,5 +1,5 @@
 -- A thread of sound code names only texts of its program, and what it was told of.
-use Rattle.std.proofs.Common.{◌≡◌, ℕ, inl, inr, refl, subst, List, [], ◌∷◌, ◌++◌, Some, sym}
+use Rattle.std.proofs.Common.{◌≡◌, inl, inr, refl, subst, List, [], ◌∷◌, ◌++◌, Some, sym}
 use Rattle.std.proofs.lemmas.List.{append_assoc, append-nil}
 use Rattle.dso_base.specs.declared.lock.ThreadId.{ThreadId}
 use Rattle.dso_base.specs.declared.request.Event.{Event}
@@ -9,7 +9,7 @@ use Rattle.dso_base.specs.declared.request.Reply.TheVariants.{Made, Val}
 use Rattle.dso_base.specs.declared.request.Request.{Request}
 use Rattle.dso_base.specs.declared.value.Value.{Value}
 use Rattle.dso_base.specs.declared.value.Value.TheVariants as value
-use Rattle.dso_base.specs.Following.{IsListed, IsListedFor, Listed, FollowsFrom, FollowsProgram}
+use Rattle.dso_base.specs.Following.{IsListedFor, Listed, FollowsFrom, FollowsProgram}
 use Rattle.dso_machine.specs.declared.code.Code.{Code}
 use Rattle.dso_machine.specs.Next.{next_request}
 use Rattle.dso_machine.specs.Sound.{IsSound}

@@ -1,5 +1,5 @@
 -- An order of the graph's objects goes on at its end alone: nothing is taken out, and no object moves.
-use Rattle.std.proofs.Common.{◌≡◌, ℕ, zero, suc, Bool, true, false, cond, ◌<◌, ◌≤◌, ◌+◌, ◌++◌, Option, Some, None, List, [], ◌∷◌, length, slice_get, refl, sym, ap, ◌∙◌, subst, arith, append_assoc, append-nil, Contains}
+use Rattle.std.proofs.Common.{◌≡◌, ℕ, zero, suc, Bool, true, false, cond, ◌<◌, ◌≤◌, ◌++◌, Option, Some, None, List, [], ◌∷◌, length, slice_get, refl, sym, ap, ◌∙◌, subst, arith, append_assoc, append-nil, Contains}
 use Rattle.std.specs.List.{list_any}
 use Rattle.std.specs.Prelude.{eqb}
 use Rattle.std.proofs.lemmas.List.{length-append}
