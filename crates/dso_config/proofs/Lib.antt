@@ -3,4 +3,5 @@ pub mod ExactSections
 pub mod OneAnswer
 pub mod Ranges
 pub mod SectionFaults
+pub mod Spots
 pub mod Written

@@ -1,5 +1,5 @@
 -- What a text says as a configuration, and what is wrong with it.
-use Rattle.std.specs.Prelude.{◌≡◌, ◌≤◌, ◌<◌, ◌⊎◌, ℕ, List, [], ◌∷◌, length, Option, Some, None, IsTrue, IsUtf8}
+use Rattle.std.specs.Prelude.{⊤, ◌≡◌, ◌≤◌, ◌<◌, ◌⊎◌, ℕ, List, [], ◌∷◌, length, Option, Some, None, IsTrue, IsUtf8}
 use Rattle.std.specs.Prelude.{codes, option_and_then}
 use Rattle.toml.specs.Data.{Data, Members, get_member, as_integer}
 use Rattle.toml.specs.Parse.{parse_document}
@@ -103,3 +103,17 @@ pub data IsFaultOf (text : List ℕ) : ConfigFault → Type 0 where
 -- the text says a configuration, or something is wrong with it
 abbrev pub HasAnswer : List ℕ → Type 0
 HasAnswer text = ((config : Config) × IsConfigurationOf text config) ⊎ ((wrong : ConfigFault) × IsFaultOf text wrong)
+
+-- the fault is told with a spot of the table
+abbrev pub HasSpot : ConfigFault → Type 0
+HasSpot fault.NotToml = ⊥
+HasSpot (fault.UnknownKey spot) = ⊤
+HasSpot (fault.WrongKind spot) = ⊤
+HasSpot (fault.OutOfRange spot) = ⊤
+HasSpot (fault.BadMethodPattern spot) = ⊤
+HasSpot (fault.BadGuard spot) = ⊤
+HasSpot (fault.Twice spot) = ⊤
+HasSpot fault.TooLong = ⊥
+HasSpot (fault.BadName spot) = ⊤
+HasSpot fault.NotBuilt = ⊥
+HasSpot fault.NoMemory = ⊥

@@ -1,13 +1,25 @@
 //! What the definitions of a configuration say together: a text has one configuration or one fault.
 
-ghost use Rattle.std.specs.Prelude.{◌≡◌, ◌↔◌, ℕ, List, Some};
+ghost use Rattle.std.specs.Prelude.{◌≡◌, ◌↔◌, ◌<◌, ℕ, List, length, Some};
+ghost use Rattle.toml.specs.Data.{Members};
 ghost use Rattle.dso_base.specs.declared.lock.Grade.{Grade};
 ghost use Rattle.dso_config.specs.declared.config.Config.{Config};
 ghost use Rattle.dso_config.specs.declared.fault.ConfigFault.{ConfigFault};
-ghost use Rattle.dso_config.specs.Configuration.{HasAnswer, IsConfigurationOf, IsFaultOf};
+ghost use Rattle.dso_config.specs.Configuration.{HasAnswer, HasSpot, IsConfigurationOf, IsFaultOf, IsToml};
+ghost use Rattle.dso_config.specs.Configuration.{most_bytes, table_fault};
+ghost use Rattle.dso_config.specs.declared.fault.ConfigFault.TheVariants as fault;
 ghost use Rattle.dso_config.specs.declared.pattern.Pattern.{Pattern};
 ghost use Rattle.dso_config.specs.InRange.{IsInRange};
 ghost use Rattle.dso_config.specs.Spelling.{IsPattern, grade_of, pattern_of, written_grade};
+
+/// What is wrong with a table is told with a spot of it. So a text is TooLong only where it is, and NotToml only where it is no
+/// TOML; and no text is NotBuilt.
+pub fn faults_of_tables()
+    ensures spotted { (table : Members) (wrong : ConfigFault) → table_fault table ≡ Some wrong → HasSpot wrong }
+    ensures too_long { (text : List ℕ) → IsFaultOf text fault.TooLong → most_bytes < length text }
+    ensures not_toml { (text : List ℕ) → IsFaultOf text fault.NotToml → (table : Members) → IsToml text table → ⊥ }
+    ensures built { (text : List ℕ) → IsFaultOf text fault.NotBuilt → ⊥ }
+{}
 
 /// A text says one configuration, which is in range, or it has one fault; never both, and never neither.
 pub fn one_answer()

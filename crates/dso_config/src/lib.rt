@@ -16,5 +16,5 @@ mod spelling;
 pub use config::{AutoEntry, Config, GuardEntry, NamedEntry, RootEntry};
 pub use document::read_config;
 pub use fault::{ConfigFault, Section, Spot};
-pub use laws::{one_answer, read_as_written};
+pub use laws::{faults_of_tables, one_answer, read_as_written};
 pub use pattern::Pattern;
