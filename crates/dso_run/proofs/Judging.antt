@@ -5,7 +5,7 @@ use Rattle.dso_run.specs.declared.verdict.Verdict.{Verdict}
 use Rattle.dso_run.specs.declared.verdict.Verdict.TheVariants.{Refused, Accepted}
 use Rattle.dso_run.specs.declared.status.ConfigFault.TheVariants as config
 use Rattle.dso_run.specs.declared.status.Refusal.TheVariants.{Words, Reading, Config, Program}
-use Rattle.dso_run.specs.Environment.{Told, MayGive}
+use Rattle.dso_io.specs.Environment.{Told, MayGive}
 use Rattle.dso_run.specs.Headline.{CallInput, WereRead, most_read}
 use Rattle.dso_run.specs.Verdict.{IsVerdictOn, IsVerdictOnTexts}
 use Rattle.dso_run.specs.Words.{AreSim}

@@ -9,7 +9,7 @@ use Rattle.dso_run.specs.declared.cluster.Outcome.TheVariants as outcome
 use Rattle.dso_run.specs.declared.status.Status.{Status}
 use Rattle.dso_run.specs.declared.status.Status.TheVariants.{Finished, Usage, BadConfig, BadProgram, ReadFault, WriteFault, Stuck, Budget, NoMemory}
 use Rattle.dso_run.specs.Accepted.{IsTextFault}
-use Rattle.dso_run.specs.Environment.{Rose, taken_after}
+use Rattle.dso_io.specs.Environment.{Rose, taken_after}
 use Rattle.dso_run.specs.Headline.{CallInput, CallOutput, HasCause, IsAccepted, IsLineDue, StatusMeans, WroteWhole}
 use Rattle.dso_run.specs.Status.{HasLine, line_of, status_of}
 use Rattle.dso_run.specs.Writing.{Wrote, WroteReport}

@@ -24,7 +24,7 @@ use Rattle.dso_run.specs.declared.status.Status.TheVariants.{Finished, Usage, Ba
 use Rattle.dso_run.specs.declared.status.Status.TheVariants.{ReadFault, WriteFault, Stuck, Budget, NoMemory}
 use Rattle.dso_syntax.specs.TextLimits.{longest_text}
 use Rattle.dso_run.specs.Accepted.{settings_of, IsTextFault, IsTakenText}
-use Rattle.dso_run.specs.Environment.{Told, MayGive, Rose, taken_after, TookPrefix}
+use Rattle.dso_io.specs.Environment.{Told, MayGive, Rose, taken_after, TookPrefix}
 use Rattle.dso_run.specs.RoundRobin.{EndsFinished, EndsStuck, EndsOverBudget}
 use Rattle.dso_run.specs.Status.{line_of}
 use Rattle.dso_run.specs.Words.{AreSim, AreUnlawful}

@@ -6,7 +6,7 @@ use Rattle.dso_run.specs.declared.cluster.Outcome.{Outcome}
 use Rattle.dso_run.specs.declared.cluster.Outcome.TheVariants as outcome
 use Rattle.dso_run.specs.declared.status.Status.{Status}
 use Rattle.dso_run.specs.declared.status.Status.TheVariants.{Finished, WriteFault, Stuck, Budget, NoMemory}
-use Rattle.dso_run.specs.Environment.{taken_after, TookPrefix}
+use Rattle.dso_io.specs.Environment.{taken_after, TookPrefix}
 use Rattle.dso_run.specs.Headline.{IsRunOf, IsRunReport}
 
 -- The sink took the whole text and the answer is this status, or it took a prefix and counted a fault, and the answer

@@ -2,7 +2,7 @@ ghost use Rattle.std.specs.Prelude.{◌≡◌, ℕ, ◌≤◌, List, [], Ok, map
 ghost use Rattle.std.specs.String.{string_bytes};
 ghost use Rattle.dso_syntax.specs.declared.tree.Ast.{Ast};
 ghost use Rattle.dso_run.specs.Accepted.{IsTaken};
-ghost use Rattle.dso_run.specs.Environment.{Rose};
+ghost use Rattle.dso_io.specs.Environment.{Rose};
 ghost use Rattle.dso_run.specs.Headline.{StatusMeans, IsRunOf, IsUsage, run_budget};
 ghost use Rattle.dso_run.specs.Status.{HasLine, line_of, status_of, status_of_run};
 ghost use Rattle.dso_run.specs.Verdict.{IsVerdictOn};

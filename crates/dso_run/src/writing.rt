@@ -1,5 +1,5 @@
 ghost use Rattle.std.specs.Prelude.{◌≡◌, ◌≤◌, OnOk, OnErr};
-ghost use Rattle.dso_run.specs.Environment.{Rose, TookPrefix, taken_after};
+ghost use Rattle.dso_io.specs.Environment.{Rose, TookPrefix, taken_after};
 
 use crate::{Failed, Sink};
 

@@ -1,6 +1,7 @@
 //! A call of the program over files and a sink in memory.
 use dso_base::NoMemory;
-use dso_run::{Done, MemFiles, MemSink, dso_main, dso_main_with_budget};
+use dso_io::{MemFiles, MemSink};
+use dso_run::{Done, dso_main, dso_main_with_budget};
 use std::alloc::{AllocError, Global};
 use std::io;
 

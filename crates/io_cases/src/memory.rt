@@ -1,6 +1,6 @@
 //! The files in memory, by their own calls.
 use dso_base::NoMemory;
-use dso_run::{FileFault, Files, MemFiles};
+use dso_io::{FileFault, Files, MemFiles};
 use std::alloc::Global;
 use std::io;
 

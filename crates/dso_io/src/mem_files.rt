@@ -1,8 +1,10 @@
-ghost use Rattle.std.specs.Prelude.{◌≡◌, ◌≢◌, ◌↔◌, ◌⊎◌, ℕ, ◌+◌, ◌-◌, ◌^◌, ◌≤◌, List, [], ◌∷◌, IfOk, IfErr, IsErrOf, IsTrue, OnOk, OnErr, MatchOption, Contains, min, take};
-ghost use Rattle.dso_run.specs.Environment.{Missing, Holds, MayGive, Rose, replaced};
-ghost use Rattle.dso_run.specs.Memory.{file_of, told_by};
-ghost use Rattle.dso_run.specs.MemoryFile.{named_bytes};
+ghost use Rattle.std.specs.Prelude.{◌≡◌, ◌≢◌, ◌↔◌, ℕ, ◌≤◌, List, [], ◌∷◌, IfOk, IfErr, IsErrOf, OnOk, OnErr, MatchOption, Some, None, nat_eq, take, true};
+ghost use Rattle.std.specs.List.{list_any};
+ghost use Rattle.dso_io.specs.Environment.{Missing, Holds, MayGive, Rose, replaced};
+ghost use Rattle.dso_io.specs.Memory.{file_of, told_by, bytes_read, called, is_next_listed, after_read, after_write, after_failed_write};
+ghost use Rattle.dso_io.specs.MemoryFile.{named_bytes};
 
+use crate::environment::one_more;
 use crate::{FileFault, Files};
 use dso_base::NoMemory;
 use std::alloc::{AllocError, Global};
@@ -29,7 +31,7 @@ pub struct MemFiles {
 
 impl Model for MemFiles {
     ghost use Rattle.std.specs.Prelude.{map};
-    ghost use Rattle.dso_run.specs.Memory.{MemoryFiles};
+    ghost use Rattle.dso_io.specs.Memory.{MemoryFiles};
 
     ghost Value = { MemoryFiles };
 
@@ -84,17 +86,18 @@ impl MemFiles {
 
     /// Counts a call, and tells whether it is to fail.
     fn is_to_fail(&mut self) -> bool
-        ensures told { IsTrue result ↔ Contains self.old.fails self.new.calls }
-        ensures counted { self.new ≡ record self.old { calls = min (self.old.calls + 1) (2 ^ 64 - 1) } }
+        ensures told { result ≡ is_next_listed self.old.fails self.old.calls }
+        ensures counted { self.new ≡ called self.old }
     {
-        self.calls = self.calls.saturating_add(1);
-        is_listed(self.fails.as_slice(), self.calls)
+        let call = one_more(self.calls);
+        self.calls = call;
+        is_listed(self.fails.as_slice(), call)
     }
 }
 
 /// Whether the number stands in the list.
 fn is_listed(numbers: &[u64], number: u64) -> bool
-    ensures { IsTrue result ↔ Contains numbers.now number }
+    ensures { result ≡ list_any (λ listed. nat_eq listed number) numbers.now }
 {
     numbers.contains(&number)
 }
@@ -126,19 +129,19 @@ impl Files for MemFiles {
         ensures writes { self.new.failed_writes ≡ self.old.failed_writes }
         ensures unchanged { (name : List ℕ) → told_by self.new name ≡ told_by self.old name }
 
-        // It fails where the call is listed, and where there is no file of that name.
-        ensures cause { IsErrOf result FileFault.Failed → Contains self.old.fails self.new.calls ⊎ (told_by self.old name.now ≡ Missing) }
-        ensures listed { Contains self.old.fails self.new.calls → IsErrOf result FileFault.Failed }
-        ensures missing { told_by self.old name.now ≡ Missing → IsErrOf result FileFault.Failed }
+        // It fails exactly where the call is listed or there is no file of that name, and counts the call and the fault.
+        ensures given { IfOk result (λ bytes. bytes_read self.old name.now most ≡ Some bytes.items) }
+        ensures cause { IsErrOf result FileFault.Failed ↔ (bytes_read self.old name.now most ≡ None) }
+        ensures after { self.new ≡ after_read self.old (bytes_read self.old name.now most) }
     {
         if self.is_to_fail() {
-            self.failed_reads = self.failed_reads.saturating_add(1);
+            self.failed_reads = one_more(self.failed_reads);
             return Err(FileFault::Failed);
         }
         match find(self.files.as_slice(), name) {
             Some(bytes) => first_bytes(alloc, bytes, most),
             None => {
-                self.failed_reads = self.failed_reads.saturating_add(1);
+                self.failed_reads = one_more(self.failed_reads);
                 Err(FileFault::Failed)
             }
         }
@@ -152,11 +155,14 @@ impl Files for MemFiles {
         ensures reads { self.new.failed_reads ≡ self.old.failed_reads }
         ensures writes { self.old.failed_writes ≤ self.new.failed_writes }
 
-        // It fails where the call is listed.
-        ensures cause { IsErrOf result FileFault.Failed ↔ Contains self.old.fails self.new.calls }
+        // It fails exactly where the call is listed, and counts the call and the fault.
+        ensures cause { IsErrOf result FileFault.Failed ↔ (is_next_listed self.old.fails self.old.calls ≡ true) }
+        ensures done { OnOk result (self.new ≡ after_write self.old name.now bytes.now) }
+        ensures after_fault { IsErrOf result FileFault.Failed → self.new ≡ after_failed_write self.old }
+        ensures no_memory { IsErrOf result FileFault.NoMemory → self.new ≡ called self.old }
     {
         if self.is_to_fail() {
-            self.failed_writes = self.failed_writes.saturating_add(1);
+            self.failed_writes = one_more(self.failed_writes);
             return Err(FileFault::Failed);
         }
         match self.add(alloc, name, bytes) {

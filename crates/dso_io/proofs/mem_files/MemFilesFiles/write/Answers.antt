@@ -1,9 +1,9 @@
 use Rattle.std.proofs.Common.{◌≡◌, ℕ, Bool, true, false, List, [], ◌∷◌, refl, cond, sym, ◌∙◌}
 use Rattle.std.specs.Str.{bytes_eq}
 use Rattle.std.proofs.lemmas.Slice.Eq.{bytes_eq-Decides}
-use Rattle.dso_run.specs.Environment.{Told, Holds, replaced}
-use Rattle.dso_run.specs.Memory.{file_of}
-use Rattle.dso_run.proofs.mem_files.MemFilesFiles.write.Goals as goal
+use Rattle.dso_io.specs.Environment.{Told, Holds, replaced}
+use Rattle.dso_io.specs.Memory.{file_of}
+use Rattle.dso_io.proofs.mem_files.MemFilesFiles.write.Goals as goal
 
 -- a file in memory is never untold
 replaced-cond : (b : Bool) (x y : List ℕ) (other : Told) → replaced other y ≡ Holds y → replaced (cond b (Holds x) other) y ≡ Holds y

@@ -1,7 +1,8 @@
-ghost use Rattle.std.specs.Prelude.{◌≡◌, ◌⊎◌, ◌+◌, ◌-◌, ◌^◌, ◌<◌, ◌≤◌, [], length, take, min, Some, IfOk, OnErr, IsErr, Contains};
-ghost use Rattle.dso_run.specs.Environment.{Rose, taken_after};
-ghost use Rattle.dso_run.specs.Memory.{room_for};
+ghost use Rattle.std.specs.Prelude.{◌≡◌, ◌<◌, ◌≤◌, [], false, length, take, true, Some, IfOk, OnErr, MatchResult};
+ghost use Rattle.dso_io.specs.Environment.{Rose, taken_after};
+ghost use Rattle.dso_io.specs.Memory.{after_put, fails_put, room_for};
 
+use crate::environment::one_more;
 use crate::{Failed, Sink};
 use dso_base::NoMemory;
 use std::alloc::Global;
@@ -20,7 +21,7 @@ pub struct MemSink {
 
 impl Model for MemSink {
     ghost use Rattle.std.specs.Prelude.{◌<◌, ◌≤◌, vec_len, vec_capacity};
-    ghost use Rattle.dso_run.specs.Memory.{MemorySink};
+    ghost use Rattle.dso_io.specs.Memory.{MemorySink};
 
     ghost Value = { MemorySink };
 
@@ -83,21 +84,21 @@ impl Sink for MemSink {
         ensures failed { OnErr result (Rose self.old.failed self.new.failed) }
         ensures faults { self.old.failed ≤ self.new.failed }
 
-        // It takes what the piece and the room allow, and fails where the call is listed or nothing can be taken.
-        ensures exact { IfOk result (λ count. count ≡ room_for self.old (length bytes.now)) }
-        ensures cause { OnErr result (Contains self.old.fails self.new.calls ⊎ (room_for self.old (length bytes.now) ≡ 0)) }
-        ensures listed { Contains self.old.fails self.new.calls → IsErr result }
-        ensures calls { self.new.calls ≡ min (self.old.calls + 1) (2 ^ 64 - 1) }
+        // It fails exactly where the call is listed or there is no room, else takes what the piece and the room allow.
+        ensures exact { MatchResult result
+            (λ count. (fails_put self.old bytes.now ≡ false) × (count ≡ room_for self.old (length bytes.now)))
+            (λ fault. fails_put self.old bytes.now ≡ true) }
+        ensures after { self.new ≡ after_put self.old bytes.now }
     {
-        self.calls = self.calls.saturating_add(1);
+        self.calls = one_more(self.calls);
         if self.fails.contains(&self.calls) {
-            self.failed = self.failed.saturating_add(1);
+            self.failed = one_more(self.failed);
             return Err(Failed);
         }
         let room = self.most - self.bytes.len();
         let count = bytes.len().min(self.piece.min(room));
         if count == 0 && !bytes.is_empty() {
-            self.failed = self.failed.saturating_add(1);
+            self.failed = one_more(self.failed);
             return Err(Failed);
         }
         let (taken, _) = bytes.split_at(count);

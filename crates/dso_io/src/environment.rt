@@ -1,18 +1,22 @@
 ghost use Rattle.std.specs.Prelude.{◌≡◌, ◌≢◌, ℕ, ◌<◌, ◌≤◌, List, length, take, Option, OnOk, OnErr, IfOk, IsErrOf};
-ghost use Rattle.dso_run.specs.Environment.{Told, Holds, MayGive, replaced, Rose, taken_after};
+ghost use Rattle.dso_io.specs.Environment.{counted, Told, Holds, MayGive, replaced, Rose, taken_after};
 
 use std::alloc::Global;
+use thiserror::Error;
 
 /// A sink took nothing of what it was given.
-#[derive(Clone, Copy, Debug, PartialEq, Eq)]
+#[derive(Clone, Copy, Debug, PartialEq, Eq, Error)]
+#[error("nothing could be written")]
 pub struct Failed;
 
 /// Why a file wasn't read or written.
-#[derive(Clone, Copy, Debug, PartialEq, Eq)]
+#[derive(Clone, Copy, Debug, PartialEq, Eq, Error)]
 pub enum FileFault {
     /// The files failed, and counted it.
+    #[error("the file could not be read or written")]
     Failed,
     /// An allocation was refused.
+    #[error("there is not enough memory for the file")]
     NoMemory,
 }
 
@@ -64,4 +68,11 @@ pub trait Sink {
         ensures untaken { OnErr result (taken self.new ≡ taken self.old) }
         ensures failed { OnErr result (Rose (faults self.old) (faults self.new)) }
         ensures faults { faults self.old ≤ faults self.new };
+}
+
+/// A count with one more, which stops at its last value.
+pub(crate) fn one_more(count: u64) -> u64
+    ensures { result ≡ counted count }
+{
+    count.saturating_add(1)
 }

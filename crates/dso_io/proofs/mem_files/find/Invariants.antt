@@ -1,7 +1,7 @@
 use Rattle.std.proofs.Common.{◌≡◌, drop}
-use Rattle.dso_run.specs.Memory.{file_of}
-use Rattle.dso_run.specs.MemoryFile.{named_bytes}
-use Rattle.dso_run.proofs.mem_files.find.Given as goal
+use Rattle.dso_io.specs.Memory.{file_of}
+use Rattle.dso_io.specs.MemoryFile.{named_bytes}
+use Rattle.dso_io.proofs.mem_files.find.Given as goal
 
 -- what was looked at so far has other names
 abbrev pub invariant-loop-file : goal.invariant-loop-file
