@@ -1,2 +1,7 @@
 pub mod Config
+pub mod Configuration
+pub mod Entries
 pub mod InRange
+pub mod Keys
+pub mod Sections
+pub mod Spelling

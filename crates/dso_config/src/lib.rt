@@ -3,7 +3,16 @@
 #![tactic(auto)]
 
 mod config;
+mod document;
+mod fault;
+mod forms;
+mod keys;
 mod pattern;
+mod rules;
+mod section;
+mod spelling;
 
+pub use document::read_config;
 pub use config::{AutoEntry, Config, GuardEntry, NamedEntry, RootEntry};
+pub use fault::{ConfigFault, Section, Spot};
 pub use pattern::Pattern;

@@ -1,0 +1,127 @@
+//! What is wrong with a configuration's text, and where.
+
+use dso_base::NoMemory;
+use std::alloc::AllocFailed;
+use std::fmt;
+use thiserror::Error;
+
+/// A part of a configuration: its top, or one of its sections.
+#[derive(Clone, Copy, Debug, PartialEq, Eq)]
+pub enum Section {
+    Top,
+    Root,
+    Autolock,
+    NamedLock,
+    Guard,
+    Lose,
+    Break,
+}
+
+/// A place in a configuration.
+///
+/// `entry` is the number of a section's entry, counted from 1. It is 0 at the top, and for a section that is no array.
+#[derive(Clone, Copy, Debug, PartialEq, Eq)]
+pub struct Spot {
+    pub section: Section,
+    pub entry: u32,
+}
+
+/// Why a text says no configuration. Where several faults stand, the first one is told.
+#[derive(Clone, Copy, Debug, PartialEq, Eq, Error)]
+pub enum ConfigFault {
+    /// The text is no TOML.
+    #[error("the configuration is not TOML")]
+    NotToml,
+    /// A key that there is not.
+    #[error("unknown key {0}")]
+    UnknownKey(Spot),
+    /// A key is missing, or its value is of another kind.
+    #[error("a missing value or one of the wrong kind {0}")]
+    WrongKind(Spot),
+    /// A number out of its range, an unknown level, a client that there is not, or entry 1025 of a section.
+    #[error("a value out of range {0}")]
+    OutOfRange(Spot),
+    /// A method that is neither `Class.method` nor `Class.*` nor `*.*`.
+    #[error("a malformed method pattern {0}")]
+    BadMethodPattern(Spot),
+    /// A guard's field that is neither `Class.field` nor `Class.*`, or its lock that is no name.
+    #[error("a malformed guard {0}")]
+    BadGuard(Spot),
+    /// A root named twice, a client lost twice, or a client cut off twice after one message.
+    #[error("a repetition of an earlier entry {0}")]
+    Twice(Spot),
+    /// The text has over 1,048,576 bytes.
+    #[error("the configuration is longer than 1048576 bytes")]
+    TooLong,
+    /// A root's field that is no `Class.field`, or a lock's name that is no name.
+    #[error("a malformed name {0}")]
+    BadName(Spot),
+    /// The configuration asks for a form that is not built yet. [`read_config`](crate::read_config) never answers it.
+    #[error("the configuration asks for something that is not built yet")]
+    NotBuilt,
+    /// An allocation was refused.
+    #[error("out of memory")]
+    NoMemory,
+}
+
+impl Section {
+    ghost use Rattle.std.specs.Prelude.{◌≡◌};
+    ghost use Rattle.dso_config.specs.Keys.{key_of};
+
+    /// The key of the section in a text; `top` for the top.
+    pub fn key(self) -> &'static str
+        ensures { result.now ≡ key_of self }
+    {
+        match self {
+            Section::Top => "top",
+            Section::Root => "root",
+            Section::Autolock => "autolock",
+            Section::NamedLock => "named_lock",
+            Section::Guard => "guard",
+            Section::Lose => "lose",
+            Section::Break => "break",
+        }
+    }
+}
+
+impl Spot {
+    /// The top of a configuration.
+    pub const TOP: Spot = Spot {
+        section: Section::Top,
+        entry: 0,
+    };
+}
+
+/// `at the top`, `in [[root]]`, or `in entry 3 of [[root]]`.
+impl fmt::Display for Spot {
+    fn fmt<W: fmt::Write>(&self, f: &mut fmt::Formatter<W>) -> fmt::Result {
+        let key = self.section.key();
+        match (self.section, self.entry) {
+            (Section::Top, _) => f.write_str("at the top"),
+            (_, 0) => write!(f, "in [[{key}]]"),
+            (_, entry) => write!(f, "in entry {entry} of [[{key}]]"),
+        }
+    }
+}
+
+impl From<NoMemory> for ConfigFault {
+    ghost use Rattle.std.specs.Prelude.{◌≡◌};
+    ghost use Rattle.dso_config.specs.declared.fault.ConfigFault.TheVariants as fault;
+
+    ghost from_gives = { λ _ e. e ≡ fault.NoMemory };
+
+    fn from(_refused: NoMemory) -> ConfigFault {
+        ConfigFault::NoMemory
+    }
+}
+
+impl<T: Drop> From<AllocFailed<T>> for ConfigFault {
+    ghost use Rattle.std.specs.Prelude.{◌≡◌};
+    ghost use Rattle.dso_config.specs.declared.fault.ConfigFault.TheVariants as fault;
+
+    ghost from_gives = { λ _ e. e ≡ fault.NoMemory };
+
+    fn from(_refused: AllocFailed<T>) -> ConfigFault {
+        ConfigFault::NoMemory
+    }
+}
