@@ -32,7 +32,7 @@ pub(crate) enum Command<'a> {
 
 impl Command<'_> {
     /// Whether it is built: `sim`, without a seed and without a file for the journal.
-    fn is_built(&self) -> bool
+    pub(crate) fn is_built(&self) -> bool
         ensures { IsTrue result ↔ IsBuilt (said self.now) }
     {
         matches!(

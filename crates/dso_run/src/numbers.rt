@@ -5,11 +5,10 @@ ghost use Rattle.std.specs.Str.Parse.{digits_value};
 ghost use Rattle.dso_run.specs.Given.{told};
 ghost use Rattle.dso_run.specs.Words.{number_within, seed_said, steps_said};
 
+use crate::weighing::BUDGET;
+
 /// The steps where no option says them.
 const DEFAULT_STEPS: u64 = 1_000_000;
-
-/// The most steps that an option may say.
-pub(crate) const MOST_STEPS: u64 = 4_000_000;
 
 /// The most that `big` takes.
 pub(crate) const MOST_LOAD: u64 = 1000;
@@ -65,7 +64,7 @@ pub(crate) fn steps_said(word: Option<&str>) -> Option<u64>
     ensures { result ≡ steps_said (told word.entry) }
 {
     match word {
-        Some(word) => number_within(word, 1, MOST_STEPS),
+        Some(word) => number_within(word, 1, BUDGET),
         None => Some(DEFAULT_STEPS),
     }
 }
