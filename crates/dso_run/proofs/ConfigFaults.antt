@@ -1,5 +1,5 @@
 -- What is wrong with the text of a configuration is never that it isn't built.
-use Rattle.std.proofs.Common.{◌≡◌, ◌≢◌, ◌∙◌, sym, refl, ℕ, Bool, true, false, List, [], ◌∷◌, ◌++◌, length, Option, Some, None, option_and_then, nat_lt, suc, codes}
+use Rattle.std.proofs.Common.{◌≡◌, ◌≢◌, subst, ℕ, Bool, true, false, List, [], ◌∷◌, ◌++◌, length, Option, Some, None, option_and_then, nat_lt, suc, codes}
 use Rattle.std.specs.List.{AllByRecursion}
 use Rattle.std.specs.Option.{option_to_list}
 use Rattle.toml.specs.Data.{Data, Members, get_member, as_array, as_integer, as_table}
@@ -49,72 +49,144 @@ of_value spot wrong form value is =
     of_first (unless_found (fault.WrongKind spot) value ∷ unless_found wrong (option_and_then form value) ∷ [])
     (of_unless_found (fault.WrongKind spot) value tt, (of_unless_found wrong (option_and_then form value) is, tt))
 
+-- what is wrong with two values
+of_two : (one other : Option ConfigFault) → IsOfText one → IsOfText other → IsOfText (first_fault (one ∷ other ∷ []))
+of_two one other is so = of_first (one ∷ other ∷ []) (is, (so, tt))
+
 -- what is wrong with a method pattern and a level
 of_locking : (spot : Spot) (table : Members) → IsOfText (locking_fault spot table)
 of_locking spot table =
-    of_first _ (of_value spot (fault.BadMethodPattern spot) pattern_of (text_at (codes "method") table) tt, (of_value spot (fault.OutOfRange spot) grade_of (text_at (codes "level") table) tt, tt))
+    of_two (value_fault spot (fault.BadMethodPattern spot) pattern_of (text_at (codes "method") table))
+    (value_fault spot (fault.OutOfRange spot) grade_of (text_at (codes "level") table))
+    (of_value spot (fault.BadMethodPattern spot) pattern_of (text_at (codes "method") table) tt)
+    (of_value spot (fault.OutOfRange spot) grade_of (text_at (codes "level") table) tt)
+
+-- what is wrong with a name, a method pattern and a level
+of_named : (spot : Spot) (table : Members) → IsOfText (named_rules.fault spot table)
+of_named spot table =
+    of_two (value_fault spot (fault.BadName spot) name_of (text_at (codes "name") table)) (locking_fault spot table)
+    (of_value spot (fault.BadName spot) name_of (text_at (codes "name") table) tt) (of_locking spot table)
+
+-- what is wrong with a guard
+of_guard : (spot : Spot) (table : Members) → IsOfText (guard_rules.fault spot table)
+of_guard spot table =
+    of_two (value_fault spot (fault.BadGuard spot) guarded_of (text_at (codes "field") table))
+    (value_fault spot (fault.BadGuard spot) name_of (text_at (codes "lock") table))
+    (of_value spot (fault.BadGuard spot) guarded_of (text_at (codes "field") table) tt)
+    (of_value spot (fault.BadGuard spot) name_of (text_at (codes "lock") table) tt)
+
+-- what is wrong with a root
+of_root : (spot : Spot) (table : Members) → IsOfText (root_rules.fault spot table)
+of_root spot table = of_value spot (fault.BadName spot) root_of (text_at (codes "field") table) tt
 
 -- what is wrong with a client and its message
 of_trigger : (clients : ℕ) (spot : Spot) (table : Members) → IsOfText (trigger_fault clients spot table)
 of_trigger clients spot table =
-    of_first _ (of_value spot (fault.OutOfRange spot) (in_range 1 clients) (number_at (codes "client") table) tt,
-      (of_value spot (fault.OutOfRange spot) (in_range 0 latest_message) (number_at (codes "after") table) tt, tt))
-
-
-
-
+    of_two (value_fault spot (fault.OutOfRange spot) (in_range 1 clients) (number_at (codes "client") table))
+    (value_fault spot (fault.OutOfRange spot) (in_range 0 latest_message) (number_at (codes "after") table))
+    (of_value spot (fault.OutOfRange spot) (in_range 1 clients) (number_at (codes "client") table) tt)
+    (of_value spot (fault.OutOfRange spot) (in_range 0 latest_message) (number_at (codes "after") table) tt)
 
 module _ {E : Type 0} (rules : Rules E) (told : (spot : Spot) (table : Members) → IsOfText (rules.fault spot table)) where
   -- what is wrong with an item
   of_item : (before : List E) (value : Data) → IsOfText (item_fault rules before value)
   of_item before value =
       let spot : Spot = record { section = rules.section; entry = suc (length before) } in
-      of_first _ (of_unless (fault.OutOfRange spot) (nat_lt (length before) most_entries) tt,
-        (of_unless_found (fault.WrongKind spot) (as_table value) tt,
-          (of_unless_found (fault.UnknownKey spot) (known_table rules.section value) tt,
-            (of_found (rules.fault spot) (as_table value) (told spot),
-              (of_found (λ entry. unless (fault.Twice spot) (is_new rules before entry)) (entry_of rules value)
-                (λ entry. of_unless (fault.Twice spot) (is_new rules before entry) tt), tt)))))
+      let many = unless (fault.OutOfRange spot) (nat_lt (length before) most_entries) in
+      let kind = unless_found (fault.WrongKind spot) (as_table value) in
+      let unknown = unless_found (fault.UnknownKey spot) (known_table rules.section value) in
+      let wrong = option_and_then (rules.fault spot) (as_table value) in
+      let twice = option_and_then (λ entry. unless (fault.Twice spot) (is_new rules before entry)) (entry_of rules value) in
+      of_first (many ∷ kind ∷ unknown ∷ wrong ∷ twice ∷ []) (
+        of_unless (fault.OutOfRange spot) (nat_lt (length before) most_entries) tt,
+        (
+          of_unless_found (fault.WrongKind spot) (as_table value) tt,
+          (
+            of_unless_found (fault.UnknownKey spot) (known_table rules.section value) tt,
+            (
+              of_found (rules.fault spot) (as_table value) (told spot),
+              (
+                of_found (λ entry. unless (fault.Twice spot) (is_new rules before entry)) (entry_of rules value)
+                    (λ entry. of_unless (fault.Twice spot) (is_new rules before entry) tt),
+                tt,
+              ),
+            ),
+          ),
+        ),
+      )
 
   -- and with items
   of_items : (before : List E) (items : List Data) → IsOfText (items_fault rules before items)
   of_items before [] = tt
   of_items before (value ∷ rest) =
-      of_first _ (of_item before value, (of_items (before ++ option_to_list (entry_of rules value)) rest, tt))
+      of_two (item_fault rules before value) (items_fault rules (before ++ option_to_list (entry_of rules value)) rest)
+      (of_item before value) (of_items (before ++ option_to_list (entry_of rules value)) rest)
 
   -- and with the value at a section's key
   of_section_value : (value : Option Data) → IsOfText (sections.value_fault rules value)
   of_section_value None = tt
   of_section_value (Some value) =
-      of_first _ (of_unless_found (fault.WrongKind (whole rules)) (as_array value) tt,
-        (of_found (λ items. items_fault rules [] (listed items)) (as_array value) (λ items. of_items [] (listed items)), tt))
+      of_two (unless_found (fault.WrongKind (whole rules)) (as_array value)) (option_and_then (λ items. items_fault rules [] (listed items)) (as_array value))
+      (of_unless_found (fault.WrongKind (whole rules)) (as_array value) tt)
+      (of_found (λ items. items_fault rules [] (listed items)) (as_array value) (λ items. of_items [] (listed items)))
+
+  -- and with a section of a table
+  of_section : (table : Members) → IsOfText (section_fault rules table)
+  of_section table = of_section_value (sections.value_of rules table)
 
 -- what is wrong with a number at the top
 of_setting : (most : ℕ) (value : Option Data) → IsOfText (setting_fault most value)
 of_setting most None = tt
 of_setting most (Some value) = of_value top (fault.OutOfRange top) (in_range 1 most) (as_integer value) tt
 
+-- what is wrong with the sections that name clients
+of_triggers : (table : Members) (clients : ℕ) → IsOfText (triggers_fault table clients)
+of_triggers table clients =
+    of_two (section_fault (loss_rules clients) table) (section_fault (break_rules clients) table)
+    (of_section (loss_rules clients) (of_trigger clients) table) (of_section (break_rules clients) (of_trigger clients) table)
+
 -- what is wrong with a table
 of_table : (table : Members) → IsOfText (table_fault table)
 of_table table =
-    of_first _ (of_unless (fault.UnknownKey top) (has_known_keys section.Top table) tt,
-      (of_setting most_clients (get_member (codes "clients") table),
-        (of_setting most_resident (get_member (codes "resident") table),
-          (of_section_value root_rules (λ spot t. of_value spot (fault.BadName spot) root_of (text_at (codes "field") t) tt) (sections.value_of root_rules table),
-            (of_section_value autolock_rules of_locking (sections.value_of autolock_rules table),
-              (of_section_value named_rules (λ spot t. of_first _ (of_value spot (fault.BadName spot) name_of (text_at (codes "name") t) tt, (of_locking spot t, tt))) (sections.value_of named_rules table),
-                (of_section_value guard_rules
-                  (λ spot t. of_first _ (of_value spot (fault.BadGuard spot) guarded_of (text_at (codes "field") t) tt, (of_value spot (fault.BadGuard spot) name_of (text_at (codes "lock") t) tt, tt)))
-                  (sections.value_of guard_rules table),
-                  (of_found (triggers_fault table) (clients_of table)
-                    (λ clients. of_first _ (of_section_value (loss_rules clients) (of_trigger clients) (sections.value_of (loss_rules clients) table),
-                      (of_section_value (break_rules clients) (of_trigger clients) (sections.value_of (break_rules clients) table), tt))), tt))))))))
+    let clients = get_member (codes "clients") table in
+    let resident = get_member (codes "resident") table in
+    of_first
+    (unless (fault.UnknownKey top) (has_known_keys section.Top table)
+    ∷ setting_fault most_clients clients
+    ∷ setting_fault most_resident resident
+    ∷ section_fault root_rules table
+    ∷ section_fault autolock_rules table
+    ∷ section_fault named_rules table
+    ∷ section_fault guard_rules table
+    ∷ option_and_then (triggers_fault table) (clients_of table)
+    ∷ []) (
+      of_unless (fault.UnknownKey top) (has_known_keys section.Top table) tt,
+      (
+        of_setting most_clients clients,
+        (
+          of_setting most_resident resident,
+          (
+            of_section root_rules of_root table,
+            (
+              of_section autolock_rules of_locking table,
+              (
+                of_section named_rules of_named table,
+                (
+                  of_section guard_rules of_guard table,
+                  (of_found (triggers_fault table) (clients_of table) (of_triggers table), tt),
+                ),
+              ),
+            ),
+          ),
+        ),
+      ),
+    )
 
 -- so no text has that fault
 unbuilt_by : (text : List ℕ) (wrong : ConfigFault) → IsFaultOf text wrong → IsOfText (Some wrong)
 unbuilt_by text wrong (too_long long) = tt
 unbuilt_by text wrong (not_toml short never) = tt
-unbuilt_by text wrong (in_table told table short toml is) = rw sym is at of_table table
+unbuilt_by text wrong (in_table told table short toml is) = subst IsOfText is (of_table table)
 
 pub never_unbuilt : (text : List ℕ) → IsFaultOf text fault.NotBuilt → ⊥
 never_unbuilt text is = unbuilt_by text fault.NotBuilt is

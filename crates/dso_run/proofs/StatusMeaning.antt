@@ -1,7 +1,6 @@
 -- What a status means, from the verdict and from what was written.
-use Rattle.std.proofs.Common.{◌≡◌, inl, inr, refl, sym, subst, ℕ, [], ◌⊎◌}
+use Rattle.std.proofs.Common.{◌≡◌, inl, inr, refl, sym, subst, ℕ, List, [], ◌⊎◌}
 use Rattle.dso_class.specs.declared.program.Program.{Program}
-use Rattle.dso_config.specs.declared.fault.ConfigFault.TheVariants as config
 use Rattle.dso_run.specs.declared.status.ProgramFault.TheVariants as program
 use Rattle.dso_run.specs.declared.status.Refusal.{Refusal}
 use Rattle.dso_run.specs.declared.status.Refusal.TheVariants.{Words, Reading, Config}
@@ -9,9 +8,11 @@ use Rattle.dso_run.specs.declared.status.Refusal.TheVariants as refusal
 use Rattle.dso_run.specs.declared.cluster.Outcome.TheVariants as outcome
 use Rattle.dso_run.specs.declared.status.Status.{Status}
 use Rattle.dso_run.specs.declared.status.Status.TheVariants.{Finished, Usage, BadConfig, BadProgram, ReadFault, WriteFault, Stuck, Budget, NoMemory}
-use Rattle.dso_run.specs.Accepted.{IsProgramRefusal}
-use Rattle.dso_io.specs.Environment.{Rose, taken_after}
+use Rattle.dso_run.specs.Accepted.{IsConfigRefusal, IsProgramRefusal}
+use Rattle.dso_io.specs.Environment.{Told, Rose, taken_after}
 use Rattle.dso_run.specs.Headline.{CallInput, CallOutput, HasCause, IsAccepted, IsLineDue, StatusMeans, WroteWhole}
+use Rattle.dso_run.specs.declared.verdict.Verdict.TheVariants.{Refused}
+use Rattle.dso_run.specs.Verdict.{IsVerdictOnFiles}
 use Rattle.dso_run.specs.Status.{HasLine, line_of, status_of}
 use Rattle.dso_run.specs.Writing.{Wrote, WroteReport}
 
@@ -78,23 +79,15 @@ module _ (input : CallInput) (output : CallOutput) where
         failed = part.2;
       } in subst (StatusMeans input output) (sym part.0) cut
 
--- A refusal that has its cause has a line: no want of memory is a fault of a program.
-pub cause_has_line : (input : CallInput) (refusal : Refusal) → HasCause input refusal → HasLine refusal
-cause_has_line input Words cause = tt
-cause_has_line input Reading cause = tt
-cause_has_line input (Config config.NoMemory) cause = absurd cause.refused
-cause_has_line input (Config config.NotToml) cause = λ is. cc is
-cause_has_line input (Config (config.UnknownKey spot)) cause = λ is. cc is
-cause_has_line input (Config (config.WrongKind spot)) cause = λ is. cc is
-cause_has_line input (Config (config.OutOfRange spot)) cause = λ is. cc is
-cause_has_line input (Config (config.BadMethodPattern spot)) cause = λ is. cc is
-cause_has_line input (Config (config.BadGuard spot)) cause = λ is. cc is
-cause_has_line input (Config (config.Twice spot)) cause = λ is. cc is
-cause_has_line input (Config config.TooLong) cause = λ is. cc is
-cause_has_line input (Config (config.BadName spot)) cause = λ is. cc is
-cause_has_line input (Config config.NotBuilt) cause = λ is. cc is
-cause_has_line input (refusal.Program program.NotBuilt) cause = tt
-cause_has_line input (refusal.Program (program.Syntax fault)) cause = λ is.
-    let never = subst (λ f. IsProgramRefusal cause.config cause.program (program.Syntax f)) is cause.refused in never.holds
-cause_has_line input (refusal.Program (program.Name fault)) cause = λ is.
-    let never = subst (λ f. IsProgramRefusal cause.config cause.program (program.Name f)) is cause.refused in never.holds.refused
+-- A refusal by the files has a line: no want of memory is a fault of a configuration or a program.
+pub verdict_has_line : (content : List ℕ → Told) (failed : Type 0) (config program : List ℕ) (refusal : Refusal)
+    → IsVerdictOnFiles content failed config program (Refused refusal) → HasLine refusal
+verdict_has_line content failed config_name program_name Words is = tt
+verdict_has_line content failed config_name program_name Reading is = tt
+verdict_has_line content failed config_name program_name (Config wrong) is = λ same.
+    let never = subst (IsConfigRefusal is.config_text is.program_text) same is.verdict in never
+verdict_has_line content failed config_name program_name (refusal.Program program.NotBuilt) is = tt
+verdict_has_line content failed config_name program_name (refusal.Program (program.Syntax fault)) is = λ same.
+    let never = subst (λ f. IsProgramRefusal is.config_text is.program_text (program.Syntax f)) same is.verdict in never.holds
+verdict_has_line content failed config_name program_name (refusal.Program (program.Name fault)) is = λ same.
+    let never = subst (λ f. IsProgramRefusal is.config_text is.program_text (program.Name f)) same is.verdict in never.holds.refused

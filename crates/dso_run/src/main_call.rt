@@ -28,7 +28,12 @@ use std::alloc::Global;
 const MOST_READ: u64 = 1_048_577;
 
 /// Reads the files of these names, and judges the configuration and under it the program.
-fn judge<F: Files>(alloc: Global, config: &str, program: &str, files: &mut F) -> Result<Verdict, NoMemory>
+fn judge<F: Files>(
+    alloc: Global,
+    config: &str,
+    program: &str,
+    files: &mut F,
+) -> Result<Verdict, NoMemory>
     ensures verdict { IfOk result (IsVerdictOnFiles (F.content files.old) (Rose (F.read_faults files.old) (F.read_faults files.new)) config.now program.now) }
     ensures unchanged { (name : List ℕ) → F.content files.new name ≡ F.content files.old name }
 {
@@ -156,12 +161,14 @@ pub fn dso_main<F: Files, K: Sink>(
     ensures unchanged { (name : List ℕ) → F.content files.new name ≡ F.content files.old name }
 {
     match command_of(words) {
-        Some(Command::Sim {
-            config,
-            program,
-            steps,
-            ..
-        }) => simulate(alloc, config, program, steps, files, out),
+        Some(
+            Command::Sim {
+                config,
+                program,
+                steps,
+                ..
+            },
+        ) => simulate(alloc, config, program, steps, files, out),
         _ => nothing_ran(alloc, refuse(Refusal::Words, out)),
     }
 }

@@ -8,8 +8,8 @@ ghost use Rattle.dso_run.specs.declared.status.Refusal.TheVariants as refusal;
 ghost use Rattle.dso_run.specs.Status.{HasLine, at_spot, config_text, ended, entry_text, fault_text, kind_text, line_of, name_text, syntax_text};
 ghost use Rattle.dso_syntax.specs.declared.fault.SyntaxFault.TheVariants as syntax;
 
-use crate::status::Refusal;
 use crate::ProgramFault;
+use crate::status::Refusal;
 use arrayvec::ArrayString;
 use dso_class::{NameFault, NameKind};
 use dso_config::{ConfigFault, Section, Spot};

@@ -1,8 +1,10 @@
 -- What words ask for: one thing at most, and it is what is read of them.
-use Rattle.std.proofs.Common.{arith, ◌≡◌, ◌∙◌, sym, ap, refl, subst, ℕ, ◌≤◌, List, [], ◌∷◌, length, Option, Some, None, false, true, codes}
+use Rattle.std.proofs.Common.{arith, ◌≡◌, ◌∙◌, sym, ap, refl, subst, ℕ, ◌≤◌, List, [], ◌∷◌, length, Option, Some, None, Bool, false, true, ◌&&◌, nat_le, if◌then◌else◌, codes}
+use Rattle.std.proofs.lemmas.Bool.{leb-true}
 use Rattle.std.proofs.lemmas.Slice.Eq.{bytes_eq-Decides}
-use Rattle.std.specs.Str.{bytes_eq}
-use Rattle.dso_run.specs.Words.{AreLawful, AreUnlawful, Asks, Command, IsBuilt, number_within, Sim, Run, Big, SimCall, RunCall, Given, IsAsked, IsSim, IsRun, IsBig}
+use Rattle.std.specs.Str.{all_ascii_digits, bytes_eq}
+use Rattle.std.specs.Str.Parse.{digits_value}
+use Rattle.dso_run.specs.Words.{AreLawful, AreUnlawful, Asks, Command, IsBuilt, number_within, steps_said, Sim, Run, Big, SimCall, RunCall, Given, IsAsked, IsSim, IsRun, IsBig}
 use Rattle.dso_run.specs.WordReading.{read}
 use Rattle.dso_run.proofs.reading_words.GivesRead.{gives-read}
 use Rattle.dso_run.proofs.reading_words.ReadGives.{read-gives}
@@ -134,3 +136,31 @@ asks-once (first ∷ rest) command other asks more =
     let two = asks-read first rest other more in
     let same : two.given ≡ one.given = cc (one.is_read, two.is_read) in
     asked-once first one.given command other one.asked (subst (λ g. IsAsked first g other) same two.asked)
+
+-- what a test lets through passes its last part
+last_holds : (front last : Bool) (value number : ℕ) → (if front && last then Some value else None) ≡ Some number → (last ≡ true) × (value ≡ number)
+last_holds false last value number is = cc is
+last_holds true false value number is = cc is
+last_holds true true value number is = (refl, cc is)
+
+-- a number within bounds is at most the upper one
+most_of : (least most : ℕ) (word : List ℕ) (number : ℕ) → number_within least most word ≡ Some number → number ≤ most
+most_of least most word number is =
+    let value = digits_value 10 word in
+    let holds = last_holds (all_ascii_digits word && nat_le 1 (length word) && nat_le (length word) 20 && nat_le least value) (nat_le value most) value number is in
+    subst (λ n. n ≤ most) holds.1 (leb-true value most holds.0)
+
+-- the steps of a lawful run are 4,000,000 at most
+steps_by : (said : Option (List ℕ)) (steps : ℕ) → steps_said said ≡ Some steps → steps ≤ 4000000
+steps_by None steps is = let same : 1000000 ≡ steps = cc is in omega (arith, same)
+steps_by (Some word) steps is = most_of 1 4000000 word steps is
+
+pub lawful_steps : (words : List (List ℕ)) (call : SimCall) → AreLawful words (Sim call) → call.steps ≤ 4000000
+lawful_steps words call lawful = let asked : IsSim lawful.asks.first lawful.asks.given call = lawful.asks.asked in steps_by lawful.asks.given.steps call.steps asked.steps
+
+-- only a call of `sim` is lawful
+pub run_unlawful : (words : List (List ℕ)) (call : RunCall) → AreLawful words (Run call) → ⊥
+run_unlawful words call lawful = lawful.built
+
+pub big_unlawful : (words : List (List ℕ)) (number : ℕ) → AreLawful words (Big number) → ⊥
+big_unlawful words number lawful = lawful.built
