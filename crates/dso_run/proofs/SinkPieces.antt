@@ -1,7 +1,7 @@
 -- What a sink has taken, as it takes more.
 use Rattle.std.proofs.Common.{◌≡◌, ◌∙◌, ℕ, ◌+◌, List, ◌++◌, take, drop, Option, None, Some, refl, ap, append_assoc, sym}
 use Rattle.std.proofs.Math.Seq.{take-add}
-use Rattle.dso_run.specs.Environment.{taken_after}
+use Rattle.dso_io.specs.Environment.{taken_after}
 
 -- two pieces, one after the other, are one
 pub taken_after-append : (taken : Option (List ℕ)) (xs ys : List ℕ) → taken_after (taken_after taken xs) ys ≡ taken_after taken (xs ++ ys)

@@ -1,5 +1,5 @@
 -- What a status means, from the verdict and from what was written.
-use Rattle.std.proofs.Common.{◌≡◌, inl, inr, refl, sym, subst, ℕ, [], ◌⊎◌}
+use Rattle.std.proofs.Common.{◌≡◌, inl, inr, refl, sym, subst, ℕ, List, [], ◌⊎◌}
 use Rattle.dso_class.specs.declared.program.Program.{Program}
 use Rattle.dso_run.specs.declared.status.ProgramFault.TheVariants as program
 use Rattle.dso_run.specs.declared.status.Refusal.{Refusal}
@@ -8,56 +8,58 @@ use Rattle.dso_run.specs.declared.status.Refusal.TheVariants as refusal
 use Rattle.dso_run.specs.declared.cluster.Outcome.TheVariants as outcome
 use Rattle.dso_run.specs.declared.status.Status.{Status}
 use Rattle.dso_run.specs.declared.status.Status.TheVariants.{Finished, Usage, BadConfig, BadProgram, ReadFault, WriteFault, Stuck, Budget, NoMemory}
-use Rattle.dso_run.specs.Accepted.{IsTextFault}
-use Rattle.dso_run.specs.Environment.{Rose, taken_after}
+use Rattle.dso_run.specs.Accepted.{IsConfigRefusal, IsProgramRefusal}
+use Rattle.dso_io.specs.Environment.{Told, Rose, taken_after}
 use Rattle.dso_run.specs.Headline.{CallInput, CallOutput, HasCause, IsAccepted, IsLineDue, StatusMeans, WroteWhole}
+use Rattle.dso_run.specs.declared.verdict.Verdict.TheVariants.{Refused}
+use Rattle.dso_run.specs.Verdict.{IsVerdictOnFiles}
 use Rattle.dso_run.specs.Status.{HasLine, line_of, status_of}
 use Rattle.dso_run.specs.Writing.{Wrote, WroteReport}
 
-module _ (budget : ℕ) (input : CallInput) (output : CallOutput) where
+module _ (input : CallInput) (output : CallOutput) where
   -- an accepted program and its report
-  pub run_means : (p : Program) (answer : Status) → IsAccepted input p
-      → WroteReport budget p output.sink_before output.sink_after (Rose output.failed_before output.failed_after) output.journal answer
-      → StatusMeans budget input output answer
-  run_means p NoMemory accepted wrote = record { untouched = wrote.0; nothing_kept = wrote.1 }
-  run_means p WriteFault accepted wrote = record {
+  pub run_means : (p : Program) (steps : ℕ) (answer : Status) → IsAccepted input p steps
+      → WroteReport steps p output.sink_before output.sink_after (Rose output.failed_before output.failed_after) output.journal answer
+      → StatusMeans input output answer
+  run_means p steps NoMemory accepted wrote = record { untouched = wrote.0; nothing_kept = wrote.1 }
+  run_means p steps WriteFault accepted wrote = record {
     text = wrote.0.0;
-    due = inr (wrote.2.0, record { program = p; accepted = accepted; ran = wrote.2.1; is_report = wrote.0.1 });
+    due = inr (wrote.2.0, record { program = p; steps = steps; accepted = accepted; ran = wrote.2.1; is_report = wrote.0.1 });
     took = wrote.0.2;
     failed = wrote.1;
   }
-  run_means p Finished accepted wrote = record {
+  run_means p steps Finished accepted wrote = record {
     text = wrote.1.0;
-    due = record { program = p; accepted = accepted; ran = wrote.0; is_report = wrote.1.1 };
+    due = record { program = p; steps = steps; accepted = accepted; ran = wrote.0; is_report = wrote.1.1 };
     took = wrote.1.2;
   }
-  run_means p Stuck accepted wrote = record {
+  run_means p steps Stuck accepted wrote = record {
     text = wrote.1.0;
-    due = record { program = p; accepted = accepted; ran = wrote.0; is_report = wrote.1.1 };
+    due = record { program = p; steps = steps; accepted = accepted; ran = wrote.0; is_report = wrote.1.1 };
     took = wrote.1.2;
   }
-  run_means p Budget accepted wrote = record {
+  run_means p steps Budget accepted wrote = record {
     text = wrote.1.0;
-    due = record { program = p; accepted = accepted; ran = wrote.0; is_report = wrote.1.1 };
+    due = record { program = p; steps = steps; accepted = accepted; ran = wrote.0; is_report = wrote.1.1 };
     took = wrote.1.2;
   }
-  run_means p Usage accepted wrote = absurd wrote
-  run_means p ReadFault accepted wrote = absurd wrote
-  run_means p (BadConfig fault) accepted wrote = absurd wrote
-  run_means p (BadProgram fault) accepted wrote = absurd wrote
+  run_means p steps Usage accepted wrote = absurd wrote
+  run_means p steps ReadFault accepted wrote = absurd wrote
+  run_means p steps (BadConfig fault) accepted wrote = absurd wrote
+  run_means p steps (BadProgram fault) accepted wrote = absurd wrote
 
   -- a refusal's line is due
-  line_due : (refusal : Refusal) → HasCause input refusal → output.journal ≡ [] → IsLineDue budget input output refusal (line_of refusal)
+  line_due : (refusal : Refusal) → HasCause input refusal → output.journal ≡ [] → IsLineDue input output refusal (line_of refusal)
   line_due refusal cause none = record { cause = cause; is_line = refl; nothing_ran = none }
 
   -- the refusal's line was written whole
   line_written : (refusal : Refusal) → HasCause input refusal → output.journal ≡ [] → output.sink_after ≡ taken_after output.sink_before (line_of refusal)
-      → WroteWhole budget input output (IsLineDue budget input output refusal)
+      → WroteWhole input output (IsLineDue input output refusal)
   line_written refusal cause none took = record { text = line_of refusal; due = line_due refusal cause none; took = took }
 
   -- so the refusal's status means what it is to mean
   line_means : (refusal : Refusal) → HasCause input refusal → output.journal ≡ [] → output.sink_after ≡ taken_after output.sink_before (line_of refusal)
-      → StatusMeans budget input output (status_of refusal)
+      → StatusMeans input output (status_of refusal)
   line_means Words cause none took = line_written Words cause none took
   line_means Reading cause none took = line_written Reading cause none took
   line_means (Config fault) cause none took = line_written (Config fault) cause none took
@@ -66,23 +68,26 @@ module _ (budget : ℕ) (input : CallInput) (output : CallOutput) where
   -- a refusal, by what was written of its line
   pub refusal_means : (refusal : Refusal) (answer : Status) → HasCause input refusal → output.journal ≡ []
       → Wrote output.sink_before output.sink_after (Rose output.failed_before output.failed_after) (line_of refusal) (status_of refusal) answer
-      → StatusMeans budget input output answer
+      → StatusMeans input output answer
   refusal_means refusal answer cause none (inl whole) =
-      subst (StatusMeans budget input output) (sym whole.0) (line_means refusal cause none whole.1)
+      subst (StatusMeans input output) (sym whole.0) (line_means refusal cause none whole.1)
   refusal_means refusal answer cause none (inr part) =
-      let cut : StatusMeans budget input output WriteFault = record {
+      let cut : StatusMeans input output WriteFault = record {
         text = line_of refusal;
         due = inl (refusal, line_due refusal cause none);
         took = part.1;
         failed = part.2;
-      } in subst (StatusMeans budget input output) (sym part.0) cut
+      } in subst (StatusMeans input output) (sym part.0) cut
 
--- A refusal that has its cause has a line: no want of memory is a fault of a program.
-pub cause_has_line : (input : CallInput) (refusal : Refusal) → HasCause input refusal → HasLine refusal
-cause_has_line input Words cause = tt
-cause_has_line input Reading cause = tt
-cause_has_line input (Config fault) cause = tt
-cause_has_line input (refusal.Program program.NotBuilt) cause = tt
-cause_has_line input (refusal.Program (program.Syntax fault)) cause = λ is. subst (λ f. IsTextFault cause.text (program.Syntax f)) is cause.refused
-cause_has_line input (refusal.Program (program.Name fault)) cause = λ is.
-    let never = subst (λ f. IsTextFault cause.text (program.Name f)) is cause.refused in never.refused
+-- A refusal by the files has a line: no want of memory is a fault of a configuration or a program.
+pub verdict_has_line : (content : List ℕ → Told) (failed : Type 0) (config program : List ℕ) (refusal : Refusal)
+    → IsVerdictOnFiles content failed config program (Refused refusal) → HasLine refusal
+verdict_has_line content failed config_name program_name Words is = tt
+verdict_has_line content failed config_name program_name Reading is = tt
+verdict_has_line content failed config_name program_name (Config wrong) is = λ same.
+    let never = subst (IsConfigRefusal is.config_text is.program_text) same is.verdict in never
+verdict_has_line content failed config_name program_name (refusal.Program program.NotBuilt) is = tt
+verdict_has_line content failed config_name program_name (refusal.Program (program.Syntax fault)) is = λ same.
+    let never = subst (λ f. IsProgramRefusal is.config_text is.program_text (program.Syntax f)) same is.verdict in never.holds
+verdict_has_line content failed config_name program_name (refusal.Program (program.Name fault)) is = λ same.
+    let never = subst (λ f. IsProgramRefusal is.config_text is.program_text (program.Name f)) same is.verdict in never.holds.refused

@@ -1,11 +1,15 @@
--- Which program texts are taken, as which program, and why the others are refused.
-use Rattle.std.specs.Prelude.{◌≤◌, ℕ, List, length}
+-- Which texts of a configuration and of a program are taken, as which program, and why the others are refused.
+use Rattle.std.specs.Prelude.{◌≡◌, ◌≤◌, ℕ, Bool, true, false, ◌||◌, nat_lt, List, [], ◌∷◌, length}
 use Rattle.dso_class.specs.declared.fault.NameFault.TheVariants as name
 use Rattle.dso_class.specs.declared.program.Program.{Program}
 use Rattle.dso_class.specs.NameFaults.{IsFirstFault}
 use Rattle.dso_class.specs.TextProgram.{IsProgramOf}
 use Rattle.dso_class.specs.Sound.{IsSound}
+use Rattle.dso_config.specs.declared.config.Config.{Config}
+use Rattle.dso_config.specs.declared.fault.ConfigFault.{ConfigFault}
+use Rattle.dso_config.specs.declared.fault.ConfigFault.TheVariants as config_fault
 use Rattle.dso_config.specs.Config.{empty}
+use Rattle.dso_config.specs.Configuration.{IsConfigurationOf, IsFaultOf}
 use Rattle.dso_law.specs.Settings.{Settings}
 use Rattle.dso_machine.specs.declared.code.Code.{Code}
 use Rattle.dso_syntax.specs.declared.fault.SyntaxFault.TheVariants as syntax
@@ -34,9 +38,9 @@ pub record HasTree (text : List ℕ) (tree : Ast) : Type 0 where
   pub short : length text ≤ longest_text
   pub is_text : IsText text tree
 
--- The tree is this program, with every key of the configuration absent.
-pub record IsResolved (tree : Ast) (p : Program) : Type 0 where
-  pub program : IsProgramOf empty tree p
+-- The tree is this program under this configuration.
+pub record IsResolved (config : Config) (tree : Ast) (p : Program) : Type 0 where
+  pub program : IsProgramOf config tree p
   pub sound : IsSound p
 
 -- A text of this tree and code is of the first path's form.
@@ -44,35 +48,63 @@ pub record IsOfForm (text : List ℕ) (tree : Ast) (code : Code) : Type 0 where
   pub counter : IsCounter code
   pub spelled : IsPlainlySpelled text tree
 
--- A tree is taken as this program: its code is that of the first path's form.
+-- A tree is taken as this program: the configuration says nothing, and the code is that of the first path's form.
 pub record IsTaken (tree : Ast) (p : Program) : Type 0 where
-  pub resolved : IsResolved tree p
+  pub resolved : IsResolved empty tree p
   pub counter : IsCounter p.code
 
--- Nothing is wrong with the names of this text's tree, but the text isn't of the first path's form.
-pub record IsNotBuilt (text : List ℕ) (tree : Ast) : Type 0 where
-  pub program : Program
-  pub resolved : IsResolved tree program
-  pub other : IsOfForm text tree program.code → ⊥
+-- whether a list has an item
+abbrev pub has_any : {A : Type 0} → List A → Bool
+has_any [] = false
+has_any (first ∷ rest) = true
 
--- why a text of this tree is refused: for the first fault of its names, or else because it isn't of the form
-abbrev pub IsTreeFault : List ℕ → Ast → ProgramFault → Type 0
-IsTreeFault text tree (fault.Name (name.At kind line)) = IsFirstFault empty tree kind line
-IsTreeFault text tree fault.NotBuilt = IsNotBuilt text tree
-IsTreeFault text tree other = ⊥
+-- whether a configuration asks for what isn't built yet: a second client, or one that is lost or cut off
+abbrev pub has_unbuilt : Config → Bool
+has_unbuilt config = nat_lt 1 config.clients || has_any config.losses || has_any config.breaks
 
--- There is a tree that is the text's, and the text is refused for this fault.
-pub record HasTreeFault (text : List ℕ) (which : ProgramFault) : Type 0 where
-  pub tree : Ast
-  pub has_tree : HasTree text tree
-  pub refused : IsTreeFault text tree which
+-- UNDER A CONFIGURATION
+module _ (config : Config) where
+  -- Nothing is wrong with the program's text, and it is this program.
+  pub record IsRight (text : List ℕ) (tree : Ast) (p : Program) : Type 0 where
+    pub has_tree : HasTree text tree
+    pub resolved : IsResolved config tree p
 
--- Why a program text is refused: it is too long, or the program of no tree and this is its fault, or the program of a
--- tree and refused for the tree's first fault or for its form. The fault is never a want of memory.
-abbrev pub IsTextFault : List ℕ → ProgramFault → Type 0
-IsTextFault text (fault.Syntax syntax.NoMemory) = ⊥
-IsTextFault text (fault.Syntax which) = Refuses text which
-IsTextFault text which = HasTreeFault text which
+  -- Nothing is wrong with the program's text, but the configuration asks for what isn't built.
+  pub record IsUnbuiltCluster (text : List ℕ) : Type 0 where
+    pub tree : Ast
+    pub program : Program
+    pub right : IsRight text tree program
+    pub unbuilt : has_unbuilt config ≡ true
+
+  -- The program isn't built: the configuration says something, or the text isn't of the first path's form.
+  pub record IsOther (text : List ℕ) (tree : Ast) (code : Code) : Type 0 where
+    pub built : has_unbuilt config ≡ false
+    pub other : config ≡ empty → IsOfForm text tree code → ⊥
+
+  -- Nothing is wrong with the names of this text's tree, but the program isn't built.
+  pub record IsNotBuilt (text : List ℕ) (tree : Ast) : Type 0 where
+    pub program : Program
+    pub resolved : IsResolved config tree program
+    pub other : IsOther text tree program.code
+
+  -- why a text of this tree is refused: for the first fault of its names, or else because it isn't built
+  abbrev pub IsTreeFault : List ℕ → Ast → ProgramFault → Type 0
+  IsTreeFault text tree (fault.Name (name.At kind line)) = IsFirstFault config tree kind line
+  IsTreeFault text tree fault.NotBuilt = IsNotBuilt text tree
+  IsTreeFault text tree other = ⊥
+
+  -- There is a tree that is the text's, and the text is refused for this fault.
+  pub record HasTreeFault (text : List ℕ) (which : ProgramFault) : Type 0 where
+    pub tree : Ast
+    pub has_tree : HasTree text tree
+    pub refused : IsTreeFault text tree which
+
+  -- Why a program text is refused: it is too long, or the program of no tree and this is its fault, or the program of a
+  -- tree and refused for the tree's first fault or for not being built. The fault is never a want of memory.
+  abbrev pub IsTextFault : List ℕ → ProgramFault → Type 0
+  IsTextFault text (fault.Syntax syntax.NoMemory) = ⊥
+  IsTextFault text (fault.Syntax which) = Refuses text which
+  IsTextFault text which = HasTreeFault text which
 
 -- A program text is taken as this program: its tree is, and it has the spelling of the first path's form.
 pub record IsTakenText (text : List ℕ) (p : Program) : Type 0 where
@@ -80,3 +112,26 @@ pub record IsTakenText (text : List ℕ) (p : Program) : Type 0 where
   pub has_tree : HasTree text tree
   pub taken : IsTaken tree p
   pub spelled : IsPlainlySpelled text tree
+
+-- BOTH TEXTS
+module _ (config_text program_text : List ℕ) where
+  -- The configuration says this, and under it something holds of the program's text.
+  pub record Under (P : Config → Type 0) : Type 0 where
+    pub config : Config
+    pub says : IsConfigurationOf config_text config
+    pub holds : P config
+
+  -- why the configuration is refused: for its fault, or else because it asks for what isn't built, where nothing is wrong
+  -- with either text; never for want of memory
+  abbrev pub IsConfigRefusal : ConfigFault → Type 0
+  IsConfigRefusal config_fault.NoMemory = ⊥
+  IsConfigRefusal config_fault.NotBuilt = Under (λ config. IsUnbuiltCluster config program_text)
+  IsConfigRefusal which = IsFaultOf config_text which
+
+  -- why the program is refused: nothing is wrong with the configuration, and under it the program has this fault
+  abbrev pub IsProgramRefusal : ProgramFault → Type 0
+  IsProgramRefusal which = Under (λ config. IsTextFault config program_text which)
+
+  -- the texts are taken as this program: the configuration says nothing
+  abbrev pub AreTaken : Program → Type 0
+  AreTaken p = IsConfigurationOf config_text empty × IsTakenText program_text p

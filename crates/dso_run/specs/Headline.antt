@@ -1,7 +1,7 @@
 -- The program's theorem: what each status of a call means, from the bytes that were read to those that were written.
 -- `StatusMeans`, at the end, is the clause `answer` of `dso_main`. What it is made of stands above it, in the order of
 -- the work.
-use Rattle.std.specs.Prelude.{◌≡◌, ◌≢◌, ℕ, suc, ◌⊎◌, List, [], Option, reverse}
+use Rattle.std.specs.Prelude.{◌≡◌, ℕ, suc, ◌⊎◌, List, [], Option, reverse}
 use Rattle.dso_base.specs.declared.journal.Entry.{Entry}
 use Rattle.dso_base.specs.declared.lock.ThreadId.{ThreadId}
 use Rattle.dso_base.specs.declared.request.Event.{Event}
@@ -15,7 +15,7 @@ use Rattle.dso_plain.specs.History.{last_state}
 use Rattle.dso_report.specs.Report.{IsReport}
 use Rattle.dso_run.specs.declared.cluster.Outcome.{Outcome}
 use Rattle.dso_run.specs.declared.cluster.Outcome.TheVariants as outcome
-use Rattle.dso_run.specs.declared.status.ConfigFault.TheVariants as config
+use Rattle.dso_config.specs.declared.fault.ConfigFault.{ConfigFault}
 use Rattle.dso_run.specs.declared.status.ProgramFault.{ProgramFault}
 use Rattle.dso_run.specs.declared.status.Refusal.{Refusal}
 use Rattle.dso_run.specs.declared.status.Refusal.TheVariants as refusal
@@ -23,15 +23,11 @@ use Rattle.dso_run.specs.declared.status.Status.{Status}
 use Rattle.dso_run.specs.declared.status.Status.TheVariants.{Finished, Usage, BadConfig, BadProgram}
 use Rattle.dso_run.specs.declared.status.Status.TheVariants.{ReadFault, WriteFault, Stuck, Budget, NoMemory}
 use Rattle.dso_syntax.specs.TextLimits.{longest_text}
-use Rattle.dso_run.specs.Accepted.{settings_of, IsTextFault, IsTakenText}
-use Rattle.dso_run.specs.Environment.{Told, MayGive, Rose, taken_after, TookPrefix}
+use Rattle.dso_run.specs.Accepted.{settings_of, AreTaken, IsConfigRefusal, IsProgramRefusal}
+use Rattle.dso_io.specs.Environment.{Told, MayGive, Rose, taken_after, TookPrefix}
 use Rattle.dso_run.specs.RoundRobin.{EndsFinished, EndsStuck, EndsOverBudget}
 use Rattle.dso_run.specs.Status.{line_of}
-use Rattle.dso_run.specs.Words.{AreSim, AreUnlawful}
-
--- how much the journal of a run may weigh before the run is cut off
-abbrev pub run_budget : ℕ
-run_budget = 1000000
+use Rattle.dso_run.specs.Words.{AreLawful, AreUnlawful, Sim, SimCall}
 
 -- how many bytes are read of a file at most: one more than a program's text may have
 abbrev pub most_read : ℕ
@@ -56,50 +52,53 @@ pub record CallOutput : Type 0 where
 
 -- WHAT WAS READ, AND WHICH PROGRAM IT IS
 module _ (input : CallInput) where
-  -- The words are `sim` and the names of two files, and these are bytes that the two files gave: all that a file has, or
-  -- the first `most_read` bytes of a longer one.
-  pub record WereRead (config program : List ℕ) : Type 0 where
-    pub config_name : List ℕ
-    pub program_name : List ℕ
-    pub words : AreSim input.words config_name program_name
-    pub config_given : MayGive (input.content config_name) most_read config
-    pub program_given : MayGive (input.content program_name) most_read program
+  -- The words ask for this run, and these are bytes that its two files gave: all that a file has, or the first
+  -- `most_read` bytes of a longer one.
+  pub record WereRead (call : SimCall) (config program : List ℕ) : Type 0 where
+    pub words : AreLawful input.words (Sim call)
+    pub config_given : MayGive (input.content call.config) most_read config
+    pub program_given : MayGive (input.content call.program) most_read program
 
-  -- Both files were read, the configuration is empty, and the program's text is taken as this program.
-  pub record IsAccepted (p : Program) : Type 0 where
-    pub text : List ℕ
-    pub read : WereRead [] text
-    pub taken : IsTakenText text p
+  -- Both files were read, and their texts are taken as this program, for a run of at most so many steps.
+  pub record IsAccepted (p : Program) (steps : ℕ) : Type 0 where
+    pub call : SimCall
+    pub config : List ℕ
+    pub program : List ℕ
+    pub read : WereRead call config program
+    pub taken : AreTaken config program p
+    pub bounded : steps ≡ call.steps
 
   -- The words are lawful, and a read failed.
   pub record IsUnread : Type 0 where
-    pub config_name : List ℕ
-    pub program_name : List ℕ
-    pub words : AreSim input.words config_name program_name
+    pub call : SimCall
+    pub words : AreLawful input.words (Sim call)
     pub failed : Rose input.failed_before input.failed_after
 
-  -- Both files were read, and the configuration has a byte.
-  pub record IsConfigRefused : Type 0 where
+  -- Both files were read, and the configuration is refused for this fault.
+  pub record IsConfigRefused (fault : ConfigFault) : Type 0 where
+    pub call : SimCall
     pub config : List ℕ
     pub program : List ℕ
-    pub read : WereRead config program
-    pub not_empty : config ≢ []
+    pub read : WereRead call config program
+    pub refused : IsConfigRefusal config program fault
 
-  -- Both files were read, the configuration is empty, and this is the fault of the program's text.
+  -- Both files were read, and the program is refused for this fault.
   pub record IsProgramRefused (fault : ProgramFault) : Type 0 where
-    pub text : List ℕ
-    pub read : WereRead [] text
-    pub refused : IsTextFault text fault
+    pub call : SimCall
+    pub config : List ℕ
+    pub program : List ℕ
+    pub read : WereRead call config program
+    pub refused : IsProgramRefusal config program fault
 
   -- why nothing is run
   abbrev pub HasCause : Refusal → Type 0
   HasCause refusal.Words = AreUnlawful input.words
   HasCause refusal.Reading = IsUnread
-  HasCause (refusal.Config config.NotBuilt) = IsConfigRefused
+  HasCause (refusal.Config fault) = IsConfigRefused fault
   HasCause (refusal.Program fault) = IsProgramRefused fault
 
--- THE RUN, for the settings of a program, what each of its threads asks next after its events, and a budget. Entries
--- stand with the newest first.
+-- THE RUN, for the settings of a program, what each of its threads asks next after its events, and a budget: how much
+-- its journal may weigh before it is cut off. Entries stand with the newest first.
 module _ (p : Settings) (next : ThreadId → List Event → Option Request) (budget : ℕ) where
   -- The entries are a lawful journal that was made by round robin within the budget, and the run ended so: finished, or
   -- stuck, or out of its budget.
@@ -125,13 +124,14 @@ IsRunReport p journal text =
     IsReport p.names p.threads (last_state p.code.shape (committed (reverse journal))) text
 
 -- WHAT WAS WRITTEN
-module _ (budget : ℕ) (input : CallInput) (output : CallOutput) where
+module _ (input : CallInput) (output : CallOutput) where
   -- A program was accepted, the journal is that of a run of it that ended so, and the text is the report of what the
   -- journal commits.
   pub record IsReportDue (outcome : Outcome) (text : List ℕ) : Type 0 where
     pub program : Program
-    pub accepted : IsAccepted input program
-    pub ran : IsRunOf program budget outcome output.journal
+    pub steps : ℕ
+    pub accepted : IsAccepted input program steps
+    pub ran : IsRunOf program steps outcome output.journal
     pub is_report : IsRunReport program output.journal text
 
   -- The refusal has its cause, the text is its line, and nothing was run.

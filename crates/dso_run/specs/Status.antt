@@ -10,7 +10,12 @@ use Rattle.dso_syntax.specs.declared.fault.SyntaxFault.TheVariants as syntax
 use Rattle.dso_run.specs.declared.cluster.Outcome.{Outcome}
 use Rattle.dso_run.specs.declared.cluster.Outcome.TheVariants as outcome
 use Rattle.dso_run.specs.declared.status.ProgramFault.{ProgramFault}
-use Rattle.dso_run.specs.declared.status.ConfigFault.TheVariants as config
+use Rattle.dso_config.specs.declared.fault.ConfigFault.{ConfigFault}
+use Rattle.dso_config.specs.declared.fault.ConfigFault.TheVariants as config
+use Rattle.dso_config.specs.declared.fault.Section.{Section}
+use Rattle.dso_config.specs.declared.fault.Section.TheVariants as section
+use Rattle.dso_config.specs.declared.fault.Spot.{Spot}
+use Rattle.dso_config.specs.Keys.{key_of}
 use Rattle.dso_run.specs.declared.status.ProgramFault.TheVariants as program
 use Rattle.dso_run.specs.declared.status.Refusal.{Refusal}
 use Rattle.dso_run.specs.declared.status.Refusal.TheVariants.{Words, Reading, Config, Program}
@@ -88,15 +93,44 @@ fault_text program.NotBuilt = codes "NotBuilt"
 fault_text (program.Syntax fault) = syntax_text fault
 fault_text (program.Name fault) = name_text fault
 
+-- a section, and behind its name the number of the entry; none at the top
+abbrev pub entry_text : Section → ℕ → List ℕ
+entry_text section.Top entry = []
+entry_text section.Root entry = codes " " ++ decimal entry
+entry_text section.Autolock entry = codes " " ++ decimal entry
+entry_text section.NamedLock entry = codes " " ++ decimal entry
+entry_text section.Guard entry = codes " " ++ decimal entry
+entry_text section.Lose entry = codes " " ++ decimal entry
+entry_text section.Break entry = codes " " ++ decimal entry
+
+-- a fault with its section and entry
+abbrev pub at_spot : List ℕ → Spot → List ℕ
+at_spot kind spot = kind ++ (codes " " ++ (key_of spot.section ++ entry_text spot.section spot.entry))
+
+-- what is said of a fault of the configuration
+abbrev pub config_text : ConfigFault → List ℕ
+config_text config.NotToml = codes "NotToml"
+config_text (config.UnknownKey spot) = at_spot (codes "UnknownKey") spot
+config_text (config.WrongKind spot) = at_spot (codes "WrongKind") spot
+config_text (config.OutOfRange spot) = at_spot (codes "OutOfRange") spot
+config_text (config.BadMethodPattern spot) = at_spot (codes "BadMethodPattern") spot
+config_text (config.BadGuard spot) = at_spot (codes "BadGuard") spot
+config_text (config.Twice spot) = at_spot (codes "Twice") spot
+config_text config.TooLong = codes "TooLong"
+config_text (config.BadName spot) = at_spot (codes "BadName") spot
+config_text config.NotBuilt = codes "NotBuilt"
+config_text config.NoMemory = []
+
 -- the one line that a refusal writes
 abbrev pub line_of : Refusal → List ℕ
 line_of Words = ended (codes "dsorun: Usage")
 line_of Reading = ended (codes "dsorun: ReadFault")
-line_of (Config config.NotBuilt) = ended (codes "dsorun: BadConfig NotBuilt")
+line_of (Config fault) = ended (codes "dsorun: BadConfig " ++ config_text fault)
 line_of (Program fault) = ended (codes "dsorun: BadProgram " ++ fault_text fault)
 
 -- The refusal has a line: its fault is no want of memory.
 abbrev pub HasLine : Refusal → Type 0
+HasLine (Config fault) = fault ≢ config.NoMemory
 HasLine (Program (program.Syntax fault)) = fault ≢ syntax.NoMemory
 HasLine (Program (program.Name fault)) = fault ≢ name.NoMemory
 HasLine refusal = Unit {0}

@@ -1,35 +1,54 @@
--- The verdict on the words and the two files: why nothing is run, or which program is accepted.
-use Rattle.std.specs.Prelude.{◌≡◌, ◌≢◌, ℕ, List, []}
+-- The verdict on the two files: why nothing is run, or which program is accepted.
+use Rattle.std.specs.Prelude.{◌≡◌, ℕ, List}
+use Rattle.dso_config.specs.declared.config.Config.{Config}
+use Rattle.dso_config.specs.declared.fault.ConfigFault.TheVariants as config_fault
+use Rattle.dso_config.specs.Config.{empty}
 use Rattle.dso_syntax.specs.declared.tree.Ast.{Ast}
-use Rattle.dso_run.specs.declared.status.ConfigFault.TheVariants as config
-use Rattle.dso_run.specs.declared.status.Refusal.TheVariants.{Config, Program}
+use Rattle.dso_run.specs.declared.status.Refusal.TheVariants as refusal
 use Rattle.dso_run.specs.declared.verdict.Verdict.{Verdict}
 use Rattle.dso_run.specs.declared.verdict.Verdict.TheVariants.{Refused, Accepted}
-use Rattle.dso_run.specs.Accepted.{IsTreeFault, IsTextFault, IsTaken, IsTakenText}
-use Rattle.dso_run.specs.Headline.{CallInput, HasCause, IsAccepted}
+use Rattle.dso_run.specs.Accepted.{AreTaken, IsConfigRefusal, IsProgramRefusal, IsTaken, IsTakenText, IsTextFault, IsTreeFault, IsUnbuiltCluster}
+use Rattle.dso_io.specs.Environment.{Told, MayGive}
+use Rattle.dso_run.specs.Headline.{most_read}
 use Rattle.dso_run.specs.first_path.Spelling.{IsPlainlySpelled}
 
--- what a text of this tree comes to: it is refused for a fault, or taken as a program where it is spelled so
-abbrev pub IsVerdictOnTree : List ℕ → Ast → Verdict → Type 0
-IsVerdictOnTree text tree (Refused (Program fault)) = IsTreeFault text tree fault
-IsVerdictOnTree text tree (Accepted p) = IsTaken tree p × IsPlainlySpelled text tree
-IsVerdictOnTree text tree verdict = ⊥
+-- UNDER A CONFIGURATION
+module _ (config : Config) where
+  -- what a text of this tree comes to: it is refused for a fault, or taken as a program where it is spelled so
+  abbrev pub IsVerdictOnTree : List ℕ → Ast → Verdict → Type 0
+  IsVerdictOnTree text tree (Refused (refusal.Config config_fault.NotBuilt)) = IsUnbuiltCluster config text
+  IsVerdictOnTree text tree (Refused (refusal.Program fault)) = IsTreeFault config text tree fault
+  IsVerdictOnTree text tree (Accepted p) = (config ≡ empty) × IsTaken tree p × IsPlainlySpelled text tree
+  IsVerdictOnTree text tree verdict = ⊥
 
--- what a program's text comes to
-abbrev pub IsVerdictOnProgram : List ℕ → Verdict → Type 0
-IsVerdictOnProgram text (Refused (Program fault)) = IsTextFault text fault
-IsVerdictOnProgram text (Accepted p) = IsTakenText text p
-IsVerdictOnProgram text verdict = ⊥
+  -- what a program's text comes to
+  abbrev pub IsVerdictOnProgram : List ℕ → Verdict → Type 0
+  IsVerdictOnProgram text (Refused (refusal.Config config_fault.NotBuilt)) = IsUnbuiltCluster config text
+  IsVerdictOnProgram text (Refused (refusal.Program fault)) = IsTextFault config text fault
+  IsVerdictOnProgram text (Accepted p) = (config ≡ empty) × IsTakenText text p
+  IsVerdictOnProgram text verdict = ⊥
 
--- what the bytes of the two files come to: a configuration with a byte is refused, and then the program is judged
+-- what the texts of a configuration and of a program come to
 abbrev pub IsVerdictOnTexts : List ℕ → List ℕ → Verdict → Type 0
-IsVerdictOnTexts config_bytes program_bytes (Refused (Config config.NotBuilt)) = config_bytes ≢ []
-IsVerdictOnTexts config_bytes program_bytes (Refused (Program fault)) =
-    (config_bytes ≡ []) × IsTextFault program_bytes fault
-IsVerdictOnTexts config_bytes program_bytes (Accepted p) = (config_bytes ≡ []) × IsTakenText program_bytes p
-IsVerdictOnTexts config_bytes program_bytes verdict = ⊥
+IsVerdictOnTexts config_text program_text (Refused (refusal.Config fault)) = IsConfigRefusal config_text program_text fault
+IsVerdictOnTexts config_text program_text (Refused (refusal.Program fault)) = IsProgramRefusal config_text program_text fault
+IsVerdictOnTexts config_text program_text (Accepted p) = AreTaken config_text program_text p
+IsVerdictOnTexts config_text program_text verdict = ⊥
 
--- what a call's words and files come to: a refusal that has its cause, or a program that is accepted
-abbrev pub IsVerdictOn : CallInput → Verdict → Type 0
-IsVerdictOn input (Refused refusal) = HasCause input refusal
-IsVerdictOn input (Accepted p) = IsAccepted input p
+-- WHAT TWO FILES COME TO, by what is told of each file, by whether a read failed, and by their names
+module _ (content : List ℕ → Told) (failed : Type 0) (config program : List ℕ) where
+  -- The texts are what the files gave, and come to this verdict.
+  pub record IsVerdictOnGiven (which : Verdict) : Type 0 where
+    pub config_text : List ℕ
+    pub program_text : List ℕ
+    pub config_given : MayGive (content config) most_read config_text
+    pub program_given : MayGive (content program) most_read program_text
+    pub verdict : IsVerdictOnTexts config_text program_text which
+
+  -- a read failed, or the texts come to this
+  abbrev pub IsVerdictOnFiles : Verdict → Type 0
+  IsVerdictOnFiles (Refused refusal.Words) = ⊥
+  IsVerdictOnFiles (Refused refusal.Reading) = failed
+  IsVerdictOnFiles (Refused (refusal.Config fault)) = IsVerdictOnGiven (Refused (refusal.Config fault))
+  IsVerdictOnFiles (Refused (refusal.Program fault)) = IsVerdictOnGiven (Refused (refusal.Program fault))
+  IsVerdictOnFiles (Accepted p) = IsVerdictOnGiven (Accepted p)

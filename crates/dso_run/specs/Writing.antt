@@ -6,7 +6,7 @@ use Rattle.dso_run.specs.declared.cluster.Outcome.{Outcome}
 use Rattle.dso_run.specs.declared.cluster.Outcome.TheVariants as outcome
 use Rattle.dso_run.specs.declared.status.Status.{Status}
 use Rattle.dso_run.specs.declared.status.Status.TheVariants.{Finished, WriteFault, Stuck, Budget, NoMemory}
-use Rattle.dso_run.specs.Environment.{taken_after, TookPrefix}
+use Rattle.dso_io.specs.Environment.{taken_after, TookPrefix}
 use Rattle.dso_run.specs.Headline.{IsRunOf, IsRunReport}
 
 -- The sink took the whole text and the answer is this status, or it took a prefix and counted a fault, and the answer
@@ -16,19 +16,19 @@ Wrote before now sink_rose text status answer =
     ((answer ≡ status) × (now ≡ taken_after before text))
     ⊎ ((answer ≡ WriteFault) × TookPrefix before text now × sink_rose)
 
--- What the sink had taken before, and has taken now; that its count of faults rose; the journal.
-module _ (budget : ℕ) (p : Program) (before now : Option (List ℕ)) (sink_rose : Type 0) (journal : List Entry) where
+-- How many steps the run may make; what the sink had taken before, and has taken now; that its count of faults rose; the journal.
+module _ (steps : ℕ) (p : Program) (before now : Option (List ℕ)) (sink_rose : Type 0) (journal : List Entry) where
   -- the run ended so, and the report of what it commits was written whole
   abbrev pub WroteWholeReport : Outcome → Type 0
   WroteWholeReport outcome =
-      IsRunOf p budget outcome journal
+      IsRunOf p steps outcome journal
       × ((report : List ℕ) × IsRunReport p journal report × (now ≡ taken_after before report))
 
   -- the run ended in one of the three ways, and a prefix of the report of what it commits was written
   abbrev pub WroteReportPrefix : Type 0
   WroteReportPrefix =
       ((report : List ℕ) × IsRunReport p journal report × TookPrefix before report now)
-      × sink_rose × ((outcome : Outcome) × IsRunOf p budget outcome journal)
+      × sink_rose × ((outcome : Outcome) × IsRunOf p steps outcome journal)
 
   -- The report of what the run commits was written: whole, with the run's outcome for an answer, or a prefix; or memory
   -- ran out before.

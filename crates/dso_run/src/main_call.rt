@@ -1,49 +1,47 @@
-ghost use Rattle.std.specs.Prelude.{◌≡◌, ℕ, ◌≤◌, List, [], Ok, map, IfOk};
+ghost use Rattle.std.specs.Prelude.{◌≡◌, ℕ, ◌≤◌, List, [], Option, map, IfOk};
 ghost use Rattle.std.specs.String.{string_bytes};
 ghost use Rattle.dso_syntax.specs.declared.tree.Ast.{Ast};
 ghost use Rattle.dso_run.specs.Accepted.{IsTaken};
-ghost use Rattle.dso_run.specs.Environment.{Rose};
-ghost use Rattle.dso_run.specs.Headline.{StatusMeans, IsRunOf, IsUsage, run_budget};
+ghost use Rattle.dso_io.specs.Environment.{Rose};
+ghost use Rattle.dso_run.specs.Headline.{StatusMeans, IsRunOf, IsUsage};
 ghost use Rattle.dso_run.specs.Status.{HasLine, line_of, status_of, status_of_run};
-ghost use Rattle.dso_run.specs.Verdict.{IsVerdictOn};
-ghost use Rattle.dso_run.specs.Words.{AreUnlawful};
+ghost use Rattle.dso_run.specs.Verdict.{IsVerdictOnFiles};
+ghost use Rattle.dso_run.specs.Words.{AreLawful, AreUnlawful, Sim};
 ghost use Rattle.dso_run.specs.Writing.{Wrote, WroteReport};
 
 use crate::cluster::{Outcome, Run, run_program};
+use crate::command::Command;
 use crate::refusal_lines::line_of;
 use crate::report::report;
 use crate::status::Refusal;
 use crate::verdict::{Verdict, judge_texts};
 use crate::weighing::BUDGET;
-use crate::words::names_of;
+use crate::words::command_of;
 use crate::writing::write_text;
-use crate::{Done, FileFault, Files, Sink, Status};
+use crate::{Done, Status};
 use dso_base::{Items, Journal, NoMemory};
 use dso_class::Program;
+use dso_io::{FileFault, Files, Sink};
 use std::alloc::Global;
 
 /// The most bytes that are read of a file: one more than a text may have.
 const MOST_READ: u64 = 1_048_577;
 
-/// Reads the words, then both files, and judges the configuration and then the program.
-fn judge<F: Files>(alloc: Global, words: &[String], files: &mut F) -> Result<Verdict, NoMemory>
-    ensures verdict { IfOk result (IsVerdictOn (record {
-      words = map string_bytes words.now;
-      content = F.content files.old;
-      failed_before = F.read_faults files.old;
-      failed_after = F.read_faults files.new;
-    })) }
-    ensures unlawful { AreUnlawful (map string_bytes words.now) → result ≡ Ok (Verdict.Refused Refusal.Words) }
+/// Reads the files of these names, and judges the configuration and under it the program.
+fn judge<F: Files>(
+    alloc: Global,
+    config: &str,
+    program: &str,
+    files: &mut F,
+) -> Result<Verdict, NoMemory>
+    ensures verdict { IfOk result (IsVerdictOnFiles (F.content files.old) (Rose (F.read_faults files.old) (F.read_faults files.new)) config.now program.now) }
     ensures unchanged { (name : List ℕ) → F.content files.new name ≡ F.content files.old name }
 {
-    let Some(names) = names_of(words) else {
-        return Ok(Verdict::Refused(Refusal::Words));
-    };
-    let config = match files.read(alloc, names.config, MOST_READ) {
+    let config = match files.read(alloc, config, MOST_READ) {
         Ok(bytes) => bytes,
         Err(fault) => return unread(fault),
     };
-    let program = match files.read(alloc, names.program, MOST_READ) {
+    let program = match files.read(alloc, program, MOST_READ) {
         Ok(bytes) => bytes,
         Err(fault) => return unread(fault),
     };
@@ -72,22 +70,22 @@ fn refuse<K: Sink>(refusal: Refusal, out: &mut K) -> Status
     }
 }
 
-/// Runs a program that is taken, within a budget.
-fn run(alloc: Global, program: &Program, budget: u64) -> Result<Run, NoMemory>
+/// Runs a program that is taken, for at most so many steps.
+fn run(alloc: Global, program: &Program, steps: u64) -> Result<Run, NoMemory>
     requires taken { (tree : Ast) × IsTaken tree program.now }
-    requires budget { budget ≤ BUDGET }
-    ensures { IfOk result (λ run. IsRunOf program.now budget run.outcome run.journal.entries) }
+    requires steps { steps ≤ BUDGET }
+    ensures { IfOk result (λ run. IsRunOf program.now steps run.outcome run.journal.entries) }
 {
-    run_program(alloc, &program.code, budget)
+    run_program(alloc, &program.code, steps)
 }
 
-/// Runs a program that is taken, within a budget, and writes the report of what was committed.
-fn run_and_report<K: Sink>(alloc: Global, program: &Program, out: &mut K, budget: u64) -> Done
+/// Runs a program that is taken, for at most so many steps, and writes the report of what was committed.
+fn run_and_report<K: Sink>(alloc: Global, program: &Program, out: &mut K, steps: u64) -> Done
     requires taken { (tree : Ast) × IsTaken tree program.now }
-    requires budget { budget ≤ BUDGET }
-    ensures { WroteReport budget program.now (K.taken out.old) (K.taken out.new) (Rose (K.faults out.old) (K.faults out.new)) result.journal.entries result.status }
+    requires steps { steps ≤ BUDGET }
+    ensures { WroteReport steps program.now (K.taken out.old) (K.taken out.new) (Rose (K.faults out.old) (K.faults out.new)) result.journal.entries result.status }
 {
-    let Ok(run) = run(alloc, program, budget) else {
+    let Ok(run) = run(alloc, program, steps) else {
         return nothing_ran(alloc, Status::NoMemory);
     };
     let Ok(text) = report(alloc, program, &run.journal) else {
@@ -130,17 +128,17 @@ fn nothing_ran(alloc: Global, status: Status) -> Done
 /// Does all that the program does: it reads the words and the files, runs the program and writes what is to be printed.
 ///
 /// The words are those after the program's name. The order is: the words, reading the configuration, reading the
-/// program, judging the configuration, judging the program, the run, writing. Clause `answer` is the table of the
-/// statuses: what each means of the words, the files, the journal and the sink. So each status has its cause, and where
-/// the cause of one is there no other can be answered but `WriteFault`, where the sink's count rose, and `NoMemory`,
-/// where an allocation was refused.
+/// program, judging the configuration, judging the program, what isn't built of the two, the run, writing. Clause
+/// `answer` is the table of the statuses: what each means of the words, the files, the journal and the sink. So each
+/// status has its cause, and where the cause of one is there no other can be answered but `WriteFault`, where the sink's
+/// count rose, and `NoMemory`, where an allocation was refused.
 pub fn dso_main<F: Files, K: Sink>(
     alloc: Global,
     words: &[String],
     files: &mut F,
     out: &mut K,
 ) -> Done
-    ensures answer { StatusMeans run_budget
+    ensures answer { StatusMeans
         (record {
           words = map string_bytes words.now;
           content = F.content files.old;
@@ -162,22 +160,34 @@ pub fn dso_main<F: Files, K: Sink>(
     // No file is changed.
     ensures unchanged { (name : List ℕ) → F.content files.new name ≡ F.content files.old name }
 {
-    dso_main_with_budget(alloc, words, files, out, BUDGET)
+    match command_of(words) {
+        Some(
+            Command::Sim {
+                config,
+                program,
+                steps,
+                ..
+            },
+        ) => simulate(alloc, config, program, steps, files, out),
+        _ => nothing_ran(alloc, refuse(Refusal::Words, out)),
+    }
 }
 
-/// Does all that the program does, with a budget of its own: the journal of the run may weigh so much, which is
-/// 1,000,000 at most.
-pub fn dso_main_with_budget<F: Files, K: Sink>(
+/// Does what `sim` is asked for.
+fn simulate<F: Files, K: Sink>(
     alloc: Global,
-    words: &[String],
+    config: &str,
+    program: &str,
+    steps: u64,
     files: &mut F,
     out: &mut K,
-    budget: u64,
 ) -> Done
-    requires { budget ≤ run_budget }
-    ensures answer { StatusMeans budget
+    requires { steps ≤ BUDGET }
+    ensures answer { (words : List (List ℕ)) (seed : Option ℕ) (journal : Option (List ℕ))
+        → AreLawful words (Sim (record { config = config.now; program = program.now; seed = seed; steps = steps; journal = journal }))
+        → StatusMeans
         (record {
-          words = map string_bytes words.now;
+          words = words;
           content = F.content files.old;
           failed_before = F.read_faults files.old;
           failed_after = F.read_faults files.new;
@@ -190,16 +200,11 @@ pub fn dso_main_with_budget<F: Files, K: Sink>(
           journal = result.journal.entries;
         })
         result.status }
-
-    // Other words need no memory to be refused.
-    ensures usage { AreUnlawful (map string_bytes words.now) → IsUsage result.status }
-
-    // No file is changed.
     ensures unchanged { (name : List ℕ) → F.content files.new name ≡ F.content files.old name }
 {
-    match judge(alloc, words, files) {
+    match judge(alloc, config, program, files) {
         Ok(Verdict::Refused(refusal)) => nothing_ran(alloc, refuse(refusal, out)),
-        Ok(Verdict::Accepted(program)) => run_and_report(alloc, &program, out, budget),
+        Ok(Verdict::Accepted(program)) => run_and_report(alloc, &program, out, steps),
         Err(NoMemory) => nothing_ran(alloc, Status::NoMemory),
     }
 }

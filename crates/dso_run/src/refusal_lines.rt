@@ -2,14 +2,17 @@
 ghost use Rattle.std.specs.Prelude.{◌≡◌, ◌≢◌, ◌≤◌, ◌++◌, length, codes};
 ghost use Rattle.std.specs.Fmt.{decimal};
 ghost use Rattle.dso_class.specs.declared.fault.NameFault.TheVariants as name;
+ghost use Rattle.dso_config.specs.declared.fault.ConfigFault.TheVariants as config;
+ghost use Rattle.dso_config.specs.Keys.{key_of};
 ghost use Rattle.dso_run.specs.declared.status.Refusal.TheVariants as refusal;
-ghost use Rattle.dso_run.specs.Status.{HasLine, ended, fault_text, kind_text, line_of, name_text, syntax_text};
+ghost use Rattle.dso_run.specs.Status.{HasLine, at_spot, config_text, ended, entry_text, fault_text, kind_text, line_of, name_text, syntax_text};
 ghost use Rattle.dso_syntax.specs.declared.fault.SyntaxFault.TheVariants as syntax;
 
+use crate::ProgramFault;
 use crate::status::Refusal;
-use crate::{ConfigFault, ProgramFault};
 use arrayvec::ArrayString;
 use dso_class::{NameFault, NameKind};
+use dso_config::{ConfigFault, Section, Spot};
 use dso_syntax::SyntaxFault;
 use itoa::Buffer;
 
@@ -24,7 +27,7 @@ pub(crate) fn line_of(refusal: Refusal) -> Line
     match refusal {
         Refusal::Words => line("dsorun: Usage\n"),
         Refusal::Reading => line("dsorun: ReadFault\n"),
-        Refusal::Config(ConfigFault::NotBuilt) => line("dsorun: BadConfig NotBuilt\n"),
+        Refusal::Config(fault) => config_line(fault),
         Refusal::Program(fault) => program_line(fault),
     }
 }
@@ -37,6 +40,53 @@ fn line(text: &str) -> Line
     let mut line = Line::new();
     line.push_str(text);
     line
+}
+
+/// The line of a fault of the configuration.
+fn config_line(fault: ConfigFault) -> Line
+    requires { fault ≢ config.NoMemory }
+    ensures { result.bytes ≡ ended (codes "dsorun: BadConfig " ++ config_text fault) }
+{
+    match fault {
+        ConfigFault::NotToml => line("dsorun: BadConfig NotToml\n"),
+        ConfigFault::UnknownKey(spot) => spot_line("UnknownKey", spot),
+        ConfigFault::WrongKind(spot) => spot_line("WrongKind", spot),
+        ConfigFault::OutOfRange(spot) => spot_line("OutOfRange", spot),
+        ConfigFault::BadMethodPattern(spot) => spot_line("BadMethodPattern", spot),
+        ConfigFault::BadGuard(spot) => spot_line("BadGuard", spot),
+        ConfigFault::Twice(spot) => spot_line("Twice", spot),
+        ConfigFault::TooLong => line("dsorun: BadConfig TooLong\n"),
+        ConfigFault::BadName(spot) => spot_line("BadName", spot),
+        ConfigFault::NotBuilt => line("dsorun: BadConfig NotBuilt\n"),
+        ConfigFault::NoMemory => unreachable!(),
+    }
+}
+
+/// The line of a fault with its section, and with the number of its entry in any but the top.
+fn spot_line(name: &str, spot: Spot) -> Line
+    requires { length name.now ≤ 16 }
+    ensures { result.bytes ≡ ended (codes "dsorun: BadConfig " ++ at_spot name.now spot) }
+{
+    let mut digits = Buffer::new();
+    let mut line = Line::new();
+    line.push_str("dsorun: BadConfig ");
+    line.push_str(name);
+    line.push_str(" ");
+    line.push_str(section_key(spot.section));
+    if spot.section != Section::Top {
+        line.push_str(" ");
+        line.push_str(digits.format(spot.entry));
+    }
+    line.push_str("\n");
+    line
+}
+
+/// The name of a section.
+fn section_key(section: Section) -> &'static str
+    ensures key { result.now ≡ key_of section }
+    ensures short { length result.now ≤ 10 }
+{
+    section.key()
 }
 
 /// The line of a fault of the program.

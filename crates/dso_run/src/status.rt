@@ -3,23 +3,21 @@ ghost use Rattle.dso_run.specs.Status.{exit_number_of, status_of};
 
 use dso_base::Journal;
 use dso_class::NameFault;
+use dso_config::ConfigFault;
 use dso_syntax::SyntaxFault;
-
-/// Why a configuration is refused.
-#[derive(Clone, Copy, Debug, PartialEq, Eq)]
-pub enum ConfigFault {
-    /// It asks for what isn't built yet.
-    NotBuilt,
-}
+use thiserror::Error;
 
 /// Why a program is refused.
-#[derive(Clone, Copy, Debug, PartialEq, Eq)]
+#[derive(Clone, Copy, Debug, PartialEq, Eq, Error)]
 pub enum ProgramFault {
     /// It isn't of the grammar.
+    #[error("the program's text breaks the grammar: {0:?}")]
     Syntax(SyntaxFault),
     /// Its names break a rule.
+    #[error("a name of the program breaks a rule: {0:?}")]
     Name(NameFault),
     /// It asks for what isn't built yet.
+    #[error("the program asks for something that is not built yet")]
     NotBuilt,
 }
 

@@ -1,19 +1,21 @@
 //! The judgement of a configuration's text and of a program's.
 ghost use Rattle.std.specs.Prelude.{◌≡◌, ◌↔◌, IfOk, IsTrue};
+ghost use Rattle.dso_config.specs.Config.{empty};
+ghost use Rattle.dso_config.specs.InRange.{IsInRange};
 ghost use Rattle.dso_syntax.specs.Grammar.{Tokens};
 ghost use Rattle.dso_syntax.specs.TextLimits.{most_levels};
 ghost use Rattle.dso_syntax.specs.ProgramGrammar.{IsProgram};
 ghost use Rattle.dso_run.specs.declared.status.Refusal.TheVariants as refusal;
-ghost use Rattle.dso_run.specs.Accepted.{IsOfForm, IsResolved};
+ghost use Rattle.dso_run.specs.Accepted.{HasTree, IsOfForm, IsResolved, has_unbuilt};
 ghost use Rattle.dso_run.specs.Verdict.{IsVerdictOnProgram, IsVerdictOnTexts, IsVerdictOnTree};
 
+use crate::ProgramFault;
 use crate::counter::is_counter;
 use crate::spelling::is_plainly_spelled;
 use crate::status::Refusal;
-use crate::{ConfigFault, ProgramFault};
 use dso_base::NoMemory;
 use dso_class::{NameFault, Program, resolve};
-use dso_config::Config;
+use dso_config::{Config, ConfigFault, read_config};
 use dso_machine::Code;
 use dso_syntax::{Ast, SyntaxFault, parse};
 use std::alloc::Global;
@@ -25,34 +27,38 @@ pub(crate) enum Verdict {
     Accepted(Program),
 }
 
-/// Judges the bytes of a configuration, and then those of a program.
+/// Judges the bytes of a configuration, and under it those of a program.
 pub(crate) fn judge_texts(alloc: Global, config: &[u8], program: &[u8]) -> Result<Verdict, NoMemory>
     ensures { IfOk result (IsVerdictOnTexts config.now program.now) }
 {
-    if !config.is_empty() {
-        return Ok(Verdict::Refused(Refusal::Config(ConfigFault::NotBuilt)));
+    match read_config(alloc, config) {
+        Ok(config) => judge_program(alloc, &config, program),
+        Err(ConfigFault::NoMemory) => Err(NoMemory),
+        Err(fault) => Ok(Verdict::Refused(Refusal::Config(fault))),
     }
-    judge_program(alloc, program)
 }
 
-/// Judges the bytes of a program: by the grammar, by its names, and by what is built.
-fn judge_program(alloc: Global, text: &[u8]) -> Result<Verdict, NoMemory>
-    ensures { IfOk result (IsVerdictOnProgram text.now) }
+/// Judges the bytes of a program: by the grammar, by its names under the configuration, and by what is built.
+fn judge_program(alloc: Global, config: &Config, text: &[u8]) -> Result<Verdict, NoMemory>
+    requires { IsInRange config.now }
+    ensures { IfOk result (IsVerdictOnProgram config.now text.now) }
 {
     match parse(alloc, text) {
-        Ok(tree) => judge_tree(alloc, text, &tree),
+        Ok(tree) => judge_tree(alloc, config, text, &tree),
         Err(SyntaxFault::NoMemory) => Err(NoMemory),
         Err(fault) => Ok(refused(ProgramFault::Syntax(fault))),
     }
 }
 
-/// Judges a text of this tree: by its names, and by what is built.
-fn judge_tree(alloc: Global, text: &[u8], tree: &Ast) -> Result<Verdict, NoMemory>
-    requires { (tokens : Tokens) × IsProgram most_levels tokens tree.now }
-    ensures { IfOk result (IsVerdictOnTree text.now tree.now) }
+/// Judges a text of this tree: by its names under the configuration, and by what is built.
+fn judge_tree(alloc: Global, config: &Config, text: &[u8], tree: &Ast) -> Result<Verdict, NoMemory>
+    requires in_range { IsInRange config.now }
+    requires program { (tokens : Tokens) × IsProgram most_levels tokens tree.now }
+    requires has_tree { HasTree text.now tree.now }
+    ensures { IfOk result (IsVerdictOnTree config.now text.now tree.now) }
 {
-    match resolve(alloc, tree, &Config::empty(alloc)) {
-        Ok(program) => Ok(judge_code(text, tree, program)),
+    match resolve(alloc, tree, config) {
+        Ok(program) => Ok(judge_code(config, text, tree, program)),
         Err(NameFault::NoMemory) => Err(NoMemory),
         Err(NameFault::At { kind, line }) => {
             Ok(refused(ProgramFault::Name(NameFault::At { kind, line })))
@@ -60,15 +66,40 @@ fn judge_tree(alloc: Global, text: &[u8], tree: &Ast) -> Result<Verdict, NoMemor
     }
 }
 
-/// Judges a program by what is built: it is taken where its text is of the first path's form.
-fn judge_code(text: &[u8], tree: &Ast, program: Program) -> Verdict
-    ensures { IsResolved tree.now program → IsVerdictOnTree text.now tree.now result }
+/// Judges a program by what is built: the configuration asks for nothing that isn't, and the program is taken where the
+/// configuration says nothing and the text is of the first path's form.
+fn judge_code(config: &Config, text: &[u8], tree: &Ast, program: Program) -> Verdict
+    requires { HasTree text.now tree.now }
+    ensures { IsResolved config.now tree.now program → IsVerdictOnTree config.now text.now tree.now result }
 {
-    if is_of_form(text, tree, &program.code) {
+    if has_unbuilt(config) {
+        Verdict::Refused(Refusal::Config(ConfigFault::NotBuilt))
+    } else if says_nothing(config) && is_of_form(text, tree, &program.code) {
         Verdict::Accepted(program)
     } else {
         refused(ProgramFault::NotBuilt)
     }
+}
+
+/// Whether a configuration asks for what isn't built yet: a second client, or one that is lost or cut off.
+fn has_unbuilt(config: &Config) -> bool
+    ensures { result ≡ has_unbuilt config.now }
+{
+    1 < config.clients || config.losses.len() > 0 || config.breaks.len() > 0
+}
+
+/// Whether a configuration says nothing: one client, 4096 resident objects, and no section.
+fn says_nothing(config: &Config) -> bool
+    ensures { IsTrue result ↔ (config.now ≡ empty) }
+{
+    config.clients == 1
+        && config.resident == 4096
+        && config.roots.is_none()
+        && config.autolocks.is_none()
+        && config.named.is_none()
+        && config.guards.len() == 0
+        && config.losses.len() == 0
+        && config.breaks.len() == 0
 }
 
 /// Whether a text of this tree and code is of the first path's form: its code is the counter's, and it is spelled so.

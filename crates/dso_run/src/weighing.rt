@@ -4,8 +4,8 @@ ghost use Rattle.dso_base.specs.Weight.{entry_weight_of, sent_values_of, txn_val
 
 use dso_base::{Down, Entry, Sent, Txn, Up};
 
-/// How much the journal of a run may weigh.
-pub(crate) const BUDGET: u64 = 1_000_000;
+/// The most that the journal of a run may weigh.
+pub(crate) const BUDGET: u64 = 4_000_000;
 
 /// What the entry weighs, up to the whole budget.
 pub(crate) fn weight_of(entry: &Entry) -> u64

@@ -1,7 +1,7 @@
 ghost use Rattle.std.specs.Prelude.{◌≡◌, ◌≤◌, OnOk, OnErr};
-ghost use Rattle.dso_run.specs.Environment.{Rose, TookPrefix, taken_after};
+ghost use Rattle.dso_io.specs.Environment.{Rose, TookPrefix, taken_after};
 
-use crate::{Failed, Sink};
+use dso_io::{Failed, Sink};
 
 /// Gives a whole text to a sink. Each put is given all that is left. It takes no memory.
 ///

@@ -1,7 +1,8 @@
 //! `dsorun`: the words and the files of the process, handed to the top call.
 #![tactic(auto)]
 
-use dso_run::{StdFiles, StdSink, dso_main};
+use dso_io::{StdFiles, StdSink};
+use dso_run::dso_main;
 use std::process::ExitCode;
 use std::{env, io};
 

@@ -2,15 +2,13 @@
 //!
 //! A line is a word, a space and the rest. `try NAME` calls the program with what the lines before it set, and prints the
 //! name, the status, the exit number and the bytes that the sink took; `journal NAME` prints the journal too. Then all but
-//! the program is set back. The other words are those of `Trial::set`. In texts `\n`, `\t`, `\r` and `\1` stand for bytes.
+//! the program is set back. `words LINE` tells what becomes of a command line. The other words are those of `Trial::set`. In texts `\n`, `\t`, `\r` and `\1` stand for bytes.
 #![tactic(auto)]
 
-mod memory;
-mod torn;
 mod trial;
 
 use std::io;
-use trial::{Trial, show_journal, show_trial};
+use trial::{Trial, show_journal, show_trial, show_words};
 
 fn main(rt: HostRuntime) -> io::Result<()> {
     let text = io::read_to_string(rt.alloc(), rt.reader())?;
@@ -25,10 +23,10 @@ fn main(rt: HostRuntime) -> io::Result<()> {
                 show_journal(&rt, name, &trial)?;
                 trial = Trial::of_program(trial.program);
             }
+            Some(("words", line)) => show_words(&rt, line)?,
             Some((word, rest)) => trial = trial.set(word, rest),
             None => {}
         }
     }
-    memory::show_files(&rt)?;
-    torn::show_reads(&rt)
+    Ok(())
 }

@@ -1,14 +1,12 @@
 //! A call of the program over files and a sink in memory.
 use dso_base::NoMemory;
-use dso_run::{Done, MemFiles, MemSink, dso_main, dso_main_with_budget};
+use dso_io::{MemFiles, MemSink};
+use dso_run::{Done, dso_main};
 use std::alloc::{AllocError, Global};
 use std::io;
 
 /// How many bytes the sink has room for.
 const ROOM: usize = 4096;
-
-/// The most that a journal may weigh.
-const MOST_WEIGHT: u64 = 1_000_000;
 
 /// What a call is tried on. The configuration is the file `c`, the program the file `p`. A call of number 0 is none.
 #[derive(Clone, Copy)]
@@ -22,11 +20,12 @@ pub struct Trial<'a> {
     new: &'a str,
     /// How many spaces stand in the program's place, where that isn't 0.
     spaces: usize,
+    /// How many stand in the configuration's place.
+    config_spaces: usize,
     failing_read: u64,
     failing_put: u64,
     /// How many bytes the sink takes at a time.
     piece: usize,
-    budget: Option<u64>,
 }
 
 /// What a call leaves, and what its sink took.
@@ -46,10 +45,10 @@ impl<'a> Trial<'a> {
             old: "",
             new: "",
             spaces: 0,
+            config_spaces: 0,
             failing_read: 0,
             failing_put: 0,
             piece: ROOM,
-            budget: None,
         }
     }
 
@@ -67,6 +66,10 @@ impl<'a> Trial<'a> {
                 spaces: number_of(rest) as usize,
                 ..self
             },
+            "config_spaces" => Trial {
+                config_spaces: number_of(rest) as usize,
+                ..self
+            },
             "failing_read" => Trial {
                 failing_read: number_of(rest),
                 ..self
@@ -77,10 +80,6 @@ impl<'a> Trial<'a> {
             },
             "piece" => Trial {
                 piece: number_of(rest) as usize,
-                ..self
-            },
-            "budget" => Trial {
-                budget: Some(number_of(rest)),
                 ..self
             },
             _ => self,
@@ -107,25 +106,27 @@ impl<'a> Trial<'a> {
         unescaped(alloc, text.as_str())
     }
 
+    /// The configuration's text.
+    fn config_text(&self, alloc: Global) -> Result<String, AllocError> {
+        if self.config_spaces > 0 {
+            return " ".repeat(alloc, self.config_spaces.min(1 << 21));
+        }
+        unescaped(alloc, self.config)
+    }
+
     /// Calls the program.
     fn answer(&self, alloc: Global) -> Result<Answer, NoMemory> {
         let mut words = Vec::new(alloc);
         for word in self.line.split(' ').skip(1) {
             words.push(String::from_str(alloc, word)?)?;
         }
-        let config = unescaped(alloc, self.config)?;
+        let config = self.config_text(alloc)?;
         let program = self.text(alloc)?;
         let mut files = MemFiles::new(alloc, &[self.failing_read])?;
         files.add(alloc, "c", config.as_bytes())?;
         files.add(alloc, "p", program.as_bytes())?;
         let mut out = MemSink::new(alloc, self.piece.max(1), ROOM, &[self.failing_put])?;
-        let done = match self.budget {
-            None => dso_main(alloc, words.as_slice(), &mut files, &mut out),
-            Some(budget) => {
-                let budget = budget.min(MOST_WEIGHT);
-                dso_main_with_budget(alloc, words.as_slice(), &mut files, &mut out, budget)
-            }
-        };
+        let done = dso_main(alloc, words.as_slice(), &mut files, &mut out);
         let taken = Vec::from_slice(alloc, out.taken())?;
         Ok(Answer { done, taken })
     }
@@ -149,6 +150,20 @@ pub fn show_trial(rt: &HostRuntime, name: &str, trial: &Trial<'_>) -> io::Result
     match trial.answer(rt.alloc()) {
         Ok(answer) => show_answer(rt, name, &answer),
         Err(NoMemory) => println!(rt; "{name}: no memory"),
+    }
+}
+
+/// Tries these words over a configuration that is no TOML, and prints what becomes of them: the configuration's fault
+/// where the words are taken and name the two files, or what is wrong with the words or the names.
+pub fn show_words(rt: &HostRuntime, line: &str) -> io::Result<()> {
+    let trial = Trial {
+        line,
+        config: "=",
+        ..Trial::of_program("")
+    };
+    match trial.answer(rt.alloc()) {
+        Ok(answer) => println!(rt; "{line}: {:?}", answer.done.status),
+        Err(NoMemory) => println!(rt; "{line}: no memory"),
     }
 }
 

@@ -33,7 +33,7 @@ use Rattle.dso_run.proofs.first_path.Running.{RunSoFar, is_run, runs_on, never_s
 pub record IsAt (code : Code) (thread : Thread) (steps w : ℕ) (last : Last) (es : List Entry) : Type 0 where
   pub counter : IsCounter code
   pub so_far : RunSoFar counter.length counter.numbers steps es
-  pub weighs : w ≡ min (weight es) 1000000
+  pub weighs : w ≡ min (weight es) 4000000
   pub last_is : last ≡ last_done (last_slot es)
   pub follows : Follows code thread es
 
@@ -47,13 +47,13 @@ at_start code thread steps counter follows = record {
   follows = follows;
 }
 
-module _ (code : Code) (thread : Thread) (steps w : ℕ) (last : Last) (es : List Entry) (at : IsAt code thread steps w last es) (most : steps ≤ 1000000) where
+module _ (code : Code) (thread : Thread) (steps w : ℕ) (last : Last) (es : List Entry) (at : IsAt code thread steps w last es) (most : steps ≤ 4000000) where
   -- what the thread asks next, as the proofs of runs say it
   abbrev asks_next : ThreadId → List Event → Option Request
   asks_next = next at.counter.length at.counter.numbers
 
   light : w < steps → weight es < steps
-  light less = let weighs : w ≡ min (weight es) 1000000 = at.weighs in omega arith
+  light less = let weighs : w ≡ min (weight es) 4000000 = at.weighs in omega arith
 
   -- there is room for one more entry
   pub room : w < steps → HasRoom es
@@ -66,11 +66,11 @@ module _ (code : Code) (thread : Thread) (steps w : ℕ) (last : Last) (es : Lis
 
   -- one more entry keeps the loop's invariant, with a thread that follows the journal with it
   pub goes_on : (e : Entry) (heard : Thread) → w < steps → is_finished settings es ≡ false → Some e ≡ tried_after (next_request code) last es → Follows code heard (e ∷ es)
-      → IsAt code heard steps (min (w + min (entry_weight_of e) 1000000) 1000000) (last_done (slot_at e.node e.input)) (e ∷ es)
+      → IsAt code heard steps (min (w + min (entry_weight_of e) 4000000) 4000000) (last_done (slot_at e.node e.input)) (e ∷ es)
   goes_on e heard less unfinished tried follows = record {
     counter = at.counter;
     so_far = runs_on at.counter.length at.counter.numbers steps es e at.so_far (tried_is (Some e) tried) unfinished (light less);
-    weighs = (let weighs : w ≡ min (weight es) 1000000 = at.weighs in omega arith);
+    weighs = (let weighs : w ≡ min (weight es) 4000000 = at.weighs in omega arith);
     last_is = refl;
     follows = follows;
   }
@@ -89,7 +89,7 @@ module _ (code : Code) (thread : Thread) (steps w : ℕ) (last : Last) (es : Lis
   -- or out of its budget
   pub ends_over : IsSound code → steps ≤ w → is_finished settings es ≡ false → HasRun settings (next_request code) steps outcome.Budget es
   ends_over sound heavy unfinished = record {
-    ended = record { run = runs; unfinished = unfinished; heavy = (let weighs : w ≡ min (weight es) 1000000 = at.weighs in omega arith) };
+    ended = record { run = runs; unfinished = unfinished; heavy = (let weighs : w ≡ min (weight es) 4000000 = at.weighs in omega arith) };
     commits = legal_by_law code at.counter sound es runs.lawful;
   }
 

@@ -290,7 +290,7 @@ all_small named numbers [] are = record { client = omega arith; server = omega a
 all_small named numbers (e ∷ es) are = stays_small (length es) es (all_small named numbers es are.0) named numbers e are.1
 
 -- counts of at most a million have room
-room_of_small : (n : ℕ) (es : List Entry) → Small n es → n ≤ 1000000 → HasRoom es
+room_of_small : (n : ℕ) (es : List Entry) → Small n es → n ≤ 4000000 → HasRoom es
 room_of_small n es small few = record {
   client = omega (arith, small.client);
   server = omega (arith, small.server);
@@ -302,5 +302,5 @@ room_of_small n es small few = record {
 }
 
 -- A million entries of the first path have room.
-pub has_room : (named : Bool) (numbers : List ℤ) (es : List Entry) → AreMade (next named numbers) es → length es ≤ 1000000 → HasRoom es
+pub has_room : (named : Bool) (numbers : List ℤ) (es : List Entry) → AreMade (next named numbers) es → length es ≤ 4000000 → HasRoom es
 has_room named numbers es are few = room_of_small (length es) es (all_small named numbers es are) few

@@ -50,7 +50,7 @@ loop-weight-preserved c =
     = subst (λ (items : List Entry). Follows c.args.code.now c.next_entry.new.thread (c.in-Some.entry ∷ reverse items)) c.as_slice-in-loop-weight.ensures.value
     (subst (λ (made : Option Entry). Follows c.args.code.now c.next_entry.new.thread (with_made made (reverse c.as_slice-in-loop-weight.result.now))) c.in-Some.is c.in_ok-made.ensures.follows) in
     at_same c.args.code.now c.next_entry.new.thread c.args.steps _ _ _ _ _ _
-    (c.min-weight.ensures ∙ ap (λ (n : ℕ). min (c.loop-weight.weight + n) 1000000) c.weight_of.ensures) c.done_by-last.ensures
+    (c.min-weight.ensures ∙ ap (λ (n : ℕ). min (c.loop-weight.weight + n) 4000000) c.weight_of.ensures) c.done_by-last.ensures
     (ap reverse c.in_ok-push.ensures.items ∙ reverse-append c.loop-weight.entries.items (c.in-Some.entry ∷ []))
     (goes_on c.args.code.now c.loop-weight.thread c.args.steps c.loop-weight.weight c.loop-weight.last (reverse c.loop-weight.entries.items) c.loop-weight.invariant c.requires.steps c.in-Some.entry c.next_entry.new.thread
     c.loop-weight-test.true unfinished made follows)

@@ -6,4 +6,4 @@ abbrev pub invariant-loop-weight : goal.invariant-loop-weight
 invariant-loop-weight l = IsAt l.code l.thread l.steps l.weight l.last (reverse l.entries.items)
 
 abbrev pub decreases-loop-weight : goal.decreases-loop-weight
-decreases-loop-weight l = 1000000 - l.weight
+decreases-loop-weight l = 4000000 - l.weight

@@ -1,5 +1,5 @@
 use Rattle.std.proofs.Common.{length, take, ◌-◌, ◌≡◌, ◌≤◌}
-use Rattle.dso_run.specs.Environment.{taken_after}
+use Rattle.dso_io.specs.Environment.{taken_after}
 use Rattle.dso_run.proofs.writing.write_text.Given as goal
 
 abbrev pub invariant-loop-written : goal.invariant-loop-written

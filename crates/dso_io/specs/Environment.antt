@@ -1,0 +1,49 @@
+-- Files and a sink as the program sees them: what is told of their bytes, and their counts of faults.
+use Rattle.std.specs.Prelude.{◌≡◌, ℕ, ◌++◌, ◌+◌, ◌-◌, ◌<◌, ◌≤◌, ◌^◌, ◌⊎◌, List, length, min, take, Option, None, Result, Ok, Err}
+use Rattle.std.specs.Option.{option_map}
+use Rattle.dso_io.specs.declared.environment.FileFault.{FileFault}
+use Rattle.dso_io.specs.declared.environment.FileFault.TheVariants.{Failed, NoMemory}
+
+-- What is told of a file: nothing, that there is none of that name, or its bytes.
+pub data Told : Type 0 where
+  Untold : Told
+  Missing : Told
+  Holds : List ℕ → Told
+
+-- what a read of at most so many bytes may give
+abbrev pub MayGive : Told → ℕ → List ℕ → Type 0
+MayGive Untold most bytes = length bytes ≤ most
+MayGive Missing most bytes = ⊥
+MayGive (Holds content) most bytes = bytes ≡ take most content
+
+-- what is told of a file once these bytes have replaced it
+abbrev pub replaced : Told → List ℕ → Told
+replaced Untold bytes = Untold
+replaced Missing bytes = Holds bytes
+replaced (Holds content) bytes = Holds bytes
+
+-- A count of faults rose: it is greater than before, or stands at its last value.
+abbrev pub Rose : ℕ → ℕ → Type 0
+Rose before now = (before < now) ⊎ (2 ^ 64 - 1 ≤ now)
+
+-- a count with one more, which stops at its last value
+abbrev pub counted : ℕ → ℕ
+counted count = min (count + 1) (2 ^ 64 - 1)
+
+-- a count of faults after a call that answered so: a fault is counted where it is told, and nowhere else
+abbrev pub faults_after : {A : Type 0} → ℕ → Result A FileFault → ℕ
+faults_after faults (Ok answer) = faults
+faults_after faults (Err Failed) = counted faults
+faults_after faults (Err NoMemory) = faults
+
+-- what is told of a sink that doesn't tell what it took
+abbrev pub nothing_told : Option (List ℕ)
+nothing_told = None
+
+-- the bytes that a sink has taken once it has taken these too, where they are told
+abbrev pub taken_after : Option (List ℕ) → List ℕ → Option (List ℕ)
+taken_after taken bytes = option_map (λ before. before ++ bytes) taken
+
+-- the sink took a prefix of the text, maybe nothing and maybe all of it
+abbrev pub TookPrefix : Option (List ℕ) → List ℕ → Option (List ℕ) → Type 0
+TookPrefix before text now = (n : ℕ) × (now ≡ taken_after before (take n text))

@@ -1,0 +1,4 @@
+pub mod Environment
+pub mod Memory
+pub mod MemoryFile
+pub mod SystemFile

@@ -1,0 +1,7 @@
+use Rattle.std.proofs.Common.{rules}
+use Rattle.dso_run.proofs.Judging.{fault_refused, texts_if_ok}
+use Rattle.dso_run.proofs.verdict.judge_texts.Goals as goal
+
+-- a fault of the configuration
+pub returns-in-Err : goal.returns-in-Err
+returns-in-Err c = fault_refused c.args.config.now c.args.program.now c.in-Err.fault (search rules) (c.in-Err.ensures.refused (search rules))
