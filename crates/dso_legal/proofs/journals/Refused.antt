@@ -46,6 +46,22 @@ abbrev done_event : Option Event → ℕ
 done_event (Some (Act t request r woken)) = done r
 done_event other = 0
 
+-- whether there is an event that woke a thread, as a number
+abbrev woke : Option Event → ℕ
+woke (Some (Act t request r woken)) = there woken
+woke other = 0
+
+-- the reply that is there, Done where there is none
+abbrev reply_in : Option Reply → Reply
+reply_in None = reply.Done
+reply_in (Some r) = r
+
+-- the event of an act that is answered Done
+event_done : (p : Settings) (c : ℕ) (t : ThreadId) (request : Request) (before after : ThreadId → Option Request) (e : Entry) (es : List Entry)
+    → Does p c t request before after e es → reply_of p t request es ≡ Some reply.Done → e.event ≡ Some (Act t request reply.Done (woken_by request reply.Done es))
+event_done p c t request before after e es h answered =
+    subst (λ r. e.event ≡ Some (Act t request r (woken_by request r es))) (ap reply_in (sym h.answered ∙ answered)) h.event
+
 -- how many grants there are
 abbrev grants : List Sent → ℕ
 grants [] = 0
@@ -63,6 +79,8 @@ refusals = record {
   closing_lease_admits = λ h. differ refl (ap there h.rule.step.acts.event);
   entered_beside_other_thread = λ h. differ refl (ap there h.rule.step.acts.event);
   unguarded_write_done = λ h. differ refl (ap done_reply h.rule.step.acts.answered ∙ sym (ap done_event h.rule.step.acts.event));
+  settled_unacknowledged = λ h. differ refl (ap there h.rule.step.acts.event);
+  timed_out_thread_chosen = λ h. differ refl (ap woke (event_done _ _ _ _ _ _ _ _ h.rule.step.acts refl));
   flush_unacknowledged = λ h. differ refl (ap number h.rule.step.may.flushable);
   flush_of_few = λ h. differ refl (ap number h.rule.step.may.full);
   rejoin_unbroken = λ h. differ refl (ap number h.rule.connection);
@@ -71,11 +89,6 @@ refusals = record {
   taken_where_break_is_due = λ h. differ refl (ap number h.rule.step.no_break);
   padded = λ h. let more : 1 ≤ 0 = h.connections.0.at_client in omega arith;
 }
-
--- the reply that is there, Done where there is none
-abbrev reply_in : Option Reply → Reply
-reply_in None = reply.Done
-reply_in (Some r) = r
 
 -- what an act that is answered Done sends
 abbrev SendsDone : Settings → ℕ → ThreadId → Request → (ThreadId → Option Request) → (ThreadId → Option Request) → Entry → List Entry → Reply → Type 0

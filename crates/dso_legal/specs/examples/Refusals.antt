@@ -23,6 +23,8 @@ use Rattle.dso_legal.specs.examples.Counter as counter
 use Rattle.dso_legal.specs.examples.Flush as flush
 use Rattle.dso_legal.specs.examples.LostClient as lost
 use Rattle.dso_legal.specs.examples.Recall as recall
+use Rattle.dso_legal.specs.examples.Settling as settling
+use Rattle.dso_legal.specs.examples.TimedOutHere as timed_out
 use Rattle.dso_legal.specs.examples.Waiting as waiting
 
 -- the first n of the entries, which stand with the newest first
@@ -54,6 +56,11 @@ two_threads = record recall.settings { threads = thread 1 1 ∷ thread 1 2 ∷ [
 abbrev pub acted : ℕ → ℕ → Request → Event → Entry
 acted clock index request event = entry clock (Client 1) (input.Act index) [] (Some event)
 
+-- the second thread of the first client holds the name, after the first one waited on it and timed out
+abbrev pub after_timeout : List Entry
+after_timeout = acted 10 2 (request.Enter (Name 0) Write) (act (thread 1 2) (request.Enter (Name 0) Write) reply.Done None)
+    ∷ first 10 timed_out.entries
+
 -- the refusals that are no matter of what is sent
 pub record Refusals : Type 0 where
   pub clock_stands_still : Refused counter.settings counter.next (record (numbered 2 counter.entries) { clock = 1 }) (first 1 counter.entries)
@@ -65,6 +72,8 @@ pub record Refusals : Type 0 where
   pub closing_lease_admits : Refused two_threads (always (request.Enter (Name 0) Write)) (acted 12 2 (request.Enter (Name 0) Write) (act (thread 1 2) (request.Enter (Name 0) Write) reply.Done None)) (first 19 recall.entries)
   pub entered_beside_other_thread : Refused two_threads (always (request.Enter (Name 0) Write)) (acted 11 2 (request.Enter (Name 0) Write) (act (thread 1 2) (request.Enter (Name 0) Write) reply.Done None)) (first 18 recall.entries)
   pub unguarded_write_done : Refused counter.settings (always (request.Put 1 0 (value.Long (pos 5)))) (acted 21 1 (request.Put 1 0 (value.Long (pos 5))) (act (thread 1 1) (request.Put 1 0 (value.Long (pos 5))) reply.Done None)) (first 22 counter.entries)
+  pub settled_unacknowledged : Refused settling.settings settling.next (acted 6 1 request.Settle (act (thread 1 1) request.Settle reply.Done None)) (first 5 settling.entries)
+  pub timed_out_thread_chosen : Refused two_threads (always (request.Notify (Name 0))) (acted 11 2 (request.Notify (Name 0)) (act (thread 1 2) (request.Notify (Name 0)) reply.Done (Some (thread 1 1)))) after_timeout
   pub flush_unacknowledged : Refused flush.settings flush.next (entry 18 (Client 1) (input.Flush 1) (ToServer (up.Flushed 1) ∷ []) None) (first 17 flush.entries)
   pub flush_of_few : Refused counter.settings counter.next (entry 36 (Client 1) (input.Flush 1) (ToServer (up.Flushed 1) ∷ []) None) counter.entries
   pub rejoin_unbroken : Refused counter.settings counter.next (entry 1 Server (input.Rejoin 1) [] None) (first 1 counter.entries)
