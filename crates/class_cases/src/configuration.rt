@@ -117,6 +117,7 @@ fn pattern(alloc: Global, text: &str) -> Result<Pattern, NoMemory> {
 fn grade_of(text: &str) -> Grade {
     match text {
         "Read" => Grade::Read,
+        "Synchronous" => Grade::Synchronous,
         _ => Grade::Write,
     }
 }
