@@ -16,6 +16,7 @@ pub mod PendingBlocks
 pub mod Resolved
 pub mod Line
 pub mod SoundProgram
+pub mod WithinShape
 pub mod SoundCode
 pub mod WaitsAndLosses
 pub mod Works

@@ -16,7 +16,7 @@ ghost use Rattle.dso_legal.specs.Names.{NamesStayKnown, ObjectsAreMade};
 ghost use Rattle.dso_legal.specs.Views.{ActsArePossible};
 ghost use Rattle.dso_legal.specs.Central.{ClientsStand, CentralLaw, CommitsWhatWasMade};
 ghost use Rattle.dso_legal.specs.Store.{StoreIsHeap};
-ghost use Rattle.dso_legal.specs.SoundCode.{SoundCodeIsSoundProgram, SoundCodeGivesKnownTexts};
+ghost use Rattle.dso_legal.specs.SoundCode.{SoundCodeIsSoundProgram, SoundCodeGivesKnownTexts, SoundCodeStaysWithinShape};
 
 /// For each client that isn't lost and each lock: each message in flight may come where it stands, and once all are taken the
 /// client and the server say the same of the lock's lease.
@@ -179,10 +179,12 @@ pub fn store_is_heap()
 /// The code of a thread's machine, where it is sound, is a sound program: its threads name only what they were told, leave only
 /// locks that they hold, tick, time out (once for a wait) and resume only where they wait, end holding none, make only what
 /// the classes have, and go by the replies alone. Clause `texts`: they store and print no text but the program's and those that
-/// they read.
+/// they read. Clause `within`: they read and write only places that they looked at, roots that are there and values that fit;
+/// by name they enter only locks that are there; and they print no object but those that they were told of.
 pub fn sound_code_is_sound_program()
     ensures sound { SoundCodeIsSoundProgram }
     ensures texts { SoundCodeGivesKnownTexts }
+    ensures within { SoundCodeStaysWithinShape }
 {}
 
 /// **The central law.** A lawful journal without waits and losses, of a sound program, commits a legal history, in which each
