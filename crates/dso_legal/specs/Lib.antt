@@ -9,6 +9,7 @@ pub mod GivenOnce
 pub mod Holds
 pub mod Residency
 pub mod MadeOnce
+pub mod ClassesKept
 pub mod OwnObjects
 pub mod NewsAreNew
 pub mod Sorted

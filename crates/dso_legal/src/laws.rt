@@ -7,6 +7,7 @@ ghost use Rattle.dso_legal.specs.Batches.{BatchesStayInOrder, BatchesFit};
 ghost use Rattle.dso_legal.specs.Holds.{HoldsAreWithinLeases, LeasesAreKnown, HoldsAreCompatible};
 ghost use Rattle.dso_legal.specs.Residency.{ResidencyAgrees, ObjectsFit, SetsAreResident};
 ghost use Rattle.dso_legal.specs.MadeOnce.{ObjectsAreMadeOnce};
+ghost use Rattle.dso_legal.specs.ClassesKept.{ClassesAreKept};
 ghost use Rattle.dso_legal.specs.OwnObjects.{ObjectsInHandAreOwn};
 ghost use Rattle.dso_legal.specs.NewsAreNew.{NewsAreNew};
 ghost use Rattle.dso_legal.specs.Sorted.{RecordsAreSorted};
@@ -106,6 +107,12 @@ pub fn sets_are_resident()
 /// clients, nor by two threads; and the next id of no client is that of an object made. All this holds of lost clients too.
 pub fn objects_are_made_once()
     ensures { ObjectsAreMadeOnce }
+{}
+
+/// The class and the size of an object never change: what threads have in hand and saw, copies, messages in flight and the
+/// server's graph tell those with which it was made. All this holds of lost clients too.
+pub fn classes_are_kept()
+    ensures { ClassesAreKept }
 {}
 
 /// What a thread has private or has published in its open block, it made; it has it once, no record that was sent
