@@ -5,3 +5,4 @@ pub mod Replies
 pub mod ClassesMade
 pub mod Carried
 pub mod Classes
+pub mod Values

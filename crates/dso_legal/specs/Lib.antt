@@ -18,6 +18,7 @@ pub mod Resolved
 pub mod Line
 pub mod SoundProgram
 pub mod WithinShape
+pub mod ValuesFine
 pub mod SoundCode
 pub mod WaitsAndLosses
 pub mod Works

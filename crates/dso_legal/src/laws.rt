@@ -8,6 +8,7 @@ ghost use Rattle.dso_legal.specs.Holds.{HoldsAreWithinLeases, LeasesAreKnown, Ho
 ghost use Rattle.dso_legal.specs.Residency.{ResidencyAgrees, ObjectsFit, SetsAreResident};
 ghost use Rattle.dso_legal.specs.MadeOnce.{ObjectsAreMadeOnce};
 ghost use Rattle.dso_legal.specs.ClassesKept.{ClassesAreKept};
+ghost use Rattle.dso_legal.specs.ValuesFine.{ValuesAreFine};
 ghost use Rattle.dso_legal.specs.OwnObjects.{ObjectsInHandAreOwn};
 ghost use Rattle.dso_legal.specs.NewsAreNew.{NewsAreNew};
 ghost use Rattle.dso_legal.specs.Sorted.{RecordsAreSorted};
@@ -113,6 +114,13 @@ pub fn objects_are_made_once()
 /// server's graph tell those with which it was made. All this holds of lost clients too.
 pub fn classes_are_kept()
     ensures { ClassesAreKept }
+{}
+
+/// In a journal of a sound program that stays within its shape, every value fits the field that it stands in: in what threads
+/// have in hand, in copies, in flight and in the server's graph. An object that a value names, or that a thread was told of, was
+/// made; a text is one of the program's; and each object was made as its class allows. All this holds of lost clients too.
+pub fn values_are_fine()
+    ensures { ValuesAreFine }
 {}
 
 /// What a thread has private or has published in its open block, it made; it has it once, no record that was sent

@@ -53,13 +53,14 @@ use Rattle.dso_legal.proofs.channels.AfterEntry.{OwnTurn, OtherTurn, ServerTurn,
 use Rattle.dso_legal.proofs.channels.InFlight.{said_of, told_to, said_status}
 use Rattle.dso_legal.proofs.copies.ChangesSent.{changes_down}
 use Rattle.dso_legal.proofs.copies.ServerMessages.{IsOfLease, IsWake, TellsObject, TellsRecord, IsTold, IsToldOn, what_is_told}
+use Rattle.dso_legal.proofs.ids.Making.{IsNew, only_new}
 use Rattle.dso_legal.proofs.leases.LeaseSteps.{unless_true, if_true}
 use Rattle.dso_legal.proofs.objects.StoredBodies.{value_of_many}
 use Rattle.dso_legal.proofs.objects.OwnObjects.{IsOthers, worked_more, work_alone}
 use Rattle.dso_legal.proofs.fitting.InHand.{BodyHas, SetHas, WorkHas, ActHas, each_filtered, each_of_two, each_so, start_has, act_has, body_more, work_more}
 use Rattle.dso_legal.proofs.fitting.Messages.{kept_after, UpHas, DownHas, ClassHas, ValueHas, StoredHas, class_taken, value_taken, class_sent, value_sent, stored_taken}
-use Rattle.dso_legal.proofs.fitting.Replies.{ReplyHas, SawHas, MayTell, CopiesHave, reply_has}
-use Rattle.dso_legal.proofs.fitting.ClassesMade.{class_stays}
+use Rattle.dso_legal.proofs.fitting.Replies.{IsReal, ReplyHas, SawHas, MayTell, CopiesHave, reply_has}
+use Rattle.dso_legal.proofs.fitting.ClassesMade.{IsActOf, IsFresh, fresh, class_of_new, class_stays}
 
 -- the first that is taken is one of those in flight, and the others stay
 first_of : {M : Type 0} (P : M → Type 0) (m : M) (letters : List (Letter M)) → IsFirst m letters → AllByRecursion P (messages letters) → P m
@@ -79,6 +80,11 @@ event_added P t (Act u q r woken) events it all = by (is_thread t u)
     by true = each_of_two P events (Act u q r woken ∷ []) all (it, tt)
     by false = all
 event_added P t (Lost client) events it all = all
+
+-- the class and the size of the new object that is asked for
+abbrev asked_class : (request : Request) → IsNew request → ClassId × ℕ
+asked_class (New class n) is = (class, n)
+asked_class request is = absurd is
 
 module _ (p : Settings) (next : ThreadId → List Event → Option Request) (F : List Entry → ℕ → ℕ → Value → Type 0) (V : List Entry → Value → Type 0) where
   -- the object was made so
@@ -170,6 +176,7 @@ module _ (p : Settings) (next : ThreadId → List Event → Option Request) (F :
 
       reply_more : (request : Request) (reply : Reply) → ReplyHas (C es) (F es) (V es) request reply → ReplyHas (C now) (F now) (V now) request reply
       reply_more request (Seen class n) h = saw_more request class n h
+      reply_more request (Made o) h = record { real = h.real; class = h.class; size = h.size; made = class_more o h.class h.size h.made }
       reply_more request (Val v) h = keeps.values e es follow v h
       reply_more request reply h = tt
 
@@ -224,14 +231,19 @@ module _ (p : Settings) (next : ThreadId → List Event → Option Request) (F :
           one (up.Commit txn) none = absurd none
           one m none = tt
 
+      -- what an act brings: what its work must have, and of a new object that it is one
+      record Brought (request : Request) (reply : Reply) : Type 0 where
+        work : ActHas (C now) (F now) (V now) p.shape request reply
+        made : (o : ℕ) → reply ≡ Made o → IsReal (C now) (F now) (V now) o
+
       module _ (own : List Entry) (ups : List Up) (downs : List Down) (has : ClientHas now own ups downs) where
-        module _ (it : HasEvent p e own) (brings : ActHas (C now) (F now) (V now) p.shape it.request it.reply) where
+        module _ (it : HasEvent p e own) (brought : Brought it.request it.reply) where
           abbrev event : Event
           event = Act it.thread it.request it.reply (woken_by it.request it.reply own)
 
           -- the work in hand after the event
           later_has : WorkNow now (work_after p.shape event (work_of p.shape it.thread own))
-          later_has = act_has (C now) (F now) (V now) p.shape it.request it.reply (woken_by it.request it.reply own) (work_of p.shape it.thread own) (has.works it.thread) brings
+          later_has = act_has (C now) (F now) (V now) p.shape it.request it.reply (woken_by it.request it.reply own) (work_of p.shape it.thread own) (has.works it.thread) brought.work
 
           goes : WorkAfter p.shape it.thread event e own
           goes = work_goes_on p.shape it.thread event e own (record { event_is = it.event; its = thread_self it.thread })
@@ -266,7 +278,7 @@ module _ (p : Settings) (next : ThreadId → List Event → Option Request) (F :
           event_told : (t : ThreadId) → AllByRecursion (EventHas now) (events_in t (e ∷ own))
           event_told t = subst (λ event. AllByRecursion (EventHas now) (by_event (add_event t) event (events_in t own))) (sym it.event)
               (event_added (EventHas now) t event (events_in t own)
-              (reply_has (C now) (F now) (V now) p it.thread own (has.works it.thread) has.copies (keeps.tells now) it.request it.reply it.answered) (has.told t))
+              (reply_has (C now) (F now) (V now) p it.thread own (has.works it.thread) has.copies (keeps.tells now) it.request it.reply brought.made it.answered) (has.told t))
 
         -- what an entry of the client says, and what its threads have then
         record Says : Type 0 where
@@ -274,7 +286,7 @@ module _ (p : Settings) (next : ThreadId → List Event → Option Request) (F :
           works : (t : ThreadId) → WorkNow now (work_of p.shape t (e ∷ own))
           told : (t : ThreadId) → AllByRecursion (EventHas now) (events_in t (e ∷ own))
 
-        says : IsQuiet e ⊎ HasEvent p e own → ((it : HasEvent p e own) → ActHas (C now) (F now) (V now) p.shape it.request it.reply) → Says
+        says : IsQuiet e ⊎ HasEvent p e own → ((it : HasEvent p e own) → Brought it.request it.reply) → Says
         says (inl quiet) brings = record {
           said = no_record_has (said_of e.sent) quiet.no_records;
           works = λ t. subst (WorkNow now) (sym (work_alone p.shape t e own (subst (IsOthers t) (sym quiet.event) tt))) (has.works t);
@@ -299,7 +311,7 @@ module _ (p : Settings) (next : ThreadId → List Event → Option Request) (F :
               (kept_after (ValueHas (C now) (F now) (V now) o f) (UpNow now) (value_by_sent o f) (value_sent (C now) (F now) (V now) o f) (said_of e.sent) (by_taken_down (value_by_taken o f) e.input (value_held o f own)) said (value_in e.input o f took));
         }
 
-        client_goes : IsQuiet e ⊎ HasEvent p e own → ((it : HasEvent p e own) → ActHas (C now) (F now) (V now) p.shape it.request it.reply) → ((m : Down) → e.input ≡ input.TookDown m → DownNow now m)
+        client_goes : IsQuiet e ⊎ HasEvent p e own → ((it : HasEvent p e own) → Brought it.request it.reply) → ((m : Down) → e.input ≡ input.TookDown m → DownNow now m)
             → ClientHas now (e ∷ own) (ups ++ said_of e.sent) (cond (takes_down e.input) (drop 1 downs) downs)
         client_goes does brings took =
             let s : Says = says does brings in
@@ -315,7 +327,12 @@ module _ (p : Settings) (next : ThreadId → List Event → Option Request) (F :
 
       -- a new object has the class and the size that were asked for
       class_new : (t : ThreadId) (class : ClassId) (n o : ℕ) (woken : Option ThreadId) → e.event ≡ Some (Act t (New class n) (Made o) woken) → C now o class n
-      class_new t class n o woken is = ap (λ event. by_event (class_by o) event (class_made p.shape o es)) is ∙ ap (λ b. cond b (Some (class, n)) (class_made p.shape o es)) (number_self o)
+      class_new t class n o woken is = class_of_new p.shape e es t class n o woken is
+
+      -- so for any request that asks for one
+      class_asked_for : (t : ThreadId) (request : Request) (o : ℕ) (woken : Option ThreadId) (is : IsNew request) → e.event ≡ Some (Act t request (Made o) woken) → C now o (asked_class request is).0 (asked_class request is).1
+      class_asked_for t (New class n) o woken is happens = class_new t class n o woken happens
+      class_asked_for t request o woken is happens = absurd is
 
       brings_all : (t : ThreadId) (request : Request) (reply : Reply) (woken : Option ThreadId) → e.event ≡ Some (Act t request reply woken) → Brings now request reply → ActHas (C now) (F now) (V now) p.shape request reply
       brings_all t (New class n) (Made o) woken is h = (class_new t class n o woken is, h)
@@ -357,12 +374,28 @@ module _ (p : Settings) (next : ThreadId → List Event → Option Request) (F :
             no_event : {event : Event} → e.event ≡ None → e.event ≡ Some event → ⊥
             no_event none some = cc (sym none ∙ some)
 
-            brings : (e.event ≡ None) ⊎ IsNextAct p c (next_after next es) e (entries_of (Client c) es) → (it : HasEvent p e (entries_of (Client c) es)) → ActHas (C now) (F now) (V now) p.shape it.request it.reply
+            new_object : (act : IsNextAct p c (next_after next es) e (entries_of (Client c) es)) (o : ℕ) → act.reply ≡ Made o → IsReal (C now) (F now) (V now) o
+            new_object act o is = record {
+              real = (fresh p next e es follow.0 (record { client = c; node = node; act = act }) o is).real;
+              class = (asked_class act.request fair).0;
+              size = (asked_class act.request fair).1;
+              made = class_asked_for act.thread act.request o woken fair (subst (λ r. e.event ≡ Some (Act act.thread act.request r woken)) is act.event);
+            }
+              where
+                woken : Option ThreadId
+                woken = woken_by act.request act.reply (entries_of (Client c) es)
+
+                fair : IsNew act.request
+                fair = only_new p act.thread act.request (entries_of (Client c) es) o (act.answered ∙ ap Some is)
+
+            brings : (e.event ≡ None) ⊎ IsNextAct p c (next_after next es) e (entries_of (Client c) es) → (it : HasEvent p e (entries_of (Client c) es)) → Brought it.request it.reply
             brings (inl none) it = absurd (no_event none it.event)
             brings (inr act) it =
                 let own : List Entry = entries_of (Client c) es in
-                same_act (ActHas (C now) (F now) (V now) p.shape) act.thread it.thread act.request it.request act.reply it.reply (woken_by act.request act.reply own) (woken_by it.request it.reply own) (sym act.event ∙ it.event)
-                (brings_all act.thread act.request act.reply (woken_by act.request act.reply own) act.event (keeps.acts e es follow before c act))
+                same_act Brought act.thread it.thread act.request it.request act.reply it.reply (woken_by act.request act.reply own) (woken_by it.request it.reply own) (sym act.event ∙ it.event) (record {
+                  work = brings_all act.thread act.request act.reply (woken_by act.request act.reply own) act.event (keeps.acts e es follow before c act);
+                  made = new_object act;
+                })
 
         -- another client
         other_client : (c d : ℕ) → e.node ≡ Client d → eqb c d ≡ false → ClientHas now (entries_of (Client c) now) (messages (up_in_flight c now)) (messages (down_in_flight c now))

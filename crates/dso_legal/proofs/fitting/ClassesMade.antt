@@ -12,6 +12,7 @@ use Rattle.dso_base.specs.declared.request.Event.TheVariants.{Act, Lost}
 use Rattle.dso_base.specs.declared.request.Reply.{Reply}
 use Rattle.dso_base.specs.declared.request.Reply.TheVariants.{Done, Made, Seen, Val, Local, Refused}
 use Rattle.dso_base.specs.declared.request.Request.{Request}
+use Rattle.dso_base.specs.declared.request.Request.TheVariants.{New}
 use Rattle.dso_base.specs.declared.shape.Shape.{Shape}
 use Rattle.dso_base.specs.declared.value.ClassId.{ClassId}
 use Rattle.dso_base.specs.declared.value.ClassId.TheVariants.{Roots}
@@ -228,3 +229,7 @@ class_stays shape p next e es follow o class is = by (what_acts p next e es foll
     by : (e.event ≡ None) ⊎ IsActOf p next e es → class_made shape o (e ∷ es) ≡ Some class
     by (inl none) = ap (λ event. by_event (class_by o) event (class_made shape o es)) none ∙ is
     by (inr act) = ap (λ event. by_event (class_by o) event (class_made shape o es)) act.act.event ∙ by_reply act act.act.reply refl
+
+-- A new object has the class and the size that were asked for.
+pub class_of_new : (shape : Shape) (e : Entry) (es : List Entry) (t : ThreadId) (class : ClassId) (n o : ℕ) (woken : Option ThreadId) → e.event ≡ Some (Act t (New class n) (Made o) woken) → class_made shape o (e ∷ es) ≡ Some (class, n)
+class_of_new shape e es t class n o woken is = ap (λ event. by_event (class_by o) event (class_made shape o es)) is ∙ ap (λ b. cond b (Some (class, n)) (class_made shape o es)) (number_self o)

@@ -33,9 +33,17 @@ module _ (C : ℕ → ClassId → ℕ → Type 0) (F : ℕ → ℕ → Value →
   SawHas (Look o) class n = C o class n
   SawHas request class n = Unit {0}
 
-  -- so of what a reply tells: what a look saw, and a value
+  -- the object was made, and is not object 0
+  pub record IsReal (o : ℕ) : Type 0 where
+    pub real : o ≢ 0
+    pub class : ClassId
+    pub size : ℕ
+    pub made : C o class size
+
+  -- so of what a reply tells: what a look saw, a new object, a value
   abbrev pub ReplyHas : Request → Reply → Type 0
   ReplyHas request (Seen class n) = SawHas request class n
+  ReplyHas request (Made o) = IsReal o
   ReplyHas request (Val v) = V v
   ReplyHas request reply = Unit {0}
 
@@ -119,23 +127,24 @@ module _ (C : ℕ → ClassId → ℕ → Type 0) (F : ℕ → ℕ → Value →
       IsElse (Timeout l) = ⊥
       IsElse request = Unit {0}
 
-      -- so nothing is told
-      listed_has : (request : Request) (reply : Reply) → IsListed request reply → IsElse request → ReplyHas request reply
-      listed_has (Look o) reply listed other = absurd other
-      listed_has (Get o f) reply listed other = absurd other
-      listed_has (Tick l) reply listed other = absurd other
-      listed_has (Timeout l) reply listed other = absurd other
-      listed_has request (Val v) listed other = absurd listed
-      listed_has request reply listed other = tt
+      -- so nothing is told but a new object
+      listed_has : (request : Request) (reply : Reply) → IsListed request reply → IsElse request → ((o : ℕ) → reply ≡ Made o → IsReal o) → ReplyHas request reply
+      listed_has (Look o) reply listed other made = absurd other
+      listed_has (Get o f) reply listed other made = absurd other
+      listed_has (Tick l) reply listed other made = absurd other
+      listed_has (Timeout l) reply listed other made = absurd other
+      listed_has request (Made o) listed other made = made o refl
+      listed_has request (Val v) listed other made = absurd listed
+      listed_has request reply listed other made = tt
 
       -- A reply tells only of what the client has.
-      pub reply_has : (request : Request) (reply : Reply) → reply_of p t request es ≡ Some reply → ReplyHas request reply
-      reply_has (Look o) reply is = looked o (class_known p t o es) reply (known_has o) is
-      reply_has (Get o f) reply is = got o f (value_in p (own p.shape t o es) f (value_seen p t o f es)) reply (seen_has o f) is
-      reply_has (Tick l) reply is =
+      pub reply_has : (request : Request) (reply : Reply) → ((o : ℕ) → reply ≡ Made o → IsReal o) → reply_of p t request es ≡ Some reply → ReplyHas request reply
+      reply_has (Look o) reply made is = looked o (class_known p t o es) reply (known_has o) is
+      reply_has (Get o f) reply made is = got o f (value_in p (own p.shape t o es) f (value_seen p t o f es)) reply (seen_has o f) is
+      reply_has (Tick l) reply made is =
           let same : Val (value.Bool (is_marked t es)) ≡ reply = cc is in
           subst (ReplyHas (Tick l)) same (may.woken (is_marked t es))
-      reply_has (Timeout l) reply is =
+      reply_has (Timeout l) reply made is =
           let same : timeout_reply (is_marked t es) ≡ reply = cc is in
           subst (ReplyHas (Timeout l)) same (timed_out (Timeout l) (is_marked t es))
-      reply_has request reply is = listed_has request reply (reply_listed p t es request reply is) tt
+      reply_has request reply made is = listed_has request reply (reply_listed p t es request reply is) tt made
