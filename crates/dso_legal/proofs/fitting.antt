@@ -6,3 +6,5 @@ pub mod ClassesMade
 pub mod Carried
 pub mod Classes
 pub mod Values
+pub mod HeldWhole
+pub mod RepliesThere

@@ -26,7 +26,7 @@ use Rattle.dso_law.specs.ServerReadings.{counted}
 use Rattle.dso_law.specs.Store.{stored}
 use Rattle.dso_law.specs.Threads.{work_of}
 use Rattle.dso_legal.specs.Agreement.{messages}
-use Rattle.dso_legal.specs.Lawful.{IsLawful}
+use Rattle.dso_legal.specs.Lawful.{AllFollow}
 
 -- the class and the size of the new object that a request asks for
 abbrev pub class_asked : Request → Option (ClassId × ℕ)
@@ -95,6 +95,6 @@ pub record KeepsClasses (shape : Shape) (es : List Entry) : Type 0 where
   pub downs : (c : ℕ) → AllByRecursion (CarriesDownAsMade shape es) (messages (down_in_flight c es))
   pub graph : (o : ℕ) (body : Body) → stored shape o (counted (entries_of Server es)) ≡ Some body → IsAsMade shape es body
 
--- Classes are kept, in every lawful journal, for lost clients too.
+-- Classes are kept, after entries each of which follows those before it, for lost clients too.
 abbrev pub ClassesAreKept : Type 0
-ClassesAreKept = (p : Settings) (next : ThreadId → List Event → Option Request) (es : List Entry) → IsLawful p next es → KeepsClasses p.shape es
+ClassesAreKept = (p : Settings) (next : ThreadId → List Event → Option Request) (es : List Entry) → AllFollow p next es → KeepsClasses p.shape es

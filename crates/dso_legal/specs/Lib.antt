@@ -19,6 +19,7 @@ pub mod Line
 pub mod SoundProgram
 pub mod WithinShape
 pub mod ValuesFine
+pub mod RepliesThere
 pub mod SoundCode
 pub mod WaitsAndLosses
 pub mod Works

@@ -33,7 +33,7 @@ use Rattle.dso_law.specs.Store.{stored}
 use Rattle.dso_law.specs.Threads.{work_of}
 use Rattle.dso_legal.specs.Agreement.{messages}
 use Rattle.dso_legal.specs.ClassesKept.{class_made}
-use Rattle.dso_legal.specs.Lawful.{IsLawful}
+use Rattle.dso_legal.specs.Lawful.{AllFollow}
 use Rattle.dso_legal.specs.SoundProgram.{IsSound, GivesKnownTexts}
 use Rattle.dso_legal.specs.WithinShape.{HasPlace, StaysWithinShape}
 
@@ -102,8 +102,8 @@ pub record KeepsValues (shape : Shape) (es : List Entry) : Type 0 where
   pub downs : (c : ℕ) → AllByRecursion (CarriesDownFine shape es) (messages (down_in_flight c es))
   pub graph : (o : ℕ) (body : Body) → stored shape o (counted (entries_of Server es)) ≡ Some body → IsFineBody shape es body
 
--- Values are fine: in every lawful journal of a sound program that gives only known texts and stays within its shape, for lost
--- clients too.
+-- Values are fine: after entries each of which follows those before it, of a sound program that gives only known texts and stays
+-- within its shape, for lost clients too.
 abbrev pub ValuesAreFine : Type 0
 ValuesAreFine = (p : Settings) (next : ThreadId → List Event → Option Request) → IsSound p.shape next → GivesKnownTexts p.shape next → StaysWithinShape p.shape next
-    → (es : List Entry) → IsLawful p next es → KeepsValues p.shape es
+    → (es : List Entry) → AllFollow p next es → KeepsValues p.shape es

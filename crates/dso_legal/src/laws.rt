@@ -9,6 +9,7 @@ ghost use Rattle.dso_legal.specs.Residency.{ResidencyAgrees, ObjectsFit, SetsAre
 ghost use Rattle.dso_legal.specs.MadeOnce.{ObjectsAreMadeOnce};
 ghost use Rattle.dso_legal.specs.ClassesKept.{ClassesAreKept};
 ghost use Rattle.dso_legal.specs.ValuesFine.{ValuesAreFine};
+ghost use Rattle.dso_legal.specs.RepliesThere.{RepliesAreThere};
 ghost use Rattle.dso_legal.specs.OwnObjects.{ObjectsInHandAreOwn};
 ghost use Rattle.dso_legal.specs.NewsAreNew.{NewsAreNew};
 ghost use Rattle.dso_legal.specs.Sorted.{RecordsAreSorted};
@@ -121,6 +122,12 @@ pub fn classes_are_kept()
 /// made; a text is one of the program's; and each object was made as its class allows. All this holds of lost clients too.
 pub fn values_are_fine()
     ensures { ValuesAreFine }
+{}
+
+/// In a journal of a sound program that stays within its shape, a client has a reply to the next request of each of its threads
+/// whose needs are met; so where a thread can't act, a need of it isn't met.
+pub fn replies_are_there()
+    ensures { RepliesAreThere }
 {}
 
 /// What a thread has private or has published in its open block, it made; it has it once, no record that was sent

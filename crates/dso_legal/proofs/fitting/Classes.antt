@@ -102,4 +102,4 @@ module _ (p : Settings) (next : ThreadId → List Event → Option Request) wher
           subst (IsAsMade p.shape es) same h.1.class
 
 pub classes_are_kept : ClassesAreKept
-classes_are_kept p next es h = keeps_classes p next es h.follow
+classes_are_kept p next es follow = keeps_classes p next es follow

@@ -80,7 +80,7 @@ module _ (C : ℕ → ClassId → ℕ → Type 0) (F : ℕ → ℕ → Value →
         by false = tt
 
     -- the class that the thread knows
-    known_has : (o : ℕ) → ClassHas C F V o (class_known p t o es)
+    pub known_has : (o : ℕ) → ClassHas C F V o (class_known p t o es)
     known_has o = by (own p.shape t o es) (own_has o)
       where
         by : (body : Option Body) → OwnHas o body → ClassHas C F V o (or_else (option_map class_of_body body) (class_held o es))

@@ -61,7 +61,7 @@ apart_from_zero o other = by (eqb o 0) refl
     by false is = refl
 
 -- one of a list of which all are so is so
-one_of_all : {X : Type 0} (P Q : X → Type 0) (xs : List X) → AllByRecursion Q xs → Any P xs → (x : X) × P x × Q x
+pub one_of_all : {X : Type 0} (P Q : X → Type 0) (xs : List X) → AllByRecursion Q xs → Any P xs → (x : X) × P x × Q x
 one_of_all {X = X} P Q xs all any = at xs any.0 any.1 all any.2 any.3 any.4
   where
     at : (xs : List X) (k : ℕ) (x : X) → AllByRecursion Q xs → k < length xs → slice_index_or xs k x ≡ x → P x → (x : X) × P x × Q x
@@ -71,10 +71,10 @@ one_of_all {X = X} P Q xs all any = at xs any.0 any.1 all any.2 any.3 any.4
 
 module _ (p : Settings) (next : ThreadId → List Event → Option Request) where
   -- a value that may stand in its field, and one that is fine
-  abbrev F : List Entry → ℕ → ℕ → Value → Type 0
+  abbrev pub F : List Entry → ℕ → ℕ → Value → Type 0
   F now o f v = FitsField p.shape now o f v
 
-  abbrev V : List Entry → Value → Type 0
+  abbrev pub V : List Entry → Value → Type 0
   V now v = IsFine p.shape now v
 
   -- ---- on and on
@@ -102,7 +102,7 @@ module _ (p : Settings) (next : ThreadId → List Event → Option Request) wher
   }
 
   -- object 0 has the roots
-  roots_stay : (es : List Entry) → AllFollow p next es → class_made p.shape 0 es ≡ Some (Roots, p.shape.roots)
+  pub roots_stay : (es : List Entry) → AllFollow p next es → class_made p.shape 0 es ≡ Some (Roots, p.shape.roots)
   roots_stay [] follow = refl
   roots_stay (e ∷ es) follow = class_stays p.shape p next e es follow 0 (Roots, p.shape.roots) (roots_stay es follow.0)
 
@@ -171,7 +171,7 @@ module _ (p : Settings) (next : ThreadId → List Event → Option Request) wher
     told_text text (Lost client ∷ events) all is = told_text text events all.1 is
 
     -- what a look saw is so
-    look_made : (o : ℕ) (class : ClassId) (size : ℕ) (event : Event) → IsLookAt o class size event → EventHas p next F V es event → class_made p.shape o es ≡ Some (class, size)
+    pub look_made : (o : ℕ) (class : ClassId) (size : ℕ) (event : Event) → IsLookAt o class size event → EventHas p next F V es event → class_made p.shape o es ≡ Some (class, size)
     look_made o class size (Act t (Look x) (Seen seen n) woken) look h = ap (λ m. class_made p.shape m es) (sym look.0) ∙ h ∙ ap (λ c. Some (c, n)) look.1 ∙ ap (λ m. Some (class, m)) look.2
     look_made o class size event look h = absurd look
 
@@ -194,10 +194,10 @@ module _ (p : Settings) (next : ThreadId → List Event → Option Request) wher
   -- ---- what is asked
 
   -- a request keeps to all that is asked of the program
-  record Asked (t : ThreadId) (events : List Event) (request : Request) : Type 0 where
-    keeps : KeepsTo p.shape t events request
-    uses : UsesWhatIsThere p.shape request events
-    gives : GivesTextsAmong (IsToldText p.shape events) request
+  pub record Asked (t : ThreadId) (events : List Event) (request : Request) : Type 0 where
+    pub keeps : KeepsTo p.shape t events request
+    pub uses : UsesWhatIsThere p.shape request events
+    pub gives : GivesTextsAmong (IsToldText p.shape events) request
 
   -- a field of a new object
   place_new : (class : ClassId) (n f : ℕ) → CanBeMade p.shape class n → f < n → HasPlace p.shape class n f
@@ -260,7 +260,7 @@ module _ (p : Settings) (next : ThreadId → List Event → Option Request) wher
     brings_by t request reply woken is asked = tt
 
   module _ (sound : IsSound p.shape next) (known : GivesKnownTexts p.shape next) (within : StaysWithinShape p.shape next) where
-    what_is_asked : (es : List Entry) → AllFollow p next es → AllHave p next F V es → (t : ThreadId) (request : Request) → next_after next es t ≡ Some request → Asked t (events_in t (entries_of (Client t.client) es)) request
+    pub what_is_asked : (es : List Entry) → AllFollow p next es → AllHave p next F V es → (t : ThreadId) (request : Request) → next_after next es t ≡ Some request → Asked t (events_in t (entries_of (Client t.client) es)) request
     what_is_asked es follow have t request asked =
         let own : List Entry = entries_of (Client t.client) es in
         let real : list_any (event_tells 0) (events_in t own) ≡ false = untold es (events_in t own) ((have.clients t.client).told t) in
@@ -382,4 +382,4 @@ module _ (p : Settings) (next : ThreadId → List Event → Option Request) wher
             subst (IsFineBody p.shape es) same h.1.values
 
 pub values_are_fine : ValuesAreFine
-values_are_fine p next sound known within es h = keeps_values p next sound known within es h.follow
+values_are_fine p next sound known within es follow = keeps_values p next sound known within es follow
