@@ -8,3 +8,4 @@ pub mod Classes
 pub mod Values
 pub mod HeldWhole
 pub mod RepliesThere
+pub mod ValuesFit

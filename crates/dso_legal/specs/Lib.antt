@@ -20,6 +20,7 @@ pub mod SoundProgram
 pub mod WithinShape
 pub mod ValuesFine
 pub mod RepliesThere
+pub mod ValuesFit
 pub mod SoundCode
 pub mod WaitsAndLosses
 pub mod Works

@@ -10,6 +10,7 @@ ghost use Rattle.dso_legal.specs.MadeOnce.{ObjectsAreMadeOnce};
 ghost use Rattle.dso_legal.specs.ClassesKept.{ClassesAreKept};
 ghost use Rattle.dso_legal.specs.ValuesFine.{ValuesAreFine};
 ghost use Rattle.dso_legal.specs.RepliesThere.{RepliesAreThere};
+ghost use Rattle.dso_legal.specs.ValuesFit.{ValuesFit};
 ghost use Rattle.dso_legal.specs.OwnObjects.{ObjectsInHandAreOwn};
 ghost use Rattle.dso_legal.specs.NewsAreNew.{NewsAreNew};
 ghost use Rattle.dso_legal.specs.Sorted.{RecordsAreSorted};
@@ -122,6 +123,13 @@ pub fn classes_are_kept()
 /// made; a text is one of the program's; and each object was made as its class allows. All this holds of lost clients too.
 pub fn values_are_fine()
     ensures { ValuesAreFine }
+{}
+
+/// In a journal of a sound program that stays within its shape, the first message in flight in each direction fits the shape, of a
+/// lost client too: what a record publishes and sets fits the classes, what it prints was given out, its texts are literals; an
+/// object is of the roots exactly where it is object 0; each change of a resident object fits its field.
+pub fn values_fit()
+    ensures { ValuesFit }
 {}
 
 /// In a journal of a sound program that stays within its shape, a client has a reply to the next request of each of its threads

@@ -63,7 +63,7 @@ use Rattle.dso_legal.proofs.fitting.Replies.{IsReal, ReplyHas, SawHas, MayTell, 
 use Rattle.dso_legal.proofs.fitting.ClassesMade.{IsActOf, IsFresh, fresh, class_of_new, class_stays}
 
 -- the first that is taken is one of those in flight, and the others stay
-first_of : {M : Type 0} (P : M → Type 0) (m : M) (letters : List (Letter M)) → IsFirst m letters → AllByRecursion P (messages letters) → P m
+pub first_of : {M : Type 0} (P : M → Type 0) (m : M) (letters : List (Letter M)) → IsFirst m letters → AllByRecursion P (messages letters) → P m
 first_of P m [] first all = absurd first
 first_of P m (letter ∷ letters) first all = subst P (sym first) all.0
 

@@ -57,7 +57,7 @@ mapped_there f None there = absurd (there refl)
 mapped_there f (Some x) there = λ none. cc none
 
 -- a place of an object of a size that its class can have is below the size
-place_below : (p : Settings) (class : ClassId) (size f : ℕ) → HasSize p.shape class size → HasPlace p.shape class size f → f < size
+pub place_below : (p : Settings) (class : ClassId) (size f : ℕ) → HasSize p.shape class size → HasPlace p.shape class size f → f < size
 place_below p (Plain number) size f has there = by (slice_get p.shape.classes number) has there
   where
     by : (class : Option ClassShape) → IsFieldCount class size → f < length (fields_of class) → f < size

@@ -69,6 +69,12 @@ one_of_all {X = X} P Q xs all any = at xs any.0 any.1 all any.2 any.3 any.4
     at (y ∷ xs) zero x all less is h = (x, h, subst Q is all.0)
     at (y ∷ xs) (suc k) x all less is h = at xs k x all.1 (omega (arith, less)) is h
 
+-- equal classes with their sizes
+pub same_pair : (x y : ClassId × ℕ) → Some x ≡ Some y → (x.0 ≡ y.0) × (x.1 ≡ y.1)
+same_pair x y is =
+    let same : x ≡ y = cc is in
+    (ap (λ (z : ClassId × ℕ). z.0) same, ap (λ (z : ClassId × ℕ). z.1) same)
+
 module _ (p : Settings) (next : ThreadId → List Event → Option Request) where
   -- a value that may stand in its field, and one that is fine
   abbrev pub F : List Entry → ℕ → ℕ → Value → Type 0
@@ -285,35 +291,34 @@ module _ (p : Settings) (next : ThreadId → List Event → Option Request) wher
 
     -- ---- sizes
 
-    size_new : (class : ClassId) (n : ℕ) → CanBeMade p.shape class n → HasSize p.shape class n
-    size_new (Plain number) n made = made
-    size_new (Array k) n made = made
-    size_new Roots n made = absurd made
-
-    size_asked : (request : Request) (class : ClassId) (size : ℕ) (t : ThreadId) (events : List Event) → Asked t events request → class_asked request ≡ Some (class, size) → HasSize p.shape class size
+    -- what can be made has the class and the size that were asked for
+    size_asked : (request : Request) (class : ClassId) (size : ℕ) (t : ThreadId) (events : List Event) → Asked t events request → class_asked request ≡ Some (class, size) → CanBeMade p.shape class size
     size_asked (New made n) class size t events asked is =
         let new : ClassId × ℕ = (made, n) in
         let same : new ≡ (class, size) = cc is in
-        subst (λ (x : ClassId × ℕ). HasSize p.shape x.0 x.1) same (size_new made n asked.keeps.makes)
+        subst (λ (x : ClassId × ℕ). CanBeMade p.shape x.0 x.1) same asked.keeps.makes
     size_asked request class size t events asked is = absurd (cc is)
 
-    pub sizes : (es : List Entry) → AllFollow p next es → (o : ℕ) (class : ClassId) (size : ℕ) → class_made p.shape o es ≡ Some (class, size) → HasSize p.shape class size
-    sizes [] follow o class size is = by (eqb o 0) is
+    -- an object with a class is object 0, which has the roots, or was made as its class allows
+    abbrev pub MadeAs : ℕ → ClassId → ℕ → Type 0
+    MadeAs o class size = ((o ≡ 0) × (class ≡ Roots) × (size ≡ p.shape.roots)) ⊎ CanBeMade p.shape class size
+
+    pub made_as : (es : List Entry) → AllFollow p next es → (o : ℕ) (class : ClassId) (size : ℕ) → class_made p.shape o es ≡ Some (class, size) → MadeAs o class size
+    made_as [] follow o class size is = by (eqb o 0) refl is
       where
-        by : (b : Bool) → cond {A = Option (ClassId × ℕ)} b (Some (Roots, p.shape.roots)) None ≡ Some (class, size) → HasSize p.shape class size
-        by true is =
-            let roots : ClassId × ℕ = (Roots, p.shape.roots) in
-            let same : roots ≡ (class, size) = cc is in
-            subst (λ (x : ClassId × ℕ). HasSize p.shape x.0 x.1) same refl
-        by false is = absurd (cc is)
-    sizes (e ∷ es) follow o class size is = by (what_acts p next e es follow.1) (sizes es follow.0 o class size)
+        by : (b : Bool) → eqb o 0 ≡ b → cond {A = Option (ClassId × ℕ)} b (Some (Roots, p.shape.roots)) None ≡ Some (class, size) → MadeAs o class size
+        by true zero_is is =
+            let same = same_pair (Roots, p.shape.roots) (class, size) is in
+            inl (same_number o 0 zero_is, sym same.0, sym same.1)
+        by false zero_is is = absurd (cc is)
+    made_as (e ∷ es) follow o class size is = by (what_acts p next e es follow.1) (made_as es follow.0 o class size)
       where
-        by_reply : (act : IsActOf p next e es) (reply : Reply) → (class_made p.shape o es ≡ Some (class, size) → HasSize p.shape class size) → class_by_reply o act.act.request reply (class_made p.shape o es) ≡ Some (class, size) → HasSize p.shape class size
+        by_reply : (act : IsActOf p next e es) (reply : Reply) → (class_made p.shape o es ≡ Some (class, size) → MadeAs o class size) → class_by_reply o act.act.request reply (class_made p.shape o es) ≡ Some (class, size) → MadeAs o class size
         by_reply act (Made x) before is = if_same (eqb x o) is
           where
-            if_same : (b : Bool) → cond b (class_asked act.act.request) (class_made p.shape o es) ≡ Some (class, size) → HasSize p.shape class size
-            if_same true is = size_asked act.act.request class size act.act.thread (events_in act.act.thread (entries_of (Client act.act.thread.client) es))
-                (what_is_asked es follow.0 (all_fine es follow.0) act.act.thread act.act.request act.act.asked) is
+            if_same : (b : Bool) → cond b (class_asked act.act.request) (class_made p.shape o es) ≡ Some (class, size) → MadeAs o class size
+            if_same true is = inr (size_asked act.act.request class size act.act.thread (events_in act.act.thread (entries_of (Client act.act.thread.client) es))
+                (what_is_asked es follow.0 (all_fine es follow.0) act.act.thread act.act.request act.act.asked) is)
             if_same false is = before is
         by_reply act (Seen seen n) before is = before is
         by_reply act (Val v) before is = before is
@@ -321,9 +326,21 @@ module _ (p : Settings) (next : ThreadId → List Event → Option Request) wher
         by_reply act Local before is = before is
         by_reply act (Refused fault) before is = before is
 
-        by : (e.event ≡ None) ⊎ IsActOf p next e es → (class_made p.shape o es ≡ Some (class, size) → HasSize p.shape class size) → HasSize p.shape class size
+        by : (e.event ≡ None) ⊎ IsActOf p next e es → (class_made p.shape o es ≡ Some (class, size) → MadeAs o class size) → MadeAs o class size
         by (inl none) before = before (ap (λ event. by_event (class_by o) event (class_made p.shape o es)) (sym none) ∙ is)
         by (inr act) before = by_reply act act.act.reply before (ap (λ event. by_event (class_by o) event (class_made p.shape o es)) (sym act.act.event) ∙ is)
+
+    -- so it has a size that the class allows
+    size_of : (class : ClassId) (size : ℕ) → CanBeMade p.shape class size → HasSize p.shape class size
+    size_of (Plain number) size made = made
+    size_of (Array k) size made = made
+    size_of Roots size made = absurd made
+
+    pub sizes : (es : List Entry) → AllFollow p next es → (o : ℕ) (class : ClassId) (size : ℕ) → class_made p.shape o es ≡ Some (class, size) → HasSize p.shape class size
+    sizes es follow o class size is = elim (made_as es follow o class size is) [
+      | inl first ↦ subst (λ class. HasSize p.shape class size) (sym first.1) first.2
+      | inr made ↦ size_of class size made
+    ]
 
     -- ---- in the words of the law
 
