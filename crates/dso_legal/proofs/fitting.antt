@@ -9,3 +9,5 @@ pub mod Values
 pub mod HeldWhole
 pub mod RepliesThere
 pub mod ValuesFit
+pub mod LocksMade
+pub mod LocksThere

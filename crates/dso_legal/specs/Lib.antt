@@ -21,6 +21,7 @@ pub mod WithinShape
 pub mod ValuesFine
 pub mod RepliesThere
 pub mod ValuesFit
+pub mod LocksThere
 pub mod SoundCode
 pub mod WaitsAndLosses
 pub mod Works

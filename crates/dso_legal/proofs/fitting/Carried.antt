@@ -67,7 +67,7 @@ pub first_of : {M : Type 0} (P : M → Type 0) (m : M) (letters : List (Letter M
 first_of P m [] first all = absurd first
 first_of P m (letter ∷ letters) first all = subst P (sym first) all.0
 
-rest_of : {M : Type 0} (P : M → Type 0) (b : Bool) (ms : List M) → AllByRecursion P ms → AllByRecursion P (cond b (drop 1 ms) ms)
+pub rest_of : {M : Type 0} (P : M → Type 0) (b : Bool) (ms : List M) → AllByRecursion P ms → AllByRecursion P (cond b (drop 1 ms) ms)
 rest_of P true [] all = tt
 rest_of P true (m ∷ ms) all = all.1
 rest_of P false ms all = all

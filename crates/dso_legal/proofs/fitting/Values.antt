@@ -92,7 +92,7 @@ module _ (p : Settings) (next : ThreadId → List Event → Option Request) wher
       by None is = absurd (made is)
       by (Some class) is = λ none. cc (sym (class_stays p.shape p next e es follow o class is) ∙ none)
 
-  fine_still : (e : Entry) (es : List Entry) → AllFollow p next (e ∷ es) → (v : Value) → V es v → V (e ∷ es) v
+  pub fine_still : (e : Entry) (es : List Entry) → AllFollow p next (e ∷ es) → (v : Value) → V es v → V (e ∷ es) v
   fine_still e es follow (value.Ref o) h = (h.0, made_still e es follow o h.1)
   fine_still e es follow (value.Text t) h = h
   fine_still e es follow v h = tt
@@ -183,7 +183,7 @@ module _ (p : Settings) (next : ThreadId → List Event → Option Request) wher
 
     module _ (events : List Event) (all : AllByRecursion (EventHas p next F V es) events) where
       -- a value that was told, and whose text is known, is fine
-      value_fine : (v : Value) → IsToldValue v events → IsTextAmong (IsToldText p.shape events) v → V es v
+      pub value_fine : (v : Value) → IsToldValue v events → IsTextAmong (IsToldText p.shape events) v → V es v
       value_fine (value.Ref o) told text = (told.0, told_made o events all (by (eqb o 0) (apart_from_zero o told.0) told.1))
         where
           by : (b : Bool) → b ≡ false → (b || list_any (event_tells o) events) ≡ true → list_any (event_tells o) events ≡ true

@@ -78,7 +78,7 @@ fit_from shape class k (v ∷ values) h = (
     one_later k f = omega arith
 
 -- an id that was given to a client was given out
-given_out : (c o : ℕ) (given : List Batch) → list_any (λ batch. eqb batch.client c && is_in_batch o batch) given ≡ true → list_any (is_in_batch o) given ≡ true
+pub given_out : (c o : ℕ) (given : List Batch) → list_any (λ batch. eqb batch.client c && is_in_batch o batch) given ≡ true → list_any (is_in_batch o) given ≡ true
 given_out c o [] is = absurd (cc is)
 given_out c o (batch ∷ given) is = by (eqb batch.client c) (is_in_batch o batch) is (given_out c o given)
   where
