@@ -11,6 +11,7 @@ ghost use Rattle.dso_legal.specs.ClassesKept.{ClassesAreKept};
 ghost use Rattle.dso_legal.specs.ValuesFine.{ValuesAreFine};
 ghost use Rattle.dso_legal.specs.RepliesThere.{RepliesAreThere};
 ghost use Rattle.dso_legal.specs.ValuesFit.{ValuesFit};
+ghost use Rattle.dso_legal.specs.LocksThere.{LocksAreThere};
 ghost use Rattle.dso_legal.specs.OwnObjects.{ObjectsInHandAreOwn};
 ghost use Rattle.dso_legal.specs.NewsAreNew.{NewsAreNew};
 ghost use Rattle.dso_legal.specs.Sorted.{RecordsAreSorted};
@@ -130,6 +131,12 @@ pub fn values_are_fine()
 /// object is of the roots exactly where it is object 0; each change of a resident object fits its field.
 pub fn values_fit()
     ensures { ValuesFit }
+{}
+
+/// In a journal of a sound program that stays within its shape, a request of a lease that comes is of a name that the shape has, or
+/// of the monitor of an id that was given out, from a lost client too.
+pub fn locks_are_there()
+    ensures { LocksAreThere }
 {}
 
 /// In a journal of a sound program that stays within its shape, a client has a reply to the next request of each of its threads

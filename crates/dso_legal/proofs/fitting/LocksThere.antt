@@ -19,6 +19,7 @@ use Rattle.dso_base.specs.declared.request.Event.{Event}
 use Rattle.dso_base.specs.declared.request.Event.TheVariants.{Act}
 use Rattle.dso_base.specs.declared.request.Request.{Request}
 use Rattle.dso_base.specs.declared.request.Request.TheVariants.{New, Look, Get, Put, Enter, Exit, Wait, Tick, Timeout, Resume, Notify, NotifyAll, Print, End, Pause, Settle}
+use Rattle.dso_base.specs.declared.value.ClassId.{ClassId}
 use Rattle.dso_base.specs.declared.value.Value.TheVariants as value
 use Rattle.dso_plain.specs.KeyTests.{is_lock}
 use Rattle.dso_plain.proofs.keys.SameKeys.{same_number}
@@ -38,6 +39,7 @@ use Rattle.dso_law.specs.RequestNeeds.{Need, NeedsId, NeedsObject, NeedsClass, N
 use Rattle.dso_law.specs.ServerReadings.{counted, batches_given}
 use Rattle.dso_law.specs.Threads.{Waiting, Locks, last_seen, own, is_local, locks_of, hold_of, ending_of, locks_after}
 use Rattle.dso_legal.specs.Agreement.{messages}
+use Rattle.dso_legal.specs.ClassesKept.{class_made}
 use Rattle.dso_legal.specs.Lawful.{next_after, ClientFollows, NodeFollows, AllFollow}
 use Rattle.dso_legal.specs.LocksThere.{LocksAreThere}
 use Rattle.dso_legal.specs.SoundProgram.{IsSound, GivesKnownTexts}
@@ -185,3 +187,84 @@ module _ (p : Settings) (next : ThreadId → List Event → Option Request) (sou
       need_made t its request asked (NeedsMark k) is m ask = absurd (cc ask)
       need_made t its request asked (NeedsOthersOut k) is m ask = absurd (cc ask)
       need_made t its request asked NeedsAck is m ask = absurd (cc ask)
+
+      does_or_asks : (t : ThreadId) → t.client ≡ c → (request : Request) → next_after next es t ≡ Some request → (need : Option Need) → unmet p c (next_after next es) t request mine ≡ need
+          → DoesOrAsks p c t request need (next_after next es) (next_after next now) e mine → AllByRecursion (RequestMade now) (said_of e.sent)
+      does_or_asks t its request asked None is does =
+          let event : Event = Act t request does.reply (woken_by request does.reply mine) in
+          let again : List Up = asks_again p c (next_after next es) (next_after next now) (next_after next now t) (unsent e ∷ mine) mine in
+          let back : List Up = returns p c (next_after next now) (unsent e ∷ mine) in
+          subst (AllByRecursion (RequestMade now)) (sym (ap said_of does.sends ∙ said_all ((commits p t event mine ++ back) ++ again)))
+          (each_of_two (RequestMade now) (commits p t event mine ++ back) again
+          (each_of_two (RequestMade now) (commits p t event mine) back (record_made t event (ending_of event (locks_of t mine))) given) (again_made t (next_after next now t) refl))
+      does_or_asks t its request asked (Some need) is asks =
+          let back : List Up = returns p c (next_after next now) (unsent e ∷ mine) in
+          subst (AllByRecursion (RequestMade now)) (sym (ap said_of asks.sends ∙ said_all (back ++ asks.message ∷ [])))
+          (each_of_two (RequestMade now) back (asks.message ∷ []) given (need_made t its request asked need is asks.message asks.asked, tt))
+
+      acts : (t : ThreadId) → t.client ≡ c → (request : Option Request) → next_after next es t ≡ request → ActsOn p c t request (next_after next es) (next_after next now) e mine → AllByRecursion (RequestMade now) (said_of e.sent)
+      acts t its None asked step = absurd step
+      acts t its (Some request) asked step = does_or_asks t its request asked (unmet p c (next_after next es) t request mine) refl step
+
+      sent_made : (i : Input) → ClientStepOn p c i (next_after next es) (next_after next now) e mine → AllByRecursion (RequestMade now) (said_of e.sent)
+      sent_made (input.Act index) step = acts (record { client = c; index = index }) refl (next_after next es (record { client = c; index = index })) refl step.acts
+      sent_made (input.TookDown m) step = subst (AllByRecursion (RequestMade now)) (sym (ap said_of step.sends ∙ said_all (returns p c (next_after next now) (unsent e ∷ mine)))) given
+      sent_made (input.Flush o) step = subst (λ sent. AllByRecursion (RequestMade now) (said_of sent)) (sym step.sends) (tt, tt)
+      sent_made (input.Rejoin d) step = subst (λ sent. AllByRecursion (RequestMade now) (said_of sent)) (sym step.sends) tt
+      sent_made other step = absurd step
+
+      own_locks : e.node ≡ Client c → ClientLocks now (entries_of (Client c) now) (messages (up_in_flight c now))
+      own_locks node =
+          let turn : OwnTurn c e es = own_turn c e es node in
+          let rule : ClientFollows p next c e es = subst (λ n. NodeFollows p next n e es) node follow.1.rule in
+          let goes : ClientLocks now (e ∷ mine) (messages (up_in_flight c es) ++ said_of e.sent) = record {
+            locks = by (next_act p c (next_after next es) (next_after next now) e mine rule.step);
+            asked = each_of_two (RequestMade now) (messages (up_in_flight c es)) (said_of e.sent) have.asked (sent_made e.input rule.step);
+          } in
+          subst (λ ups. ClientLocks now (entries_of (Client c) now) ups) (sym turn.up) (subst (λ entries. ClientLocks now entries (messages (up_in_flight c es) ++ said_of e.sent)) (sym turn.own) goes)
+        where
+          by : (e.event ≡ None) ⊎ IsNextAct p c (next_after next es) e (entries_of (Client c) es) → (t : ThreadId) → LocksAre (LockMade p next (e ∷ es)) (locks_of t (e ∷ entries_of (Client c) es))
+          by (inl none) t = subst (λ event. LocksAre (LockMade p next (e ∷ es)) (by_event (locks_after t) event (locks_of t (entries_of (Client c) es)))) (sym none) (have.locks t)
+          by (inr act) t = act_locks p next sound known within e es follow c act have.locks t
+
+    module _ (c : ℕ) (have : ClientLocks es (entries_of (Client c) es) (messages (up_in_flight c es))) where
+      locks_after_node : (node : Node) → e.node ≡ node → ClientLocks now (entries_of (Client c) now) (messages (up_in_flight c now))
+      locks_after_node Server is =
+          let turn : ServerTurn c e es = server_turn c e es is in
+          let had : ClientLocks now (entries_of (Client c) es) (messages (up_in_flight c es)) = still (entries_of (Client c) es) (messages (up_in_flight c es)) have in
+          let goes : ClientLocks now (entries_of (Client c) es) (cond (takes_up c e.input) (drop 1 (messages (up_in_flight c es))) (messages (up_in_flight c es))) =
+          record { locks = had.locks; asked = rest_of (RequestMade now) (takes_up c e.input) (messages (up_in_flight c es)) had.asked } in
+          subst (λ ups. ClientLocks now (entries_of (Client c) now) ups) (sym turn.up)
+          (subst (λ entries. ClientLocks now entries (cond (takes_up c e.input) (drop 1 (messages (up_in_flight c es))) (messages (up_in_flight c es)))) (sym turn.own) goes)
+      locks_after_node (Client d) is = by (eqb c d) refl
+        where
+          had : ClientLocks (e ∷ es) (entries_of (Client c) es) (messages (up_in_flight c es))
+          had = still (entries_of (Client c) es) (messages (up_in_flight c es)) have
+
+          by : (b : Bool) → eqb c d ≡ b → ClientLocks (e ∷ es) (entries_of (Client c) (e ∷ es)) (messages (up_in_flight c (e ∷ es)))
+          by true same = own_locks c had (is ∙ ap Client (sym (same_number c d same)))
+          by false other = subst (λ letters. ClientLocks (e ∷ es) (entries_of (Client c) (e ∷ es)) (messages letters)) (sym (other_turn c d e es is other).up)
+              (subst (λ entries. ClientLocks (e ∷ es) entries (messages (up_in_flight c es))) (sym (other_turn c d e es is other).own) had)
+
+  all_locks : (es : List Entry) → AllFollow p next es → (c : ℕ) → ClientLocks es (entries_of (Client c) es) (messages (up_in_flight c es))
+  all_locks [] follow c = record { locks = λ t. record { holds = tt; waiting = tt }; asked = tt }
+  all_locks (e ∷ es) follow c = locks_after_node e es follow c (all_locks es follow.0 c) e.node refl
+
+  -- a lock that is there is one that fits
+  lock_fits : (es : List Entry) → AllFollow p next es → (l : LockName) → LockMade p next es l → IsLock p l (counted (entries_of Server es))
+  lock_fits es follow (Name n) h = h
+  lock_fits es follow (Mon o) h = by (class_made p.shape o es) refl
+    where
+      by : (class : Option (ClassId × ℕ)) → class_made p.shape o es ≡ class → IsLock p (Mon o) (counted (entries_of Server es))
+      by None is = absurd (h.1 is)
+      by (Some class) is = elim (class_known p.shape o p next es follow class is) [
+        | inl first ↦ absurd (h.0 first.0)
+        | inr made ↦
+            let mine = (made_once p next es follow).given made.client o made.is in
+            (given_from_one made.client o (batches_given (counted (entries_of Server es))) (in_turn p next es follow) mine, given_out made.client o (batches_given (counted (entries_of Server es))) mine)
+      ]
+
+pub locks_are_there : LocksAreThere
+locks_are_there p next sound known within es follow c l level first =
+    lock_fits p next sound known within es follow l
+    (first_of (RequestMade p next sound known within es) (up.Request l level) (up_in_flight c es) first (all_locks p next sound known within es follow c).asked)

@@ -125,8 +125,7 @@ module _ (p : Settings) (next : ThreadId → List Event → Option Request) (sou
   set_fits : (set : Set) (class : ClassId) (size : ℕ) → SetHas (C p next (F p next) (V p next) es) (F p next es) (V p next es) set → class_made p.shape set.object es ≡ Some (class, size)
       → (set.field < size) × Fits (kind_of p.shape class set.field) set.value
   set_fits set class size h made =
-      let same = one_class set.object h.class class h.size size h.made made in
-      (
+      let same = one_class set.object h.class class h.size size h.made made in (
         subst (λ n. set.field < n) same.1 (place_below p h.class h.size set.field (sizes p next sound known within es follow set.object h.class h.size h.made) h.there),
         subst (λ class. Fits (kind_of p.shape class set.field) set.value) same.0 h.fits,
       )
