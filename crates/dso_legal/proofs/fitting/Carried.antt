@@ -1,7 +1,7 @@
 -- Classes, sizes and values along a journal: what holds of them in all that is in hand, copied, stored and in flight holds on.
 use Rattle.std.specs.List.{AllByRecursion}
-use Rattle.std.proofs.Common.{ℕ, ◌<◌, ◌≡◌, ◌⊎◌, inl, inr, refl, sym, ◌∙◌, ap, subst, Bool, true, false, cond, eqb, ltb, Option, Some, None, List, [], ◌∷◌, ◌++◌, length, slice_get, drop, arith}
-use Rattle.std.specs.Prelude.{filter, replicate}
+use Rattle.std.proofs.Common.{ℕ, ◌<◌, ◌≡◌, ◌⊎◌, inl, inr, refl, sym, ◌∙◌, ap, subst, Bool, true, false, cond, eqb, ltb, Option, Some, None, List, [], ◌∷◌, ◌++◌, slice_get, drop}
+use Rattle.std.specs.Prelude.{replicate}
 use Rattle.std.proofs.lemmas.Bool.{ltb-true}
 use Rattle.std.proofs.lemmas.List.{length-replicate}
 use Rattle.dso_base.specs.Block.{Work, start, opening_value, work_after, worked}
@@ -18,7 +18,6 @@ use Rattle.dso_base.specs.declared.message.Up.TheVariants as up
 use Rattle.dso_base.specs.declared.record.Body.{Body}
 use Rattle.dso_base.specs.declared.record.Ending.{Ending}
 use Rattle.dso_base.specs.declared.record.Set.{Set}
-use Rattle.dso_base.specs.declared.record.Txn.{Txn}
 use Rattle.dso_base.specs.declared.request.Event.{Event}
 use Rattle.dso_base.specs.declared.request.Event.TheVariants.{Act, Lost}
 use Rattle.dso_base.specs.declared.request.Reply.{Reply}
@@ -31,9 +30,9 @@ use Rattle.dso_base.specs.declared.value.Value.{Value}
 use Rattle.dso_base.specs.declared.value.Value.TheVariants as value
 use Rattle.dso_base.specs.Following.{is_thread}
 use Rattle.dso_base.specs.Shape.{kind_of}
-use Rattle.dso_plain.proofs.keys.SameKeys.{same_number, number_self, same_thread, thread_self}
+use Rattle.dso_plain.proofs.keys.SameKeys.{same_number, same_thread, thread_self}
 use Rattle.dso_law.specs.Settings.{Settings}
-use Rattle.dso_law.specs.Entries.{entries_of, by_event, by_taken_down, by_taken_up, by_sent_up, add_event, events_in, unsent}
+use Rattle.dso_law.specs.Entries.{entries_of, by_event, by_taken_down, by_taken_up, add_event, events_in}
 use Rattle.dso_law.specs.Channels.{Letter, up_in_flight, down_in_flight, IsFirst, TakesFirst, takes_up, takes_down}
 use Rattle.dso_law.specs.Copies.{value_held, class_held, value_by_taken, value_by_sent, class_by_taken, class_by_sent}
 use Rattle.dso_law.specs.Laws.{WorkAfter}
@@ -44,23 +43,22 @@ use Rattle.dso_law.specs.Store.{opening_roots, stored, body_by}
 use Rattle.dso_law.specs.Threads.{ending_of, locks_of, open_block, privates_before, work_of}
 use Rattle.dso_law.specs.ClientStep.{record_of, commits}
 use Rattle.dso_law.proofs.client.WorkByEntry.{work_goes_on}
-use Rattle.dso_legal.specs.Agreement.{messages, after}
-use Rattle.dso_legal.specs.ClassesKept.{class_by, class_by_reply, class_made}
-use Rattle.dso_legal.specs.Lawful.{next_after, ClientFollows, ServerFollows, NodeFollows, MayFollow, AllFollow}
+use Rattle.dso_legal.specs.Agreement.{messages}
+use Rattle.dso_legal.specs.ClassesKept.{class_made}
+use Rattle.dso_legal.specs.Lawful.{next_after, ClientFollows, ServerFollows, NodeFollows, AllFollow}
 use Rattle.dso_legal.proofs.acts.ClientActs.{IsNoRecord, NoRecords, IsQuiet, HasEvent, client_acted}
 use Rattle.dso_legal.proofs.blocks.OwnActs.{IsNextAct, next_act}
 use Rattle.dso_legal.proofs.channels.AfterEntry.{OwnTurn, OtherTurn, ServerTurn, own_turn, other_turn, server_turn}
 use Rattle.dso_legal.proofs.channels.InFlight.{said_of, told_to, said_status}
 use Rattle.dso_legal.proofs.copies.ChangesSent.{changes_down}
-use Rattle.dso_legal.proofs.copies.ServerMessages.{IsOfLease, IsWake, TellsObject, TellsRecord, IsTold, IsToldOn, what_is_told}
+use Rattle.dso_legal.proofs.copies.ServerMessages.{IsOfLease, IsWake, IsTold, IsToldOn, what_is_told}
 use Rattle.dso_legal.proofs.ids.Making.{IsNew, only_new}
-use Rattle.dso_legal.proofs.leases.LeaseSteps.{unless_true, if_true}
 use Rattle.dso_legal.proofs.objects.StoredBodies.{value_of_many}
 use Rattle.dso_legal.proofs.objects.OwnObjects.{IsOthers, worked_more, work_alone}
 use Rattle.dso_legal.proofs.fitting.InHand.{BodyHas, SetHas, WorkHas, ActHas, each_filtered, each_of_two, each_so, start_has, act_has, body_more, work_more}
 use Rattle.dso_legal.proofs.fitting.Messages.{kept_after, UpHas, DownHas, ClassHas, ValueHas, StoredHas, class_taken, value_taken, class_sent, value_sent, stored_taken}
 use Rattle.dso_legal.proofs.fitting.Replies.{IsReal, ReplyHas, SawHas, MayTell, CopiesHave, reply_has}
-use Rattle.dso_legal.proofs.fitting.ClassesMade.{IsActOf, IsFresh, fresh, class_of_new, class_stays}
+use Rattle.dso_legal.proofs.fitting.ClassesMade.{fresh, class_of_new, class_stays}
 
 -- the first that is taken is one of those in flight, and the others stay
 pub first_of : {M : Type 0} (P : M → Type 0) (m : M) (letters : List (Letter M)) → IsFirst m letters → AllByRecursion P (messages letters) → P m

@@ -1,6 +1,5 @@
 -- Classes are kept: no object's class or size changes.
-use Rattle.std.specs.List.{AllByRecursion}
-use Rattle.std.proofs.Common.{ℕ, ◌≡◌, refl, sym, subst, Option, Some, None, List, [], ◌∷◌}
+use Rattle.std.proofs.Common.{ℕ, ◌≡◌, subst, Option, Some, None, List, ◌∷◌}
 use Rattle.dso_base.specs.declared.journal.Entry.{Entry}
 use Rattle.dso_base.specs.declared.journal.Node.TheVariants.{Server, Client}
 use Rattle.dso_base.specs.declared.lock.ThreadId.{ThreadId}
@@ -27,8 +26,8 @@ use Rattle.dso_law.specs.Threads.{work_of}
 use Rattle.dso_legal.specs.Agreement.{messages}
 use Rattle.dso_legal.specs.ClassesKept.{class_made, IsAsMade, CarriesUpAsMade, CarriesDownAsMade, SawAsMade, LooksAsMade, KeepsClasses, ClassesAreKept}
 use Rattle.dso_legal.specs.Lawful.{AllFollow}
-use Rattle.dso_legal.proofs.fitting.InHand.{BodyHas, each_so}
-use Rattle.dso_legal.proofs.fitting.Messages.{UpHas, DownHas, ClassHas, StoredHas}
+use Rattle.dso_legal.proofs.fitting.InHand.{each_so}
+use Rattle.dso_legal.proofs.fitting.Messages.{ClassHas, StoredHas}
 use Rattle.dso_legal.proofs.fitting.Replies.{ReplyHas}
 use Rattle.dso_legal.proofs.fitting.Carried.{C, EventHas, UpNow, DownNow, BodyNow, Brings, Keeps, AllHave, carried}
 

@@ -1,6 +1,6 @@
 -- The class and the size with which an object was made stay so: no object is made twice, and none is object 0.
 use Rattle.std.specs.List.{list_any}
-use Rattle.std.proofs.Common.{ℕ, zero, suc, ◌+◌, ◌*◌, ◌<◌, ◌≤◌, ◌≡◌, ◌≢◌, ◌⊎◌, inl, inr, refl, sym, ◌∙◌, ap, subst, Bool, true, false, cond, eqb, leb, ltb, ◌&&◌, ◌||◌, length, Option, Some, None, List, [], ◌∷◌, arith}
+use Rattle.std.proofs.Common.{ℕ, ◌+◌, ◌*◌, ◌≤◌, ◌≡◌, ◌≢◌, ◌⊎◌, inl, inr, refl, sym, ◌∙◌, ap, subst, Bool, true, false, cond, eqb, leb, ltb, ◌&&◌, ◌||◌, length, Option, Some, None, List, [], ◌∷◌, arith}
 use Rattle.dso_base.specs.declared.journal.Entry.{Entry}
 use Rattle.dso_base.specs.declared.journal.Input.{Input}
 use Rattle.dso_base.specs.declared.journal.Input.TheVariants as input
@@ -21,10 +21,10 @@ use Rattle.dso_law.specs.Settings.{Settings}
 use Rattle.dso_law.specs.Entries.{entries_of, by_event}
 use Rattle.dso_law.specs.Records.{next_id}
 use Rattle.dso_law.specs.Replies.{woken_by}
-use Rattle.dso_law.specs.ServerReadings.{Batch, batches_given, counted, is_given_to}
+use Rattle.dso_law.specs.ServerReadings.{Batch, batches_given, counted}
 use Rattle.dso_law.specs.ServerStep.{ServerStepOn}
 use Rattle.dso_legal.specs.ClassesKept.{class_asked, class_by_reply, class_by, class_made}
-use Rattle.dso_legal.specs.Lawful.{next_after, ServerFollows, ClientFollows, NodeFollows, MayFollow, AllFollow}
+use Rattle.dso_legal.specs.Lawful.{next_after, NodeFollows, MayFollow, AllFollow}
 use Rattle.dso_legal.specs.MadeOnce.{objects_by_reply, objects_by, objects_made, is_made, MadeOnce}
 use Rattle.dso_legal.proofs.blocks.OwnActs.{IsNextAct, next_act}
 use Rattle.dso_legal.proofs.ids.GivenOnce.{InTurn, gives, within, in_turn}

@@ -1,6 +1,6 @@
 -- What holds of the classes and the fields of the objects that a thread has in hand, and how its acts keep it.
 use Rattle.std.specs.List.{AllByRecursion}
-use Rattle.std.proofs.Common.{ℕ, zero, suc, ◌+◌, ◌<◌, ◌≡◌, ◌⊎◌, inl, inr, refl, sym, ◌∙◌, ap, subst, Bool, true, false, cond, eqb, ltb, is_some, Option, Some, None, List, [], ◌∷◌, ◌++◌, length, slice_get, arith}
+use Rattle.std.proofs.Common.{ℕ, zero, suc, ◌+◌, ◌<◌, ◌≡◌, ◌⊎◌, inl, inr, refl, sym, ◌∙◌, ap, subst, Bool, true, false, cond, eqb, ltb, is_some, Option, Some, List, [], ◌∷◌, ◌++◌, length, slice_get, arith}
 use Rattle.std.specs.Prelude.{filter, slice_set}
 use Rattle.dso_base.specs.Block.{Work, start, body_in, opening_value, opening_from, opening_body, with_value, is_published, insert_body, insert_bodies, is_same_field, is_field_before, insert_set, publish, put_shared, put, work_by}
 use Rattle.dso_base.specs.declared.lock.ThreadId.{ThreadId}

@@ -1,41 +1,31 @@
 -- Each lock that a thread holds or waits on is there, and so is each that its client asks for.
-use Rattle.std.specs.List.{list_any, AllByRecursion}
-use Rattle.std.specs.Prelude.{filter}
-use Rattle.std.proofs.Common.{ℕ, ◌<◌, ◌≤◌, ◌≡◌, ◌≢◌, ◌⊎◌, inl, inr, refl, sym, ◌∙◌, ap, subst, Bool, true, false, cond, not, eqb, ◌&&◌, ◌||◌, is_some, Option, Some, None, List, [], ◌∷◌, ◌++◌, map, drop, arith}
+use Rattle.std.specs.List.{AllByRecursion}
+use Rattle.std.proofs.Common.{ℕ, ◌<◌, ◌≡◌, ◌≢◌, refl, sym, ◌∙◌, ap, subst, Bool, true, false, cond, not, Option, Some, None, List, [], ◌∷◌}
 use Rattle.dso_base.specs.declared.journal.Entry.{Entry}
-use Rattle.dso_base.specs.declared.journal.Input.{Input}
-use Rattle.dso_base.specs.declared.journal.Input.TheVariants as input
-use Rattle.dso_base.specs.declared.journal.Node.{Node}
-use Rattle.dso_base.specs.declared.journal.Node.TheVariants.{Server, Client}
-use Rattle.dso_base.specs.declared.journal.Sent.TheVariants.{ToServer}
+use Rattle.dso_base.specs.declared.journal.Node.TheVariants.{Client}
 use Rattle.dso_base.specs.declared.lock.Level.{Level}
-use Rattle.dso_base.specs.declared.lock.Level.TheVariants.{Read, Write}
+use Rattle.dso_base.specs.declared.lock.Level.TheVariants.{Write}
 use Rattle.dso_base.specs.declared.lock.LockName.{LockName}
 use Rattle.dso_base.specs.declared.lock.LockName.TheVariants.{Mon, Name}
 use Rattle.dso_base.specs.declared.lock.ThreadId.{ThreadId}
-use Rattle.dso_base.specs.declared.message.Up.{Up}
-use Rattle.dso_base.specs.declared.message.Up.TheVariants as up
-use Rattle.dso_base.specs.declared.record.Ending.{Ending}
 use Rattle.dso_base.specs.declared.request.Event.{Event}
-use Rattle.dso_base.specs.declared.request.Event.TheVariants.{Act}
 use Rattle.dso_base.specs.declared.request.Reply.{Reply}
 use Rattle.dso_base.specs.declared.request.Reply.TheVariants.{Done}
 use Rattle.dso_base.specs.declared.request.Request.{Request}
-use Rattle.dso_base.specs.declared.request.Request.TheVariants.{New, Look, Get, Put, Enter, Exit, Wait, Resume, Settle}
+use Rattle.dso_base.specs.declared.request.Request.TheVariants.{Enter, Exit, Wait, Resume}
 use Rattle.dso_base.specs.declared.value.Value.TheVariants as value
 use Rattle.dso_base.specs.Following.{is_thread}
 use Rattle.dso_plain.specs.After.{entered, exited}
 use Rattle.dso_plain.specs.KeyTests.{is_lock}
 use Rattle.dso_plain.specs.State.{Hold}
-use Rattle.dso_plain.proofs.keys.SameKeys.{same_number, same_thread, same_lock}
+use Rattle.dso_plain.proofs.keys.SameKeys.{same_thread, same_lock}
 use Rattle.dso_law.specs.FitsDown.{IsWaitingOn}
 use Rattle.dso_law.specs.RequestNeeds.{hold_level}
-use Rattle.dso_law.specs.Replies.{monitor_reply, reply_of, woken_by}
+use Rattle.dso_law.specs.Replies.{monitor_reply, reply_of}
 use Rattle.dso_law.specs.Settings.{Settings}
-use Rattle.dso_law.specs.Entries.{entries_of, by_event, events_in, unsent}
-use Rattle.dso_law.specs.Threads.{Held, Waiting, Locks, hold_in, set_hold, with_hold, waiting_on, resumed, locks_by, locks_after, locks_of, hold_of}
+use Rattle.dso_law.specs.Entries.{entries_of, by_event, events_in}
+use Rattle.dso_law.specs.Threads.{Held, Waiting, Locks, hold_in, set_hold, with_hold, resumed, locks_by, locks_after, locks_of, hold_of}
 use Rattle.dso_legal.specs.Lawful.{next_after, AllFollow}
-use Rattle.dso_legal.specs.PendingBlocks.{no_locks, locks_through}
 use Rattle.dso_legal.specs.SoundProgram.{IsSound, GivesKnownTexts, IsToldLock}
 use Rattle.dso_legal.specs.ValuesFine.{IsFine}
 use Rattle.dso_legal.specs.WithinShape.{IsLockThere, StaysWithinShape}

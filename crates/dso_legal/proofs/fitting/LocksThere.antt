@@ -1,14 +1,13 @@
 -- Each lock that a client asks for is there, as its request comes.
 use Rattle.std.specs.List.{list_any, AllByRecursion}
-use Rattle.std.proofs.Common.{ℕ, suc, ◌≤◌, ◌≡◌, ◌≢◌, ◌⊎◌, inl, inr, refl, sym, ◌∙◌, ap, subst, Bool, true, false, cond, not, eqb, ◌&&◌, ◌||◌, is_some, Option, Some, None, List, [], ◌∷◌, ◌++◌, map, drop, arith}
+use Rattle.std.proofs.Common.{ℕ, ◌≡◌, ◌⊎◌, inl, inr, refl, sym, ◌∙◌, ap, subst, Bool, true, false, cond, not, eqb, ◌&&◌, ◌||◌, is_some, Option, Some, None, List, [], ◌∷◌, ◌++◌, map, drop}
 use Rattle.dso_base.specs.declared.journal.Entry.{Entry}
 use Rattle.dso_base.specs.declared.journal.Input.{Input}
 use Rattle.dso_base.specs.declared.journal.Input.TheVariants as input
 use Rattle.dso_base.specs.declared.journal.Node.{Node}
 use Rattle.dso_base.specs.declared.journal.Node.TheVariants.{Server, Client}
-use Rattle.dso_base.specs.declared.journal.Sent.TheVariants.{ToServer}
 use Rattle.dso_base.specs.declared.lock.Level.{Level}
-use Rattle.dso_base.specs.declared.lock.Level.TheVariants.{Read, Write}
+use Rattle.dso_base.specs.declared.lock.Level.TheVariants.{Write}
 use Rattle.dso_base.specs.declared.lock.LockName.{LockName}
 use Rattle.dso_base.specs.declared.lock.LockName.TheVariants.{Mon, Name}
 use Rattle.dso_base.specs.declared.lock.ThreadId.{ThreadId}
@@ -18,14 +17,13 @@ use Rattle.dso_base.specs.declared.record.Ending.{Ending}
 use Rattle.dso_base.specs.declared.request.Event.{Event}
 use Rattle.dso_base.specs.declared.request.Event.TheVariants.{Act}
 use Rattle.dso_base.specs.declared.request.Request.{Request}
-use Rattle.dso_base.specs.declared.request.Request.TheVariants.{New, Look, Get, Put, Enter, Exit, Wait, Tick, Timeout, Resume, Notify, NotifyAll, Print, End, Pause, Settle}
+use Rattle.dso_base.specs.declared.request.Request.TheVariants.{New, Look, Get, Put, Enter, Resume, Settle}
 use Rattle.dso_base.specs.declared.value.ClassId.{ClassId}
-use Rattle.dso_base.specs.declared.value.Value.TheVariants as value
 use Rattle.dso_plain.specs.KeyTests.{is_lock}
 use Rattle.dso_plain.proofs.keys.SameKeys.{same_number}
 use Rattle.dso_law.specs.Settings.{Settings, threads_of}
 use Rattle.dso_law.specs.Entries.{entries_of, by_event, unsent}
-use Rattle.dso_law.specs.Channels.{Letter, up_in_flight, IsFirst, takes_up}
+use Rattle.dso_law.specs.Channels.{up_in_flight, takes_up}
 use Rattle.dso_law.specs.ClientStep.{record_of, commits, returns, asks_again, DoesOrAsks, ActsOn, ClientStepOn}
 use Rattle.dso_law.specs.ClientWaiters.{client_list, is_marked}
 use Rattle.dso_law.specs.Closing.{is_closing, admits, due}
@@ -37,7 +35,7 @@ use Rattle.dso_law.specs.Records.{next_id, is_batch_asked, is_settled}
 use Rattle.dso_law.specs.Replies.{woken_by}
 use Rattle.dso_law.specs.RequestNeeds.{Need, NeedsId, NeedsObject, NeedsClass, NeedsMark, NeedsLease, NeedsOthersOut, NeedsAck, is_enough, unless, first_unmet, is_seen_class, is_in_conflict, unmet, ask_for}
 use Rattle.dso_law.specs.ServerReadings.{counted, batches_given}
-use Rattle.dso_law.specs.Threads.{Waiting, Locks, last_seen, own, is_local, locks_of, hold_of, ending_of, locks_after}
+use Rattle.dso_law.specs.Threads.{Waiting, last_seen, own, is_local, locks_of, hold_of, ending_of, locks_after}
 use Rattle.dso_legal.specs.Agreement.{messages}
 use Rattle.dso_legal.specs.ClassesKept.{class_made}
 use Rattle.dso_legal.specs.Lawful.{next_after, ClientFollows, NodeFollows, AllFollow}
@@ -45,7 +43,7 @@ use Rattle.dso_legal.specs.LocksThere.{LocksAreThere}
 use Rattle.dso_legal.specs.SoundProgram.{IsSound, GivesKnownTexts}
 use Rattle.dso_legal.specs.WithinShape.{StaysWithinShape}
 use Rattle.dso_legal.proofs.blocks.OwnActs.{IsNextAct, next_act}
-use Rattle.dso_legal.proofs.channels.AfterEntry.{OwnTurn, OtherTurn, ServerTurn, own_turn, other_turn, server_turn}
+use Rattle.dso_legal.proofs.channels.AfterEntry.{OwnTurn, ServerTurn, own_turn, other_turn, server_turn}
 use Rattle.dso_legal.proofs.channels.InFlight.{said_of, said_all}
 use Rattle.dso_legal.proofs.leases.ClientLeases.{ask_is}
 use Rattle.dso_legal.proofs.ids.GivenOnce.{in_turn}

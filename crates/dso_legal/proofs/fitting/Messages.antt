@@ -1,7 +1,6 @@
 -- What messages carry of classes and fields, and what a client's copies and the server's graph have of them.
 use Rattle.std.specs.List.{AllByRecursion}
-use Rattle.std.proofs.Common.{ℕ, ◌≡◌, ◌⊎◌, inl, inr, refl, sym, ◌∙◌, ap, subst, Bool, true, false, cond, eqb, ◌&&◌, Option, Some, None, List, [], ◌∷◌, ◌++◌, length, slice_get}
-use Rattle.std.specs.Prelude.{filter, slice_set}
+use Rattle.std.proofs.Common.{ℕ, ◌≡◌, refl, sym, ◌∙◌, subst, Bool, true, false, cond, eqb, Option, Some, None, List, [], ◌∷◌, length, slice_get}
 use Rattle.dso_base.specs.declared.message.Down.{Down}
 use Rattle.dso_base.specs.declared.message.Down.TheVariants as down
 use Rattle.dso_base.specs.declared.message.Up.{Up}

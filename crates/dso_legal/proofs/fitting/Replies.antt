@@ -1,26 +1,22 @@
 -- What a client answers tells only of classes and values that it has, of its thread's own objects and of its copies.
-use Rattle.std.specs.List.{AllByRecursion}
-use Rattle.std.proofs.Common.{ℕ, ◌≡◌, ◌≢◌, ◌⊎◌, inl, inr, refl, sym, ◌∙◌, ap, subst, Bool, true, false, cond, eqb, ltb, Option, Some, None, List, [], ◌∷◌, length, slice_get}
+use Rattle.std.proofs.Common.{ℕ, ◌≡◌, ◌≢◌, refl, subst, Bool, true, false, cond, Option, Some, None, List, length, slice_get}
 use Rattle.std.specs.Prelude.{option_map}
-use Rattle.dso_base.specs.Block.{Work, body_in}
+use Rattle.dso_base.specs.Block.{body_in}
 use Rattle.dso_base.specs.declared.journal.Entry.{Entry}
-use Rattle.dso_base.specs.declared.lock.Level.{Level}
-use Rattle.dso_base.specs.declared.lock.Level.TheVariants.{Read, Write}
 use Rattle.dso_base.specs.declared.lock.ThreadId.{ThreadId}
 use Rattle.dso_base.specs.declared.record.Body.{Body}
 use Rattle.dso_base.specs.declared.request.Reply.{Reply}
-use Rattle.dso_base.specs.declared.request.Reply.TheVariants.{Done, Made, Seen, Val, Local, Refused}
+use Rattle.dso_base.specs.declared.request.Reply.TheVariants.{Made, Seen, Val}
 use Rattle.dso_base.specs.declared.request.Request.{Request}
-use Rattle.dso_base.specs.declared.request.Request.TheVariants.{New, Look, Get, Put, Enter, Exit, Wait, Tick, Timeout, Resume, Notify, NotifyAll, Print, End, Pause, Settle}
+use Rattle.dso_base.specs.declared.request.Request.TheVariants.{Look, Get, Tick, Timeout}
 use Rattle.dso_base.specs.declared.value.ClassId.{ClassId}
 use Rattle.dso_base.specs.declared.value.Value.{Value}
 use Rattle.dso_base.specs.declared.value.Value.TheVariants as value
 use Rattle.dso_base.specs.Following.{IsListed}
 use Rattle.dso_law.specs.Settings.{Settings}
 use Rattle.dso_law.specs.Threads.{own, or_else, work_of}
-use Rattle.dso_law.specs.Copies.{is_resident, value_held, class_held, copy_of, value_by_sets}
+use Rattle.dso_law.specs.Copies.{is_resident, value_held, class_held, copy_of}
 use Rattle.dso_law.specs.ClientWaiters.{is_marked}
-use Rattle.dso_law.specs.Records.{next_id}
 use Rattle.dso_law.specs.Replies.{class_of_body, class_known, value_seen, value_in, timeout_reply, reply_of}
 use Rattle.dso_legal.proofs.blocks.OwnActs.{reply_listed}
 use Rattle.dso_legal.proofs.objects.FoundBodies.{found_is}

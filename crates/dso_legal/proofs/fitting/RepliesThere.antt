@@ -1,21 +1,18 @@
 -- Replies are there: a place that a thread uses is below the size of its object.
-use Rattle.std.specs.List.{Any, AllByRecursion}
 use Rattle.std.specs.Prelude.{option_map, is_some}
-use Rattle.std.proofs.Common.{ℕ, ◌<◌, ◌≡◌, ◌≢◌, ◌⊎◌, inl, inr, refl, sym, ◌∙◌, ap, subst, Bool, true, false, cond, eqb, ltb, ◌||◌, Option, Some, None, List, [], ◌∷◌, length, slice_get, arith}
+use Rattle.std.proofs.Common.{ℕ, ◌<◌, ◌≡◌, ◌≢◌, inl, inr, refl, sym, ◌∙◌, ap, subst, Bool, true, false, cond, eqb, ◌||◌, Option, Some, None, List, length, slice_get}
 use Rattle.std.proofs.lemmas.Bool.{lt-ltb}
 use Rattle.dso_base.specs.declared.journal.Entry.{Entry}
 use Rattle.dso_base.specs.declared.journal.Node.TheVariants.{Client}
 use Rattle.dso_base.specs.declared.lock.ThreadId.{ThreadId}
 use Rattle.dso_base.specs.declared.record.Body.{Body}
 use Rattle.dso_base.specs.declared.request.Event.{Event}
-use Rattle.dso_base.specs.declared.request.Reply.{Reply}
 use Rattle.dso_base.specs.declared.request.Reply.TheVariants.{Made, Seen, Val}
 use Rattle.dso_base.specs.declared.request.Request.{Request}
 use Rattle.dso_base.specs.declared.request.Request.TheVariants.{New, Look, Get, Put}
 use Rattle.dso_base.specs.declared.shape.ClassShape.{ClassShape}
 use Rattle.dso_base.specs.declared.value.ClassId.{ClassId}
 use Rattle.dso_base.specs.declared.value.ClassId.TheVariants.{Plain, Array, Roots}
-use Rattle.dso_base.specs.declared.value.Value.{Value}
 use Rattle.dso_base.specs.Shape.{fields_of}
 use Rattle.dso_plain.specs.Possible.{IsFieldCount}
 use Rattle.dso_law.specs.Settings.{Settings}
@@ -31,7 +28,6 @@ use Rattle.dso_legal.specs.Lawful.{next_after, AllFollow}
 use Rattle.dso_legal.specs.RepliesThere.{RepliesAreThere}
 use Rattle.dso_legal.specs.SoundProgram.{IsSound, GivesKnownTexts}
 use Rattle.dso_legal.specs.WithinShape.{HasPlace, IsLookAt, KnowsPlace, StaysWithinShape}
-use Rattle.dso_legal.proofs.fitting.InHand.{BodyHas}
 use Rattle.dso_legal.proofs.fitting.Messages.{ClassHas}
 use Rattle.dso_legal.proofs.fitting.Replies.{known_has}
 use Rattle.dso_legal.proofs.fitting.HeldWhole.{value_within, still_set, resident_classed, field_held}

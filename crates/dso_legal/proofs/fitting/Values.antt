@@ -10,15 +10,13 @@ use Rattle.dso_base.specs.declared.message.Down.TheVariants as down
 use Rattle.dso_base.specs.declared.message.Up.{Up}
 use Rattle.dso_base.specs.declared.message.Up.TheVariants as up
 use Rattle.dso_base.specs.declared.record.Body.{Body}
-use Rattle.dso_base.specs.declared.record.Set.{Set}
 use Rattle.dso_base.specs.declared.request.Event.{Event}
 use Rattle.dso_base.specs.declared.request.Event.TheVariants.{Act, Lost}
 use Rattle.dso_base.specs.declared.request.Reply.{Reply}
 use Rattle.dso_base.specs.declared.request.Reply.TheVariants.{Done, Made, Seen, Val, Local, Refused}
 use Rattle.dso_base.specs.declared.request.Request.{Request}
-use Rattle.dso_base.specs.declared.request.Request.TheVariants.{New, Look, Get, Put, Enter, Exit, Wait, Tick, Timeout, Resume, Notify, NotifyAll, Print, End, Pause, Settle}
+use Rattle.dso_base.specs.declared.request.Request.TheVariants.{New, Look, Put, Print}
 use Rattle.dso_base.specs.declared.shape.ClassShape.{ClassShape}
-use Rattle.dso_base.specs.declared.shape.Shape.{Shape}
 use Rattle.dso_base.specs.declared.value.ClassId.{ClassId}
 use Rattle.dso_base.specs.declared.value.ClassId.TheVariants.{Plain, Array, Roots}
 use Rattle.dso_base.specs.declared.value.Kind.{Kind}
@@ -40,13 +38,13 @@ use Rattle.dso_law.specs.Threads.{work_of}
 use Rattle.dso_legal.specs.Agreement.{messages}
 use Rattle.dso_legal.specs.ClassesKept.{class_asked, class_by, class_by_reply, class_made}
 use Rattle.dso_legal.specs.Lawful.{next_after, AllFollow}
-use Rattle.dso_legal.specs.SoundProgram.{IsSound, GivesKnownTexts, KeepsTo, NamesOnlyTold, IsToldValue, IsToldText, IsTextAmong, GivesTextsAmong, tells, event_tells, event_tells_text, was_told}
-use Rattle.dso_legal.specs.ValuesFine.{IsFine, FitsField, IsFineBody, IsFineSet, IsFineWork, IsFineRecord, CarriesUpFine, CarriesDownFine, TellsFine, EventTellsFine, KeepsValues, ValuesAreFine}
-use Rattle.dso_legal.specs.WithinShape.{HasPlace, IsLookAt, KnowsClass, KnowsPlace, UsesWhatIsThere, StaysWithinShape}
-use Rattle.dso_legal.proofs.blocks.OwnActs.{IsNextAct, threads_follow, threads_wait, own_acts}
-use Rattle.dso_legal.proofs.fitting.InHand.{BodyHas, SetHas, WorkHas, each_so}
-use Rattle.dso_legal.proofs.fitting.Messages.{UpHas, DownHas, ValueHas, StoredHas}
-use Rattle.dso_legal.proofs.fitting.Replies.{IsReal, ReplyHas}
+use Rattle.dso_legal.specs.SoundProgram.{IsSound, GivesKnownTexts, KeepsTo, IsToldValue, IsToldText, IsTextAmong, GivesTextsAmong, tells, event_tells, event_tells_text}
+use Rattle.dso_legal.specs.ValuesFine.{IsFine, FitsField, IsFineBody, IsFineWork, CarriesUpFine, CarriesDownFine, TellsFine, EventTellsFine, KeepsValues, ValuesAreFine}
+use Rattle.dso_legal.specs.WithinShape.{HasPlace, IsLookAt, KnowsPlace, UsesWhatIsThere, StaysWithinShape}
+use Rattle.dso_legal.proofs.blocks.OwnActs.{threads_follow, threads_wait, own_acts}
+use Rattle.dso_legal.proofs.fitting.InHand.{each_so}
+use Rattle.dso_legal.proofs.fitting.Messages.{ValueHas, StoredHas}
+use Rattle.dso_legal.proofs.fitting.Replies.{ReplyHas}
 use Rattle.dso_legal.proofs.fitting.ClassesMade.{IsActOf, what_acts, class_of_new, class_stays}
 use Rattle.dso_legal.proofs.fitting.Carried.{C, EventHas, UpNow, DownNow, BodyNow, WorkNow, Brings, Keeps, AllHave, carried}
 

@@ -1,7 +1,7 @@
 -- What comes fits the shape, since classes are kept and values are fine.
 use Rattle.std.specs.List.{list_any, AllByRecursion}
 use Rattle.std.specs.Prelude.{flat_map}
-use Rattle.std.proofs.Common.{ℕ, zero, suc, ◌+◌, ◌<◌, ◌≤◌, ◌≡◌, ◌≢◌, ◌⊎◌, inl, inr, refl, sym, ◌∙◌, ap, subst, Bool, true, false, cond, eqb, ◌&&◌, ◌||◌, Option, Some, None, List, [], ◌∷◌, ◌++◌, map, length, slice_get, arith}
+use Rattle.std.proofs.Common.{ℕ, suc, ◌+◌, ◌<◌, ◌≤◌, ◌≡◌, ◌≢◌, inl, inr, refl, sym, ◌∙◌, ap, subst, Bool, true, false, eqb, ◌&&◌, ◌||◌, Option, Some, None, List, [], ◌∷◌, map, length, slice_get, arith}
 use Rattle.dso_base.specs.declared.journal.Entry.{Entry}
 use Rattle.dso_base.specs.declared.journal.Node.TheVariants.{Server, Client}
 use Rattle.dso_base.specs.declared.lock.ThreadId.{ThreadId}
@@ -24,25 +24,25 @@ use Rattle.dso_base.specs.Value.{Fits}
 use Rattle.dso_plain.specs.Possible.{CanBeMade}
 use Rattle.dso_law.specs.Settings.{Settings}
 use Rattle.dso_law.specs.Entries.{entries_of}
-use Rattle.dso_law.specs.Channels.{up_in_flight, down_in_flight, IsFirst}
-use Rattle.dso_law.specs.Copies.{is_resident, class_held}
-use Rattle.dso_law.specs.FitsDown.{FitFrom, HasSize, FitsShape, FitsClass, FitsChange}
+use Rattle.dso_law.specs.Channels.{up_in_flight, down_in_flight}
+use Rattle.dso_law.specs.Copies.{class_held}
+use Rattle.dso_law.specs.FitsDown.{FitFrom, FitsShape, FitsClass, FitsChange}
 use Rattle.dso_law.specs.FitsUp.{IsPrinted, IsLiteral, stored_values}
-use Rattle.dso_law.specs.ServerReadings.{Batch, batches_given, counted, is_in_batch, is_given, is_given_to}
+use Rattle.dso_law.specs.ServerReadings.{Batch, batches_given, counted, is_in_batch, is_given}
 use Rattle.dso_law.specs.Store.{stored}
 use Rattle.dso_legal.specs.ClassesKept.{class_made}
 use Rattle.dso_legal.specs.Lawful.{AllFollow}
 use Rattle.dso_legal.specs.NewsAreNew.{IsUnknown, PublishesUnknown}
 use Rattle.dso_legal.specs.SoundProgram.{IsSound, GivesKnownTexts}
-use Rattle.dso_legal.specs.ValuesFine.{IsFine, FitsField}
+use Rattle.dso_legal.specs.ValuesFine.{FitsField}
 use Rattle.dso_legal.specs.ValuesFit.{IsShapedNews, FitsStoredField, FitsValues, ValuesFitUp, ValuesFitDown, ValuesFit}
 use Rattle.dso_legal.specs.WithinShape.{StaysWithinShape}
 use Rattle.dso_legal.proofs.ids.GivenOnce.{in_turn}
 use Rattle.dso_legal.proofs.ids.MadeOnce.{made_once}
 use Rattle.dso_legal.proofs.records.NewsAreNew.{news_unknown}
-use Rattle.dso_legal.proofs.fitting.InHand.{BodyHas, SetHas, each_of_two, each_so}
-use Rattle.dso_legal.proofs.fitting.Messages.{UpHas, DownHas, ClassHas, StoredHas}
-use Rattle.dso_legal.proofs.fitting.ClassesMade.{WasMade, class_known, given_from_one}
+use Rattle.dso_legal.proofs.fitting.InHand.{SetHas, each_of_two, each_so}
+use Rattle.dso_legal.proofs.fitting.Messages.{ClassHas, StoredHas}
+use Rattle.dso_legal.proofs.fitting.ClassesMade.{class_known, given_from_one}
 use Rattle.dso_legal.proofs.fitting.Carried.{C, BodyNow, UpNow, DownNow, AllHave, first_of}
 use Rattle.dso_legal.proofs.fitting.HeldWhole.{resident_classed}
 use Rattle.dso_legal.proofs.fitting.RepliesThere.{place_below}

@@ -2,7 +2,7 @@
 -- were told of. What may be asked goes by the whole list of a thread's events, so it is the same at each point of its run.
 use Rattle.std.specs.List.{list_any, Any, Contains}
 use Rattle.std.proofs.lemmas.List.Folds.{list_any-from_Any}
-use Rattle.std.proofs.Common.{◌≡◌, ◌<◌, ◌≤◌, ◌≢◌, inl, inr, refl, ℕ, zero, suc, Bool, true, false, eqb, ◌||◌, List, [], ◌∷◌, ◌++◌, length, Option, None, Some, subst, sym, ap, ◌∙◌, arith}
+use Rattle.std.proofs.Common.{◌≡◌, ◌<◌, ◌≢◌, inl, inr, refl, ℕ, suc, Bool, true, false, eqb, ◌||◌, List, [], ◌∷◌, ◌++◌, Option, subst, sym, ap, ◌∙◌, arith}
 use Rattle.dso_base.specs.declared.lock.LockName.{LockName}
 use Rattle.dso_base.specs.declared.lock.LockName.TheVariants.{Mon, Name}
 use Rattle.dso_base.specs.declared.lock.ThreadId.{ThreadId}
