@@ -6,6 +6,7 @@ pub mod leases
 pub mod records
 pub mod ids
 pub mod objects
+pub mod fitting
 pub mod acts
 pub mod copies
 pub mod blocks

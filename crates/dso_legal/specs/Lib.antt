@@ -9,6 +9,7 @@ pub mod GivenOnce
 pub mod Holds
 pub mod Residency
 pub mod MadeOnce
+pub mod ClassesKept
 pub mod OwnObjects
 pub mod NewsAreNew
 pub mod Sorted
@@ -16,6 +17,11 @@ pub mod PendingBlocks
 pub mod Resolved
 pub mod Line
 pub mod SoundProgram
+pub mod WithinShape
+pub mod ValuesFine
+pub mod RepliesThere
+pub mod ValuesFit
+pub mod LocksThere
 pub mod SoundCode
 pub mod WaitsAndLosses
 pub mod Works

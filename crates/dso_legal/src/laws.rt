@@ -7,6 +7,11 @@ ghost use Rattle.dso_legal.specs.Batches.{BatchesStayInOrder, BatchesFit};
 ghost use Rattle.dso_legal.specs.Holds.{HoldsAreWithinLeases, LeasesAreKnown, HoldsAreCompatible};
 ghost use Rattle.dso_legal.specs.Residency.{ResidencyAgrees, ObjectsFit, SetsAreResident};
 ghost use Rattle.dso_legal.specs.MadeOnce.{ObjectsAreMadeOnce};
+ghost use Rattle.dso_legal.specs.ClassesKept.{ClassesAreKept};
+ghost use Rattle.dso_legal.specs.ValuesFine.{ValuesAreFine};
+ghost use Rattle.dso_legal.specs.RepliesThere.{RepliesAreThere};
+ghost use Rattle.dso_legal.specs.ValuesFit.{ValuesFit};
+ghost use Rattle.dso_legal.specs.LocksThere.{LocksAreThere};
 ghost use Rattle.dso_legal.specs.OwnObjects.{ObjectsInHandAreOwn};
 ghost use Rattle.dso_legal.specs.NewsAreNew.{NewsAreNew};
 ghost use Rattle.dso_legal.specs.Sorted.{RecordsAreSorted};
@@ -16,7 +21,7 @@ ghost use Rattle.dso_legal.specs.Names.{NamesStayKnown, ObjectsAreMade};
 ghost use Rattle.dso_legal.specs.Views.{ActsArePossible};
 ghost use Rattle.dso_legal.specs.Central.{ClientsStand, CentralLaw, CommitsWhatWasMade};
 ghost use Rattle.dso_legal.specs.Store.{StoreIsHeap};
-ghost use Rattle.dso_legal.specs.SoundCode.{SoundCodeIsSoundProgram, SoundCodeGivesKnownTexts};
+ghost use Rattle.dso_legal.specs.SoundCode.{SoundCodeIsSoundProgram, SoundCodeGivesKnownTexts, SoundCodeStaysWithinShape};
 
 /// For each client that isn't lost and each lock: each message in flight may come where it stands, and once all are taken the
 /// client and the server say the same of the lock's lease.
@@ -108,6 +113,38 @@ pub fn objects_are_made_once()
     ensures { ObjectsAreMadeOnce }
 {}
 
+/// The class and the size of an object never change: what threads have in hand and saw, copies, messages in flight and the
+/// server's graph tell those with which it was made. All this holds of lost clients too.
+pub fn classes_are_kept()
+    ensures { ClassesAreKept }
+{}
+
+/// In a journal of a sound program that stays within its shape, every value fits the field that it stands in: in what threads
+/// have in hand, in copies, in flight and in the server's graph. An object that a value names, or that a thread was told of, was
+/// made; a text is one of the program's; and each object was made as its class allows. All this holds of lost clients too.
+pub fn values_are_fine()
+    ensures { ValuesAreFine }
+{}
+
+/// In a journal of a sound program that stays within its shape, the first message in flight in each direction fits the shape, of a
+/// lost client too: what a record publishes and sets fits the classes, what it prints was given out, its texts are literals; an
+/// object is of the roots exactly where it is object 0; each change of a resident object fits its field.
+pub fn values_fit()
+    ensures { ValuesFit }
+{}
+
+/// In a journal of a sound program that stays within its shape, a request of a lease that comes is of a name that the shape has, or
+/// of the monitor of an id that was given out, from a lost client too.
+pub fn locks_are_there()
+    ensures { LocksAreThere }
+{}
+
+/// In a journal of a sound program that stays within its shape, a client has a reply to the next request of each of its threads
+/// whose needs are met; so where a thread can't act, a need of it isn't met.
+pub fn replies_are_there()
+    ensures { RepliesAreThere }
+{}
+
 /// What a thread has private or has published in its open block, it made; it has it once, no record that was sent
 /// publishes it, and no other thread has it so.
 pub fn objects_in_hand_are_own()
@@ -179,10 +216,12 @@ pub fn store_is_heap()
 /// The code of a thread's machine, where it is sound, is a sound program: its threads name only what they were told, leave only
 /// locks that they hold, tick, time out (once for a wait) and resume only where they wait, end holding none, make only what
 /// the classes have, and go by the replies alone. Clause `texts`: they store and print no text but the program's and those that
-/// they read.
+/// they read. Clause `within`: they read and write only places that they looked at, roots that are there and values that fit;
+/// by name they enter only locks that are there; and they print no object but those that they were told of.
 pub fn sound_code_is_sound_program()
     ensures sound { SoundCodeIsSoundProgram }
     ensures texts { SoundCodeGivesKnownTexts }
+    ensures within { SoundCodeStaysWithinShape }
 {}
 
 /// **The central law.** A lawful journal without waits and losses, of a sound program, commits a legal history, in which each

@@ -24,7 +24,7 @@ use Rattle.dso_law.specs.Copies.{is_among}
 use Rattle.dso_law.specs.ServerReadings.{is_of_lost, counted, Batch, batches_given, is_in_batch, is_given_to}
 use Rattle.dso_law.specs.Store.{opening_roots, body_by_news, body_by_sets, body_by, stored}
 use Rattle.dso_legal.specs.Agreement.{messages, after}
-use Rattle.dso_legal.specs.Lawful.{IsLawful, AllFollow}
+use Rattle.dso_legal.specs.Lawful.{AllFollow}
 use Rattle.dso_legal.specs.MadeOnce.{is_made, MadeOnce}
 use Rattle.dso_legal.specs.NewsAreNew.{IsUnknown, PublishesUnknown, NewsAreNew}
 use Rattle.dso_legal.specs.OwnObjects.{count_bodies}
@@ -33,7 +33,7 @@ use Rattle.dso_legal.proofs.objects.BodyCounts.{count_there}
 use Rattle.dso_legal.proofs.records.BothEnds.{server_with, client_with}
 use Rattle.dso_legal.proofs.ids.GivenOnce.{InTurn, in_turn, gives, within}
 use Rattle.dso_legal.proofs.leases.LeaseSteps.{unless_true, if_true}
-use Rattle.dso_legal.proofs.ids.MadeOnce.{objects_are_made_once}
+use Rattle.dso_legal.proofs.ids.MadeOnce.{made_once}
 use Rattle.dso_legal.proofs.records.SentNews.{news_of, sent_news, sent_once, sent_made}
 use Rattle.dso_legal.proofs.channels.InFlight.{said_of, said_letters, said_status}
 
@@ -194,31 +194,31 @@ not_zero c o (b ∷ given) h e = by (gives c o b) refl e (not_zero c o given h.1
     by true f found later = from_one_on (length given) o (within o b.first (length given) h.0 (both (eqb b.client c) (is_in_batch o b) f).1).0
     by false f found later = later found
 
-module _ (p : Settings) (next : ThreadId → List Event → Option Request) (es : List Entry) (h : IsLawful p next es) where
+module _ (p : Settings) (next : ThreadId → List Event → Option Request) (es : List Entry) (follow : AllFollow p next es) where
   abbrev server : List Entry
   server = counted (entries_of Server es)
 
   once : MadeOnce es
-  once = objects_are_made_once p next es h
+  once = made_once p next es follow
 
   -- a record taken was sent, and its client made what it publishes
   taken_made : (c o : ℕ) → 1 ≤ taken_news o c server → is_made c o es ≡ true
-  taken_made c o le = sent_made o p next c es h.follow (through 1 (taken_news o c server) (sent_news o (entries_of (Client c) es)) le
+  taken_made c o le = sent_made o p next c es follow (through 1 (taken_news o c server) (sent_news o (entries_of (Client c) es)) le
       (through (taken_news o c server) (after (news_of o) (messages (up_in_flight c es)) (taken_news o c server)) (sent_news o (entries_of (Client c) es))
-      (none_less o (messages (up_in_flight c es)) (taken_news o c server)) (was_sent o p next c es h.follow)))
+      (none_less o (messages (up_in_flight c es)) (taken_news o c server)) (was_sent o p next c es follow)))
 
   -- an object that comes
   unknown : (c o news : ℕ) → news + taken_news o c server ≤ sent_news o (entries_of (Client c) es) → 1 ≤ news → (is_given_to c o server ≡ true) × (stored p.shape o server ≡ None)
-  unknown c o news le some = (given, not_stored o p.shape (not_zero c o (batches_given server) (in_turn p next es h.follow) given) server none)
+  unknown c o news le some = (given, not_stored o p.shape (not_zero c o (batches_given server) (in_turn p next es follow) given) server none)
     where
       mine : is_made c o es ≡ true
-      mine = sent_made o p next c es h.follow (some_there news (taken_news o c server) (sent_news o (entries_of (Client c) es)) le some)
+      mine = sent_made o p next c es follow (some_there news (taken_news o c server) (sent_news o (entries_of (Client c) es)) le some)
 
       given : is_given_to c o server ≡ true
       given = once.given c o mine
 
       own_none : taken_news o c server ≡ 0
-      own_none = none_left news (taken_news o c server) (sent_news o (entries_of (Client c) es)) le (sent_once o p next c es h.follow) some
+      own_none = none_left news (taken_news o c server) (sent_news o (entries_of (Client c) es)) le (sent_once o p next c es follow) some
 
       by : (d n : ℕ) → taken_news o d server ≡ n → taken_news o d server ≡ 0
       by d zero is = is
@@ -253,5 +253,10 @@ module _ (p : Settings) (next : ThreadId → List Event → Option Request) (es 
       by (up.Commit txn) most = each_of c txn.news txn.news (λ o e. e) (λ o e. unknown c o (count_bodies o txn.news) (most o) (count_there o txn.news e))
       by other most = tt
 
+-- after entries each of which follows those before it
+pub news_unknown : (p : Settings) (next : ThreadId → List Event → Option Request) (es : List Entry) → AllFollow p next es
+    → (c : ℕ) (m : Up) → IsFirst m (up_in_flight c es) → PublishesUnknown p c m (counted (entries_of Server es))
+news_unknown p next es follow c m f = first_unknown p next es follow c m (up_in_flight c es) f (λ o. was_sent o p next c es follow)
+
 pub news_are_new : NewsAreNew
-news_are_new p next es h c m f = first_unknown p next es h c m (up_in_flight c es) f (λ o. was_sent o p next c es h.follow)
+news_are_new p next es h = news_unknown p next es h.follow

@@ -1,6 +1,6 @@
 -- Calls keep to what may be asked.
-use Rattle.std.proofs.Common.{refl, ℕ, zero, suc, ◌-◌, List, [], ◌∷◌, ◌++◌, length, Option, None, Some}
-use Rattle.std.specs.Prelude.{nat_lt, replicate, slice_get}
+use Rattle.std.proofs.Common.{◌≡◌, refl, ℕ, zero, suc, ◌-◌, ◌≤◌, List, [], ◌∷◌, ◌++◌, length, Option, None, Some}
+use Rattle.std.specs.Prelude.{nat_lt, replicate, slice_get, IfSome}
 use Rattle.dso_base.specs.declared.lock.Grade.{Grade}
 use Rattle.dso_base.specs.declared.lock.LockName.TheVariants.{Mon, Name}
 use Rattle.dso_base.specs.declared.request.Fault.TheVariants.{NoSuchField, StackOverflow}
@@ -10,6 +10,7 @@ use Rattle.dso_base.specs.declared.value.Value.TheVariants as value
 use Rattle.dso_machine.specs.declared.code.Code.{Code}
 use Rattle.dso_machine.specs.declared.code.Method.{Method}
 use Rattle.dso_machine.specs.Calls.{lookup_class, variables, back_in, begin, invoke, under_name, under_monitor, run_method, call_method, call_number, call_in, call_on, arguments, MethodMeanings}
+use Rattle.dso_machine.specs.Sound.{IsMethodLock}
 use Rattle.dso_machine.specs.Outcome.{Environment, Outcome, Wants, Gives, Leaves, Fails, Hears, Over, Stopped, Meaning, look}
 use Rattle.dso_machine.proofs.protocol.Protocol.{KnowsValue, Keeper}
 use Rattle.dso_machine.proofs.protocol.Parts.{refilled, Obeys, keeps_on, KnowsAll, KnowsEnvironment, Fine, More, Part, all_later, environment_later, more_then, more_itself, part_later, part_fails, part_value, part_choose}
@@ -35,9 +36,11 @@ known_variables has_text knows count vs known = known_append has_text knows vs (
 -- ---- calls
 
 module _ {shape : Shape} (k : Keeper shape) where
-  -- the methods' bodies keep to what may be asked, from every point
-  pub record Bodies (ways : MethodMeanings) : Type 0 where
+  -- the methods' bodies keep to what may be asked, from every point; their named locks are there, and those of the roots
+  pub record Bodies (code : Code) (ways : MethodMeanings) : Type 0 where
     pub body : (m : ℕ) (g : k.Point) → Part k g (ways m)
+    pub locks : (m : ℕ) (method : Method) → slice_get code.methods m ≡ Some method → IfSome method.named (IsMethodLock shape)
+    pub roots : shape.roots ≤ shape.names
 
 module _ {shape : Shape} (k : Keeper shape) where
   -- at the end of a body the environment of the caller is the thread's again
@@ -52,7 +55,7 @@ module _ {shape : Shape} (k : Keeper shape) where
   back_at_end g caller environment (Hears r u) h fine = absurd fine
   back_at_end g caller environment Over h fine = absurd fine
 
-  module _ (ways : MethodMeanings) (bodies : Bodies k ways) where
+  module _ (code : Code) (ways : MethodMeanings) (bodies : Bodies k code ways) where
     -- a body in an environment of its own
     part_begin : (g : k.Point) (m : ℕ) (this : Value) (vars : List Value) → KnowsValue k.HasText (k.Knows g) this → KnowsAll k.HasText (k.Knows g) vars → Part k g (begin ways m this vars)
     part_begin g m this vars this_known vars_known = record {
@@ -67,38 +70,38 @@ module _ {shape : Shape} (k : Keeper shape) where
     part_invoke g m this vars this_known vars_known = part_moving k g (begin ways m this vars) (part_begin g m this vars this_known vars_known)
 
     -- a part under a method's named lock, if it has one,
-    part_under_name : (g : k.Point) (named : Option (ℕ × Grade)) (m : Meaning) → Part k g m → Part k g (under_name named m)
-    part_under_name g None m part = part
-    part_under_name g (Some lock) m part = part_under k g (Name lock.0) lock.1 m tt part
+    part_under_name : (g : k.Point) (named : Option (ℕ × Grade)) (m : Meaning) → IfSome named (IsMethodLock shape) → Part k g m → Part k g (under_name named m)
+    part_under_name g None m is part = part
+    part_under_name g (Some lock) m is part = part_under k g (Name lock.0) lock.1 m tt is.there part
 
     -- and under its object's monitor, if it takes it
     part_under_monitor : (g : k.Point) (synced : Option Grade) (object : ℕ) (m : Meaning) → k.Knows g object → Part k g m → Part k g (under_monitor synced object m)
     part_under_monitor g None object m known part = part
-    part_under_monitor g (Some grade) object m known part = part_under k g (Mon object) grade m known part
+    part_under_monitor g (Some grade) object m known part = part_under k g (Mon object) grade m known tt part
 
     -- a method of an object
-    part_run : (g : k.Point) (m : ℕ) (method : Method) (object : ℕ) (args : List Value) → k.Knows g object → KnowsAll k.HasText (k.Knows g) args → Part k g (run_method ways m method object args)
-    part_run g m method object args known args_known = part_under_name g method.named _ (part_under_monitor g method.synced object _ known
+    part_run : (g : k.Point) (m : ℕ) (method : Method) (object : ℕ) (args : List Value) → IfSome method.named (IsMethodLock shape) → k.Knows g object → KnowsAll k.HasText (k.Knows g) args → Part k g (run_method ways m method object args)
+    part_run g m method object args lock known args_known = part_under_name g method.named _ lock (part_under_monitor g method.synced object _ known
         (part_invoke g m (value.Ref object) (variables method.vars args) known (known_variables k.HasText (k.Knows g) method.vars args args_known)))
 
     -- a method that was found, if one more call may nest
-    part_method : (g : k.Point) (m object : ℕ) (args : List Value) (method : Option Method) → k.Knows g object → KnowsAll k.HasText (k.Knows g) args → Part k g (call_method ways m object args method)
-    part_method g m object args None known args_known = part_fails k g NoSuchField
-    part_method g m object args (Some method) known args_known = record {
+    part_method : (g : k.Point) (m object : ℕ) (args : List Value) (method : Option Method) → slice_get code.methods m ≡ method → k.Knows g object → KnowsAll k.HasText (k.Knows g) args → Part k g (call_method ways m object args method)
+    part_method g m object args None is known args_known = part_fails k g NoSuchField
+    part_method g m object args (Some method) is known args_known = record {
       from = λ h u more environment. (part_choose k g (nat_lt 0 u.environment.depth_left) (run_method ways m method object args) (Fails StackOverflow)
-          (λ may_nest. part_run g m method object args known args_known) (part_fails k g StackOverflow)).from h u more environment;
+          (λ may_nest. part_run g m method object args (bodies.locks m method is) known args_known) (part_fails k g StackOverflow)).from h u more environment;
     }
 
     -- the method of this number
-    part_number : (code : Code) (g : k.Point) (object : ℕ) (args : List Value) (number : Option ℕ) → k.Knows g object → KnowsAll k.HasText (k.Knows g) args → Part k g (call_number code ways object args number)
-    part_number code g object args None known args_known = part_fails k g NoSuchField
-    part_number code g object args (Some m) known args_known = part_method g m object args (slice_get code.methods m) known args_known
+    part_number : (g : k.Point) (object : ℕ) (args : List Value) (number : Option ℕ) → k.Knows g object → KnowsAll k.HasText (k.Knows g) args → Part k g (call_number code ways object args number)
+    part_number g object args None known args_known = part_fails k g NoSuchField
+    part_number g object args (Some m) known args_known = part_method g m object args (slice_get code.methods m) refl known args_known
 
     -- a call with its operands
-    pub part_call : (code : Code) (g : k.Point) (callees : List (ℕ × ℕ)) (x : Value) (args : List Value) → KnowsValue k.HasText (k.Knows g) x → KnowsAll k.HasText (k.Knows g) args → Part k g (call_on code ways callees x args)
-    part_call code g callees x args known args_known = part_object k g (λ object. look (call_in code ways callees args object) object) x known
+    pub part_call : (g : k.Point) (callees : List (ℕ × ℕ)) (x : Value) (args : List Value) → KnowsValue k.HasText (k.Knows g) x → KnowsAll k.HasText (k.Knows g) args → Part k g (call_on code ways callees x args)
+    part_call g callees x args known args_known = part_object k g (λ object. look (call_in code ways callees args object) object) x known
         (λ object object_known. part_look k g (call_in code ways callees args object) object object_known
-        (λ class size. part_number code g object args (lookup_class callees class) object_known args_known))
+        (λ h more class size looked. part_number h object args (lookup_class callees class) (more.knows object object_known) (all_later k g h more.knows args args_known)))
 
   -- ---- arguments
 

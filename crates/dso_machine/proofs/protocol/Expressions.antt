@@ -1,8 +1,9 @@
 -- Sound expressions keep to what may be asked.
-use Rattle.std.proofs.Common.{◌≡◌, refl, ℕ, zero, suc, ◌<◌, Bool, true, false, List, [], ◌∷◌, length, map, Option, None, Some, subst, sym}
-use Rattle.std.specs.Prelude.{ℤ, pos, negsuc, nat_le, cond, slice_index_or, slice_set, Ok, Err}
+use Rattle.std.proofs.Common.{◌≡◌, refl, ℕ, zero, suc, ◌<◌, ◌≤◌, arith, All, eqb, Bool, true, false, List, [], ◌∷◌, length, map, Option, None, Some, subst, sym}
+use Rattle.std.specs.Prelude.{ℤ, pos, negsuc, nat_le, nat_lt, cond, slice_index_or, slice_set, Ok, Err}
 use Rattle.std.specs.Ordering.{int_eq}
-use Rattle.std.proofs.lemmas.Bool.{leb-true}
+use Rattle.std.proofs.lemmas.Bool.{leb-true, eqb-true, ltb-true}
+use Rattle.std.proofs.lemmas.List.Elements.{All-head, All-tail}
 use Rattle.dso_base.specs.declared.lock.Grade.TheVariants as grade
 use Rattle.dso_base.specs.declared.lock.LockName.TheVariants.{Name}
 use Rattle.dso_base.specs.declared.op.Op.{Op}
@@ -14,7 +15,7 @@ use Rattle.dso_base.specs.declared.value.ClassId.TheVariants.{Plain, Array, Root
 use Rattle.dso_base.specs.declared.value.Kind.{Kind}
 use Rattle.dso_base.specs.declared.value.Value.{Value}
 use Rattle.dso_base.specs.declared.value.Value.TheVariants as value
-use Rattle.dso_base.specs.Shape.{fields_at}
+use Rattle.dso_base.specs.Shape.{HasField, fields_at}
 use Rattle.dso_machine.specs.declared.code.Code.{Code}
 use Rattle.dso_machine.specs.declared.tree.Expr.{Expr}
 use Rattle.dso_machine.specs.declared.tree.FieldRef.{FieldRef}
@@ -22,7 +23,7 @@ use Rattle.dso_machine.specs.Calls.{lookup, call_on, MethodMeanings}
 use Rattle.dso_machine.specs.Expressions.{field_at, field_in, field_of, within, element_at, element_in, element_of, root, make, new_array, a_boolean, second, expr}
 use Rattle.dso_machine.specs.Limits.{most_elements}
 use Rattle.dso_machine.specs.Outcome.{Gives, Fails, Meaning, on_next, result_of, get, look}
-use Rattle.dso_machine.specs.Sound.{Scope, IsLiteral, SoundExpr, SoundExprs}
+use Rattle.dso_machine.specs.Sound.{Scope, IsLiteral, ArePlaces, SoundExpr, SoundExprs}
 use Rattle.dso_machine.specs.Values.{binary_longs, binary, unary}
 use Rattle.dso_machine.proofs.forms.Equations.{expr_Const, expr_Var, expr_This, expr_Root, expr_Field, expr_Elem, expr_Call, expr_NewObject, expr_NewArray, expr_Unary, expr_Binary}
 use Rattle.dso_machine.proofs.protocol.Protocol.{KnowsValue, Keeper}
@@ -77,46 +78,77 @@ known_set has_text knows [] i v known here = tt
 known_set has_text knows (x ∷ vs) zero v known here = (here, known.1)
 known_set has_text knows (x ∷ vs) (suc i) v known here = (known.0, known_set has_text knows vs i v known.1 here)
 
+-- ---- places
+
+-- the place that a list has for a class is a field of it
+in_class : (shape : Shape) (class first place : ℕ) (others : Option ℕ) (b : Bool) (p : ℕ) → eqb first class ≡ b → HasField shape (Plain first) place
+    → (others ≡ Some p → HasField shape (Plain class) p) → cond b (Some place) others ≡ Some p → HasField shape (Plain class) p
+in_class shape class first place others true p is here rest found =
+    let same : place ≡ p = cc found in
+    subst (HasField shape (Plain class)) same (subst (λ c. HasField shape (Plain c) place) (eqb-true first class is) here)
+in_class shape class first place others false p is here rest found = rest found
+
+pub places_there : (shape : Shape) (places : List (ℕ × ℕ)) (class p : ℕ) → All (λ place. HasField shape (Plain place.0) place.1) places → lookup places class ≡ Some p → HasField shape (Plain class) p
+places_there shape [] class p there found = absurd (cc found)
+places_there shape (place ∷ places) class p there found = in_class shape class place.0 place.1 (lookup places class) (eqb place.0 class) p refl
+    (All-head (λ x. HasField shape (Plain x.0) x.1) place places there)
+    (places_there shape places class p (All-tail (λ x. HasField shape (Plain x.0) x.1) place places there)) found
+
+-- an index within the size is below it
+below : (i size p : ℕ) (b : Bool) → nat_lt i size ≡ b → cond b (Some i) None ≡ Some p → p < size
+below i size p true less found =
+    let same : i ≡ p = cc found in
+    subst (λ n. n < size) same (ltb-true i size less)
+below i size p false less found = absurd (cc found)
+
+pub within_below : (i : ℤ) (size p : ℕ) → within i size ≡ Some p → p < size
+within_below (pos i) size p found = below i size p (nat_lt i size) refl found
+within_below (negsuc i) size p found = absurd (cc found)
+
 module _ {shape : Shape} (k : Keeper shape) where
   -- ---- fields and elements
 
   -- a field of an object that is known, if it was found,
-  part_field_at : (g : k.Point) (object : ℕ) (place : Option ℕ) → k.Knows g object → Part k g (field_at object place)
-  part_field_at g object None known = part_fails k g NoSuchField
-  part_field_at g object (Some place) known = part_get k g object place (λ h more. k.get_asked h object place more.awake (more.knows object known))
+  part_field_at : (g : k.Point) (object class size : ℕ) (place : Option ℕ) → k.Knows g object → k.Looked g object (Plain class) size
+      → ((p : ℕ) → place ≡ Some p → HasField shape (Plain class) p) → Part k g (field_at object place)
+  part_field_at g object class size None known looked there = part_fails k g NoSuchField
+  part_field_at g object class size (Some place) known looked there = part_get k g object place
+      (λ h more. k.get_asked h object place (Plain class) size more.awake (more.knows object known) (more.looked object (Plain class) size looked) (there place refl))
 
   -- in an object of this class,
-  part_field_in : (g : k.Point) (f : FieldRef) (object : ℕ) (class : ClassId) (size : ℕ) → k.Knows g object → Part k g (field_in f object class size)
-  part_field_in g f object (Plain class) size known = part_field_at g object (lookup f.places class) known
-  part_field_in g f object (Array kind) size known = part_choose k g f.length (Gives (value.Long (pos size))) (Fails NoSuchField) (λ is. part_gives k g (value.Long (pos size)) tt) (part_fails k g NoSuchField)
-  part_field_in g f object Roots size known = part_fails k g NoSuchField
+  part_field_in : (g : k.Point) (f : FieldRef) (object : ℕ) (class : ClassId) (size : ℕ) → ArePlaces shape f.places → k.Knows g object → k.Looked g object class size → Part k g (field_in f object class size)
+  part_field_in g f object (Plain class) size places known looked = part_field_at g object class size (lookup f.places class) known looked (λ p found. places_there shape f.places class p places.there found)
+  part_field_in g f object (Array kind) size places known looked = part_choose k g f.length (Gives (value.Long (pos size))) (Fails NoSuchField) (λ is. part_gives k g (value.Long (pos size)) tt) (part_fails k g NoSuchField)
+  part_field_in g f object Roots size places known looked = part_fails k g NoSuchField
 
   -- or of a value
-  part_field : (g : k.Point) (f : FieldRef) (x : Value) → KnowsValue k.HasText (k.Knows g) x → Part k g (field_of f x)
-  part_field g f x known = part_object k g (λ object. look (field_in f object) object) x known
-      (λ object object_known. part_look k g (field_in f object) object object_known (λ class size. part_field_in g f object class size object_known))
+  part_field : (g : k.Point) (f : FieldRef) (x : Value) → ArePlaces shape f.places → KnowsValue k.HasText (k.Knows g) x → Part k g (field_of f x)
+  part_field g f x places known = part_object k g (λ object. look (field_in f object) object) x known
+      (λ object object_known. part_look k g (field_in f object) object object_known (λ h more class size looked. part_field_in h f object class size places (more.knows object object_known) looked))
 
   -- an element of an object that is known, if it was found,
-  part_element_at : (g : k.Point) (object : ℕ) (place : Option ℕ) → k.Knows g object → Part k g (element_at object place)
-  part_element_at g object None known = part_fails k g BadIndex
-  part_element_at g object (Some place) known = part_get k g object place (λ h more. k.get_asked h object place more.awake (more.knows object known))
+  part_element_at : (g : k.Point) (object : ℕ) (kind : Kind) (size : ℕ) (place : Option ℕ) → k.Knows g object → k.Looked g object (Array kind) size
+      → ((p : ℕ) → place ≡ Some p → p < size) → Part k g (element_at object place)
+  part_element_at g object kind size None known looked there = part_fails k g BadIndex
+  part_element_at g object kind size (Some place) known looked there = part_get k g object place
+      (λ h more. k.get_asked h object place (Array kind) size more.awake (more.knows object known) (more.looked object (Array kind) size looked) (there place refl))
 
   -- in an object of this class,
-  part_element_in : (g : k.Point) (i : ℤ) (object : ℕ) (class : ClassId) (size : ℕ) → k.Knows g object → Part k g (element_in i object class size)
-  part_element_in g i object (Array kind) size known = part_element_at g object (within i size) known
-  part_element_in g i object class size known = part_fails k g BadValue
+  part_element_in : (g : k.Point) (i : ℤ) (object : ℕ) (class : ClassId) (size : ℕ) → k.Knows g object → k.Looked g object class size → Part k g (element_in i object class size)
+  part_element_in g i object (Array kind) size known looked = part_element_at g object kind size (within i size) known looked (within_below i size)
+  part_element_in g i object class size known looked = part_fails k g BadValue
 
   -- or of a value
   part_element : (g : k.Point) (x i : Value) → KnowsValue k.HasText (k.Knows g) x → Part k g (element_of x i)
   part_element g x (value.Long i) known = part_object k g (λ object. look (element_in i object) object) x known
-      (λ object object_known. part_look k g (element_in i object) object object_known (λ class size. part_element_in g i object class size object_known))
+      (λ object object_known. part_look k g (element_in i object) object object_known (λ h more class size looked. part_element_in h i object class size (more.knows object object_known) looked))
   part_element g x i known = part_object k g (λ object. Fails BadValue) x known (λ object object_known. part_fails k g BadValue)
 
   -- ---- roots and new objects
 
-  -- a root is read
-  part_root : (g : k.Point) (r : ℕ) → Part k g (root r)
-  part_root g r = part_under k g (Name r) grade.Read (get 0 r) tt (part_get k g 0 r (λ h more. k.get_root_asked h r more.awake))
+  -- a root that is there is read
+  part_root : (g : k.Point) (r : ℕ) → r < shape.roots → shape.roots ≤ shape.names → Part k g (root r)
+  part_root g r there locks = part_under k g (Name r) grade.Read (get 0 r) tt (omega (arith, there, locks)) (part_get k g 0 r (λ h more. k.get_root_asked h r more.awake there))
 
   -- a new array has no more elements than there may be
   part_array : (g : k.Point) (kind : Kind) (v : Value) → Part k g (new_array kind v)
@@ -148,7 +180,7 @@ part_as k g m n is part = subst (Part k g) (sym is) part
 
 -- ---- all forms
 
-module _ (c : Code) (k : Keeper c.shape) (ways : MethodMeanings) (bodies : Bodies k ways) (count : ℕ) (in_method : Bool) where
+module _ (c : Code) (k : Keeper c.shape) (ways : MethodMeanings) (bodies : Bodies k c ways) (count : ℕ) (in_method : Bool) where
   -- what the expressions may name
   abbrev scope : Scope
   scope = record { code = c; vars = count; in_method = in_method }
@@ -170,16 +202,16 @@ module _ (c : Code) (k : Keeper c.shape) (ways : MethodMeanings) (bodies : Bodie
     part_expr (SoundExpr.constant {v = v} literal) g = part_as k g _ _ (expr_Const c ways v) (part_gives k g v (known_literal c.shape k.HasText (k.Knows g) k.literal_text v literal))
     part_expr (SoundExpr.variable {i = i} there) g = part_as k g _ _ (expr_Var c ways i) (part_variable g i)
     part_expr (SoundExpr.this there) g = part_as k g _ _ (expr_This c ways) (part_this g)
-    part_expr (SoundExpr.root {r = r} there) g = part_as k g _ _ (expr_Root c ways r) (part_root k g r)
+    part_expr (SoundExpr.root {r = r} there) g = part_as k g _ _ (expr_Root c ways r) (part_root k g r there bodies.roots)
     part_expr (SoundExpr.field {a = a} {f = f} inner places) g = part_as k g _ _ (expr_Field c ways a f)
-        (part_value k g (field_of f) (expr c ways a) (part_expr inner g) (λ x h more known. part_field k h f x known))
+        (part_value k g (field_of f) (expr c ways a) (part_expr inner g) (λ x h more known. part_field k h f x places known))
     part_expr (SoundExpr.element {a = a} {b = b} inner index) g = part_as k g _ _ (expr_Elem c ways a b)
         (part_value k g (on_next element_of (expr c ways b)) (expr c ways a) (part_expr inner g)
         (λ x h more known. part_value k h (element_of x) (expr c ways b) (part_expr index h) (λ i j further i_known. part_element k j x i (value_later k h j further.knows x known))))
     part_expr (SoundExpr.call {a = a} {callees = callees} {args = args} inner are rest) g = part_as k g _ _ (expr_Call c ways a callees args)
         (part_value k g _ (expr c ways a) (part_expr inner g)
         (λ x h more known. part_arguments k (call_on c ways callees x) (map (expr c ways) args) h [] (part_exprs rest h) tt
-        (λ vs i further all. part_call k ways bodies c i callees x vs (value_later k h i further.knows x known) all)))
+        (λ vs i further all. part_call k c ways bodies i callees x vs (value_later k h i further.knows x known) all)))
     part_expr (SoundExpr.object {c = class} there) g = part_as k g _ _ (expr_NewObject c ways class)
         (part_make k g (Plain class) (length (fields_at c.shape class)) (λ h more. k.class_asked h class more.awake there))
     part_expr (SoundExpr.array {k = kind} {a = a} inner) g = part_as k g _ _ (expr_NewArray c ways kind a)

@@ -12,7 +12,7 @@ use Rattle.dso_base.specs.declared.value.Value.{Value}
 use Rattle.dso_base.specs.declared.value.Value.TheVariants as value
 use Rattle.dso_machine.specs.Outcome.{State, Outcome, Wants, Gives, Leaves, Fails, Hears, Over, Stopped, Meaning, on_value, unwanted, done, tell, level_of, settling, leaving, leave, entered, under}
 use Rattle.dso_machine.specs.Statements.{unless_woken, timed_out, ticks, ticking, waiting, wait}
-use Rattle.dso_machine.proofs.protocol.Protocol.{KnowsLock, Keeper}
+use Rattle.dso_machine.proofs.protocol.Protocol.{KnowsLock, HasLock, Keeper}
 use Rattle.dso_machine.specs.Unwinding.{with_replies}
 use Rattle.dso_machine.proofs.protocol.Parts.{refilled, Obeys, keeps_on, KnowsEnvironment, Kept, Fine, More, Part, value_later, lock_later, environment_later, part_later, part_at}
 use Rattle.dso_machine.proofs.protocol.Requests.{part_unwanted}
@@ -81,7 +81,7 @@ module _ {shape : Shape} (k : Keeper shape) where
     keeps_inside m u part environment =
         let within : k.Awake inside = k.enter_awake g l (level_of grade) awake enters in
         keeps_on k (Fine k inside) (Fine k g) (leave l grade) (λ q. refl)
-        (part.from inside (asked_at u) (record { awake = within; knows = k.still_known g (request.Enter l (level_of grade)) Done })
+        (part.from inside (asked_at u) (record { awake = within; knows = k.still_known g (request.Enter l (level_of grade)) Done; looked = k.still_looked g (request.Enter l (level_of grade)) Done })
         (environment_later k g inside (k.still_known g (request.Enter l (level_of grade)) Done) u.environment environment)) leaves_at_end
 
   -- a part where the lock is not entered
@@ -91,7 +91,7 @@ module _ {shape : Shape} (k : Keeper shape) where
       let h : k.Point = k.after (request.Enter l (level_of grade)) r g in
       let same : k.Same g h = k.enter_same g l (level_of grade) r awake comes other in
       let still : k.Awake h = k.same_awake g h same awake in
-      part_at k g h m (asked_at u) still same (part h (record { awake = still; knows = k.still_known g (request.Enter l (level_of grade)) r }))
+      part_at k g h m (asked_at u) still same (part h (record { awake = still; knows = k.still_known g (request.Enter l (level_of grade)) r; looked = k.still_looked g (request.Enter l (level_of grade)) r }))
       (environment_later k g h (k.still_known g (request.Enter l (level_of grade)) r) u.environment environment)
 
   -- the part after each reply to the entry
@@ -103,10 +103,10 @@ module _ {shape : Shape} (k : Keeper shape) where
       keeps_outside g l grade (Refused fault) (unwanted (Refused fault)) u awake comes (λ e. cc e) (λ h more. part_unwanted k h (Refused fault)) environment
   keeps_entered g l grade m u awake part environment r comes = absurd (k.listed g (request.Enter l (level_of grade)) r comes)
 
-  -- a part under a lock that is known
-  pub part_under : (g : k.Point) (l : LockName) (grade : Grade) (m : Meaning) → KnowsLock (k.Knows g) l → Part k g m → Part k g (under l grade m)
-  part_under g l grade m known part = record {
-    from = λ h u more environment. Obeys.asks (request.Enter l (level_of grade)) refl (k.enter_asked h l (level_of grade) more.awake (lock_later k g h more.knows l known))
+  -- a part under a lock that is known and there
+  pub part_under : (g : k.Point) (l : LockName) (grade : Grade) (m : Meaning) → KnowsLock (k.Knows g) l → HasLock shape l → Part k g m → Part k g (under l grade m)
+  part_under g l grade m known there part = record {
+    from = λ h u more environment. Obeys.asks (request.Enter l (level_of grade)) refl (k.enter_asked h l (level_of grade) more.awake (lock_later k g h more.knows l known) there)
         (keeps_entered h l grade m u more.awake (part_later k g h m more part) environment);
   }
 

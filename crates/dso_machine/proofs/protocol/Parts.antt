@@ -6,6 +6,7 @@ use Rattle.dso_base.specs.declared.request.Fault.{Fault}
 use Rattle.dso_base.specs.declared.request.Reply.{Reply}
 use Rattle.dso_base.specs.declared.request.Request.{Request}
 use Rattle.dso_base.specs.declared.shape.Shape.{Shape}
+use Rattle.dso_base.specs.declared.value.ClassId.{ClassId}
 use Rattle.dso_base.specs.declared.value.Value.{Value}
 use Rattle.dso_base.specs.declared.value.Value.TheVariants as value
 use Rattle.dso_machine.specs.Outcome.{Environment, State, Outcome, Wants, Gives, Leaves, Fails, Hears, Over, Stopped, Meaning, choose, on_value}
@@ -55,10 +56,11 @@ KnowsAll has_text knows [] = Unit {0}
 KnowsAll has_text knows (v ∷ vs) = KnowsValue has_text knows v × KnowsAll has_text knows vs
 
 module _ {shape : Shape} (k : Keeper shape) where
-  -- at the second point the thread is awake, and knows no less than at the first
+  -- at the second point the thread is awake, and knows no less than at the first, nor has it looked at less
   pub record More (g h : k.Point) : Type 0 where
     pub awake : k.Awake h
     pub knows : (object : ℕ) → k.Knows g object → k.Knows h object
+    pub looked : (object : ℕ) (class : ClassId) (size : ℕ) → k.Looked g object class size → k.Looked h object class size
 
   -- the thread knows all that the environment holds
   pub record KnowsEnvironment (g : k.Point) (environment : Environment) : Type 0 where
@@ -108,15 +110,19 @@ module _ {shape : Shape} (k : Keeper shape) where
 
   -- a point after another, and a third one after it
   pub more_then : (g h i : k.Point) → More k g h → More k h i → More k g i
-  more_then g h i some others = record { awake = others.awake; knows = λ object known. others.knows object (some.knows object known) }
+  more_then g h i some others = record {
+    awake = others.awake;
+    knows = λ object known. others.knows object (some.knows object known);
+    looked = λ object class size looked. others.looked object class size (some.looked object class size looked);
+  }
 
   -- a point and itself
   pub more_itself : (g : k.Point) → k.Awake g → More k g g
-  more_itself g awake = record { awake = awake; knows = λ object known. known }
+  more_itself g awake = record { awake = awake; knows = λ object known. known; looked = λ object class size looked. looked }
 
   -- a point with the same locks
   pub more_same : (g h : k.Point) → k.Awake g → k.Same g h → More k g h
-  more_same g h awake same = record { awake = k.same_awake g h same awake; knows = k.same_knows g h same }
+  more_same g h awake same = record { awake = k.same_awake g h same awake; knows = k.same_knows g h same; looked = k.same_looked g h same }
 
   -- an end that is fine from a point is so from an earlier one with the same locks
   pub fine_from : (g h : k.Point) → k.Same g h → (e : Outcome) (i : k.Point) → Fine k h e i → Fine k g e i

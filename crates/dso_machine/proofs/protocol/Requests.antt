@@ -54,9 +54,11 @@ module _ {shape : Shape} (k : Keeper shape) where
   part_got g q r comes = record { from = λ h u more environment. (part_unwanted (k.after q r g) r).from h u more environment }
 
   -- what was seen, or another reply
-  part_seen : (g : k.Point) (f : ClassId → ℕ → Meaning) (r : Reply) → ((class : ClassId) (size : ℕ) → Part k g (f class size)) → Part k g (seen f r)
-  part_seen g f (Seen class size) part = record { from = λ h u more environment. (part class size).from h u more environment }
-  part_seen g f r part = record { from = λ h u more environment. (part_unwanted g r).from h u more environment }
+  part_seen : (g : k.Point) (f : ClassId → ℕ → Meaning) (object : ℕ) (r : Reply) → k.IsReply g (request.Look object) r
+      → ((class : ClassId) (size : ℕ) → k.Looked (k.after (request.Look object) r g) object class size → Part k (k.after (request.Look object) r g) (f class size))
+      → Part k (k.after (request.Look object) r g) (seen f r)
+  part_seen g f object (Seen class size) comes part = record { from = λ h u more environment. (part class size (k.seen_looked g object class size comes)).from h u more environment }
+  part_seen g f object r comes part = record { from = λ h u more environment. (part_unwanted (k.after (request.Look object) r g) r).from h u more environment }
 
   -- a value that is known, or the fault in its place
   pub part_result : (g : k.Point) (r : Result Value Fault) → KnowsResult k.HasText (k.Knows g) r → Part k g (result_of r)
@@ -65,9 +67,9 @@ module _ {shape : Shape} (k : Keeper shape) where
 
   -- ---- requests
 
-  -- after any reply no less is known
+  -- after any reply no less is known and seen
   more_after : (g : k.Point) (q : Request) (r : Reply) → k.Awake (k.after q r g) → More k g (k.after q r g)
-  more_after g q r awake = record { awake = awake; knows = k.still_known g q r }
+  more_after g q r awake = record { awake = awake; knows = k.still_known g q r; looked = k.still_looked g q r }
 
   -- a plain request that may be asked, and what is made of its reply
   part_plain : (g : k.Point) (q : Request) (f : Reply → Meaning) → is_plain q ≡ true → ((h : k.Point) → More k g h → k.Asks h q)
@@ -92,10 +94,11 @@ module _ {shape : Shape} (k : Keeper shape) where
   pub part_make : (g : k.Point) (class : ClassId) (size : ℕ) → ((h : k.Point) → More k g h → k.Asks h (request.New class size)) → Part k g (make class size)
   part_make g class size may = part_plain g (request.New class size) made refl may (λ h r more later comes. part_made h (request.New class size) r comes)
 
-  -- an object that is known is looked at
-  pub part_look : (g : k.Point) (f : ClassId → ℕ → Meaning) (object : ℕ) → k.Knows g object → ((class : ClassId) (size : ℕ) → Part k g (f class size)) → Part k g (look f object)
+  -- an object that is known is looked at, and is then of the class and size that were seen
+  pub part_look : (g : k.Point) (f : ClassId → ℕ → Meaning) (object : ℕ) → k.Knows g object
+      → ((h : k.Point) → More k g h → (class : ClassId) (size : ℕ) → k.Looked h object class size → Part k h (f class size)) → Part k g (look f object)
   part_look g f object known part = part_plain g (request.Look object) (seen f) refl (λ h more. k.look_asked h object more.awake (more.knows object known))
-      (λ h r more later comes. part_seen (k.after (request.Look object) r h) f r (λ class size. part_later k g (k.after (request.Look object) r h) (f class size) later (part class size)))
+      (λ h r more later comes. part_seen h f object r comes (part (k.after (request.Look object) r h) later))
 
   -- the value is to be an object
   pub part_object : (g : k.Point) (f : ℕ → Meaning) (v : Value) → KnowsValue k.HasText (k.Knows g) v → ((object : ℕ) → k.Knows g object → Part k g (f object)) → Part k g (on_object f v)

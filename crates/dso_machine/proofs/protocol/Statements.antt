@@ -1,5 +1,6 @@
 -- Sound statements keep to what may be asked.
-use Rattle.std.proofs.Common.{refl, ℕ, zero, suc, Bool, true, false, List, map, Option, None, Some}
+use Rattle.std.proofs.Common.{◌≡◌, refl, ℕ, zero, suc, ◌<◌, ◌≤◌, ◌≢◌, arith, Bool, true, false, not, eqb, List, map, Option, None, Some, sym, ap, ◌∙◌}
+use Rattle.std.proofs.lemmas.Bool.{eq-eqb}
 use Rattle.std.specs.Prelude.{ℤ, pos}
 use Rattle.dso_base.specs.declared.lock.Grade.{Grade}
 use Rattle.dso_base.specs.declared.lock.Grade.TheVariants as grade
@@ -13,7 +14,8 @@ use Rattle.dso_base.specs.declared.value.Kind.{Kind}
 use Rattle.dso_base.specs.declared.value.Kind.TheVariants as kind
 use Rattle.dso_base.specs.declared.value.Value.{Value}
 use Rattle.dso_base.specs.declared.value.Value.TheVariants as value
-use Rattle.dso_base.specs.Shape.{kind_of}
+use Rattle.dso_base.specs.Shape.{HasField, kind_of}
+use Rattle.dso_base.specs.Value.{Fits}
 use Rattle.dso_machine.specs.declared.code.Code.{Code}
 use Rattle.dso_machine.specs.declared.tree.Expr.{Expr}
 use Rattle.dso_machine.specs.declared.tree.FieldRef.{FieldRef}
@@ -21,16 +23,32 @@ use Rattle.dso_machine.specs.declared.tree.Stmt.{Stmt}
 use Rattle.dso_machine.specs.Calls.{lookup, MethodMeanings}
 use Rattle.dso_machine.specs.Expressions.{within, expr}
 use Rattle.dso_machine.specs.Outcome.{Gives, Leaves, Fails, Meaning, on_value, on_next, tell, get, put, look, on_object, moving, under}
-use Rattle.dso_machine.specs.Sound.{Scope, SoundExpr, SoundStmt, SoundBlock}
+use Rattle.dso_machine.specs.Sound.{Scope, ArePlaces, SoundExpr, SoundStmt, SoundBlock}
 use Rattle.dso_machine.specs.Statements.{assign, put_fitting, put_field_at, put_field_in, put_field, put_element_at, put_element_in, put_element, bind_null, bind, put_root, sync, wait, on_count, timed_wait, seq, branch, turn, spun, stmt}
 use Rattle.dso_machine.specs.Values.{takes}
 use Rattle.dso_machine.proofs.forms.Equations.{stmt_Assign, stmt_PutField, stmt_PutElem, stmt_PutRoot, stmt_Eval, stmt_If, stmt_While, stmt_Sync, stmt_Wait, stmt_TimedWait, stmt_Notify, stmt_NotifyAll, stmt_Print, stmt_Return}
-use Rattle.dso_machine.proofs.protocol.Protocol.{KnowsValue, Keeper}
+use Rattle.dso_machine.proofs.protocol.Protocol.{KnowsValue, HasPlace, Keeper}
 use Rattle.dso_machine.proofs.protocol.Parts.{Obeys, More, Part, value_later, part_later, part_gives, part_leaves, part_fails, part_stopped, part_value, part_choose}
 use Rattle.dso_machine.proofs.protocol.Requests.{part_tell, part_get, part_look, part_object, part_moving}
 use Rattle.dso_machine.proofs.protocol.Locks.{part_under, part_wait}
 use Rattle.dso_machine.proofs.protocol.Calls.{Bodies}
-use Rattle.dso_machine.proofs.protocol.Expressions.{known_set, part_as, part_expr}
+use Rattle.dso_machine.proofs.protocol.Expressions.{places_there, within_below, known_set, part_as, part_expr}
+
+-- ---- kinds
+
+-- an object whose number isn't 0
+no_zero : (object : ℕ) → not (eqb object 0) ≡ true → object ≢ 0
+no_zero object is same = cc (sym is ∙ ap not (eq-eqb object 0 same))
+
+-- a value that a field of this kind takes fits it
+takes_fits : (k : Kind) (v : Value) → takes k v ≡ true → Fits k v
+takes_fits kind.Long (value.Long n) is = tt
+takes_fits kind.Bool (value.Bool b) is = tt
+takes_fits kind.Text (value.Text t) is = tt
+takes_fits kind.Text value.Null is = tt
+takes_fits kind.Ref (value.Ref object) is = no_zero object is
+takes_fits kind.Ref value.Null is = tt
+takes_fits k v is = absurd (cc is)
 
 module _ {shape : Shape} (k : Keeper shape) where
   -- ---- what is written
@@ -46,63 +64,74 @@ module _ {shape : Shape} (k : Keeper shape) where
   }
 
   -- a field or an element is,
-  part_put : (g : k.Point) (object place : ℕ) (v : Value) → k.Knows g object → KnowsValue k.HasText (k.Knows g) v → Part k g (put object place v)
-  part_put g object place v known v_known = part_tell k g (request.Put object place v) refl (λ h more. k.put_asked h object place v more.awake (more.knows object known) (value_later k g h more.knows v v_known))
+  part_put : (g : k.Point) (object place : ℕ) (v : Value) (class : ClassId) (size : ℕ) → k.Knows g object → KnowsValue k.HasText (k.Knows g) v
+      → k.Looked g object class size → HasPlace shape class size place → Fits (kind_of shape class place) v → Part k g (put object place v)
+  part_put g object place v class size known v_known looked there fits = part_tell k g (request.Put object place v) refl
+      (λ h more. k.put_asked h object place v class size more.awake (more.knows object known) (value_later k g h more.knows v v_known) (more.looked object class size looked) there fits)
 
   -- if it takes the value
-  part_put_fitting : (g : k.Point) (kind : Kind) (object place : ℕ) (v : Value) → k.Knows g object → KnowsValue k.HasText (k.Knows g) v → Part k g (put_fitting kind object place v)
-  part_put_fitting g kind object place v known v_known = part_choose k g (takes kind v) (put object place v) (Fails BadValue) (λ takes_it. part_put g object place v known v_known) (part_fails k g BadValue)
+  part_put_fitting : (g : k.Point) (object place : ℕ) (v : Value) (class : ClassId) (size : ℕ) → k.Knows g object → KnowsValue k.HasText (k.Knows g) v
+      → k.Looked g object class size → HasPlace shape class size place → Part k g (put_fitting (kind_of shape class place) object place v)
+  part_put_fitting g object place v class size known v_known looked there = part_choose k g (takes (kind_of shape class place) v) (put object place v) (Fails BadValue)
+      (λ takes_it. part_put g object place v class size known v_known looked there (takes_fits (kind_of shape class place) v takes_it)) (part_fails k g BadValue)
 
   -- a field that was found is given a value,
-  part_put_field_at : (g : k.Point) (class object : ℕ) (v : Value) (place : Option ℕ) → k.Knows g object → KnowsValue k.HasText (k.Knows g) v → Part k g (put_field_at shape class object v place)
-  part_put_field_at g class object v None known v_known = part_fails k g NoSuchField
-  part_put_field_at g class object v (Some place) known v_known = part_put_fitting g (kind_of shape (Plain class) place) object place v known v_known
+  part_put_field_at : (g : k.Point) (class object : ℕ) (v : Value) (size : ℕ) (place : Option ℕ) → k.Knows g object → KnowsValue k.HasText (k.Knows g) v
+      → k.Looked g object (Plain class) size → ((p : ℕ) → place ≡ Some p → HasField shape (Plain class) p) → Part k g (put_field_at shape class object v place)
+  part_put_field_at g class object v size None known v_known looked there = part_fails k g NoSuchField
+  part_put_field_at g class object v size (Some place) known v_known looked there = part_put_fitting g object place v (Plain class) size known v_known looked (there place refl)
 
   -- in an object of this class,
-  part_put_field_in : (g : k.Point) (f : FieldRef) (v : Value) (object : ℕ) (class : ClassId) (size : ℕ) → k.Knows g object → KnowsValue k.HasText (k.Knows g) v → Part k g (put_field_in shape f v object class size)
-  part_put_field_in g f v object (Plain class) size known v_known = part_put_field_at g class object v (lookup f.places class) known v_known
-  part_put_field_in g f v object class size known v_known = part_fails k g NoSuchField
+  part_put_field_in : (g : k.Point) (f : FieldRef) (v : Value) (object : ℕ) (class : ClassId) (size : ℕ) → ArePlaces shape f.places → k.Knows g object → KnowsValue k.HasText (k.Knows g) v
+      → k.Looked g object class size → Part k g (put_field_in shape f v object class size)
+  part_put_field_in g f v object (Plain class) size places known v_known looked = part_put_field_at g class object v size (lookup f.places class) known v_known looked
+      (λ p found. places_there shape f.places class p places.there found)
+  part_put_field_in g f v object class size places known v_known looked = part_fails k g NoSuchField
 
   -- or of a value
-  part_put_field : (g : k.Point) (f : FieldRef) (x v : Value) → KnowsValue k.HasText (k.Knows g) x → KnowsValue k.HasText (k.Knows g) v → Part k g (put_field shape f x v)
-  part_put_field g f x v known v_known = part_object k g (λ object. look (put_field_in shape f v object) object) x known
-      (λ object object_known. part_look k g (put_field_in shape f v object) object object_known (λ class size. part_put_field_in g f v object class size object_known v_known))
+  part_put_field : (g : k.Point) (f : FieldRef) (x v : Value) → ArePlaces shape f.places → KnowsValue k.HasText (k.Knows g) x → KnowsValue k.HasText (k.Knows g) v → Part k g (put_field shape f x v)
+  part_put_field g f x v places known v_known = part_object k g (λ object. look (put_field_in shape f v object) object) x known
+      (λ object object_known. part_look k g (put_field_in shape f v object) object object_known
+      (λ h more class size looked. part_put_field_in h f v object class size places (more.knows object object_known) (value_later k g h more.knows v v_known) looked))
 
   -- an element that was found is given a value,
-  part_put_element_at : (g : k.Point) (kind : Kind) (object : ℕ) (v : Value) (place : Option ℕ) → k.Knows g object → KnowsValue k.HasText (k.Knows g) v → Part k g (put_element_at kind object v place)
-  part_put_element_at g kind object v None known v_known = part_fails k g BadIndex
-  part_put_element_at g kind object v (Some place) known v_known = part_put_fitting g kind object place v known v_known
+  part_put_element_at : (g : k.Point) (kind : Kind) (object : ℕ) (v : Value) (size : ℕ) (place : Option ℕ) → k.Knows g object → KnowsValue k.HasText (k.Knows g) v
+      → k.Looked g object (Array kind) size → ((p : ℕ) → place ≡ Some p → p < size) → Part k g (put_element_at kind object v place)
+  part_put_element_at g kind object v size None known v_known looked there = part_fails k g BadIndex
+  part_put_element_at g kind object v size (Some place) known v_known looked there = part_put_fitting g object place v (Array kind) size known v_known looked (there place refl)
 
   -- in an object of this class,
-  part_put_element_in : (g : k.Point) (i : ℤ) (v : Value) (object : ℕ) (class : ClassId) (size : ℕ) → k.Knows g object → KnowsValue k.HasText (k.Knows g) v → Part k g (put_element_in i v object class size)
-  part_put_element_in g i v object (Array kind) size known v_known = part_put_element_at g kind object v (within i size) known v_known
-  part_put_element_in g i v object class size known v_known = part_fails k g BadValue
+  part_put_element_in : (g : k.Point) (i : ℤ) (v : Value) (object : ℕ) (class : ClassId) (size : ℕ) → k.Knows g object → KnowsValue k.HasText (k.Knows g) v
+      → k.Looked g object class size → Part k g (put_element_in i v object class size)
+  part_put_element_in g i v object (Array kind) size known v_known looked = part_put_element_at g kind object v size (within i size) known v_known looked (within_below i size)
+  part_put_element_in g i v object class size known v_known looked = part_fails k g BadValue
 
   -- or of a value
   part_put_element : (g : k.Point) (x i v : Value) → KnowsValue k.HasText (k.Knows g) x → KnowsValue k.HasText (k.Knows g) v → Part k g (put_element x i v)
   part_put_element g x (value.Long i) v known v_known = part_object k g (λ object. look (put_element_in i v object) object) x known
-      (λ object object_known. part_look k g (put_element_in i v object) object object_known (λ class size. part_put_element_in g i v object class size object_known v_known))
+      (λ object object_known. part_look k g (put_element_in i v object) object object_known
+      (λ h more class size looked. part_put_element_in h i v object class size (more.knows object object_known) (value_later k g h more.knows v v_known) looked))
   part_put_element g x i v known v_known = part_object k g (λ object. Fails BadValue) x known (λ object object_known. part_fails k g BadValue)
 
   -- a root that isn't bound is given a value,
-  part_bind_null : (g : k.Point) (r : ℕ) (v bound : Value) → KnowsValue k.HasText (k.Knows g) v → Part k g (bind_null r v bound)
-  part_bind_null g r v value.Null known = part_tell k g (request.Put 0 r v) refl (λ h more. k.put_root_asked h r v more.awake (value_later k g h more.knows v known))
-  part_bind_null g r v bound known = part_gives k g value.Null tt
+  part_bind_null : (g : k.Point) (r : ℕ) (v bound : Value) → r < shape.roots → Fits kind.Ref v → KnowsValue k.HasText (k.Knows g) v → Part k g (bind_null r v bound)
+  part_bind_null g r v value.Null there fits known = part_tell k g (request.Put 0 r v) refl (λ h more. k.put_root_asked h r v more.awake (value_later k g h more.knows v known) there fits)
+  part_bind_null g r v bound there fits known = part_gives k g value.Null tt
 
   -- under its lock,
-  part_bind : (g : k.Point) (r : ℕ) (v : Value) → KnowsValue k.HasText (k.Knows g) v → Part k g (bind r v)
-  part_bind g r v known = part_under k g (Name r) grade.Write (λ at. on_value (bind_null r v) (get 0 r at)) tt
-      (part_value k g (bind_null r v) (get 0 r) (part_get k g 0 r (λ h more. k.get_root_asked h r more.awake)) (λ bound h more bound_known. part_bind_null h r v bound (value_later k g h more.knows v known)))
+  part_bind : (g : k.Point) (r : ℕ) (v : Value) → r < shape.roots → shape.roots ≤ shape.names → Fits kind.Ref v → KnowsValue k.HasText (k.Knows g) v → Part k g (bind r v)
+  part_bind g r v there locks fits known = part_under k g (Name r) grade.Write (λ at. on_value (bind_null r v) (get 0 r at)) tt (omega (arith, there, locks))
+      (part_value k g (bind_null r v) (get 0 r) (part_get k g 0 r (λ h more. k.get_root_asked h r more.awake there)) (λ bound h more bound_known. part_bind_null h r v bound there fits (value_later k g h more.knows v known)))
 
   -- if it takes the value
-  part_put_root : (g : k.Point) (r : ℕ) (v : Value) → KnowsValue k.HasText (k.Knows g) v → Part k g (put_root r v)
-  part_put_root g r v known = part_choose k g (takes kind.Ref v) (bind r v) (Fails BadValue) (λ takes_it. part_bind g r v known) (part_fails k g BadValue)
+  part_put_root : (g : k.Point) (r : ℕ) (v : Value) → r < shape.roots → shape.roots ≤ shape.names → KnowsValue k.HasText (k.Knows g) v → Part k g (put_root r v)
+  part_put_root g r v there locks known = part_choose k g (takes kind.Ref v) (bind r v) (Fails BadValue) (λ takes_it. part_bind g r v there locks (takes_fits kind.Ref v takes_it) known) (part_fails k g BadValue)
 
   -- ---- monitors
 
   -- a part under the monitor of a value
   part_sync : (g : k.Point) (grade : Grade) (m : Meaning) (x : Value) → KnowsValue k.HasText (k.Knows g) x → Part k g m → Part k g (sync grade m x)
-  part_sync g grade m x known part = part_object k g (λ object. under (Mon object) grade m) x known (λ object object_known. part_under k g (Mon object) grade m object_known part)
+  part_sync g grade m x known part = part_object k g (λ object. under (Mon object) grade m) x known (λ object object_known. part_under k g (Mon object) grade m object_known tt part)
 
   -- a wait for as many ticks as a value says
   part_count : (g : k.Point) (f : ℕ → Meaning) (v : Value) → ((n : ℕ) → Part k g (f n)) → Part k g (on_count f v)
@@ -135,7 +164,7 @@ module _ {shape : Shape} (k : Keeper shape) where
 
 -- ---- all forms
 
-module _ (c : Code) (k : Keeper c.shape) (ways : MethodMeanings) (methods : Bodies k ways) (n count : ℕ) (in_method : Bool) where
+module _ (c : Code) (k : Keeper c.shape) (ways : MethodMeanings) (methods : Bodies k c ways) (n count : ℕ) (in_method : Bool) where
   -- what the statements may name
   abbrev scope : Scope
   scope = record { code = c; vars = count; in_method = in_method }
@@ -154,13 +183,13 @@ module _ (c : Code) (k : Keeper c.shape) (ways : MethodMeanings) (methods : Bodi
     part_stmt (SoundStmt.assign {i = i} {a = a} there one) g = part_as k g _ _ (stmt_Assign c ways n i a) (part_of one (assign i) g (λ v h more known. part_assign k h i v known))
     part_stmt (SoundStmt.put_field {a = a} {b = b} {f = f} one places other) g = part_as k g _ _ (stmt_PutField c ways n a f b)
         (part_of one (on_next (put_field c.shape f) (expr c ways b)) g
-        (λ x h more known. part_of other (put_field c.shape f x) h (λ v i further v_known. part_put_field k i f x v (value_later k h i further.knows x known) v_known)))
+        (λ x h more known. part_of other (put_field c.shape f x) h (λ v i further v_known. part_put_field k i f x v places (value_later k h i further.knows x known) v_known)))
     part_stmt (SoundStmt.put_element {a = a} {b = b} {c = d} one index other) g = part_as k g _ _ (stmt_PutElem c ways n a b d)
         (part_of one (on_next (λ x. on_next (put_element x) (expr c ways d)) (expr c ways b)) g
         (λ x h more known. part_of index (on_next (put_element x) (expr c ways d)) h
         (λ at i further at_known. part_of other (put_element x at) i
         (λ v j last v_known. part_put_element k j x at v (value_later k i j last.knows x (value_later k h i further.knows x known)) v_known))))
-    part_stmt (SoundStmt.put_root {r = r} {a = a} there one) g = part_as k g _ _ (stmt_PutRoot c ways n r a) (part_of one (put_root r) g (λ v h more known. part_put_root k h r v known))
+    part_stmt (SoundStmt.put_root {r = r} {a = a} there one) g = part_as k g _ _ (stmt_PutRoot c ways n r a) (part_of one (put_root r) g (λ v h more known. part_put_root k h r v there methods.roots known))
     part_stmt (SoundStmt.evaluate {a = a} one) g = part_as k g _ _ (stmt_Eval c ways n a) (part_expr c k ways methods count in_method one g)
     part_stmt (SoundStmt.conditional {a = a} {all = all} {others = others} one some rest) g = part_as k g _ _ (stmt_If c ways n a all others)
         (part_of one (branch (seq (map (stmt c ways n) all)) (seq (map (stmt c ways n) others))) g (λ v h more known. part_branch k h _ _ v (part_block some h) (part_block rest h)))

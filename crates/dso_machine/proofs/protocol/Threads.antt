@@ -1,6 +1,6 @@
 -- A thread of sound code keeps to what may be asked, from its first request to its end.
 use Rattle.std.proofs.Common.{◌≡◌, refl, ℕ, zero, suc, ◌+◌, ◌≤◌, Bool, true, false, cond, List, [], ◌∷◌, ◌++◌, length, All, Option, None, Some, subst, sym, ap, ◌∙◌, arith}
-use Rattle.std.specs.Prelude.{slice_get}
+use Rattle.std.specs.Prelude.{slice_get, IfSome}
 use Rattle.std.proofs.lemmas.List.{append-nil, length-append}
 use Rattle.std.proofs.lemmas.List.Elements.{All-head, All-tail}
 use Rattle.std.proofs.lemmas.Option.{slice_get_within, get_or_from_slice_get}
@@ -17,7 +17,7 @@ use Rattle.dso_machine.specs.declared.code.Method.{Method}
 use Rattle.dso_machine.specs.declared.code.ThreadBody.{ThreadBody}
 use Rattle.dso_machine.specs.Next.{finish, opening, whole, enough_for, request_of, replies_in, body_of, next_of, next_request}
 use Rattle.dso_machine.specs.Outcome.{Outcome, Wants, Gives, Leaves, Fails, Hears, Over, Stopped}
-use Rattle.dso_machine.specs.Sound.{IsSoundMethod, IsSoundBody, IsSound}
+use Rattle.dso_machine.specs.Sound.{IsMethodLock, IsSoundMethod, IsSoundBody, IsSound}
 use Rattle.dso_machine.specs.Statements.{block, statements_of, methods}
 use Rattle.dso_machine.proofs.protocol.Protocol.{Keeper, through, FollowsAt, KeepsTo}
 use Rattle.dso_machine.proofs.protocol.Parts.{refilled, Obeys, keeps_on, one_function, Fine, Part, part_stopped, part_gives}
@@ -45,16 +45,22 @@ body_sound P t body (first ∷ rest) all is = one_of P (is_thread t first.thread
 
 module _ (c : Code) (k : Keeper c.shape) (sound : IsSound c) where
   -- the statements of a method that may be there
-  part_statements : (n : ℕ) → Bodies k (methods c n) → (m : ℕ) (method : Option Method) → slice_get c.methods m ≡ method → (g : k.Point) → Part k g (block c (methods c n) n (statements_of method))
+  part_statements : (n : ℕ) → Bodies k c (methods c n) → (m : ℕ) (method : Option Method) → slice_get c.methods m ≡ method → (g : k.Point) → Part k g (block c (methods c n) n (statements_of method))
   part_statements n bodies m None is g = part_gives k g value.Null tt
   part_statements n bodies m (Some method) is g =
       let fine : IsSoundMethod c method = all_of (IsSoundMethod c) c.methods m method is sound.methods in
       part_block c k (methods c n) bodies n method.vars true fine.statements g
 
+  -- a method's named lock is there
+  locks_there : (m : ℕ) (method : Method) → slice_get c.methods m ≡ Some method → IfSome method.named (IsMethodLock c.shape)
+  locks_there m method is =
+      let fine : IsSoundMethod c method = all_of (IsSoundMethod c) c.methods m method is sound.methods in
+      fine.lock
+
   -- the methods' bodies keep to what may be asked, for any number of moves
-  part_methods : (n : ℕ) → Bodies k (methods c n)
-  part_methods zero = record { body = λ m g. part_stopped k g }
-  part_methods (suc n) = record { body = λ m g. part_statements n (part_methods n) m (slice_get c.methods m) refl g }
+  part_methods : (n : ℕ) → Bodies k c (methods c n)
+  part_methods zero = record { body = λ m g. part_stopped k g; locks = locks_there; roots = sound.roots_are_locks }
+  part_methods (suc n) = record { body = λ m g. part_statements n (part_methods n) m (slice_get c.methods m) refl g; locks = locks_there; roots = sound.roots_are_locks }
 
   -- ---- the whole of a thread
 
@@ -78,7 +84,7 @@ module _ (c : Code) (k : Keeper c.shape) (sound : IsSound c) where
   keeps_whole : (body : ThreadBody) → IsSoundBody c body → (n : ℕ) → Obeys k Ended k.start (λ rs. whole c body n rs)
   keeps_whole body fine n = keeps_on k (Fine k k.start) Ended finish (λ q. refl)
       ((part_block c k (methods c n) (part_methods n) n body.vars false fine.statements k.start).from k.start (opening body.vars [])
-      (record { awake = k.start_awake; knows = λ object known. known }) (record { this = tt; vars = known_variables k.HasText (k.Knows k.start) body.vars [] tt })) ends_thread
+      (record { awake = k.start_awake; knows = λ object known. known; looked = λ object class size looked. looked }) (record { this = tt; vars = known_variables k.HasText (k.Knows k.start) body.vars [] tt })) ends_thread
 
   -- ---- events
 
