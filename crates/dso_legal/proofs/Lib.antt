@@ -1,4 +1,3 @@
-pub mod PlainRuns
 pub mod journals
 pub mod programs
 pub mod channels

@@ -2,7 +2,7 @@
 pub mod BlockSteps
 pub mod ClientBlocks
 pub mod Histories
-pub mod BlocksWithoutWaits
+pub mod EachEvent
 pub mod ResolvedBlocks
 pub mod OpenLocks
 pub mod OpenRuns

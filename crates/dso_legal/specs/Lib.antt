@@ -1,5 +1,6 @@
 pub mod Lawful
 pub mod Committed
+pub mod AsMade
 pub mod Slots
 pub mod Agreement
 pub mod Tokens

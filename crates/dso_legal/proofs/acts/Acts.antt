@@ -3,16 +3,18 @@ use Rattle.std.proofs.Common.{◌≡◌, refl, ◌∙◌, ap, subst, false, Opti
 use Rattle.dso_base.specs.declared.journal.Entry.{Entry}
 use Rattle.dso_base.specs.declared.lock.LockName.{LockName}
 use Rattle.dso_base.specs.declared.lock.ThreadId.{ThreadId}
+use Rattle.dso_base.specs.declared.request.Event.TheVariants.{Act}
 use Rattle.dso_base.specs.declared.request.Reply.{Reply}
 use Rattle.dso_base.specs.declared.request.Reply.TheVariants.{Done}
 use Rattle.dso_base.specs.declared.request.Request.{Request}
 use Rattle.dso_base.specs.declared.request.Request.TheVariants.{New, Look, Get, Put, Enter, Exit, Wait, Tick, Timeout, Resume, Notify, NotifyAll, Print, End, Pause, Settle}
 use Rattle.dso_plain.specs.State.{PlainState}
-use Rattle.dso_plain.specs.Possible.{Answers, AnswersExit, AnswersResume, AnswersEnd, AnswersDone, FindsMark, IsAwakeFor, Wakes, IsPossible}
+use Rattle.dso_plain.specs.Possible.{Answers, AnswersExit, AnswersResume, AnswersEnd, AnswersDone, FindsMark, IsAwakeFor, Wakes, IsPossible, FitsMarks}
 use Rattle.dso_law.specs.Settings.{Settings}
 use Rattle.dso_law.specs.Entries.{events_in}
 use Rattle.dso_law.specs.RequestNeeds.{unmet}
 use Rattle.dso_law.specs.Replies.{reply_of, woken_by}
+use Rattle.dso_law.specs.Threads.{locks_of}
 use Rattle.dso_legal.specs.WaitsAndLosses.{waits_or_notifies}
 use Rattle.dso_legal.specs.SoundProgram.{KeepsTo}
 use Rattle.dso_legal.specs.Views.{IsOrderly, ActsArePossible, Sees}
@@ -20,6 +22,24 @@ use Rattle.dso_legal.specs.Works.{wait_count}
 use Rattle.dso_legal.proofs.blocks.SameLocks.{same_locks}
 use Rattle.dso_legal.proofs.acts.ActsOnObjects.{may_make, may_look, may_read, may_put}
 use Rattle.dso_legal.proofs.acts.ActsOnLocks.{may_enter, may_exit, may_end, may_resume, never_resumes}
+
+-- A thread that doesn't wait finds its mark where it asks for one, as it never does,
+finds_mark : (p : Settings) (t : ThreadId) (client : List Entry) → (locks_of t client).waiting ≡ None → (s : PlainState) (request : Request) (reply : Reply)
+    → KeepsTo p.shape t (events_in t client) request → waits_or_notifies request ≡ false → FindsMark request reply t s
+finds_mark p t client awake s (Tick l) reply keeps calm = absurd (cc calm)
+finds_mark p t client awake s (Timeout l) reply keeps calm = absurd (cc calm)
+finds_mark p t client awake s (Resume l) reply keeps calm = never_resumes t client (same_locks t client) l awake keeps.locks
+finds_mark p t client awake s request reply keeps calm = tt
+
+-- an act that doesn't notify wakes nobody,
+wakes_nobody : (client : List Entry) (t : ThreadId) (s : PlainState) (request : Request) (reply : Reply) → waits_or_notifies request ≡ false → Wakes request reply (woken_by request reply client) s
+wakes_nobody client t s (Notify l) reply calm = absurd (cc calm)
+wakes_nobody client t s request reply calm = refl
+
+-- so whatever is marked, its act asks for no other marks.
+pub asks_no_mark : (p : Settings) (t : ThreadId) (client : List Entry) → (locks_of t client).waiting ≡ None → (request : Request) (reply : Reply)
+    → KeepsTo p.shape t (events_in t client) request → waits_or_notifies request ≡ false → (s : PlainState) → FitsMarks (Act t request reply (woken_by request reply client)) s
+asks_no_mark p t client awake request reply keeps calm s = (finds_mark p t client awake s request reply keeps calm, wakes_nobody client t s request reply calm)
 
 module _ (p : Settings) (next : ThreadId → Option Request) (t : ThreadId) (client : List Entry) (start_state s : PlainState) (sees : Sees p t client start_state s) (orderly : IsOrderly p t client) where
   -- the reply is possible
@@ -52,18 +72,6 @@ module _ (p : Settings) (next : ThreadId → Option Request) (t : ThreadId) (cli
   is_awake (Resume l) = tt
   is_awake request = asleep_nowhere
 
-  -- it finds its mark where it asks for one, as it never does
-  finds_mark : (request : Request) (reply : Reply) → KeepsTo p.shape t (events_in t client) request → waits_or_notifies request ≡ false → FindsMark request reply t s
-  finds_mark (Tick l) reply keeps calm = absurd (cc calm)
-  finds_mark (Timeout l) reply keeps calm = absurd (cc calm)
-  finds_mark (Resume l) reply keeps calm = never_resumes t client (same_locks t client) l orderly.awake keeps.locks
-  finds_mark request reply keeps calm = tt
-
-  -- and its act wakes nobody
-  wakes_nobody : (request : Request) (reply : Reply) → waits_or_notifies request ≡ false → Wakes request reply (woken_by request reply client) s
-  wakes_nobody (Notify l) reply calm = absurd (cc calm)
-  wakes_nobody request reply calm = refl
-
   -- so the act is possible
   pub may_act : (request : Request) (reply : Reply) → KeepsTo p.shape t (events_in t client) request → waits_or_notifies request ≡ false
       → unmet p t.client next t request client ≡ None → reply_of p t request client ≡ Some reply → IsPossible p.shape t request reply (woken_by request reply client) s
@@ -72,8 +80,8 @@ module _ (p : Settings) (next : ThreadId → Option Request) (t : ThreadId) (cli
     going = sees.going;
     awake = is_awake request;
     answers = may_answer request reply keeps calm need e;
-    finds = finds_mark request reply keeps calm;
-    wakes = wakes_nobody request reply calm;
+    finds = finds_mark p t client orderly.awake s request reply keeps calm;
+    wakes = wakes_nobody client t s request reply calm;
   }
 
 pub acts_are_possible : ActsArePossible

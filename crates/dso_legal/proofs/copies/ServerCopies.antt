@@ -16,14 +16,14 @@ use Rattle.dso_base.specs.declared.request.Event.{Event}
 use Rattle.dso_base.specs.declared.request.Request.{Request}
 use Rattle.dso_base.specs.declared.shape.Shape.{Shape}
 use Rattle.dso_base.specs.declared.value.ClassId.{ClassId}
-use Rattle.dso_plain.specs.History.{Runs, end_of, last_state}
+use Rattle.dso_plain.specs.History.{RunsButMarks, end_of, last_state}
 use Rattle.dso_plain.specs.StepInvariants.{PastInvariant}
 use Rattle.dso_plain.specs.Possible.{IsOf}
 use Rattle.dso_plain.specs.State.{PlainState, Object, IsShared, is_shared, guard_in, guard_of_object}
 use Rattle.dso_plain.proofs.keys.SameKeys.{same_number, number_self}
-use Rattle.dso_legal.proofs.PlainRuns.{leaves_own}
+use Rattle.dso_plain.proofs.independence.LeftAlone.{leaves_own}
 use Rattle.dso_plain.proofs.invariants.PastsHold.{kept_past}
-use Rattle.dso_legal.proofs.PlainRuns.{run_kept, pasts_grow}
+use Rattle.dso_plain.proofs.invariants.PastsHold.{run_kept, pasts_grow}
 use Rattle.dso_law.specs.Channels.{up_in_flight, down_in_flight}
 use Rattle.dso_law.specs.Copies.{is_resident, resident_by_taken, is_set_of, value_by_sets}
 use Rattle.dso_law.specs.Entries.{entries_of}
@@ -35,7 +35,7 @@ use Rattle.dso_law.specs.Settings.{Settings}
 use Rattle.dso_law.specs.Store.{stored, holds_object}
 use Rattle.dso_legal.specs.Agreement.{messages, after}
 use Rattle.dso_legal.specs.WaitsAndLosses.{WithoutWaits, WithoutLosses, is_loss}
-use Rattle.dso_legal.specs.Committed.{committed}
+use Rattle.dso_legal.specs.AsMade.{as_made}
 use Rattle.dso_legal.specs.CopiesStand.{state_at, CopiesStand}
 use Rattle.dso_legal.specs.Lawful.{ServerFollows, AllFollow}
 use Rattle.dso_legal.specs.PendingBlocks.{joined, pending, taken_in, records_in}
@@ -100,14 +100,14 @@ module _ (p : Settings) (next : ThreadId → List Event → Option Request) (e :
   s = state_at p c es
 
   abbrev history_state : PlainState
-  history_state = last_state p.shape (committed es)
+  history_state = last_state p.shape (as_made es)
 
   -- the client's blocks in flight run
-  pends : Runs p.shape (joined (pending c es)) history_state
+  pends : RunsButMarks p.shape (joined (pending c es)) history_state
   pends = line_runs p.shape c (messages (up_in_flight c es)) (pending c es) (λ l. standing_with c l (counted (entries_of Server es))) history_state (stand.lines c).line
 
   kept_here : PastInvariant s
-  kept_here = run_kept p.shape (joined (pending c es)) history_state pends (history_kept p.shape (committed es) stand.runs)
+  kept_here = run_kept p.shape (joined (pending c es)) history_state pends (history_kept p.shape (as_made es) stand.runs)
 
   -- what is told speaks of no object, and the state stays
   silent_copies : IsElse c e.input → state_at p c (e ∷ es) ≡ s → CopiesStand p.shape c (state_at p c (e ∷ es)) (messages (down_in_flight c (e ∷ es))) (entries_of (Client c) (e ∷ es))
@@ -124,11 +124,11 @@ module _ (p : Settings) (next : ThreadId → List Event → Option Request) (e :
     sent = object_sent p next c o e es follow.0 (alive c) rule asks
 
     heap_body : IsHeapBody o sent.body history_state
-    heap_body = (store_is_heap works_tell p next es follow.0 calm.1 stand.runs o).each sent.body sent.is_stored
+    heap_body = (store_is_heap works_tell p next es follow.0 stand.runs o).each sent.body sent.is_stored
 
     leaves : LeavesObject o history_state s
-    leaves = pending_leaves p.shape c o (taken_in c es) (records_in (messages (up_in_flight c es))) (pending c es) (committed es) stand.runs pends (are_records_split p next c es follow.0 (alive c)) (way_of_client p next c es follow.0 (alive c))
-        (λ t its. privates_taken_of works_tell p next t c its es follow.0 calm.1 (alive c) stand.runs) sent.untouched heap_body.shared
+    leaves = pending_leaves p.shape c o (taken_in c es) (records_in (messages (up_in_flight c es))) (pending c es) (as_made es) stand.runs pends (are_records_split p next c es follow.0 (alive c)) (way_of_client p next c es follow.0 (alive c))
+        (λ t its. privates_taken_of works_tell p next t c its es follow.0 (alive c) stand.runs) sent.untouched heap_body.shared
 
     brings_it : Brings c sent.body s ms own
     brings_it = record {
@@ -147,17 +147,17 @@ module _ (p : Settings) (next : ThreadId → List Event → Option Request) (e :
   -- the server takes a record
   module _ (d : ℕ) (txn : Txn) (took : e.input ≡ input.TookUp d (up.Commit txn)) where
     abbrev taken : TakesBlock p d txn e es
-    taken = takes p next e es follow calm safe stand at d txn took
+    taken = takes p next e es follow safe stand at d txn took
 
     -- of the client itself
     own_record : c ≡ d → CopiesStand p.shape c (state_at p c (e ∷ es)) (messages (down_in_flight c (e ∷ es))) (entries_of (Client c) (e ∷ es))
     own_record same = silent_copies (subst (IsElse c) (sym took) (subst (λ n. eqb c n ≡ true) same (number_self c)))
-        (subst (λ n. state_at p n (e ∷ es) ≡ state_at p n es) (sym same) (steps.state_taken p next d es follow.0 (alive d) e follow.1 calm.1 txn taken))
+        (subst (λ n. state_at p n (e ∷ es) ≡ state_at p n es) (sym same) (steps.state_taken p next d es follow.0 (alive d) e follow.1 txn taken))
 
     -- of another client
     module _ (other : eqb c d ≡ false) where
       passed : RecordPasses p c txn taken.block e es
-      passed = passes p next e es follow calm safe stand at d txn took c other
+      passed = passes p next e es follow safe stand at d txn took c other
 
       abbrev r : PlainState
       r = end_of p.shape taken.block s
@@ -170,7 +170,7 @@ module _ (p : Settings) (next : ThreadId → List Event → Option Request) (e :
           by false unlike = unlike
 
       tells : TellsRecord txn s r
-      tells = tells_elsewhere works_tell p next es follow.0 calm.1 stand.runs e follow.1 d (alive d) txn taken c apart_too (alive c) pends passed.runs
+      tells = tells_elsewhere works_tell p next es follow.0 stand.runs e follow.1 d (alive d) txn taken c apart_too (alive c) pends passed.runs
 
       -- where the record sets a field of a shared object, its guard isn't leased to the client
       unleased : (o f : ℕ) → IsShared o s → value_by_sets o f tells.work.sets None ≢ None → (after (standing_down (guard_in p.shape s o f)) ms (standing (guard_in p.shape s o f) own)).lease ≡ None
@@ -180,7 +180,7 @@ module _ (p : Settings) (next : ThreadId → List Event → Option Request) (e :
           from_body set body is = subst (λ l. (after (standing_down l) ms (standing l own)).lease ≡ None) (sym guard) (set_is_unleased_behind p next d txn e es follow.0 rule took (alive d) c (alive c) apart_too o f body is (subst (λ sets. list_any (is_set_of o f) sets ≡ true) tells.sets set))
             where
               heap_body : IsHeapBody o body history_state
-              heap_body = (store_is_heap works_tell p next es follow.0 calm.1 stand.runs o).each body is
+              heap_body = (store_is_heap works_tell p next es follow.0 stand.runs o).each body is
 
               guard : guard_in p.shape s o f ≡ guard_of p.shape body.class o f
               guard = ap (λ object. guard_of_object p.shape object o f) (shared_stays p.shape (joined (pending c es)) history_state o pends heap_body.shared) ∙ guard_is p.shape o f body.class (length body.values) (history_state.objects o) heap_body.class
