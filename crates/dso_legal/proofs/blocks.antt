@@ -11,6 +11,7 @@ pub mod OpenBlocksPass
 pub mod ThreadHistory
 pub mod OwnActs
 pub mod OwnThreads
+pub mod WaitsApart
 pub mod Orderly
 pub mod SameLocks
 pub mod LocksOfEvents

@@ -7,7 +7,7 @@ use Rattle.dso_base.specs.declared.lock.ThreadId.{ThreadId}
 use Rattle.dso_base.specs.declared.request.Event.{Event}
 use Rattle.dso_base.specs.declared.request.Request.{Request}
 use Rattle.dso_base.specs.Following.{is_thread, Listed}
-use Rattle.dso_plain.specs.History.{Runs, RunsButMarks, last_state, events_of, IsLegal}
+use Rattle.dso_plain.specs.History.{RunsButMarks, last_state, events_of, IsLegal}
 use Rattle.dso_plain.specs.State.{opening}
 use Rattle.dso_law.specs.Settings.{Settings}
 use Rattle.dso_law.specs.Entries.{entries_of, events_in}
@@ -35,9 +35,8 @@ pub record ClientStands (p : Settings) (c : ℕ) (es : List Entry) : Type 0 wher
   pub opens : (t : ThreadId) → t.client ≡ c → RunsButMarks p.shape (open_block t (entries_of (Client c) es)) (state_at p c es)
   pub copies : CopiesStand p.shape c (state_at p c es) (messages (down_in_flight c es)) (entries_of (Client c) es)
 
--- The history runs; as it was made it runs, whatever is marked; and each client that isn't lost stands.
+-- The history as made runs, whatever is marked, and each client that isn't lost stands.
 pub record ClusterStands (p : Settings) (es : List Entry) : Type 0 where
-  pub runs : Runs p.shape (committed es) (opening p.shape)
   pub made : RunsButMarks p.shape (as_made es) (opening p.shape)
   pub client : (c : ℕ) → is_lost c (entries_of Server es) ≡ false → ClientStands p c es
 
@@ -65,6 +64,6 @@ CentralLaw = (p : Settings) (next : ThreadId → List Event → Option Request) 
 abbrev pub CommitsWhatWasMade : Type 0
 CommitsWhatWasMade = (p : Settings) (next : ThreadId → List Event → Option Request) → IsSound p.shape next → (es : List Entry) → IsLawful p next es → WithoutWaits es → WithoutLosses es → CommitsAsMade p es
 
--- All clients stand after such a journal.
+-- All clients stand after a lawful journal without losses, of a sound program.
 abbrev pub ClientsStand : Type 0
-ClientsStand = (p : Settings) (next : ThreadId → List Event → Option Request) → IsSound p.shape next → (es : List Entry) → IsLawful p next es → WithoutWaits es → WithoutLosses es → ClusterStands p es
+ClientsStand = (p : Settings) (next : ThreadId → List Event → Option Request) → IsSound p.shape next → (es : List Entry) → IsLawful p next es → WithoutLosses es → ClusterStands p es

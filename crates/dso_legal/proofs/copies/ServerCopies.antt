@@ -1,6 +1,7 @@
 -- A client's copies stand again after an entry of the server.
 use Rattle.std.specs.List.{list_any}
 use Rattle.std.proofs.Common.{ℕ, ◌≡◌, ◌≢◌, refl, sym, ◌∙◌, ap, subst, Bool, true, false, cond, eqb, Option, Some, None, List, [], ◌∷◌, ◌++◌, filter, length}
+use Rattle.std.proofs.lemmas.List.{append_assoc}
 use Rattle.dso_base.specs.Shape.{guard_of}
 use Rattle.dso_base.specs.declared.journal.Entry.{Entry}
 use Rattle.dso_base.specs.declared.journal.Input.{Input}
@@ -34,7 +35,7 @@ use Rattle.dso_law.specs.Granting.{standing_with}
 use Rattle.dso_law.specs.Settings.{Settings}
 use Rattle.dso_law.specs.Store.{stored, holds_object}
 use Rattle.dso_legal.specs.Agreement.{messages, after}
-use Rattle.dso_legal.specs.WaitsAndLosses.{WithoutWaits, WithoutLosses, is_loss}
+use Rattle.dso_legal.specs.WaitsAndLosses.{WithoutLosses, is_loss}
 use Rattle.dso_legal.specs.AsMade.{as_made}
 use Rattle.dso_legal.specs.CopiesStand.{state_at, CopiesStand}
 use Rattle.dso_legal.specs.Lawful.{ServerFollows, AllFollow}
@@ -44,7 +45,6 @@ use Rattle.dso_legal.proofs.line.AllStandOn.{takes, passes}
 use Rattle.dso_legal.proofs.objects.BodiesHeld.{set_of_object}
 use Rattle.dso_legal.proofs.blocks.BlockSteps as steps
 use Rattle.dso_legal.proofs.blocks.BlockSteps.{none_is_lost}
-use Rattle.dso_legal.proofs.central.ServerWithoutWaits.{told_of_record}
 use Rattle.dso_legal.proofs.copies.CopiesForeign.{IsForeign, copies_after_foreign}
 use Rattle.dso_legal.proofs.copies.ChangesSent.{changes_down}
 use Rattle.dso_legal.proofs.channels.InFlight.{told_to}
@@ -53,7 +53,7 @@ use Rattle.dso_legal.proofs.copies.CopiesObject.{Brings, copies_after_object}
 use Rattle.dso_legal.proofs.copies.FieldMoves.{apart, sets_other}
 use Rattle.dso_legal.proofs.copies.ForeignRecord.{set_is_stored, set_is_held, set_is_unleased_behind}
 use Rattle.dso_legal.proofs.records.HandedIn.{TakesBlock, are_records_split}
-use Rattle.dso_legal.proofs.leases.LeasesInFlight.{server_rule, server_first}
+use Rattle.dso_legal.proofs.leases.LeasesInFlight.{server_rule}
 use Rattle.dso_legal.proofs.line.LineParts.{line_runs}
 use Rattle.dso_legal.proofs.line.LineForeign.{acts_of_other, clients_apart}
 use Rattle.dso_legal.proofs.line.LineTaken.{RecordPasses}
@@ -67,6 +67,7 @@ use Rattle.dso_legal.specs.Store.{IsHeapBody}
 use Rattle.dso_legal.proofs.objects.StoreIsHeap.{store_is_heap}
 use Rattle.dso_legal.proofs.channels.AfterEntry.{ServerTurn, server_turn}
 use Rattle.dso_legal.proofs.line.LineElsewhere.{IsElsewhere, moves, stands_still}
+use Rattle.dso_legal.proofs.copies.ServerMessages as messages_to
 use Rattle.dso_legal.proofs.copies.ServerMessages.{IsElse, told_silent}
 use Rattle.dso_legal.proofs.objects.WorksTell.{works_tell, history_kept}
 
@@ -80,7 +81,7 @@ guard_is : (shape : Shape) (o f : ℕ) (class : ClassId) (n : ℕ) (object : Opt
 guard_is shape o f class n None is = absurd is
 guard_is shape o f class n (Some object) is = ap (λ x. guard_of shape x o f) is.0
 
-module _ (p : Settings) (next : ThreadId → List Event → Option Request) (e : Entry) (es : List Entry) (follow : AllFollow p next (e ∷ es)) (calm : WithoutWaits (e ∷ es)) (safe : WithoutLosses (e ∷ es)) (stand : AllStand p es) (copies : AllCopies p es) (at : e.node ≡ Server) (c : ℕ) where
+module _ (p : Settings) (next : ThreadId → List Event → Option Request) (e : Entry) (es : List Entry) (follow : AllFollow p next (e ∷ es)) (safe : WithoutLosses (e ∷ es)) (stand : AllStand p es) (copies : AllCopies p es) (at : e.node ≡ Server) (c : ℕ) where
   rule : ServerFollows p next e es
   rule = server_rule p next e es at follow.1
 
@@ -203,15 +204,22 @@ module _ (p : Settings) (next : ThreadId → List Event → Option Request) (e :
         unleased = unleased;
       }
 
+      -- what it is told: the changes, and then who is woken
+      told : messages_to.TellsRecord c d txn (counted (entries_of Server es)) (told_to c e.sent)
+      told = messages_to.record_is_told p next c e es follow.0 rule d txn took (alive d)
+
+      abbrev changes : List Down
+      changes = changes_down (filter (λ set. holds_object c set.object (counted (entries_of Server es))) tells.work.sets)
+
+      sends : told_to c e.sent ≡ changes ++ told.woken
+      sends = told.tells ∙ ap (λ ms. ms ++ told.woken) (ap (λ b. cond b (down.Ack txn.seq ∷ []) (changes_down (sets_for c txn (counted (entries_of Server es))))) other
+          ∙ ap (λ sets. changes_down (filter (λ set. holds_object c set.object (counted (entries_of Server es))) sets)) (sym tells.sets))
+
       foreign_copies : CopiesStand p.shape c (state_at p c (e ∷ es)) (messages (down_in_flight c (e ∷ es))) (entries_of (Client c) (e ∷ es))
-      foreign_copies = moved p c r (state_at p c (e ∷ es)) (ms ++ changes_down (filter (λ set. holds_object c set.object (counted (entries_of Server es))) tells.work.sets)) (messages (down_in_flight c (e ∷ es))) own (entries_of (Client c) (e ∷ es))
-          passed.state (turn.down ∙ ap (λ more. ms ++ more) told) turn.own
-          (copies_after_foreign p.shape c txn.thread tells.work (λ o. holds_object c o (counted (entries_of Server es))) s r ms own foreign (copies c))
-        where
-          told : told_to c e.sent ≡ changes_down (filter (λ set. holds_object c set.object (counted (entries_of Server es))) tells.work.sets)
-          told = told_of_record p next c d txn e es follow.0 calm.1 rule took (server_first p next d (up.Commit txn) e es at follow.1 took) (alive d)
-              ∙ (ap (λ b. cond b (down.Ack txn.seq ∷ []) (changes_down (sets_for c txn (counted (entries_of Server es))))) other
-              ∙ ap (λ sets. changes_down (filter (λ set. holds_object c set.object (counted (entries_of Server es))) sets)) (sym tells.sets))
+      foreign_copies = moved p c r (state_at p c (e ∷ es)) ((ms ++ changes) ++ told.woken) (messages (down_in_flight c (e ∷ es))) own (entries_of (Client c) (e ∷ es))
+          passed.state (turn.down ∙ ap (λ more. ms ++ more) sends ∙ sym (append_assoc ms changes told.woken)) turn.own
+          (copies_go_on p.shape c r (ms ++ changes) told.woken own (messages_to.each_so messages_to.wake_silent told.woken told.wake)
+          (copies_after_foreign p.shape c txn.thread tells.work (λ o. holds_object c o (counted (entries_of Server es))) s r ms own foreign (copies c)))
 
   -- The copies stand again.
   server_by : (i : Input) → e.input ≡ i → CopiesStand p.shape c (state_at p c (e ∷ es)) (messages (down_in_flight c (e ∷ es))) (entries_of (Client c) (e ∷ es))

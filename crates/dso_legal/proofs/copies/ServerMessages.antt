@@ -195,6 +195,13 @@ module _ (p : Settings) (next : ThreadId → List Event → Option Request) (c :
   pub what_is_told : ServerFollows p next e es → IsToldOn p c e.input (is_of_lost e.input (entries_of Server es)) server (told_to c e.sent)
   what_is_told h = told_on e.input refl h.step
 
+-- For a record of a client that isn't lost it tells whether it was taken, what it sets, and then who is woken.
+pub record_is_told : (p : Settings) (next : ThreadId → List Event → Option Request) (c : ℕ) (e : Entry) (es : List Entry) → AllFollow p next es → ServerFollows p next e es
+    → (d : ℕ) (txn : Txn) → e.input ≡ input.TookUp d (up.Commit txn) → is_lost d (entries_of Server es) ≡ false → TellsRecord c d txn (counted (entries_of Server es)) (told_to c e.sent)
+record_is_told p next c e es follow h d txn is alive =
+    subst (λ b. IsToldOn p c (input.TookUp d (up.Commit txn)) b (counted (entries_of Server es)) (told_to c e.sent)) alive
+    (subst (λ i. IsToldOn p c i (is_of_lost i (entries_of Server es)) (counted (entries_of Server es)) (told_to c e.sent)) is (what_is_told p next c e es follow h))
+
 -- what the server takes in is neither a fault of the client nor a record of another one
 abbrev pub IsElse : ℕ → Input → Type 0
 IsElse c (input.TookUp d (up.Fault o)) = eqb c d ≡ false
