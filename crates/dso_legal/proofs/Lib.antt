@@ -11,3 +11,4 @@ pub mod blocks
 pub mod central
 pub mod line
 pub mod journal_pass
+pub mod marks

@@ -15,6 +15,7 @@ pub mod NewsAreNew
 pub mod Sorted
 pub mod PendingBlocks
 pub mod Resolved
+pub mod Marks
 pub mod Line
 pub mod SoundProgram
 pub mod SoundCode

@@ -1,0 +1,2 @@
+-- Marks: who of the waiters is marked in the one heap.
+pub mod BlockMarks
