@@ -12,3 +12,4 @@ pub mod central
 pub mod line
 pub mod journal_pass
 pub mod marks
+pub mod waiting

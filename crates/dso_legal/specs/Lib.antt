@@ -16,6 +16,7 @@ pub mod Sorted
 pub mod PendingBlocks
 pub mod Resolved
 pub mod Marks
+pub mod Places
 pub mod Line
 pub mod SoundProgram
 pub mod SoundCode

@@ -1,0 +1,2 @@
+-- Waiters as tokens: where a thread stands among the waiters of a lock.
+pub mod PlacesCommute
