@@ -1,2 +1,4 @@
 -- Waiters as tokens: where a thread stands among the waiters of a lock.
 pub mod PlacesCommute
+pub mod ThreadLists
+pub mod ServerWakes

@@ -37,7 +37,7 @@ differs : {P : Type 0} (b : Bool) → b ≡ true → b ≡ false → P
 differs b e f = absurd (cc (sym f ∙ e))
 
 -- the thread left out is not there
-left_out : (t : ThreadId) (ts : List ThreadId) → list_any (is_thread t) (without t ts) ≡ false
+pub left_out : (t : ThreadId) (ts : List ThreadId) → list_any (is_thread t) (without t ts) ≡ false
 left_out t [] = refl
 left_out t (u ∷ ts) = by (is_thread t u) refl (left_out t ts)
   where
@@ -46,7 +46,7 @@ left_out t (u ∷ ts) = by (is_thread t u) refl (left_out t ts)
     by false e rest = ap (λ b. b || list_any (is_thread t) (without t ts)) e ∙ rest
 
 -- another is there as before
-left_in : (t w : ThreadId) (ts : List ThreadId) → is_thread t w ≡ false → list_any (is_thread w) (without t ts) ≡ list_any (is_thread w) ts
+pub left_in : (t w : ThreadId) (ts : List ThreadId) → is_thread t w ≡ false → list_any (is_thread w) (without t ts) ≡ list_any (is_thread w) ts
 left_in t w [] ne = refl
 left_in t w (u ∷ ts) ne = by (is_thread t u) refl (left_in t w ts ne)
   where
@@ -59,7 +59,7 @@ left_in t w (u ∷ ts) ne = by (is_thread t u) refl (left_in t w ts ne)
     by false e rest = ap (λ b. is_thread w u || b) rest
 
 -- a list without a thread has each other one once still
-still_once : (t : ThreadId) (ts : List ThreadId) → AreDistinct ts → AreDistinct (without t ts)
+pub still_once : (t : ThreadId) (ts : List ThreadId) → AreDistinct ts → AreDistinct (without t ts)
 still_once t [] once = tt
 still_once t (u ∷ ts) once = by (is_thread t u) refl (still_once t ts once.1)
   where
@@ -76,7 +76,7 @@ lists_here l w lists = fun_ext (λ k. same (is_lock l k) (lists k))
     same false list = refl
 
 -- both of a test are not both
-neither_way : (t u : ThreadId) → is_thread t u ≡ false → is_thread u t ≡ false
+pub neither_way : (t u : ThreadId) → is_thread t u ≡ false → is_thread u t ≡ false
 neither_way t u ne = by (is_thread u t) refl
   where
     by : (b : Bool) → is_thread u t ≡ b → b ≡ false
