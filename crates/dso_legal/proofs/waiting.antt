@@ -2,3 +2,4 @@
 pub mod PlacesCommute
 pub mod ThreadLists
 pub mod ServerWakes
+pub mod ServerWaiters

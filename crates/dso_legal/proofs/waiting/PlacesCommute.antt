@@ -22,10 +22,10 @@ gone_kept : {P : Type 0} → Gone ≡ Kept → P
 gone_kept e = absurd (cc e)
 
 -- who is gone stays so under a message up, which may come to one that is away, and leaves it so
-record Passes (may : Place → Type 0) (step : Place → Place) : Type 0 where
-  later : may Away
-  gone : step Gone ≡ Gone
-  away : step Away ≡ Away
+pub record Passes (may : Place → Type 0) (step : Place → Place) : Type 0 where
+  pub later : may Away
+  pub gone : step Gone ≡ Gone
+  pub away : step Away ≡ Away
 
 module _ (l : LockName) (t : ThreadId) where
   -- so a choice that may come
@@ -76,7 +76,7 @@ module _ (l : LockName) (t : ThreadId) where
   ended u (ending.End fault) may = record { later = tt; gone = refl; away = refl }
 
   -- and each message up
-  said : (m : Up) → MayPlaceUp l t m Gone → Passes (MayPlaceUp l t m) (place_up l t m)
+  pub said : (m : Up) → MayPlaceUp l t m Gone → Passes (MayPlaceUp l t m) (place_up l t m)
   said (up.Return k threads) may = by (is_lock l k) (list_any (is_thread t) threads) refl refl
     where
       by : (a b : Bool) → is_lock l k ≡ a → list_any (is_thread t) threads ≡ b → Passes (λ s. is_lock l k ≡ true → (list_any (is_thread t) threads ≡ true) ↔ (s ≡ Kept)) (λ s. cond (is_lock l k && list_any (is_thread t) threads) Gone s)
