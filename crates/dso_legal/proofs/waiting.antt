@@ -3,3 +3,4 @@ pub mod PlacesCommute
 pub mod ThreadLists
 pub mod ServerWakes
 pub mod ServerWaiters
+pub mod ServerEnd

@@ -1,4 +1,4 @@
--- The server's end of a waiter: who is in its list is who is gone to it, each once; and its wakes may come to their threads.
+-- What the server's entries make of its lists of waiters: what is sent but wakes leaves them, and they have each thread once.
 use Rattle.std.specs.List.{list_any, AllByRecursion}
 use Rattle.std.proofs.Common.{ℕ, ◌≡◌, ◌↔◌, refl, sym, ◌∙◌, ap, subst, Bool, true, false, cond, not, eqb, ◌&&◌, ◌||◌, Option, Some, None, List, [], ◌∷◌, ◌++◌, filter, flat_map}
 use Rattle.dso_base.specs.declared.journal.Entry.{Entry}
@@ -61,12 +61,12 @@ noted_gone l t note s true gone = chosen_gone t note.choice s gone
 noted_gone l t note s false gone = gone
 
 -- nor do all of a record's,
-all_noted_gone : (l : LockName) (t : ThreadId) (notes : List Note) (s : Place) → places_noted l t notes s ≡ Gone → s ≡ Gone
+pub all_noted_gone : (l : LockName) (t : ThreadId) (notes : List Note) (s : Place) → places_noted l t notes s ≡ Gone → s ≡ Gone
 all_noted_gone l t [] s gone = gone
 all_noted_gone l t (note ∷ notes) s gone = noted_gone l t note s (is_lock l note.lock) (all_noted_gone l t notes (place_noted l t note s) gone)
 
 -- nor its ending
-ended_gone : (l : LockName) (t u : ThreadId) (end : Ending) (s : Place) → place_ended l t u end s ≡ Gone → s ≡ Gone
+pub ended_gone : (l : LockName) (t u : ThreadId) (end : Ending) (s : Place) → place_ended l t u end s ≡ Gone → s ≡ Gone
 ended_gone l t u (ending.Wait k) s = by (is_lock l k && is_thread t u)
   where
     by : (b : Bool) → cond b Kept s ≡ Gone → s ≡ Gone
@@ -83,7 +83,7 @@ ended_gone l t u (ending.Exit k) s = λ gone. gone
 ended_gone l t u (ending.End fault) s = λ gone. gone
 
 -- whether an item is in two lists
-any_append : {X : Type 0} (test : X → Bool) (xs ys : List X) → list_any test (xs ++ ys) ≡ (list_any test xs || list_any test ys)
+pub any_append : {X : Type 0} (test : X → Bool) (xs ys : List X) → list_any test (xs ++ ys) ≡ (list_any test xs || list_any test ys)
 any_append test [] ys = refl
 any_append test (x ∷ xs) ys = ap (λ b. test x || b) (any_append test xs ys) ∙ sym (joined (test x) (list_any test xs) (list_any test ys))
   where
@@ -92,7 +92,7 @@ any_append test (x ∷ xs) ys = ap (λ b. test x || b) (any_append test xs ys) �
     joined false b c = refl
 
 -- what holds of each thread of a list holds of one that is found in it
-found : (P : ThreadId → Type 0) (t : ThreadId) (ts : List ThreadId) → list_any (is_thread t) ts ≡ true → AllByRecursion P ts → P t
+pub found : (P : ThreadId → Type 0) (t : ThreadId) (ts : List ThreadId) → list_any (is_thread t) ts ≡ true → AllByRecursion P ts → P t
 found P t [] there each = absurd (cc there)
 found P t (u ∷ ts) there each = by (is_thread t u) refl there (found P t ts)
   where
@@ -101,7 +101,7 @@ found P t (u ∷ ts) there each = by (is_thread t u) refl there (found P t ts)
     by false other there later = later there each.1
 
 -- two lists that share no thread have each once
-once_both : (xs ys : List ThreadId) → AreDistinct xs → AreDistinct ys → AllByRecursion (λ t. list_any (is_thread t) xs ≡ false) ys → AreDistinct (xs ++ ys)
+pub once_both : (xs ys : List ThreadId) → AreDistinct xs → AreDistinct ys → AllByRecursion (λ t. list_any (is_thread t) xs ≡ false) ys → AreDistinct (xs ++ ys)
 once_both [] ys once more apart = more
 once_both (x ∷ xs) ys once more apart = (any_append (is_thread x) xs ys ∙ ap (λ b. b || list_any (is_thread x) ys) once.0 ∙ unlisted (list_any (is_thread x) ys) refl, once_both xs ys once.1 more (rest ys apart))
   where
@@ -118,7 +118,7 @@ once_both (x ∷ xs) ys once more apart = (any_append (is_thread x) xs ys ∙ ap
         neither false b none = none
 
 -- a list that a lost client's threads leave has each other one as it had
-without_client_has : (c : ℕ) (t : ThreadId) (ts : List ThreadId) → eqb t.client c ≡ false → list_any (is_thread t) (without_client c ts) ≡ list_any (is_thread t) ts
+pub without_client_has : (c : ℕ) (t : ThreadId) (ts : List ThreadId) → eqb t.client c ≡ false → list_any (is_thread t) (without_client c ts) ≡ list_any (is_thread t) ts
 without_client_has c t [] other = refl
 without_client_has c t (u ∷ ts) other = by (eqb u.client c) refl (without_client_has c t ts other)
   where
@@ -131,7 +131,7 @@ without_client_has c t (u ∷ ts) other = by (eqb u.client c) refl (without_clie
     by true its later = later ∙ sym (ap (λ b. b || list_any (is_thread t) ts) (unlike its (is_thread t u) refl))
     by false its later = ap (λ b. is_thread t u || b) later
 
-without_client_once : (c : ℕ) (ts : List ThreadId) → AreDistinct ts → AreDistinct (without_client c ts)
+pub without_client_once : (c : ℕ) (ts : List ThreadId) → AreDistinct ts → AreDistinct (without_client c ts)
 without_client_once c [] once = tt
 without_client_once c (t ∷ ts) once = by (eqb t.client c) refl (without_client_once c ts once.1)
   where
@@ -140,17 +140,17 @@ without_client_once c (t ∷ ts) once = by (eqb t.client c) refl (without_client
     by false other later = (without_client_has c t ts other ∙ once.0, later)
 
 -- the message wakes nobody
-abbrev IsNoWake : Down → Type 0
+abbrev pub IsNoWake : Down → Type 0
 IsNoWake (down.Wake l t) = ⊥
 IsNoWake m = Unit {0}
 
-lease_wakes_none : (m : Down) → IsOfLease m → IsNoWake m
+pub lease_wakes_none : (m : Down) → IsOfLease m → IsNoWake m
 lease_wakes_none (down.Grant l level) is = tt
 lease_wakes_none (down.Recall l) is = tt
 lease_wakes_none m is = absurd is
 
 -- changes wake nobody
-changes_wake_none : (p : Settings) (d : ℕ) (txn : Txn) (es : List Entry) → EachTold IsNoWake (changes_of p d txn es)
+pub changes_wake_none : (p : Settings) (d : ℕ) (txn : Txn) (es : List Entry) → EachTold IsNoWake (changes_of p d txn es)
 changes_wake_none p d txn es = told_each_flat IsNoWake (λ c. cond (eqb c d) [] (changes_to c (sets_for c txn es))) (clients_of p) (λ c. by c (eqb c d) (sets_for c txn es))
   where
     by : (c : ℕ) (b : Bool) (sets : List Set) → EachTold IsNoWake (cond b [] (changes_to c sets))
@@ -158,13 +158,13 @@ changes_wake_none p d txn es = told_each_flat IsNoWake (λ c. cond (eqb c d) [] 
     by c false [] = tt
     by c false (set ∷ sets) = (tt, tt)
 
-object_wakes_none : (c : ℕ) (body : Option Body) → EachTold IsNoWake (object_to c body)
+pub object_wakes_none : (c : ℕ) (body : Option Body) → EachTold IsNoWake (object_to c body)
 object_wakes_none c None = tt
 object_wakes_none c (Some body) = (tt, tt)
 
 module _ (l : LockName) where
   -- what wakes nobody leaves the list
-  none_woken : (out : List Sent) (ts : List ThreadId) → EachTold IsNoWake out → Woken l out ts ts
+  pub none_woken : (out : List Sent) (ts : List ThreadId) → EachTold IsNoWake out → Woken l out ts ts
   none_woken [] ts quiet = record { each = tt; leaves = refl }
   none_woken (ToServer m ∷ out) ts quiet =
       let rest : Woken l out ts ts = none_woken out ts quiet in
@@ -176,7 +176,7 @@ module _ (l : LockName) where
       by m no_wake rest = record { each = (tt, rest.each); leaves = rest.leaves }
 
   -- a list keeps its threads once each as some are woken
-  sent_once : (out : List Sent) (ts : List ThreadId) → AreDistinct ts → AreDistinct (by_sent_down (waiters_by_sent l) out ts)
+  pub sent_once : (out : List Sent) (ts : List ThreadId) → AreDistinct ts → AreDistinct (by_sent_down (waiters_by_sent l) out ts)
   sent_once [] ts once = once
   sent_once (ToServer m ∷ out) ts once = sent_once out ts once
   sent_once (ToClient c m ∷ out) ts once = sent_once out (waiters_by_sent l c m ts) (by m)
