@@ -3,6 +3,4 @@ pub mod AllHold
 pub mod CentralLaw
 pub mod ResolvedFollows
 pub mod Finished
-pub mod ClientWithoutWaits
-pub mod ServerWithoutWaits
 pub mod ThreadEnds

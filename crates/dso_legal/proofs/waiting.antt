@@ -4,3 +4,4 @@ pub mod ThreadLists
 pub mod ServerWakes
 pub mod ServerWaiters
 pub mod ServerEnd
+pub mod EndingsInTime
