@@ -1,7 +1,7 @@
 -- Waiters are tokens: where a thread stands among the waiters of a lock, as its client and the server both tell by the messages
 -- between them.
 use Rattle.std.specs.List.{list_any}
-use Rattle.std.specs.Prelude.{ℕ, ◌≡◌, ◌≢◌, ◌↔◌, Bool, true, false, cond, ◌&&◌, Option, List, [], ◌∷◌}
+use Rattle.std.specs.Prelude.{ℕ, ◌≡◌, ◌≢◌, ◌↔◌, true, cond, ◌&&◌, List, [], ◌∷◌}
 use Rattle.dso_base.specs.declared.journal.Entry.{Entry}
 use Rattle.dso_base.specs.declared.journal.Node.TheVariants.{Server, Client}
 use Rattle.dso_base.specs.declared.lock.LockName.{LockName}

@@ -1,7 +1,6 @@
 -- What each kind of entry does to a client's blocks, and to the state that the client stands at.
-use Rattle.std.specs.List.{list_any, AllByRecursion}
-use Rattle.std.proofs.Common.{ℕ, zero, suc, ◌≡◌, refl, sym, ◌∙◌, ap, false, ◌||◌, Option, List, [], ◌∷◌, ◌++◌}
-use Rattle.std.specs.Prelude.{drop}
+use Rattle.std.specs.List.{list_any}
+use Rattle.std.proofs.Common.{ℕ, ◌≡◌, refl, sym, ◌∙◌, ap, false, ◌||◌, Option, List, [], ◌∷◌, ◌++◌}
 use Rattle.std.proofs.lemmas.List.{append-nil}
 use Rattle.dso_base.specs.declared.journal.Entry.{Entry}
 use Rattle.dso_base.specs.declared.journal.Input.{Input}
@@ -19,7 +18,6 @@ use Rattle.dso_law.specs.Settings.{Settings}
 use Rattle.dso_law.specs.Entries.{entries_of}
 use Rattle.dso_law.specs.ServerReadings.{loses, is_lost}
 use Rattle.dso_legal.specs.WaitsAndLosses.{is_loss, WithoutLosses}
-use Rattle.dso_legal.specs.Committed.{ended_blocks}
 use Rattle.dso_legal.specs.AsMade.{made_at, as_made}
 use Rattle.dso_legal.specs.CopiesStand.{state_at}
 use Rattle.dso_legal.specs.Lawful.{MayFollow, AllFollow}

@@ -16,7 +16,7 @@ use Rattle.dso_base.specs.declared.request.Event.{Event}
 use Rattle.dso_base.specs.declared.request.Event.TheVariants.{Lost}
 use Rattle.dso_base.specs.declared.request.Request.{Request}
 use Rattle.dso_base.specs.Following.{is_thread}
-use Rattle.dso_plain.specs.History.{is_act_of, events_of}
+use Rattle.dso_plain.specs.History.{events_of}
 use Rattle.dso_plain.proofs.keys.SameKeys.{same_number, number_self, same_thread}
 use Rattle.dso_plain.proofs.histories.LegalGoesOn.{events_in_parts}
 use Rattle.dso_law.specs.Settings.{Settings, threads_of}

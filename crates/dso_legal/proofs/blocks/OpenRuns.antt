@@ -21,7 +21,7 @@ use Rattle.dso_plain.specs.History.{RunsButMarks, end_of}
 use Rattle.dso_plain.specs.Touches.{Touches, TouchesIn, Takes, MakesIn, IsActOf, AreActsOf, NoClash, NoCommonId}
 use Rattle.dso_plain.proofs.keys.SameKeys.{thread_self}
 use Rattle.dso_plain.proofs.independence.RunsSwap.{runs_but_marks_in_parts}
-use Rattle.dso_plain.specs.Laws.{AreApart, CanSwap}
+use Rattle.dso_plain.specs.Laws.{CanSwap}
 use Rattle.dso_plain.proofs.independence.RunsSwap.{diamond}
 use Rattle.dso_law.specs.RequestNeeds.{is_enough}
 use Rattle.dso_law.specs.Threads.{Locks, hold_in, locks_by, locks_after, ending_by, ending_of}

@@ -1,6 +1,6 @@
 -- The central law: all stands after each entry, so the history runs, and what runs commits legally.
 use Rattle.std.specs.List.{AllByRecursion}
-use Rattle.std.proofs.Common.{ℕ, ◌≡◌, ◌⊎◌, inl, inr, refl, sym, ◌∙◌, ap, subst, Bool, true, false, cond, eqb, ◌||◌, Option, None, List, [], ◌∷◌, ◌++◌}
+use Rattle.std.proofs.Common.{ℕ, ◌≡◌, ◌⊎◌, inl, inr, refl, sym, subst, Option, None, List, [], ◌∷◌}
 use Rattle.dso_base.specs.declared.journal.Entry.{Entry}
 use Rattle.dso_base.specs.declared.journal.Node.{Node}
 use Rattle.dso_base.specs.declared.journal.Node.TheVariants.{Server, Client}
@@ -14,7 +14,6 @@ use Rattle.dso_plain.specs.After.{after}
 use Rattle.dso_plain.specs.History.{Runs, ChoicesFit, last_state}
 use Rattle.dso_plain.proofs.histories.RunKinds.{runs_with_marks}
 use Rattle.dso_law.specs.Settings.{Settings}
-use Rattle.dso_law.specs.Replies.{woken_by}
 use Rattle.dso_legal.specs.WaitsAndLosses.{WithoutWaits, WithoutLosses}
 use Rattle.dso_legal.specs.Central.{CentralLaw, CommitsWhatWasMade, ClientsStand}
 use Rattle.dso_legal.specs.AsMade.{as_made}

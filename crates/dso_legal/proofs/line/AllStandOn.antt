@@ -1,5 +1,4 @@
 -- One step of the induction for lines and open blocks: what stands of all clients stands again after one more entry.
-use Rattle.std.specs.List.{AllByRecursion}
 use Rattle.std.proofs.Common.{ℕ, ◌≡◌, ◌≢◌, refl, sym, subst, Bool, true, false, eqb, List, ◌∷◌, ◌++◌}
 use Rattle.std.specs.Prelude.{Option}
 use Rattle.dso_base.specs.declared.journal.Entry.{Entry}

@@ -1,6 +1,5 @@
 -- A run of another client's thread in front of a client's line: where it touches no lock in conflict with the client's
 -- leases, the line stands behind it, and it runs where the line ends.
-use Rattle.std.specs.List.{AllByRecursion}
 use Rattle.std.proofs.Common.{ℕ, ◌≡◌, ◌≢◌, inl, inr, refl, sym, ◌∙◌, ap, subst, true, List, [], ◌∷◌, ◌++◌}
 use Rattle.dso_base.specs.declared.lock.Level.{Level}
 use Rattle.dso_base.specs.declared.lock.Level.TheVariants.{Read}
@@ -16,7 +15,7 @@ use Rattle.dso_plain.specs.State.{PlainState, level_of}
 use Rattle.dso_plain.specs.History.{RunsButMarks, end_of}
 use Rattle.dso_plain.specs.Touches.{TouchesIn, MakesIn, IsActOf, IsActOfOther, AreActsOf, AreActsOfOthers, NoCommonId}
 use Rattle.dso_plain.proofs.independence.RunsSwap.{ends_in_parts}
-use Rattle.dso_plain.specs.Laws.{AreApart, CanSwap}
+use Rattle.dso_plain.specs.Laws.{CanSwap}
 use Rattle.dso_plain.proofs.independence.LeftAlone.{leaves_own}
 use Rattle.dso_plain.proofs.independence.RunsSwap.{diamond}
 use Rattle.dso_law.specs.RequestNeeds.{is_enough}

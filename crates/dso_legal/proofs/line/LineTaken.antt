@@ -1,6 +1,5 @@
 -- A client's line where the server takes a record: the client's own line is cut behind the first block, which becomes the
 -- history's last; another client's line has that block in front.
-use Rattle.std.specs.List.{AllByRecursion}
 use Rattle.std.proofs.Common.{ℕ, ◌≡◌, ◌≢◌, refl, sym, ◌∙◌, ap, subst, Bool, true, false, cond, eqb, List, [], ◌∷◌, ◌++◌}
 use Rattle.std.specs.Prelude.{Option, Some, None, drop}
 use Rattle.dso_base.specs.declared.journal.Entry.{Entry}

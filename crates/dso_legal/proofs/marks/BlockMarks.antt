@@ -1,6 +1,6 @@
 -- What a block makes of the waiters: resolved at the server's lists it runs, marks and all, and leaves the marks known.
-use Rattle.std.specs.List.{list_any, AllByRecursion}
-use Rattle.std.proofs.Common.{ℕ, ◌≡◌, ◌≢◌, ◌⊎◌, ◌↔◌, inl, inr, refl, sym, ◌∙◌, ap, subst, Bool, true, false, cond, not, ◌&&◌, ◌||◌, is_some, Option, Some, None, List, [], ◌∷◌, ◌++◌}
+use Rattle.std.specs.List.{list_any}
+use Rattle.std.proofs.Common.{ℕ, ◌≡◌, ◌≢◌, ◌⊎◌, ◌↔◌, inl, inr, refl, sym, ◌∙◌, ap, subst, Bool, true, false, cond, not, ◌&&◌, ◌||◌, is_some, Option, Some, None, List, [], ◌∷◌}
 use Rattle.std.proofs.Math.Path.{fun_ext}
 use Rattle.std.specs.Prelude.{drop}
 use Rattle.dso_base.specs.declared.lock.LockName.{LockName}
@@ -23,7 +23,7 @@ use Rattle.dso_plain.specs.State.{Hold, PlainState, is_shared, hold_on_guard}
 use Rattle.dso_plain.specs.Possible.{IsPossible, IsPossibleButMarks, IsUnmarkedWaiter, FindsMark, Wakes}
 use Rattle.dso_plain.specs.After.{apply, after, read, read_shared, put, count_of}
 use Rattle.dso_plain.specs.History.{Runs, RunsButMarks, end_of}
-use Rattle.dso_plain.specs.Touches.{TimesOut, NobodyTimesOut}
+use Rattle.dso_plain.specs.Touches.{TimesOut}
 use Rattle.dso_plain.proofs.keys.SameKeys.{same_thread, same_lock, thread_self}
 use Rattle.dso_law.specs.ClientWaiters.{without}
 use Rattle.dso_law.specs.FitsUp.{AreDistinct}

@@ -1,5 +1,5 @@
 -- The history runs, whatever is marked, where the one that was made does, and both end alike but for marks.
-use Rattle.std.proofs.Common.{◌≡◌, refl, sym, ap, subst, Bool, Option, List, [], ◌∷◌}
+use Rattle.std.proofs.Common.{◌≡◌, refl, sym, subst, Bool, Option, List, [], ◌∷◌}
 use Rattle.dso_base.specs.declared.lock.LockName.{LockName}
 use Rattle.dso_base.specs.declared.lock.ThreadId.{ThreadId}
 use Rattle.dso_base.specs.declared.request.Event.{Event}

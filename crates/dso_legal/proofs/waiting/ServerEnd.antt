@@ -1,5 +1,5 @@
 -- The server's end of a waiter: who is in its list is who is gone to it, each once, and its wakes may come to their threads.
-use Rattle.std.specs.List.{list_any, AllByRecursion}
+use Rattle.std.specs.List.{list_any}
 use Rattle.std.proofs.Common.{ℕ, ◌≡◌, ◌↔◌, refl, sym, ◌∙◌, ap, subst, Bool, true, false, cond, eqb, ◌&&◌, ◌||◌, List, [], ◌∷◌, ◌++◌}
 use Rattle.dso_base.specs.declared.journal.Entry.{Entry}
 use Rattle.dso_base.specs.declared.journal.Input.{Input}
@@ -15,13 +15,13 @@ use Rattle.dso_base.specs.declared.record.Txn.{Txn}
 use Rattle.dso_base.specs.Following.{is_thread}
 use Rattle.dso_plain.specs.KeyTests.{is_lock}
 use Rattle.dso_plain.proofs.keys.SameKeys.{same_lock, same_number, number_self}
-use Rattle.dso_law.specs.Entries.{unsent, by_sent_down, by_taken_up, if_to}
+use Rattle.dso_law.specs.Entries.{unsent, by_taken_up, if_to}
 use Rattle.dso_law.specs.FitsUp.{AreDistinct, IsNewWaiter, FitsReturn, FitsUp}
-use Rattle.dso_law.specs.Granting.{queue_of, leases_so_far, serves, serves_all}
-use Rattle.dso_law.specs.ServerReadings.{is_lost, loses, is_of_lost, counted}
+use Rattle.dso_law.specs.Granting.{queue_of, leases_so_far}
+use Rattle.dso_law.specs.ServerReadings.{loses, is_of_lost, counted}
 use Rattle.dso_law.specs.ServerStep.{changes_of, HeardStep, HeardOrLost, ServerStepOn}
-use Rattle.dso_law.specs.ServerWaiters.{waiters_by, waiters_by_sent, waiters_of, wakes_of, lists_noted}
-use Rattle.dso_law.specs.Settings.{Settings, threads_of}
+use Rattle.dso_law.specs.ServerWaiters.{waiters_by, waiters_of, wakes_of, lists_noted}
+use Rattle.dso_law.specs.Settings.{Settings}
 use Rattle.dso_law.specs.Store.{stored}
 use Rattle.dso_legal.specs.Agreement.{EachMay}
 use Rattle.dso_legal.specs.Places.{Place, Gone, places_noted, place_up, place_down, MayPlaceUp, MayPlaceDown, place_with}
@@ -33,7 +33,7 @@ use Rattle.dso_legal.proofs.copies.ServerMessages.{IsOfLease, serve_each, serves
 use Rattle.dso_legal.proofs.leases.LeaseSteps.{no_both}
 use Rattle.dso_legal.proofs.records.ServerSent.{EachTold, told_each_so}
 use Rattle.dso_legal.proofs.waiting.PlacesCommute.{said}
-use Rattle.dso_legal.proofs.waiting.ServerWakes.{EachWakes, Woken, woken_both, lists_ended, record_wakes, ListedAreGone, PlacesFollow, places_follow}
+use Rattle.dso_legal.proofs.waiting.ServerWakes.{EachWakes, woken_both, lists_ended, record_wakes, ListedAreGone, PlacesFollow, places_follow}
 use Rattle.dso_legal.proofs.waiting.ServerWaiters.{IsNoWake, lease_wakes_none, changes_wake_none, object_wakes_none, none_woken, sent_once, all_noted_gone, ended_gone, any_append, found, once_both, without_client_has, without_client_once}
 
 -- At the server who is in the list of the lock is who is gone, and the list has each thread once.

@@ -1,17 +1,13 @@
 -- What the server's entries make of its lists of waiters: what is sent but wakes leaves them, and they have each thread once.
 use Rattle.std.specs.List.{list_any, AllByRecursion}
-use Rattle.std.proofs.Common.{ℕ, ◌≡◌, ◌↔◌, refl, sym, ◌∙◌, ap, subst, Bool, true, false, cond, not, eqb, ◌&&◌, ◌||◌, Option, Some, None, List, [], ◌∷◌, ◌++◌, filter, flat_map}
+use Rattle.std.proofs.Common.{ℕ, ◌≡◌, refl, sym, ◌∙◌, ap, subst, Bool, true, false, cond, not, eqb, ◌&&◌, ◌||◌, Option, Some, None, List, [], ◌∷◌, ◌++◌}
 use Rattle.dso_base.specs.declared.journal.Entry.{Entry}
-use Rattle.dso_base.specs.declared.journal.Input.{Input}
-use Rattle.dso_base.specs.declared.journal.Input.TheVariants as input
 use Rattle.dso_base.specs.declared.journal.Sent.{Sent}
 use Rattle.dso_base.specs.declared.journal.Sent.TheVariants.{ToServer, ToClient}
 use Rattle.dso_base.specs.declared.lock.LockName.{LockName}
 use Rattle.dso_base.specs.declared.lock.ThreadId.{ThreadId}
 use Rattle.dso_base.specs.declared.message.Down.{Down}
 use Rattle.dso_base.specs.declared.message.Down.TheVariants as down
-use Rattle.dso_base.specs.declared.message.Up.{Up}
-use Rattle.dso_base.specs.declared.message.Up.TheVariants as up
 use Rattle.dso_base.specs.declared.record.Body.{Body}
 use Rattle.dso_base.specs.declared.record.Choice.{Choice}
 use Rattle.dso_base.specs.declared.record.Choice.TheVariants.{Here, There, All}
@@ -22,26 +18,19 @@ use Rattle.dso_base.specs.declared.record.Set.{Set}
 use Rattle.dso_base.specs.declared.record.Txn.{Txn}
 use Rattle.dso_base.specs.Following.{is_thread}
 use Rattle.dso_plain.specs.KeyTests.{is_lock}
-use Rattle.dso_plain.proofs.keys.SameKeys.{same_lock, same_thread, thread_self, same_number, number_self}
+use Rattle.dso_plain.proofs.keys.SameKeys.{same_thread, thread_self}
 use Rattle.dso_law.specs.ClientWaiters.{without}
-use Rattle.dso_law.specs.Entries.{unsent, by_sent_down, by_taken_up, if_to}
-use Rattle.dso_law.specs.FitsUp.{AreDistinct, IsNewWaiter}
-use Rattle.dso_law.specs.Granting.{queue_of, leases_so_far}
-use Rattle.dso_law.specs.ServerReadings.{is_lost, loses, is_of_lost, counted}
-use Rattle.dso_law.specs.ServerStep.{object_to, changes_to, sets_for, changes_of, HeardStep, HeardOrLost, ServerStepOn}
-use Rattle.dso_law.specs.ServerWaiters.{without_client, waiters_by_message, waiters_by, waiters_by_sent, waiters_of, wakes_of, lists_noted}
-use Rattle.dso_law.specs.Settings.{Settings, clients_of, threads_of}
-use Rattle.dso_law.specs.Store.{stored}
-use Rattle.dso_legal.specs.Agreement.{EachMay}
-use Rattle.dso_legal.specs.Places.{Place, Away, Kept, Gone, unkept, place_chosen, place_noted, places_noted, place_ended, place_up, place_down, MayPlaceUp, MayPlaceDown, place_with}
-use Rattle.dso_legal.proofs.blocks.Histories.{client_of_thread}
-use Rattle.dso_legal.proofs.channels.InFlight.{told_to}
-use Rattle.dso_legal.proofs.copies.ServerMessages.{IsOfLease, serve_each, serves_all_told}
+use Rattle.dso_law.specs.Entries.{by_sent_down}
+use Rattle.dso_law.specs.FitsUp.{AreDistinct}
+use Rattle.dso_law.specs.ServerStep.{object_to, changes_to, sets_for, changes_of}
+use Rattle.dso_law.specs.ServerWaiters.{without_client, waiters_by_sent}
+use Rattle.dso_law.specs.Settings.{Settings, clients_of}
+use Rattle.dso_legal.specs.Places.{Place, Away, Kept, Gone, unkept, place_chosen, place_noted, places_noted, place_ended}
+use Rattle.dso_legal.proofs.copies.ServerMessages.{IsOfLease}
 use Rattle.dso_legal.proofs.leases.LeaseSteps.{no_both}
 use Rattle.dso_legal.proofs.marks.BlockMarks.{still_once}
-use Rattle.dso_legal.proofs.records.ServerSent.{EachTold, told_each_flat, told_each_so}
-use Rattle.dso_legal.proofs.waiting.PlacesCommute.{said}
-use Rattle.dso_legal.proofs.waiting.ServerWakes.{WakesThere, EachWakes, Woken, woken_both, lists_ended, record_wakes, ListedAreGone, PlacesFollow, places_follow}
+use Rattle.dso_legal.proofs.records.ServerSent.{EachTold, told_each_flat}
+use Rattle.dso_legal.proofs.waiting.ServerWakes.{Woken}
 
 -- a record puts nobody in the server's list: a choice doesn't,
 chosen_gone : (t : ThreadId) (choice : Choice) (s : Place) → place_chosen t choice s ≡ Gone → s ≡ Gone

@@ -1,14 +1,12 @@
 -- Lists of threads in which each is named once, and who is left in them where some are taken out.
 use Rattle.std.specs.List.{list_any}
-use Rattle.std.proofs.Common.{◌≡◌, refl, sym, ◌∙◌, ap, subst, Bool, true, false, cond, not, ◌||◌, List, [], ◌∷◌}
-use Rattle.std.specs.Prelude.{drop}
+use Rattle.std.proofs.Common.{◌≡◌, refl, ◌∙◌, ap, Bool, true, false, cond, not, ◌||◌, List, [], ◌∷◌}
 use Rattle.dso_base.specs.declared.lock.ThreadId.{ThreadId}
 use Rattle.dso_base.specs.Following.{is_thread}
-use Rattle.dso_plain.proofs.keys.SameKeys.{same_thread, thread_self}
+use Rattle.dso_plain.proofs.keys.SameKeys.{thread_self}
 use Rattle.dso_law.specs.ClientWaiters.{without}
 use Rattle.dso_law.specs.FitsUp.{AreDistinct}
-use Rattle.dso_legal.proofs.leases.LeaseSteps.{no_both}
-use Rattle.dso_legal.proofs.marks.BlockMarks.{left_out, left_in, still_once}
+use Rattle.dso_legal.proofs.marks.BlockMarks.{left_in}
 
 -- who isn't there is not taken out
 pub without_absent : (t : ThreadId) (ts : List ThreadId) → list_any (is_thread t) ts ≡ false → without t ts ≡ ts
