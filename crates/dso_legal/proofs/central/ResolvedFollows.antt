@@ -27,11 +27,10 @@ module _ (next : ThreadId → List Event → Option Request) (t : ThreadId) (goe
       let still : next t same ≡ next t before = goes_by_replies before same acts in
       let same_request : asked ≡ request = cc are.0.same in
       let same_reply : answer ≡ reply = cc are.0.same in
-      let same_thread : v ≡ u = cc are.0.same in
-      (
+      let same_thread : v ≡ u = cc are.0.same in (
         (still ∙ follows.0.0 ∙ ap Some (sym same_request), subst (λ reply. IsListedFor (next t same) reply) (sym same_reply) (subst (λ request. IsListedFor request reply) (sym still) follows.0.1)),
         resolved_from (before ++ Act u request reply woken ∷ []) (same ++ Act v asked answer chosen ∷ []) mades events
-        (same_behind before same (Act u request reply woken) (Act v asked answer chosen) acts (same_thread, same_request, same_reply)) are.1 follows.1,
+            (same_behind before same (Act u request reply woken) (Act v asked answer chosen) acts (same_thread, same_request, same_reply)) are.1 follows.1,
       )
 
   -- So a thread's events, resolved, follow the program.

@@ -95,8 +95,8 @@ module _ (p : Settings) (l : LockName) (t : ThreadId) (e : Entry) (server : List
   commit_gone : (d : ℕ) (txn : Txn) (b : Bool) → eqb t.client d ≡ b → (eqb t.client d ≡ true → MayPlaceUp l t (up.Commit txn) s) → ListedAreGone l t ts (cond b (place_up l t (up.Commit txn) s) s)
   commit_gone d txn true its may = (
     (λ there.
-    let is : s ≡ Gone = stand.gone.0 there in
-    ap (place_up l t (up.Commit txn)) is ∙ (said l t (up.Commit txn) (subst (MayPlaceUp l t (up.Commit txn)) is (may its))).gone),
+        let is : s ≡ Gone = stand.gone.0 there in
+        ap (place_up l t (up.Commit txn)) is ∙ (said l t (up.Commit txn) (subst (MayPlaceUp l t (up.Commit txn)) is (may its))).gone),
     λ gone. stand.gone.1 (all_noted_gone l t txn.notes s (ended_gone l t txn.thread txn.ending (places_noted l t txn.notes s) gone)),
   )
   commit_gone d txn false other may = stand.gone

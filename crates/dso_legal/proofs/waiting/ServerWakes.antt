@@ -110,15 +110,13 @@ module _ (l : LockName) where
   note_woken : (note : Note) (lists : WaiterLists) (b : Bool) → is_lock l note.lock ≡ b → AreDistinct (lists l)
       → Woken (wake_each note.lock (waiters_woken note.choice (lists note.lock))) (lists l) (lists_after note.lock note.choice lists l) × AreDistinct (lists_after note.lock note.choice lists l)
   note_woken note lists true is once =
-      let now : lists_after note.lock note.choice lists l ≡ waiters_left note.choice (lists l) = ap (λ b. cond b (waiters_left note.choice (lists l)) (lists l)) (sym (lock_either_way l note.lock) ∙ is) in
-      (
+      let now : lists_after note.lock note.choice lists l ≡ waiters_left note.choice (lists l) = ap (λ b. cond b (waiters_left note.choice (lists l)) (lists l)) (sym (lock_either_way l note.lock) ∙ is) in (
         subst (λ k. Woken (wake_each note.lock (waiters_woken note.choice (lists k))) (lists l) (lists_after note.lock note.choice lists l)) (sym (same_lock l note.lock is))
-        (subst (Woken (wake_each note.lock (waiters_woken note.choice (lists l))) (lists l)) (sym now) (choice_woken note.lock note.choice (lists l) is once)),
+            (subst (Woken (wake_each note.lock (waiters_woken note.choice (lists l))) (lists l)) (sym now) (choice_woken note.lock note.choice (lists l) is once)),
         subst AreDistinct (sym now) (left_once note.choice (lists l) once),
       )
   note_woken note lists false other once =
-      let now : lists_after note.lock note.choice lists l ≡ lists l = ap (λ b. cond b (waiters_left note.choice (lists l)) (lists l)) (sym (lock_either_way l note.lock) ∙ other) in
-      (
+      let now : lists_after note.lock note.choice lists l ≡ lists l = ap (λ b. cond b (waiters_left note.choice (lists l)) (lists l)) (sym (lock_either_way l note.lock) ∙ other) in (
         subst (Woken (wake_each note.lock (waiters_woken note.choice (lists note.lock))) (lists l)) (sym now) (others_woken note.lock (waiters_woken note.choice (lists note.lock)) (lists l) other),
         subst AreDistinct (sym now) once,
       )

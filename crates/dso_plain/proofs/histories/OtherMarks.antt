@@ -1,11 +1,8 @@
 -- From a state with other marks: no reply depends on them, and an act bears on marks alone, whomever it wakes.
-use Rattle.std.proofs.Common.{ℕ, ◌≡◌, ◌≢◌, inl, inr, refl, sym, ◌∙◌, ap, subst, Bool, true, false, Option, Some, None, List, [], ◌∷◌}
-use Rattle.dso_base.specs.declared.lock.Level.{Level}
+use Rattle.std.proofs.Common.{ℕ, ◌≡◌, refl, Bool, true, false, Option, Some, None}
 use Rattle.dso_base.specs.declared.lock.LockName.{LockName}
 use Rattle.dso_base.specs.declared.lock.LockName.TheVariants.{Mon, Name}
 use Rattle.dso_base.specs.declared.lock.ThreadId.{ThreadId}
-use Rattle.dso_base.specs.declared.request.Event.{Event}
-use Rattle.dso_base.specs.declared.request.Event.TheVariants.{Act, Lost}
 use Rattle.dso_base.specs.declared.request.Fault.TheVariants.{UnlockedSharedObject, WrongLock, ReadOnly, LockUpgrade, IllegalMonitor}
 use Rattle.dso_base.specs.declared.request.Reply.{Reply}
 use Rattle.dso_base.specs.declared.request.Reply.TheVariants.{Done, Made, Seen, Val, Local, Refused}
@@ -14,13 +11,10 @@ use Rattle.dso_base.specs.declared.request.Request.TheVariants.{New, Look, Get, 
 use Rattle.dso_base.specs.declared.shape.Shape.{Shape}
 use Rattle.dso_base.specs.declared.value.Value.{Value}
 use Rattle.dso_base.specs.declared.value.Value.TheVariants as value
-use Rattle.dso_plain.specs.State.{Hold, PlainState, is_shared, level_of, hold_on_guard}
-use Rattle.dso_plain.specs.Possible.{IsPossible, May, Answers, IsPrivateMonitor, IsClusterLock, FindsMark, Wakes, IsAwakeFor, FitsMarks}
-use Rattle.dso_plain.specs.After.{change_of, apply, after, put, read, read_shared, notifies}
-use Rattle.dso_plain.specs.History.{Runs, ChoicesFit, end_of}
-use Rattle.dso_plain.specs.Touches.{ActTouches, Touches, TouchesIn}
-use Rattle.dso_plain.specs.Rechoice.{with_marks, IsOfOtherClient, AreOfOtherClients, IsSameAct, AreSameActs, IsRechosen, RunsRechosen}
-use Rattle.dso_plain.proofs.loss.RunsSurvive.{left, same_hold, not_cleared, still_answers, still_awake, swap}
+use Rattle.dso_plain.specs.State.{Hold, PlainState, is_shared, hold_on_guard}
+use Rattle.dso_plain.specs.Possible.{Answers, IsPrivateMonitor, IsClusterLock, IsAwakeFor}
+use Rattle.dso_plain.specs.After.{change_of, apply, put, read, read_shared, notifies}
+use Rattle.dso_plain.specs.Rechoice.{with_marks}
 
 module _ (shape : Shape) (t : ThreadId) (s : PlainState) (marks : LockName × ThreadId → Bool) where
   -- with other marks a private monitor is one, and a cluster's lock

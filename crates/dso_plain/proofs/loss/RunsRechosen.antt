@@ -1,22 +1,16 @@
 -- Runs with other choices after the loss of a client.
-use Rattle.std.proofs.Common.{ℕ, ◌≡◌, ◌≢◌, inl, inr, refl, sym, ◌∙◌, ap, subst, Bool, true, false, Option, Some, None, List, [], ◌∷◌}
+use Rattle.std.proofs.Common.{ℕ, ◌≡◌, ◌≢◌, inl, inr, refl, sym, ◌∙◌, ap, subst, Bool, true, Option, None, List, [], ◌∷◌}
 use Rattle.dso_base.specs.declared.lock.Level.{Level}
 use Rattle.dso_base.specs.declared.lock.LockName.{LockName}
-use Rattle.dso_base.specs.declared.lock.LockName.TheVariants.{Mon, Name}
 use Rattle.dso_base.specs.declared.lock.ThreadId.{ThreadId}
 use Rattle.dso_base.specs.declared.request.Event.{Event}
 use Rattle.dso_base.specs.declared.request.Event.TheVariants.{Act, Lost}
-use Rattle.dso_base.specs.declared.request.Fault.TheVariants.{UnlockedSharedObject, WrongLock, ReadOnly, LockUpgrade, IllegalMonitor}
 use Rattle.dso_base.specs.declared.request.Reply.{Reply}
-use Rattle.dso_base.specs.declared.request.Reply.TheVariants.{Done, Made, Seen, Val, Local, Refused}
 use Rattle.dso_base.specs.declared.request.Request.{Request}
-use Rattle.dso_base.specs.declared.request.Request.TheVariants.{New, Look, Get, Put, Enter, Exit, Wait, Tick, Timeout, Resume, Notify, NotifyAll, Print, End, Pause, Settle}
 use Rattle.dso_base.specs.declared.shape.Shape.{Shape}
-use Rattle.dso_base.specs.declared.value.Value.{Value}
-use Rattle.dso_base.specs.declared.value.Value.TheVariants as value
-use Rattle.dso_plain.specs.State.{Hold, PlainState, is_shared, level_of, hold_on_guard}
-use Rattle.dso_plain.specs.Possible.{IsPossible, May, Answers, IsPrivateMonitor, IsClusterLock, FindsMark, Wakes, IsAwakeFor, FitsMarks}
-use Rattle.dso_plain.specs.After.{change_of, apply, after, put, read, read_shared, notifies}
+use Rattle.dso_plain.specs.State.{PlainState, level_of}
+use Rattle.dso_plain.specs.Possible.{IsPossible, May, FindsMark, Wakes, FitsMarks}
+use Rattle.dso_plain.specs.After.{change_of, apply, after}
 use Rattle.dso_plain.specs.History.{Runs, ChoicesFit, end_of}
 use Rattle.dso_plain.specs.Touches.{ActTouches, Touches, TouchesIn}
 use Rattle.dso_plain.specs.Rechoice.{with_marks, IsOfOtherClient, AreOfOtherClients, IsSameAct, AreSameActs, IsRechosen, RunsRechosen}
