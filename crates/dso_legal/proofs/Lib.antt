@@ -1,4 +1,3 @@
-pub mod PlainRuns
 pub mod journals
 pub mod programs
 pub mod channels
@@ -13,3 +12,5 @@ pub mod blocks
 pub mod central
 pub mod line
 pub mod journal_pass
+pub mod marks
+pub mod waiting

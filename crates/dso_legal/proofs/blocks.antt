@@ -2,7 +2,7 @@
 pub mod BlockSteps
 pub mod ClientBlocks
 pub mod Histories
-pub mod BlocksWithoutWaits
+pub mod EachEvent
 pub mod ResolvedBlocks
 pub mod OpenLocks
 pub mod OpenRuns
@@ -11,6 +11,7 @@ pub mod OpenBlocksPass
 pub mod ThreadHistory
 pub mod OwnActs
 pub mod OwnThreads
+pub mod WaitsApart
 pub mod Orderly
 pub mod SameLocks
 pub mod LocksOfEvents

@@ -7,8 +7,8 @@ use Rattle.dso_base.specs.declared.lock.ThreadId.{ThreadId}
 use Rattle.dso_base.specs.declared.request.Event.{Event}
 use Rattle.dso_base.specs.declared.request.Request.{Request}
 use Rattle.dso_base.specs.Following.{is_thread, Listed}
-use Rattle.dso_plain.specs.History.{Runs, end_of, last_state, events_of, IsLegal}
-use Rattle.dso_plain.specs.State.{PlainState, opening}
+use Rattle.dso_plain.specs.History.{RunsButMarks, last_state, events_of, IsLegal}
+use Rattle.dso_plain.specs.State.{opening}
 use Rattle.dso_law.specs.Settings.{Settings}
 use Rattle.dso_law.specs.Entries.{entries_of, events_in}
 use Rattle.dso_law.specs.Channels.{up_in_flight, down_in_flight}
@@ -16,45 +16,28 @@ use Rattle.dso_law.specs.Prefixes.{IsPrefix}
 use Rattle.dso_law.specs.Threads.{open_block}
 use Rattle.dso_law.specs.ServerReadings.{is_lost, counted}
 use Rattle.dso_law.specs.Granting.{standing_with}
-use Rattle.dso_law.specs.ServerWaiters.{waiters_of}
 use Rattle.dso_legal.specs.Agreement.{messages}
 use Rattle.dso_legal.specs.Lawful.{IsLawful}
-use Rattle.dso_legal.specs.Committed.{committed, resolved}
+use Rattle.dso_legal.specs.AsMade.{as_made}
+use Rattle.dso_legal.specs.Committed.{committed}
 use Rattle.dso_legal.specs.Resolved.{AreResolved, IsPrefixResolved}
 use Rattle.dso_legal.specs.Slots.{is_finished}
 use Rattle.dso_legal.specs.WaitsAndLosses.{WithoutWaits, WithoutLosses}
 use Rattle.dso_legal.specs.SoundProgram.{IsSound}
-use Rattle.dso_legal.specs.PendingBlocks.{WaiterLists, joined, pending, resolved_in_flight, lists_in_flight}
+use Rattle.dso_legal.specs.PendingBlocks.{pending}
 use Rattle.dso_legal.specs.Line.{Line}
-use Rattle.dso_legal.specs.CopiesStand.{CopiesStand}
+use Rattle.dso_legal.specs.CopiesStand.{state_at, CopiesStand}
 
--- the server's lists of waiters
-abbrev pub server_lists : List Entry → WaiterLists
-server_lists es l = waiters_of l (counted (entries_of Server es))
-
--- the blocks in flight, as the server will resolve them
-abbrev pub pending_at : ℕ → List Entry → List (List Event)
-pending_at c es = resolved_in_flight (messages (up_in_flight c es)) (pending c es) (server_lists es)
-
--- a thread's open block, resolved where its client's messages in flight leave the lists
-abbrev pub open_at : ThreadId → ℕ → List Entry → List Event
-open_at t c es = resolved (open_block t (entries_of (Client c) es)) (lists_in_flight (messages (up_in_flight c es)) (pending c es) (server_lists es))
-
--- the state of the one heap as the client has it before its open blocks: after the history, and then its blocks in
--- flight
-abbrev pub state_with : Settings → ℕ → List Entry → PlainState
-state_with p c es = end_of p.shape (joined (pending_at c es)) (last_state p.shape (committed es))
-
--- What a client did and the server didn't take in yet can still be done: its messages in flight from the history on,
--- and each thread's open block, by itself, from where they end; and its copies stand.
+-- What a client did and the server didn't take in yet can still be done, whatever is marked: its messages in flight from the
+-- history as made on, and each thread's open block, by itself, from where they end; and its copies stand.
 pub record ClientStands (p : Settings) (c : ℕ) (es : List Entry) : Type 0 where
-  pub line : Line p.shape c (messages (up_in_flight c es)) (pending_at c es) (λ l. standing_with c l (counted (entries_of Server es))) (last_state p.shape (committed es))
-  pub opens : (t : ThreadId) → t.client ≡ c → Runs p.shape (open_at t c es) (state_with p c es)
-  pub copies : CopiesStand p.shape c (state_with p c es) (messages (down_in_flight c es)) (entries_of (Client c) es)
+  pub line : Line p.shape c (messages (up_in_flight c es)) (pending c es) (λ l. standing_with c l (counted (entries_of Server es))) (last_state p.shape (as_made es))
+  pub opens : (t : ThreadId) → t.client ≡ c → RunsButMarks p.shape (open_block t (entries_of (Client c) es)) (state_at p c es)
+  pub copies : CopiesStand p.shape c (state_at p c es) (messages (down_in_flight c es)) (entries_of (Client c) es)
 
--- The history runs, and each client that isn't lost stands.
+-- The history as made runs, whatever is marked, and each client that isn't lost stands.
 pub record ClusterStands (p : Settings) (es : List Entry) : Type 0 where
-  pub runs : Runs p.shape (committed es) (opening p.shape)
+  pub made : RunsButMarks p.shape (as_made es) (opening p.shape)
   pub client : (c : ℕ) → is_lost c (entries_of Server es) ≡ false → ClientStands p c es
 
 -- What is committed of a journal: a legal history in which each thread follows the program; of each thread a prefix of
@@ -81,6 +64,6 @@ CentralLaw = (p : Settings) (next : ThreadId → List Event → Option Request) 
 abbrev pub CommitsWhatWasMade : Type 0
 CommitsWhatWasMade = (p : Settings) (next : ThreadId → List Event → Option Request) → IsSound p.shape next → (es : List Entry) → IsLawful p next es → WithoutWaits es → WithoutLosses es → CommitsAsMade p es
 
--- All clients stand after such a journal.
+-- All clients stand after a lawful journal without losses, of a sound program.
 abbrev pub ClientsStand : Type 0
-ClientsStand = (p : Settings) (next : ThreadId → List Event → Option Request) → IsSound p.shape next → (es : List Entry) → IsLawful p next es → WithoutWaits es → WithoutLosses es → ClusterStands p es
+ClientsStand = (p : Settings) (next : ThreadId → List Event → Option Request) → IsSound p.shape next → (es : List Entry) → IsLawful p next es → WithoutLosses es → ClusterStands p es

@@ -18,14 +18,13 @@ use Rattle.dso_law.specs.declared.readings.Standing.{Standing}
 use Rattle.dso_law.specs.Leases.{standing, standing_down}
 use Rattle.dso_law.specs.Copies.{is_resident, resident_by_taken, value_held, value_by_taken, class_held, class_by_taken, is_set_of}
 use Rattle.dso_legal.specs.Agreement.{after, EachMay}
-use Rattle.dso_legal.specs.Committed.{committed}
+use Rattle.dso_legal.specs.AsMade.{as_made}
 use Rattle.dso_legal.specs.PendingBlocks.{joined, pending}
 use Rattle.dso_legal.specs.Residency.{is_set}
 
--- The state of the one heap as a client has it before its open blocks: after the history, and then its pending blocks as it made
--- them.
+-- The state of the one heap as a client has it before its open blocks: after the history as made, and then its pending blocks.
 abbrev pub state_at : Settings → ℕ → List Entry → PlainState
-state_at p c es = end_of p.shape (joined (pending c es)) (last_state p.shape (committed es))
+state_at p c es = end_of p.shape (joined (pending c es)) (last_state p.shape (as_made es))
 
 -- whether the message sets the field
 abbrev pub sets_field : ℕ → ℕ → Down → Bool

@@ -1,5 +1,6 @@
 pub mod Lawful
 pub mod Committed
+pub mod AsMade
 pub mod Slots
 pub mod Agreement
 pub mod Tokens
@@ -15,6 +16,8 @@ pub mod NewsAreNew
 pub mod Sorted
 pub mod PendingBlocks
 pub mod Resolved
+pub mod Marks
+pub mod Places
 pub mod Line
 pub mod SoundProgram
 pub mod WithinShape

@@ -9,7 +9,7 @@ use Rattle.dso_base.specs.declared.record.Txn.{Txn}
 use Rattle.dso_base.specs.declared.request.Event.{Event}
 use Rattle.dso_base.specs.declared.shape.Shape.{Shape}
 use Rattle.dso_plain.specs.State.{PlainState, level_of}
-use Rattle.dso_plain.specs.History.{Runs, end_of}
+use Rattle.dso_plain.specs.History.{RunsButMarks, end_of}
 use Rattle.dso_plain.specs.Touches.{AreActsOf, TouchesIn}
 use Rattle.dso_law.specs.declared.readings.Standing.{Standing}
 use Rattle.dso_law.specs.Leases.{standing_up}
@@ -35,7 +35,7 @@ TouchesWithin shape events standings s = (l : LockName) (x : Level) → TouchesI
 pub record CanRun (shape : Shape) (c : ℕ) (txn : Txn) (block : List Event) (standings : Standings) (s : PlainState) : Type 0 where
   pub its : txn.thread.client ≡ c
   pub acts : AreActsOf txn.thread block
-  pub runs : Runs shape block s
+  pub runs : RunsButMarks shape block s
   pub within : TouchesWithin shape block standings s
 
 -- The line: in front of each message what the threads of the client hold is within its leases there; where the message is a

@@ -7,7 +7,7 @@ use Rattle.dso_base.specs.declared.shape.Shape.{Shape}
 use Rattle.dso_base.specs.declared.value.Value.TheVariants as value
 use Rattle.dso_plain.specs.State.{PlainState, IsPrivate, IsShared, opening}
 use Rattle.dso_plain.specs.Possible.{StandsFrom}
-use Rattle.dso_plain.specs.History.{Runs, last_state, events_of}
+use Rattle.dso_plain.specs.History.{RunsButMarks, last_state, events_of}
 use Rattle.dso_plain.specs.Touches.{MakesIn}
 use Rattle.dso_legal.specs.SoundProgram.{was_told, NamesOnlyTold}
 
@@ -34,9 +34,9 @@ pub record NamesAreKnown (t : ThreadId) (events : List Event) (s : PlainState) :
 
 -- Names are known: after a history in which each thread names only what it was told.
 abbrev pub NamesStayKnown : Type 0
-NamesStayKnown = (shape : Shape) (h : List Event) → Runs shape h (opening shape) → ((t : ThreadId) → NameOnlyTold [] (events_of t h))
+NamesStayKnown = (shape : Shape) (h : List Event) → RunsButMarks shape h (opening shape) → ((t : ThreadId) → NameOnlyTold [] (events_of t h))
     → (t : ThreadId) → NamesAreKnown t (events_of t h) (last_state shape h)
 
 -- Each object but object 0 was made in the history.
 abbrev pub ObjectsAreMade : Type 0
-ObjectsAreMade = (shape : Shape) (h : List Event) → Runs shape h (opening shape) → (o : ℕ) → (last_state shape h).objects o ≢ None → (o ≡ 0) ⊎ MakesIn h o
+ObjectsAreMade = (shape : Shape) (h : List Event) → RunsButMarks shape h (opening shape) → (o : ℕ) → (last_state shape h).objects o ≢ None → (o ≡ 0) ⊎ MakesIn h o

@@ -4,7 +4,6 @@ use Rattle.std.specs.Prelude.{ℕ, suc, ◌≡◌, cond, Some, None, List, [], �
 use Rattle.dso_base.specs.Block.{start, worked, txn_of}
 use Rattle.dso_base.specs.declared.journal.Entry.{Entry}
 use Rattle.dso_base.specs.declared.journal.Node.TheVariants.{Server, Client}
-use Rattle.dso_base.specs.declared.lock.LockName.{LockName}
 use Rattle.dso_base.specs.declared.lock.ThreadId.{ThreadId}
 use Rattle.dso_base.specs.declared.message.Up.{Up}
 use Rattle.dso_base.specs.declared.message.Up.TheVariants as up
@@ -12,21 +11,13 @@ use Rattle.dso_base.specs.declared.record.Body.{Body}
 use Rattle.dso_base.specs.declared.record.Ending.{Ending}
 use Rattle.dso_base.specs.declared.record.Txn.{Txn}
 use Rattle.dso_base.specs.declared.request.Event.{Event}
-use Rattle.dso_base.specs.declared.request.Event.TheVariants.{Act, Lost}
-use Rattle.dso_base.specs.declared.request.Reply.{Reply}
-use Rattle.dso_base.specs.declared.request.Reply.TheVariants.{Done}
-use Rattle.dso_base.specs.declared.request.Request.{Request}
-use Rattle.dso_base.specs.declared.request.Request.TheVariants.{New, Look, Get, Put, Enter, Exit, Wait, Tick, Timeout, Resume, Notify, NotifyAll, Print, End, Pause, Settle}
 use Rattle.dso_base.specs.declared.shape.Shape.{Shape}
 use Rattle.dso_plain.specs.History.{is_act_of}
-use Rattle.dso_plain.specs.KeyTests.{is_lock}
 use Rattle.dso_plain.specs.Touches.{AreActsOf}
 use Rattle.dso_law.specs.Entries.{entries_of, by_sent_up}
 use Rattle.dso_law.specs.Threads.{Locks, locks_after, ending_of}
-use Rattle.dso_law.specs.ClientWaiters.{without}
 use Rattle.dso_law.specs.ServerReadings.{counted, last_number}
-use Rattle.dso_law.specs.ServerWaiters.{waiters_by_message}
-use Rattle.dso_legal.specs.Committed.{ended_blocks, resolved, lists_after_act}
+use Rattle.dso_legal.specs.Committed.{ended_blocks}
 
 -- the lists behind one another
 abbrev pub joined : {X : Type 0} → List (List X) → List X
@@ -107,55 +98,3 @@ abbrev pub AreRecordsOf : Shape → List (List Event) → List Txn → List (Lis
 AreRecordsOf shape before [] [] = Unit {0}
 AreRecordsOf shape before (txn ∷ txns) (block ∷ blocks) = IsRecordOf shape before txn block × AreRecordsOf shape (before ++ block ∷ []) txns blocks
 AreRecordsOf shape before txns blocks = ⊥
-
--- the server's lists of waiters, by lock
-abbrev pub WaiterLists : Type 0
-WaiterLists = LockName → List ThreadId
-
--- the lists without the thread in that of the lock
-abbrev pub lists_without : ThreadId → LockName → WaiterLists → WaiterLists
-lists_without t l lists k = cond (is_lock l k) (without t (lists k)) (lists k)
-
--- the lists where a thread's timeout is taken: without the thread; no other act does so
-abbrev pub lists_timed_out : ThreadId → Request → Reply → WaiterLists → WaiterLists
-lists_timed_out t (New class n) reply lists = lists
-lists_timed_out t (Look o) reply lists = lists
-lists_timed_out t (Get o f) reply lists = lists
-lists_timed_out t (Put o f v) reply lists = lists
-lists_timed_out t (Enter l level) reply lists = lists
-lists_timed_out t (Exit l) reply lists = lists
-lists_timed_out t (Wait l) reply lists = lists
-lists_timed_out t (Tick l) reply lists = lists
-lists_timed_out t (Timeout l) Done lists = lists_without t l lists
-lists_timed_out t (Timeout l) reply lists = lists
-lists_timed_out t (Resume l) reply lists = lists
-lists_timed_out t (Notify l) reply lists = lists
-lists_timed_out t (NotifyAll l) reply lists = lists
-lists_timed_out t (Print v) reply lists = lists
-lists_timed_out t (End fault) reply lists = lists
-lists_timed_out t Pause reply lists = lists
-lists_timed_out t Settle reply lists = lists
-
--- the lists after a block: after its notifications, and the timeout in which it ends
-abbrev pub lists_through : List Event → WaiterLists → WaiterLists
-lists_through [] lists = lists
-lists_through (Act thread request reply woken ∷ events) lists = lists_through events (lists_timed_out thread request reply (lists_after_act request reply woken lists))
-lists_through (Lost client ∷ events) lists = lists_through events lists
-
--- the lists after another message of a client: the threads of a return stand at the end
-abbrev pub lists_by_message : Up → WaiterLists → WaiterLists
-lists_by_message m lists k = waiters_by_message k m (lists k)
-
--- Blocks in flight, each resolved at the lists where its record stands among the messages.
-abbrev pub resolved_in_flight : List Up → List (List Event) → WaiterLists → List (List Event)
-resolved_in_flight [] blocks lists = blocks
-resolved_in_flight (up.Commit txn ∷ ms) [] lists = []
-resolved_in_flight (up.Commit txn ∷ ms) (block ∷ blocks) lists = resolved block lists ∷ resolved_in_flight ms blocks (lists_through block lists)
-resolved_in_flight (m ∷ ms) blocks lists = resolved_in_flight ms blocks (lists_by_message m lists)
-
--- and the lists behind all of them
-abbrev pub lists_in_flight : List Up → List (List Event) → WaiterLists → WaiterLists
-lists_in_flight [] blocks lists = lists
-lists_in_flight (up.Commit txn ∷ ms) [] lists = lists
-lists_in_flight (up.Commit txn ∷ ms) (block ∷ blocks) lists = lists_in_flight ms blocks (lists_through block lists)
-lists_in_flight (m ∷ ms) blocks lists = lists_in_flight ms blocks (lists_by_message m lists)

@@ -1,9 +1,14 @@
 -- The events of a client as a history has them: each notification that left the choice to the server has the thread that it woke.
 use Rattle.std.specs.Prelude.{◌≡◌, List, [], ◌∷◌}
+use Rattle.dso_base.specs.declared.lock.LockName.{LockName}
+use Rattle.dso_base.specs.declared.lock.ThreadId.{ThreadId}
 use Rattle.dso_base.specs.declared.request.Event.{Event}
 use Rattle.dso_law.specs.Prefixes.{IsPrefix}
 use Rattle.dso_legal.specs.Committed.{resolved_event}
-use Rattle.dso_legal.specs.PendingBlocks.{WaiterLists}
+
+-- the server's lists of waiters, by lock
+abbrev pub WaiterLists : Type 0
+WaiterLists = LockName → List ThreadId
 
 -- The event of the history is the client's, but that a done Notify which woke nobody there may wake whom the server chose,
 -- by its lists.

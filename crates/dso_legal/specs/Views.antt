@@ -5,6 +5,7 @@ use Rattle.dso_base.specs.declared.journal.Entry.{Entry}
 use Rattle.dso_base.specs.declared.lock.Level.{Level}
 use Rattle.dso_base.specs.declared.lock.LockName.{LockName}
 use Rattle.dso_base.specs.declared.lock.ThreadId.{ThreadId}
+use Rattle.dso_base.specs.declared.request.Event.TheVariants.{Act}
 use Rattle.dso_base.specs.declared.request.Reply.{Reply}
 use Rattle.dso_base.specs.declared.request.Request.{Request}
 use Rattle.dso_base.specs.declared.shape.Shape.{Shape}
@@ -12,11 +13,12 @@ use Rattle.dso_base.specs.declared.value.ClassId.{ClassId}
 use Rattle.dso_base.specs.declared.value.Value.{Value}
 use Rattle.dso_base.specs.Following.{is_thread}
 use Rattle.dso_plain.specs.Past.{KeepsPast}
-use Rattle.dso_plain.specs.Possible.{IsCompatible, StandsFrom, IsOf, IsPossible}
+use Rattle.dso_plain.specs.Possible.{IsCompatible, StandsFrom, IsOf, IsPossibleButMarks, FitsMarks}
 use Rattle.dso_plain.specs.State.{PlainState, IsShared, HoldsGuard, hold_on_guard, level_of}
 use Rattle.dso_law.specs.Entries.{events_in}
 use Rattle.dso_law.specs.Settings.{Settings}
 use Rattle.dso_law.specs.Copies.{is_resident, class_held}
+use Rattle.dso_law.specs.FitsDown.{IsWaitingOn}
 use Rattle.dso_law.specs.Leases.{leased}
 use Rattle.dso_law.specs.RequestNeeds.{is_enough, hold_level, unmet}
 use Rattle.dso_law.specs.Records.{next_id}
@@ -63,15 +65,21 @@ pub record Sees (p : Settings) (t : ThreadId) (client : List Entry) (start_state
 abbrev pub OnlyListedHold : Settings → List Entry → Type 0
 OnlyListedHold p client = (u : ThreadId) (l : LockName) → list_any (is_thread u) p.threads ≡ false → hold_of u l client ≡ None
 
--- The thread doesn't wait, and only threads of the program hold locks.
+-- Only threads of the program hold locks, and the thread doesn't hold the lock that it waits on.
 pub record IsOrderly (p : Settings) (t : ThreadId) (client : List Entry) : Type 0 where
-  pub awake : (locks_of t client).waiting ≡ None
   pub listed : OnlyListedHold p client
+  pub apart : (l : LockName) → IsWaitingOn l (locks_of t client).waiting → hold_of t l client ≡ None
 
--- Acts are possible: what a client answers, where all needs are met and the program keeps to what it must, the one heap allows.
--- The requests that wait or notify are apart.
+-- Acts are possible: what a client answers, where all needs are met and the program keeps to what it must, the one heap allows,
+-- whatever is marked.
 abbrev pub ActsArePossible : Type 0
 ActsArePossible = (p : Settings) (next : ThreadId → Option Request) (t : ThreadId) (request : Request) (reply : Reply) (client : List Entry) (start_state s : PlainState)
-    → Sees p t client start_state s → IsOrderly p t client → KeepsTo p.shape t (events_in t client) request → waits_or_notifies request ≡ false
+    → Sees p t client start_state s → IsOrderly p t client → KeepsTo p.shape t (events_in t client) request
     → unmet p t.client next t request client ≡ None → reply_of p t request client ≡ Some reply
-    → IsPossible p.shape t request reply (woken_by request reply client) s
+    → IsPossibleButMarks p.shape t request reply s
+
+-- And with its marks, where the thread doesn't wait and the request neither waits nor notifies.
+abbrev pub ActsFindMarks : Type 0
+ActsFindMarks = (p : Settings) (t : ThreadId) (request : Request) (reply : Reply) (client : List Entry) (s : PlainState)
+    → (locks_of t client).waiting ≡ None → KeepsTo p.shape t (events_in t client) request → waits_or_notifies request ≡ false
+    → FitsMarks (Act t request reply (woken_by request reply client)) s

@@ -8,7 +8,7 @@ use Rattle.dso_base.specs.declared.request.Event.{Event}
 use Rattle.dso_base.specs.declared.shape.Shape.{Shape}
 use Rattle.dso_plain.specs.KeyTests.{is_lock}
 use Rattle.dso_plain.specs.State.{PlainState, IsPrivate, IsShared, opening, is_shared}
-use Rattle.dso_plain.specs.History.{Runs, end_of, last_state}
+use Rattle.dso_plain.specs.History.{RunsButMarks, end_of, last_state}
 use Rattle.dso_plain.specs.Touches.{AreActsOf}
 use Rattle.dso_plain.specs.Possible.{IsOf}
 use Rattle.dso_law.specs.Copies.{value_by_sets}
@@ -46,8 +46,8 @@ pub record TellsWork (t : ThreadId) (work : Work) (start_state s : PlainState) :
 -- Works tell: where a run of the thread's events starts with its private objects in hand, the work that the events make of
 -- them tells what the run made of the state.
 abbrev pub WorksTell : Type 0
-WorksTell = (shape : Shape) (t : ThreadId) (privates : List Body) (events : List Event) (h : List Event) → Runs shape h (opening shape) → ArePrivates t privates (last_state shape h)
-    → AreActsOf t events → Runs shape events (last_state shape h) → TellsWork t (worked shape events (start privates)) (last_state shape h) (end_of shape events (last_state shape h))
+WorksTell = (shape : Shape) (t : ThreadId) (privates : List Body) (events : List Event) (h : List Event) → RunsButMarks shape h (opening shape) → ArePrivates t privates (last_state shape h)
+    → AreActsOf t events → RunsButMarks shape events (last_state shape h) → TellsWork t (worked shape events (start privates)) (last_state shape h) (end_of shape events (last_state shape h))
 
 -- the count of a wait on the lock, if the thread waits on it
 abbrev pub wait_count : LockName → Option Waiting → Option ℕ

@@ -18,7 +18,7 @@ ghost use Rattle.dso_legal.specs.Sorted.{RecordsAreSorted};
 ghost use Rattle.dso_legal.specs.Blocks.{BlocksAreKept, BlocksAreHandedIn, HistoriesHoldBlocks, HistoriesHoldBlocksAsMade};
 ghost use Rattle.dso_legal.specs.Works.{WorksTell};
 ghost use Rattle.dso_legal.specs.Names.{NamesStayKnown, ObjectsAreMade};
-ghost use Rattle.dso_legal.specs.Views.{ActsArePossible};
+ghost use Rattle.dso_legal.specs.Views.{ActsArePossible, ActsFindMarks};
 ghost use Rattle.dso_legal.specs.Central.{ClientsStand, CentralLaw, CommitsWhatWasMade};
 ghost use Rattle.dso_legal.specs.Store.{StoreIsHeap};
 ghost use Rattle.dso_legal.specs.SoundCode.{SoundCodeIsSoundProgram, SoundCodeGivesKnownTexts, SoundCodeStaysWithinShape};
@@ -194,16 +194,17 @@ pub fn names_stay_known()
     ensures made { ObjectsAreMade }
 {}
 
-/// What a client answers a thread, the one heap allows, where the client's readings are true of it. Wait, Notify and NotifyAll
-/// are apart.
+/// What a client answers a thread, the one heap allows, whatever is marked, where the client's readings are true of it. Clause
+/// `marks`: an act of a thread that doesn't wait, which neither waits nor notifies, asks for no mark.
 pub fn acts_are_possible()
-    ensures { ActsArePossible }
+    ensures possible { ActsArePossible }
+    ensures marks { ActsFindMarks }
 {}
 
-/// After a journal without waits and losses, of a sound program: the history runs; of each client the blocks in flight to the
-/// server can run after it, with what they hold and touch within the client's leases there; each thread's open block can run
-/// behind them; and each copy is a past value, not older than what the client's threads have seen, and the heap's once all in
-/// flight is taken, where no change overtakes a lease of the field's guard.
+/// After a journal without losses, of a sound program, whatever is marked: the history as made runs; of each client the blocks in
+/// flight to the server can run after it, with what they hold and touch within the client's leases there; each thread's open block
+/// can run behind them; and each copy is a past value, not older than what the client's threads have seen, and the heap's once all
+/// in flight is taken, where no change overtakes a lease of the field's guard.
 pub fn clients_stand()
     ensures { ClientsStand }
 {}

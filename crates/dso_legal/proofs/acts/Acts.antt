@@ -1,80 +1,92 @@
 -- What a client answers, the one heap allows.
-use Rattle.std.proofs.Common.{◌≡◌, refl, ◌∙◌, ap, subst, false, Option, Some, None, List}
+use Rattle.std.proofs.Common.{◌≡◌, ◌⊎◌, inl, inr, refl, sym, ◌∙◌, ap, subst, false, Option, Some, None, List}
 use Rattle.dso_base.specs.declared.journal.Entry.{Entry}
-use Rattle.dso_base.specs.declared.lock.LockName.{LockName}
 use Rattle.dso_base.specs.declared.lock.ThreadId.{ThreadId}
 use Rattle.dso_base.specs.declared.request.Reply.{Reply}
 use Rattle.dso_base.specs.declared.request.Reply.TheVariants.{Done}
 use Rattle.dso_base.specs.declared.request.Request.{Request}
 use Rattle.dso_base.specs.declared.request.Request.TheVariants.{New, Look, Get, Put, Enter, Exit, Wait, Tick, Timeout, Resume, Notify, NotifyAll, Print, End, Pause, Settle}
 use Rattle.dso_plain.specs.State.{PlainState}
-use Rattle.dso_plain.specs.Possible.{Answers, AnswersExit, AnswersResume, AnswersEnd, AnswersDone, FindsMark, IsAwakeFor, Wakes, IsPossible}
+use Rattle.dso_plain.specs.Possible.{Answers, AnswersExit, AnswersResume, AnswersEnd, AnswersDone, FindsMark, IsAwake, IsAwakeFor, Wakes, IsPossibleButMarks}
 use Rattle.dso_law.specs.Settings.{Settings}
 use Rattle.dso_law.specs.Entries.{events_in}
 use Rattle.dso_law.specs.RequestNeeds.{unmet}
 use Rattle.dso_law.specs.Replies.{reply_of, woken_by}
+use Rattle.dso_law.specs.Threads.{Locks, Waiting, locks_of}
 use Rattle.dso_legal.specs.WaitsAndLosses.{waits_or_notifies}
-use Rattle.dso_legal.specs.SoundProgram.{KeepsTo}
-use Rattle.dso_legal.specs.Views.{IsOrderly, ActsArePossible, Sees}
+use Rattle.dso_legal.specs.SoundProgram.{IsOfWaiter, KeepsTo}
+use Rattle.dso_legal.specs.Views.{IsOrderly, ActsArePossible, ActsFindMarks, Sees}
 use Rattle.dso_legal.specs.Works.{wait_count}
 use Rattle.dso_legal.proofs.blocks.SameLocks.{same_locks}
 use Rattle.dso_legal.proofs.acts.ActsOnObjects.{may_make, may_look, may_read, may_put}
-use Rattle.dso_legal.proofs.acts.ActsOnLocks.{may_enter, may_exit, may_end, may_resume, never_resumes}
+use Rattle.dso_legal.proofs.acts.ActsOnLocks.{may_enter, may_exit, may_end, may_tick, may_time_out, may_resume, may_monitor, never_resumes}
+
+-- A thread that doesn't wait finds its mark where it asks for one, as it never does,
+finds_mark : (p : Settings) (t : ThreadId) (client : List Entry) → (locks_of t client).waiting ≡ None → (s : PlainState) (request : Request) (reply : Reply)
+    → KeepsTo p.shape t (events_in t client) request → waits_or_notifies request ≡ false → FindsMark request reply t s
+finds_mark p t client awake s (Tick l) reply keeps calm = absurd (cc calm)
+finds_mark p t client awake s (Timeout l) reply keeps calm = absurd (cc calm)
+finds_mark p t client awake s (Resume l) reply keeps calm = never_resumes t client (same_locks t client) l awake keeps.locks
+finds_mark p t client awake s request reply keeps calm = tt
+
+-- an act that doesn't notify wakes nobody,
+wakes_nobody : (client : List Entry) (t : ThreadId) (s : PlainState) (request : Request) (reply : Reply) → waits_or_notifies request ≡ false → Wakes request reply (woken_by request reply client) s
+wakes_nobody client t s (Notify l) reply calm = absurd (cc calm)
+wakes_nobody client t s request reply calm = refl
+
+-- so its act asks for no mark.
+pub acts_find_marks : ActsFindMarks
+acts_find_marks p t request reply client s awake keeps calm = (finds_mark p t client awake s request reply keeps calm, wakes_nobody client t s request reply calm)
 
 module _ (p : Settings) (next : ThreadId → Option Request) (t : ThreadId) (client : List Entry) (start_state s : PlainState) (sees : Sees p t client start_state s) (orderly : IsOrderly p t client) where
   -- the reply is possible
-  may_answer : (request : Request) (reply : Reply) → KeepsTo p.shape t (events_in t client) request → waits_or_notifies request ≡ false
+  may_answer : (request : Request) (reply : Reply) → KeepsTo p.shape t (events_in t client) request
       → unmet p t.client next t request client ≡ None → reply_of p t request client ≡ Some reply → Answers p.shape t request reply s
-  may_answer (New class n) reply keeps calm need e = may_make p t client start_state s sees class n reply keeps.makes e
-  may_answer (Look o) reply keeps calm need e = may_look p t client start_state s sees next o reply need e
-  may_answer (Get o f) reply keeps calm need e = may_read p t client start_state s sees next o f reply need e
-  may_answer (Put o f v) reply keeps calm need e = may_put p t client start_state s sees next o f reply need e
-  may_answer (Enter l level) reply keeps calm need e = may_enter p t client start_state s sees next l level reply orderly.listed keeps.names need e
-  may_answer (Exit l) reply keeps calm need e = subst (λ r. AnswersExit t l r s) {x = Done} (cc e) (may_exit p t client start_state s sees (same_locks t client) l keeps.locks)
-  may_answer (Wait l) reply keeps calm need e = absurd (cc calm)
-  may_answer (Tick l) reply keeps calm need e = absurd (cc calm)
-  may_answer (Timeout l) reply keeps calm need e = absurd (cc calm)
-  may_answer (Resume l) reply keeps calm need e = subst (λ r. AnswersResume t l r s) {x = Done} (cc e) (may_resume p t client start_state s sees (same_locks t client) l orderly.awake keeps.locks)
-  may_answer (Notify l) reply keeps calm need e = absurd (cc calm)
-  may_answer (NotifyAll l) reply keeps calm need e = absurd (cc calm)
-  may_answer (Print v) reply keeps calm need e = subst (λ r. AnswersDone r) {x = Done} (cc e) tt
-  may_answer (End fault) reply keeps calm need e = subst (λ r. AnswersEnd t r s) {x = Done} (cc e) (may_end p t client start_state s sees (same_locks t client) fault keeps.locks)
-  may_answer Pause reply keeps calm need e = subst (λ r. AnswersDone r) {x = Done} (cc e) tt
-  may_answer Settle reply keeps calm need e = subst (λ r. AnswersDone r) {x = Done} (cc e) tt
+  may_answer (New class n) reply keeps need e = may_make p t client start_state s sees class n reply keeps.makes e
+  may_answer (Look o) reply keeps need e = may_look p t client start_state s sees next o reply need e
+  may_answer (Get o f) reply keeps need e = may_read p t client start_state s sees next o f reply need e
+  may_answer (Put o f v) reply keeps need e = may_put p t client start_state s sees next o f reply need e
+  may_answer (Enter l level) reply keeps need e = may_enter p t client start_state s sees next l level reply orderly.listed keeps.names need e
+  may_answer (Exit l) reply keeps need e = subst (λ r. AnswersExit t l r s) {x = Done} (cc e) (may_exit p t client start_state s sees (same_locks t client) l keeps.locks)
+  may_answer (Wait l) reply keeps need e = may_monitor p t client start_state s sees l reply e
+  may_answer (Tick l) reply keeps need e = may_tick p t client start_state s sees (same_locks t client) l reply keeps.locks e
+  may_answer (Timeout l) reply keeps need e = may_time_out p t client start_state s sees (same_locks t client) l reply keeps.locks e
+  may_answer (Resume l) reply keeps need e = subst (λ r. AnswersResume t l r s) {x = Done} (cc e) (may_resume p t client start_state s sees (same_locks t client) next l orderly.listed orderly.apart keeps.locks need)
+  may_answer (Notify l) reply keeps need e = may_monitor p t client start_state s sees l reply e
+  may_answer (NotifyAll l) reply keeps need e = may_monitor p t client start_state s sees l reply e
+  may_answer (Print v) reply keeps need e = subst (λ r. AnswersDone r) {x = Done} (cc e) tt
+  may_answer (End fault) reply keeps need e = subst (λ r. AnswersEnd t r s) {x = Done} (cc e) (may_end p t client start_state s sees (same_locks t client) fault keeps.locks)
+  may_answer Pause reply keeps need e = subst (λ r. AnswersDone r) {x = Done} (cc e) tt
+  may_answer Settle reply keeps need e = subst (λ r. AnswersDone r) {x = Done} (cc e) tt
 
-  -- the thread doesn't wait
-  asleep_nowhere : (l : LockName) → s.asleep (l, t) ≡ None
-  asleep_nowhere l = sees.holds.own.waits l ∙ ap (λ waiting. wait_count l waiting) orderly.awake
+  -- a thread that doesn't wait is awake,
+  asleep_nowhere : (locks_of t client).waiting ≡ None → IsAwake t s
+  asleep_nowhere none l = sees.holds.own.waits l ∙ ap (λ waiting. wait_count l waiting) none
 
-  is_awake : (request : Request) → IsAwakeFor request t s
-  is_awake (Tick l) = tt
-  is_awake (Timeout l) = tt
-  is_awake (Resume l) = tt
-  is_awake request = asleep_nowhere
+  -- and one that waits does what waiters do
+  awake_for : (request : Request) → IsAwake t s ⊎ IsOfWaiter request → IsAwakeFor request t s
+  awake_for (Tick l) either = tt
+  awake_for (Timeout l) either = tt
+  awake_for (Resume l) either = tt
+  awake_for request (inl awake) = awake
+  awake_for request (inr waiter) = absurd waiter
 
-  -- it finds its mark where it asks for one, as it never does
-  finds_mark : (request : Request) (reply : Reply) → KeepsTo p.shape t (events_in t client) request → waits_or_notifies request ≡ false → FindsMark request reply t s
-  finds_mark (Tick l) reply keeps calm = absurd (cc calm)
-  finds_mark (Timeout l) reply keeps calm = absurd (cc calm)
-  finds_mark (Resume l) reply keeps calm = never_resumes t client (same_locks t client) l orderly.awake keeps.locks
-  finds_mark request reply keeps calm = tt
-
-  -- and its act wakes nobody
-  wakes_nobody : (request : Request) (reply : Reply) → waits_or_notifies request ≡ false → Wakes request reply (woken_by request reply client) s
-  wakes_nobody (Notify l) reply calm = absurd (cc calm)
-  wakes_nobody request reply calm = refl
+  is_awake : (request : Request) → KeepsTo p.shape t (events_in t client) request → IsAwakeFor request t s
+  is_awake request keeps = awake_for request (by (locks_of t client).waiting refl)
+    where
+      by : (waiting : Option Waiting) → (locks_of t client).waiting ≡ waiting → IsAwake t s ⊎ IsOfWaiter request
+      by None is = inl (asleep_nowhere is)
+      by (Some waiting) is = inr (keeps.waits (λ none. cc (sym is ∙ ap (λ (locks : Locks). locks.waiting) (same_locks t client) ∙ none)))
 
   -- so the act is possible
-  pub may_act : (request : Request) (reply : Reply) → KeepsTo p.shape t (events_in t client) request → waits_or_notifies request ≡ false
-      → unmet p t.client next t request client ≡ None → reply_of p t request client ≡ Some reply → IsPossible p.shape t request reply (woken_by request reply client) s
-  may_act request reply keeps calm need e = record {
+  pub may_act : (request : Request) (reply : Reply) → KeepsTo p.shape t (events_in t client) request
+      → unmet p t.client next t request client ≡ None → reply_of p t request client ≡ Some reply → IsPossibleButMarks p.shape t request reply s
+  may_act request reply keeps need e = record {
     connected = sees.connected;
     going = sees.going;
-    awake = is_awake request;
-    answers = may_answer request reply keeps calm need e;
-    finds = finds_mark request reply keeps calm;
-    wakes = wakes_nobody request reply calm;
+    awake = is_awake request keeps;
+    answers = may_answer request reply keeps need e;
   }
 
 pub acts_are_possible : ActsArePossible
-acts_are_possible p next t request reply client start_state s sees orderly keeps calm need e = may_act p next t client start_state s sees orderly request reply keeps calm need e
+acts_are_possible p next t request reply client start_state s sees orderly keeps need e = may_act p next t client start_state s sees orderly request reply keeps need e

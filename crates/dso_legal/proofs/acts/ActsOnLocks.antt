@@ -1,4 +1,4 @@
--- What a client answers about locks, the one heap allows: Enter, Exit, Resume and End.
+-- What a client answers about locks, the one heap allows: Enter, Exit, Wait and the notifications, Tick, Timeout, Resume and End.
 use Rattle.std.specs.List.{list_any}
 use Rattle.std.proofs.Common.{ℕ, ◌≡◌, ◌≢◌, inl, inr, refl, sym, ◌∙◌, ap, subst, Bool, true, false, cond, not, eqb, ◌&&◌, ◌||◌, is_some, Option, Some, None, List, [], ◌∷◌, filter}
 use Rattle.std.proofs.lemmas.Bool.{eqb-false, and_parts, not-true}
@@ -9,26 +9,31 @@ use Rattle.dso_base.specs.declared.lock.LockName.{LockName}
 use Rattle.dso_base.specs.declared.lock.LockName.TheVariants.{Mon, Name}
 use Rattle.dso_base.specs.declared.lock.ThreadId.{ThreadId}
 use Rattle.dso_base.specs.declared.request.Reply.{Reply}
-use Rattle.dso_base.specs.declared.request.Reply.TheVariants.{Done, Local}
-use Rattle.dso_base.specs.declared.request.Request.TheVariants.{Exit, Resume, End}
+use Rattle.dso_base.specs.declared.request.Reply.TheVariants.{Done, Val, Local}
+use Rattle.dso_base.specs.declared.request.Request.TheVariants.{Exit, Tick, Timeout, Resume, End}
+use Rattle.dso_base.specs.declared.value.Value.TheVariants as value
 use Rattle.dso_base.specs.Following.{is_thread}
+use Rattle.dso_plain.specs.KeyTests.{is_lock}
 use Rattle.dso_plain.specs.State.{Hold, PlainState, IsPrivate, IsShared, level_of}
-use Rattle.dso_plain.specs.Possible.{IsPrivateMonitor, IsClusterLock, IsCompatible, NoConflict, AnswersEnter, AnswersExit, AnswersResume, AnswersEnd}
-use Rattle.dso_plain.proofs.keys.SameKeys.{same_number, number_self, same_thread}
+use Rattle.dso_plain.specs.Possible.{IsPrivateMonitor, IsClusterLock, IsCompatible, NoConflict, AnswersEnter, AnswersExit, AnswersMonitor, AnswersTick, AnswersTimeout, AnswersResume, AnswersEnd}
+use Rattle.dso_plain.proofs.keys.SameKeys.{same_number, number_self, same_thread, thread_self}
 use Rattle.dso_law.specs.Settings.{Settings, threads_of}
 use Rattle.dso_law.specs.Entries.{events_in}
 use Rattle.dso_law.specs.Closing.{admits}
 use Rattle.dso_law.specs.FitsDown.{IsWaitingOn}
+use Rattle.dso_law.specs.ClientWaiters.{is_marked}
 use Rattle.dso_law.specs.Leases.{leased}
-use Rattle.dso_law.specs.RequestNeeds.{NeedsLease, NeedsOthersOut, is_enough, conflicts, hold_level, is_in_conflict, entry_need}
-use Rattle.dso_law.specs.Replies.{enter_reply}
-use Rattle.dso_law.specs.Threads.{Locks, is_private, is_local, locks_of, hold_of, hold_in}
+use Rattle.dso_law.specs.RequestNeeds.{NeedsMark, NeedsLease, NeedsOthersOut, is_enough, conflicts, hold_level, unless, is_in_conflict, entry_need, unmet}
+use Rattle.dso_law.specs.Replies.{enter_reply, monitor_reply, timeout_reply}
+use Rattle.dso_law.specs.Threads.{Locks, Waiting, is_private, is_local, locks_of, hold_of, hold_in}
 use Rattle.dso_legal.specs.Names.{IsKnown}
 use Rattle.dso_legal.specs.PendingBlocks.{no_locks, locks_through}
 use Rattle.dso_legal.specs.SoundProgram.{IsToldLock, KeepsLocks}
 use Rattle.dso_legal.specs.Views.{OnlyListedHold, Sees}
+use Rattle.dso_legal.specs.Works.{wait_count}
 use Rattle.dso_legal.proofs.acts.ActsOnObjects.{Whose, mine, published, others, whose, met, both_met, level_is}
 use Rattle.dso_legal.proofs.leases.LeaseSteps.{no_both}
+use Rattle.dso_legal.proofs.leases.Queues.{lock_self}
 
 -- a test that no item of a list passes, and that an item which is there doesn't pass
 pub fails_for : (u : ThreadId) (test : ThreadId → Bool) (threads : List ThreadId) → list_any test threads ≡ false → list_any (is_thread u) threads ≡ true → test u ≡ false
@@ -78,6 +83,16 @@ beside Write (Some Write) e = absurd (cc e)
 second_fails : (a b : Bool) → (not a && b) ≡ false → a ≡ false → b ≡ false
 second_fails true b e f = absurd (cc f)
 second_fails false b e f = e
+
+-- a wait on the lock has its count
+has_count : (l : LockName) (waiting : Option Waiting) → IsWaitingOn l waiting → wait_count l waiting ≢ None
+has_count l None waits none = waits
+has_count l (Some waiting) waits none = cc (sym (ap (λ b. cond b (Some waiting.count) None) (ap (is_lock l) waits ∙ lock_self l)) ∙ none)
+
+-- beside Write there is no hold
+beside_write : (hold : Option Hold) → IsCompatible Write (level_of hold) → hold ≡ None
+beside_write None free = refl
+beside_write (Some hold) free = absurd free
 
 module _ (p : Settings) (t : ThreadId) (client : List Entry) (start_state s : PlainState) (sees : Sees p t client start_state s) where
   -- the monitor of an object that is the thread's own
@@ -173,9 +188,45 @@ module _ (p : Settings) (t : ThreadId) (client : List Entry) (start_state s : Pl
     pub may_end : (fault : _) → KeepsLocks (End fault) (locks_through t (events_in t client) no_locks) → AnswersEnd t Done s
     may_end fault empty = λ l. sees.holds.own.holds l ∙ ap (λ (locks : Locks). hold_in l locks.holds) same ∙ ap (λ holds. hold_in l holds) empty
 
-    -- Resume, which a thread that doesn't wait never asks for
-    pub may_resume : (l : LockName) → (locks_of t client).waiting ≡ None → KeepsLocks (Resume l) (locks_through t (events_in t client) no_locks) → AnswersResume t l Done s
-    may_resume l awake waits = absurd (subst (λ waiting. IsWaitingOn l waiting) (ap (λ (locks : Locks). locks.waiting) (sym same) ∙ awake) waits)
+    -- a thread waits where the program says that it does
+    waits_now : (l : LockName) → IsWaitingOn l (locks_through t (events_in t client) no_locks).waiting → IsWaitingOn l (locks_of t client).waiting
+    waits_now l waits = subst (λ (locks : Locks). IsWaitingOn l locks.waiting) (sym same) waits
+
+    waits_there : (l : LockName) → IsWaitingOn l (locks_through t (events_in t client) no_locks).waiting → s.asleep (l, t) ≢ None
+    waits_there l waits none = has_count l (locks_of t client).waiting (waits_now l waits) (sym (sees.holds.own.waits l) ∙ none)
+
+    -- Tick
+    pub may_tick : (l : LockName) (reply : Reply) → KeepsLocks (Tick l) (locks_through t (events_in t client) no_locks) → Some (Val (value.Bool (is_marked t client))) ≡ Some reply → AnswersTick t l reply s
+    may_tick l reply waits e = subst (λ r. AnswersTick t l r s) {x = Val (value.Bool (is_marked t client))} (cc e) (waits_there l waits)
+
+    -- Timeout
+    pub may_time_out : (l : LockName) (reply : Reply) → KeepsLocks (Timeout l) (locks_through t (events_in t client) no_locks) → Some (timeout_reply (is_marked t client)) ≡ Some reply → AnswersTimeout t l reply s
+    may_time_out l reply waits e = subst (λ r. AnswersTimeout t l r s) {x = timeout_reply (is_marked t client)} (cc e) (by (is_marked t client))
+      where
+        by : (b : Bool) → AnswersTimeout t l (timeout_reply b) s
+        by true = waits_there l waits
+        by false = waits_there l waits
+
+    -- nobody holds the lock that a thread resumes with, the thread itself no more than others
+    none_holds : (next : _) (l : LockName) → OnlyListedHold p client → hold_of t l client ≡ None → entry_need p t.client next t l Write client ≡ None
+        → (u : ThreadId) (b : Bool) → is_thread t u ≡ b → s.monitors (l, u) ≡ None
+    none_holds next l listed apart need u true is = subst (λ w. s.monitors (l, w) ≡ None) (sym (same_thread t u is)) (sees.holds.own.holds l ∙ apart)
+    none_holds next l listed apart need u false is = beside_write (s.monitors (l, u)) (no_conflict next listed l Write need u (λ same. no_both (is_thread t t) (thread_self t) (ap (is_thread t) (sym same) ∙ is)))
+
+    -- Resume
+    pub may_resume : (next : _) (l : LockName) → OnlyListedHold p client → ((k : LockName) → IsWaitingOn k (locks_of t client).waiting → hold_of t k client ≡ None) → KeepsLocks (Resume l) (locks_through t (events_in t client) no_locks)
+        → unmet p t.client next t (Resume l) client ≡ None → AnswersResume t l Done s
+    may_resume next l listed apart waits need =
+        (waits_there l waits, λ u. none_holds next l listed (apart l (waits_now l waits)) (both_met (unless (is_marked t client) (NeedsMark l)) _ need).1 u (is_thread t u) refl)
+
+  -- Wait, Notify and NotifyAll, by how the lock is held
+  monitor_answers : (l : LockName) (level : Option Level) → hold_level (hold_of t l client) ≡ level → AnswersMonitor t l (monitor_reply level) s
+  monitor_answers l (Some Write) is = level_held l ∙ is
+  monitor_answers l (Some Read) is = λ held. absurd (cc (sym (level_held l ∙ is) ∙ held))
+  monitor_answers l None is = λ held. absurd (cc (sym (level_held l ∙ is) ∙ held))
+
+  pub may_monitor : (l : LockName) (reply : Reply) → Some (monitor_reply (hold_level (hold_of t l client))) ≡ Some reply → AnswersMonitor t l reply s
+  may_monitor l reply e = subst (λ r. AnswersMonitor t l r s) {x = monitor_reply (hold_level (hold_of t l client))} (cc e) (monitor_answers l (hold_level (hold_of t l client)) refl)
 
 -- A thread that doesn't wait never asks to resume.
 pub never_resumes : {A : Type 0} (t : ThreadId) (client : List Entry) → locks_of t client ≡ locks_through t (events_in t client) no_locks → (l : LockName) → (locks_of t client).waiting ≡ None

@@ -12,13 +12,13 @@ use Rattle.dso_base.specs.declared.shape.Shape.{Shape}
 use Rattle.dso_base.specs.declared.value.Value.TheVariants as value
 use Rattle.dso_base.specs.Following.{is_thread}
 use Rattle.dso_plain.specs.State.{PlainState, opening, roots_object, is_private_to, is_shared}
-use Rattle.dso_plain.specs.Possible.{May, IsPossible, StandsFrom}
+use Rattle.dso_plain.specs.Possible.{MayButMarks, IsPossibleButMarks, StandsFrom}
 use Rattle.dso_plain.specs.After.{after}
-use Rattle.dso_plain.specs.History.{Runs, end_of, last_state, events_of, is_act_of}
+use Rattle.dso_plain.specs.History.{RunsButMarks, end_of, last_state, events_of, is_act_of}
 use Rattle.dso_plain.specs.StepInvariants.{PastInvariant}
 use Rattle.dso_plain.proofs.keys.SameKeys.{same_thread, thread_self}
 use Rattle.dso_plain.proofs.invariants.PastsHold.{opening_kept}
-use Rattle.dso_legal.proofs.PlainRuns.{event_kept}
+use Rattle.dso_plain.proofs.invariants.PastsHold.{event_kept}
 use Rattle.dso_legal.specs.Names.{NameOnlyTold, NamesStayKnown}
 use Rattle.dso_legal.specs.SoundProgram.{event_tells, was_told, NamesOnlyTold}
 use Rattle.dso_legal.proofs.acts.KnownNames.{IsAmong, KeepsNames, known_names, act_names, reply_known}
@@ -59,7 +59,7 @@ AllKnow before s = (t : ThreadId) → KeepsNames t (before t) s
 
 -- An act, in a state in which every thread knows its names.
 module _ (shape : Shape) (t : ThreadId) (request : Request) (reply : Reply) (woken : Option ThreadId) (s : PlainState) (before : ThreadId → List Event)
-    (k : AllKnow before s) (kept : PastInvariant s) (m : IsPossible shape t request reply woken s) (its : NamesOnlyTold request (before t)) where
+    (k : AllKnow before s) (kept : PastInvariant s) (m : IsPossibleButMarks shape t request reply s) (its : NamesOnlyTold request (before t)) where
   abbrev event : Event
   event = Act t request reply woken
 
@@ -102,7 +102,7 @@ names_later e es before h = λ t. by t (is_act_of t e) (h t)
     by t false g = g
 
 -- an event keeps names known
-event_known : (shape : Shape) (e : Event) (es : List Event) (s : PlainState) (before : ThreadId → List Event) → May shape e s → PastInvariant s → AllNameTold before (e ∷ es) → AllKnow before s → AllKnow (with_event before e) (after shape e s)
+event_known : (shape : Shape) (e : Event) (es : List Event) (s : PlainState) (before : ThreadId → List Event) → MayButMarks shape e s → PastInvariant s → AllNameTold before (e ∷ es) → AllKnow before s → AllKnow (with_event before e) (after shape e s)
 event_known shape (Act t request reply woken) es s before m kept h k = act_known shape t request reply woken s before k kept m (names_now t request reply woken es before h)
 event_known shape (Lost client) es s before m kept h k = λ t. k t
 
@@ -119,7 +119,7 @@ none_behind [] = refl
 none_behind (x ∷ xs) = ap (λ ys. x ∷ ys) (none_behind xs)
 
 -- a run keeps names known
-pub run_known : (shape : Shape) (es : List Event) (s : PlainState) (before : ThreadId → List Event) → Runs shape es s → PastInvariant s → AllNameTold before es → AllKnow before s → AllKnow (λ t. before t ++ events_of t es) (end_of shape es s)
+pub run_known : (shape : Shape) (es : List Event) (s : PlainState) (before : ThreadId → List Event) → RunsButMarks shape es s → PastInvariant s → AllNameTold before es → AllKnow before s → AllKnow (λ t. before t ++ events_of t es) (end_of shape es s)
 run_known shape [] s before m kept h k = λ t. subst (λ events. KeepsNames t events s) (sym (none_behind (before t))) (k t)
 run_known shape (e ∷ es) s before m kept h k =
     let rest = run_known shape es (after shape e s) (with_event before e) m.1 (event_kept shape e s m.0 kept) (names_later e es before h) (event_known shape e es s before m.0 kept h k) in

@@ -9,7 +9,8 @@ use Rattle.dso_base.specs.declared.request.Event.TheVariants.{Act}
 use Rattle.dso_base.specs.declared.request.Reply.{Reply}
 use Rattle.dso_base.specs.declared.request.Request.{Request}
 use Rattle.dso_plain.specs.History.{end_of}
-use Rattle.dso_plain.specs.Possible.{May}
+use Rattle.dso_plain.specs.Possible.{MayButMarks, FitsMarks}
+use Rattle.dso_plain.specs.State.{PlainState}
 use Rattle.dso_law.specs.Channels.{down_in_flight}
 use Rattle.dso_law.specs.Entries.{entries_of, events_in}
 use Rattle.dso_law.specs.RequestNeeds.{unmet}
@@ -17,13 +18,14 @@ use Rattle.dso_law.specs.Replies.{reply_of, woken_by}
 use Rattle.dso_law.specs.Settings.{Settings}
 use Rattle.dso_law.specs.Threads.{open_block, ends_thread}
 use Rattle.dso_legal.specs.Agreement.{messages}
-use Rattle.dso_legal.specs.WaitsAndLosses.{WithoutWaits, WithoutLosses, HasNoWait, waits_or_notifies}
+use Rattle.dso_legal.specs.WaitsAndLosses.{WithoutWaits, WithoutLosses, HasNoWait}
 use Rattle.dso_legal.specs.CopiesStand.{state_at, CopiesStand}
 use Rattle.dso_legal.specs.Lawful.{next_after, AllFollow}
 use Rattle.dso_legal.specs.SoundProgram.{tells, event_tells, IsSound, KeepsTo}
 use Rattle.dso_legal.specs.Views.{Sees}
 use Rattle.dso_legal.proofs.acts.NoRoots.{NoRoots, tells_none}
-use Rattle.dso_legal.proofs.blocks.Orderly.{acts_in_journals}
+use Rattle.dso_legal.proofs.acts.Acts.{acts_are_possible, acts_find_marks}
+use Rattle.dso_legal.proofs.blocks.Orderly.{nobody_waits, is_orderly}
 use Rattle.dso_legal.proofs.blocks.OwnActs.{IsNextAct, threads_follow, threads_wait, own_acts}
 use Rattle.dso_legal.proofs.copies.SeesCopies.{sees_copy}
 use Rattle.dso_legal.proofs.line.StandsOn.{AllStand, ActsCan, runs_on, holds_seen, acts_from}
@@ -37,45 +39,52 @@ AllCopies p es = (c : ℕ) → CopiesStand p.shape c (state_at p c es) (messages
 abbrev pub AllUntold : List Entry → Type 0
 AllUntold es = (t : ThreadId) → list_any (event_tells 0) (events_in t (entries_of (Client t.client) es)) ≡ false
 
-module _ (p : Settings) (next : ThreadId → List Event → Option Request) (es : List Entry) (follow : AllFollow p next es) (calm : WithoutWaits es) (safe : WithoutLosses es) (sound : IsSound p.shape next) (stand : AllStand p es) (copies : AllCopies p es) (untold : AllUntold es) where
+module _ (p : Settings) (next : ThreadId → List Event → Option Request) (es : List Entry) (follow : AllFollow p next es) (safe : WithoutLosses es) (sound : IsSound p.shape next) (stand : AllStand p es) (copies : AllCopies p es) (untold : AllUntold es) where
   -- What a thread that hasn't ended sees.
   pub sees_all : (t : ThreadId) → list_any ends_thread (events_in t (entries_of (Client t.client) es)) ≡ false
       → Sees p t (entries_of (Client t.client) es) (state_at p t.client es) (end_of p.shape (open_block t (entries_of (Client t.client) es)) (state_at p t.client es))
   sees_all t goes = record {
-    past = (acts_from p next es follow calm safe stand t.client t refl).past;
-    holds = holds_seen p next es follow calm safe stand t.client t refl;
-    work = (acts_from p next es follow calm safe stand t.client t refl).tells;
+    past = (acts_from p next es follow safe stand t.client t refl).past;
+    holds = holds_seen p next es follow safe stand t.client t refl;
+    work = (acts_from p next es follow safe stand t.client t refl).tells;
     copies = λ o foreign here. sees_copy p t (open_block t (entries_of (Client t.client) es)) (state_at p t.client es) (end_of p.shape (open_block t (entries_of (Client t.client) es)) (state_at p t.client es))
-        (messages (down_in_flight t.client es)) (entries_of (Client t.client) es) (acts_from p next es follow calm safe stand t.client t refl) (copies t.client) o here;
-    fresh = fresh p next es follow calm safe t (runs_on p next es follow calm safe stand t).history (runs_on p next es follow calm safe stand t).pending (runs_on p next es follow calm safe stand t).opened;
-    names = names_known p next es follow calm safe t (runs_on p next es follow calm safe stand t).history (runs_on p next es follow calm safe stand t).pending (runs_on p next es follow calm safe stand t).opened sound untold;
-    connected = not_lost p next es follow calm safe t (runs_on p next es follow calm safe stand t).history (runs_on p next es follow calm safe stand t).pending (runs_on p next es follow calm safe stand t).opened;
-    going = going p next es follow calm safe t (runs_on p next es follow calm safe stand t).history (runs_on p next es follow calm safe stand t).pending (runs_on p next es follow calm safe stand t).opened goes;
+        (messages (down_in_flight t.client es)) (entries_of (Client t.client) es) (acts_from p next es follow safe stand t.client t refl) (copies t.client) o here;
+    fresh = fresh p next es follow safe t (runs_on p next es follow safe stand t).history (runs_on p next es follow safe stand t).pending (runs_on p next es follow safe stand t).opened;
+    names = names_known p next es follow safe t (runs_on p next es follow safe stand t).history (runs_on p next es follow safe stand t).pending (runs_on p next es follow safe stand t).opened sound untold;
+    connected = not_lost p next es follow safe t (runs_on p next es follow safe stand t).history (runs_on p next es follow safe stand t).pending (runs_on p next es follow safe stand t).opened;
+    going = going p next es follow safe t (runs_on p next es follow safe stand t).history (runs_on p next es follow safe stand t).pending (runs_on p next es follow safe stand t).opened goes;
   }
 
-  module _ (t : ThreadId) (request : Request) (reply : Reply) (asked : next_after next es t ≡ Some request) (quiet : waits_or_notifies request ≡ false) where
+  -- what a thread asks keeps to what it must
+  keeps_at : (t : ThreadId) (request : Request) → next_after next es t ≡ Some request → KeepsTo p.shape t (events_in t (entries_of (Client t.client) es)) request
+  keeps_at t request asked = sound.keeps t (events_in t (entries_of (Client t.client) es)) request (own_acts t (entries_of (Client t.client) es)) (untold t) (threads_wait p next t es follow) (threads_follow p next t es follow) asked
+
+  module _ (t : ThreadId) (request : Request) (reply : Reply) (asked : next_after next es t ≡ Some request) where
     -- what the client answers is possible
     can_at : unmet p t.client (next_after next es) t request (entries_of (Client t.client) es) ≡ None → reply_of p t request (entries_of (Client t.client) es) ≡ Some reply
-        → May p.shape (Act t request reply (woken_by request reply (entries_of (Client t.client) es))) (end_of p.shape (open_block t (entries_of (Client t.client) es)) (state_at p t.client es))
-    can_at met answered = acts_in_journals p next es follow calm (next_after next es) t.client t request reply (state_at p t.client es) (end_of p.shape (open_block t (entries_of (Client t.client) es)) (state_at p t.client es))
-        (sees_all t keeps.goes) keeps quiet met answered
-      where
-        keeps : KeepsTo p.shape t (events_in t (entries_of (Client t.client) es)) request
-        keeps = sound.keeps t (events_in t (entries_of (Client t.client) es)) request (own_acts t (entries_of (Client t.client) es)) (untold t) (threads_wait p next t es follow) (threads_follow p next t es follow) asked
+        → MayButMarks p.shape (Act t request reply (woken_by request reply (entries_of (Client t.client) es))) (end_of p.shape (open_block t (entries_of (Client t.client) es)) (state_at p t.client es))
+    can_at met answered = acts_are_possible p (next_after next es) t request reply (entries_of (Client t.client) es) (state_at p t.client es) (end_of p.shape (open_block t (entries_of (Client t.client) es)) (state_at p t.client es))
+        (sees_all t (keeps_at t request asked).goes) (is_orderly p next sound es follow t (untold t)) (keeps_at t request asked) met answered
 
     can : (c : ℕ) → t.client ≡ c → unmet p c (next_after next es) t request (entries_of (Client c) es) ≡ None → reply_of p t request (entries_of (Client c) es) ≡ Some reply
-        → May p.shape (Act t request reply (woken_by request reply (entries_of (Client c) es))) (end_of p.shape (open_block t (entries_of (Client c) es)) (state_at p c es))
+        → MayButMarks p.shape (Act t request reply (woken_by request reply (entries_of (Client c) es))) (end_of p.shape (open_block t (entries_of (Client c) es)) (state_at p c es))
     can c its = subst (λ n. unmet p n (next_after next es) t request (entries_of (Client n) es) ≡ None → reply_of p t request (entries_of (Client n) es) ≡ Some reply
-        → May p.shape (Act t request reply (woken_by request reply (entries_of (Client n) es))) (end_of p.shape (open_block t (entries_of (Client n) es)) (state_at p n es))) its can_at
+        → MayButMarks p.shape (Act t request reply (woken_by request reply (entries_of (Client n) es))) (end_of p.shape (open_block t (entries_of (Client n) es)) (state_at p n es))) its can_at
 
   -- The next act of each client is possible.
-  pub acts_can : (e : Entry) → HasNoWait e.event → ActsCan p next e es
-  acts_can e still c at it = can it.thread it.request it.reply it.asked (subst HasNoWait it.event still) c it.its it.met it.answered
+  pub acts_can : (e : Entry) → ActsCan p next e es
+  acts_can e c at it = can it.thread it.request it.reply it.asked c it.its it.met it.answered
 
-  -- And its reply doesn't tell of object 0.
-  pub act_tells_none : (e : Entry) → HasNoWait e.event → (c : ℕ) → e.node ≡ Client c → (it : IsNextAct p c (next_after next es) e (entries_of (Client c) es)) → tells 0 it.reply ≡ false
-  act_tells_none e still c at it = tells_none p.shape it.thread (end_of p.shape (open_block it.thread (entries_of (Client c) es)) (state_at p c es)) (roots c it.its) it.request it.reply (acts_can e still c at it).answers
+  -- Its reply doesn't tell of object 0.
+  pub act_tells_none : (e : Entry) (c : ℕ) → e.node ≡ Client c → (it : IsNextAct p c (next_after next es) e (entries_of (Client c) es)) → tells 0 it.reply ≡ false
+  act_tells_none e c at it = tells_none p.shape it.thread (end_of p.shape (open_block it.thread (entries_of (Client c) es)) (state_at p c es)) (roots c it.its) it.request it.reply (acts_can e c at it).answers
     where
       roots : (c : ℕ) → it.thread.client ≡ c → NoRoots (end_of p.shape (open_block it.thread (entries_of (Client c) es)) (state_at p c es))
       roots c its = subst (λ n. NoRoots (end_of p.shape (open_block it.thread (entries_of (Client n) es)) (state_at p n es))) its
-          (names_no_root p next es follow calm safe it.thread (runs_on p next es follow calm safe stand it.thread).history (runs_on p next es follow calm safe stand it.thread).pending (runs_on p next es follow calm safe stand it.thread).opened sound untold)
+          (names_no_root p next es follow safe it.thread (runs_on p next es follow safe stand it.thread).history (runs_on p next es follow safe stand it.thread).pending (runs_on p next es follow safe stand it.thread).opened sound untold)
+
+  -- Where nobody waits or notifies, it asks for no mark.
+  pub acts_ask_no_mark : WithoutWaits es → (e : Entry) → HasNoWait e.event → (c : ℕ) → (it : IsNextAct p c (next_after next es) e (entries_of (Client c) es))
+      → (s : PlainState) → FitsMarks (Act it.thread it.request it.reply (woken_by it.request it.reply (entries_of (Client c) es))) s
+  acts_ask_no_mark calm e still c it s = subst (λ n. FitsMarks (Act it.thread it.request it.reply (woken_by it.request it.reply (entries_of (Client n) es))) s) it.its
+      (acts_find_marks p it.thread it.request it.reply (entries_of (Client it.thread.client) es) s (nobody_waits es calm (Client it.thread.client) it.thread) (keeps_at it.thread it.request it.asked) (subst HasNoWait it.event still))

@@ -12,18 +12,19 @@ use Rattle.dso_base.specs.declared.request.Event.TheVariants.{Act, Lost}
 use Rattle.dso_base.specs.declared.shape.Shape.{Shape}
 use Rattle.dso_base.specs.Block.{start, worked}
 use Rattle.dso_plain.specs.State.{PlainState, opening}
-use Rattle.dso_plain.specs.History.{Runs, end_of, last_state, events_of}
+use Rattle.dso_plain.specs.History.{RunsButMarks, end_of, last_state, events_of}
 use Rattle.dso_plain.specs.StepInvariants.{PastInvariant}
 use Rattle.dso_plain.specs.Past.{KeepsPast}
 use Rattle.dso_plain.proofs.histories.LegalGoesOn.{events_in_parts}
-use Rattle.dso_legal.proofs.PlainRuns.{run_kept}
+use Rattle.dso_plain.proofs.invariants.PastsHold.{run_kept}
 use Rattle.dso_plain.proofs.invariants.PastsHold.{kept_past}
 use Rattle.dso_law.specs.Settings.{Settings}
 use Rattle.dso_law.specs.Entries.{entries_of}
 use Rattle.dso_law.specs.ServerReadings.{is_lost}
 use Rattle.dso_law.specs.Threads.{Locks, locks_of, locks_after, open_block, privates_before, work_of}
 use Rattle.dso_legal.specs.Blocks.{KeepsThread}
-use Rattle.dso_legal.specs.Committed.{ended_blocks, committed}
+use Rattle.dso_legal.specs.Committed.{ended_blocks}
+use Rattle.dso_legal.specs.AsMade.{as_made}
 use Rattle.dso_legal.specs.CopiesStand.{state_at}
 use Rattle.dso_legal.specs.PendingBlocks.{joined, handed_in, taken_in, pending, no_locks, locks_through, AreRecordsOf}
 use Rattle.dso_legal.specs.Works.{ArePrivates, TellsWork, HaveLocks}
@@ -69,10 +70,10 @@ no_losses_joined (block ∷ blocks) h = no_losses_parts block (joined blocks) h.
 -- The history, the client's pending blocks and the thread's open block run one after the other; the history has the thread's
 -- events of the blocks that were taken in; and the thread's readings are those of its blocks, each of one thread.
 pub record RunsOn (p : Settings) (t : ThreadId) (es : List Entry) : Type 0 where
-  pub history : Runs p.shape (committed es) (opening p.shape)
-  pub pending : Runs p.shape (joined (pending t.client es)) (last_state p.shape (committed es))
-  pub opened : Runs p.shape (open_block t (entries_of (Client t.client) es)) (state_at p t.client es)
-  pub taken : events_of t (committed es) ≡ events_of t (joined (taken_in t.client es))
+  pub history : RunsButMarks p.shape (as_made es) (opening p.shape)
+  pub pending : RunsButMarks p.shape (joined (pending t.client es)) (last_state p.shape (as_made es))
+  pub opened : RunsButMarks p.shape (open_block t (entries_of (Client t.client) es)) (state_at p t.client es)
+  pub taken : events_of t (as_made es) ≡ events_of t (joined (taken_in t.client es))
   pub keeps : KeepsThread p.shape t (entries_of (Client t.client) es)
   pub blocks : AreBlocks (ended_blocks (entries_of (Client t.client) es))
   pub connected : is_lost t.client (entries_of Server es) ≡ false
@@ -99,31 +100,31 @@ module _ (p : Settings) (t : ThreadId) (es : List Entry) (runs : RunsOn p t es) 
   here = state_at p t.client es
 
   -- the thread's events before its open block
-  events_before : events_of t (committed es) ++ events_of t waits ≡ events_of t (joined (ended_blocks own))
+  events_before : events_of t (as_made es) ++ events_of t waits ≡ events_of t (joined (ended_blocks own))
   events_before = ap (λ events. events ++ events_of t waits) runs.taken
       ∙ sym (events_in_parts t (joined (taken_in t.client es)) waits)
       ∙ ap (events_of t) (sym (joined_parts (taken_in t.client es) (pending t.client es)) ∙ ap joined (take-append-drop (handed_in t.client es) (ended_blocks own)))
 
   -- pasts are kept before it
   kept_here : PastInvariant here
-  kept_here = run_kept p.shape waits (last_state p.shape (committed es)) runs.pending (history_kept p.shape (committed es) runs.history)
+  kept_here = run_kept p.shape waits (last_state p.shape (as_made es)) runs.pending (history_kept p.shape (as_made es) runs.history)
 
   -- the private objects before it
   privates_here : ArePrivates t (privates_before p.shape t own) here
   privates_here = subst (λ privates. ArePrivates t privates here)
-      (sym (privates_parts p.shape (events_of t (committed es)) (events_of t waits) [])
+      (sym (privates_parts p.shape (events_of t (as_made es)) (events_of t waits) [])
       ∙ ap (λ events. (worked p.shape events (start [])).privates) events_before
       ∙ sym (privates_through_events p.shape t (ended_blocks own) [] runs.blocks)
       ∙ sym runs.keeps.privates)
-      (privates_of_events p.shape t (worked p.shape (events_of t (committed es)) (start [])).privates waits (last_state p.shape (committed es)) (history_kept p.shape (committed es) runs.history) (privates_of_history p.shape t (committed es) runs.history) runs.pending)
+      (privates_of_events p.shape t (worked p.shape (events_of t (as_made es)) (start [])).privates waits (last_state p.shape (as_made es)) (history_kept p.shape (as_made es) runs.history) (privates_of_history p.shape t (as_made es) runs.history) runs.pending)
 
   -- the locks before it
   locks_here : HaveLocks t (locks_through t (events_of t (joined (ended_blocks own))) no_locks) here
   locks_here = subst (λ locks. HaveLocks t locks here)
-      (sym (locks_parts t (events_of t (committed es)) (events_of t waits) no_locks) ∙ ap (λ events. locks_through t events no_locks) events_before)
-      (locks_of_acts p.shape t (locks_through t (events_of t (committed es)) no_locks) waits (last_state p.shape (committed es))
+      (sym (locks_parts t (events_of t (as_made es)) (events_of t waits) no_locks) ∙ ap (λ events. locks_through t events no_locks) events_before)
+      (locks_of_acts p.shape t (locks_through t (events_of t (as_made es)) no_locks) waits (last_state p.shape (as_made es))
       (no_losses_joined (pending t.client es) (each_later NoLosses (handed_in t.client es) (ended_blocks own) (ended_blocks_spared own))) runs.pending
-      (locks_of_history p.shape t (committed es) (history_spared t.client es runs.connected) runs.history))
+      (locks_of_history p.shape t (as_made es) (history_spared t.client es runs.connected) runs.history))
 
   -- and behind it
   locks_there : HaveLocks t (locks_of t own) (end_of p.shape (open_block t own) here)

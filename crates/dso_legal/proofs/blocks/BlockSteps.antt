@@ -1,7 +1,6 @@
 -- What each kind of entry does to a client's blocks, and to the state that the client stands at.
-use Rattle.std.specs.List.{list_any, AllByRecursion}
-use Rattle.std.proofs.Common.{ℕ, zero, suc, ◌≡◌, refl, sym, ◌∙◌, ap, false, ◌||◌, Option, List, [], ◌∷◌, ◌++◌}
-use Rattle.std.specs.Prelude.{drop}
+use Rattle.std.specs.List.{list_any}
+use Rattle.std.proofs.Common.{ℕ, ◌≡◌, refl, sym, ◌∙◌, ap, false, ◌||◌, Option, List, [], ◌∷◌, ◌++◌}
 use Rattle.std.proofs.lemmas.List.{append-nil}
 use Rattle.dso_base.specs.declared.journal.Entry.{Entry}
 use Rattle.dso_base.specs.declared.journal.Input.{Input}
@@ -14,24 +13,21 @@ use Rattle.dso_base.specs.declared.request.Event.{Event}
 use Rattle.dso_base.specs.declared.request.Request.{Request}
 use Rattle.dso_plain.specs.State.{opening}
 use Rattle.dso_plain.specs.History.{end_of, last_state}
-use Rattle.dso_plain.specs.Touches.{NobodyTimesOut}
 use Rattle.dso_plain.proofs.independence.RunsSwap.{ends_in_parts}
 use Rattle.dso_law.specs.Settings.{Settings}
 use Rattle.dso_law.specs.Entries.{entries_of}
 use Rattle.dso_law.specs.ServerReadings.{loses, is_lost}
-use Rattle.dso_legal.specs.WaitsAndLosses.{HasNoWait, WithoutWaits, is_loss, WithoutLosses}
-use Rattle.dso_legal.specs.Committed.{ended_blocks, committed_at, committed}
+use Rattle.dso_legal.specs.WaitsAndLosses.{is_loss, WithoutLosses}
+use Rattle.dso_legal.specs.AsMade.{made_at, as_made}
 use Rattle.dso_legal.specs.CopiesStand.{state_at}
 use Rattle.dso_legal.specs.Lawful.{MayFollow, AllFollow}
-use Rattle.dso_legal.specs.PendingBlocks.{joined, handed_in, pending}
+use Rattle.dso_legal.specs.PendingBlocks.{joined, pending}
 use Rattle.dso_legal.proofs.blocks.ClientBlocks.{joined_more}
 use Rattle.dso_legal.proofs.records.ClientRecords.{EndsNone, EndsBlock, block_ended}
 use Rattle.dso_legal.proofs.records.Handing.{says_its_own}
 use Rattle.dso_legal.proofs.records.HandedIn.{TakesBlock, KeepsBoth, ends_none, pending_ended}
 use Rattle.dso_legal.proofs.blocks.Histories.{history_takes}
-use Rattle.dso_law.specs.Threads.{open_block}
-use Rattle.dso_legal.proofs.PlainRuns.{nobody_times_out}
-use Rattle.dso_legal.proofs.blocks.BlocksWithoutWaits.{IsCalm, each_of_node, open_is_calm, ended_are_calm}
+use Rattle.dso_legal.proofs.blocks.EachEvent.{each_of_node}
 
 module _ (p : Settings) (next : ThreadId → List Event → Option Request) (c : ℕ) (es : List Entry) (follow : AllFollow p next es) (alive : is_lost c (entries_of Server es) ≡ false) (e : Entry) (follows : MayFollow p next e es) where
   -- An entry of the client that ends no block leaves them.
@@ -43,46 +39,23 @@ module _ (p : Settings) (next : ThreadId → List Event → Option Request) (c :
   own_ends at ends = pending_ended p next c es follow alive e (says_its_own p next c e es at) ends
 
   -- Where the server takes the record of the client's block, the client stands where it stood.
-  pub state_taken : WithoutWaits es → (txn : Txn) → TakesBlock p c txn e es → state_at p c (e ∷ es) ≡ state_at p c es
-  state_taken calm txn takes = ap (λ h. end_of p.shape (joined (pending c (e ∷ es))) (last_state p.shape h)) (history_takes p next e es follows follow calm c txn alive takes)
-      ∙ ap (end_of p.shape (joined (pending c (e ∷ es)))) (ends_in_parts p.shape (committed es) takes.block (opening p.shape))
-      ∙ sym (ends_in_parts p.shape takes.block (joined (pending c (e ∷ es))) (last_state p.shape (committed es)))
-      ∙ sym (ap (λ blocks. end_of p.shape (joined blocks) (last_state p.shape (committed es))) takes.first)
+  pub state_taken : (txn : Txn) → TakesBlock p c txn e es → state_at p c (e ∷ es) ≡ state_at p c es
+  state_taken txn takes = ap (λ h. end_of p.shape (joined (pending c (e ∷ es))) (last_state p.shape h)) (history_takes p next e es follows follow c txn alive takes)
+      ∙ ap (end_of p.shape (joined (pending c (e ∷ es)))) (ends_in_parts p.shape (as_made es) takes.block (opening p.shape))
+      ∙ sym (ends_in_parts p.shape takes.block (joined (pending c (e ∷ es))) (last_state p.shape (as_made es)))
+      ∙ sym (ap (λ blocks. end_of p.shape (joined blocks) (last_state p.shape (as_made es))) takes.first)
 
   -- Where a block of the client ends, it stands where the block leaves it.
   pub state_ended : e.node ≡ Client c → (ends : EndsBlock p e (entries_of (Client c) es)) → state_at p c (e ∷ es) ≡ end_of p.shape (block_ended ends) (state_at p c es)
   state_ended at ends =
       let blocks : List (List Event) = pending c (e ∷ es) in
       ap (λ given. end_of p.shape (joined blocks) (last_state p.shape given)) (stays e.node at)
-      ∙ ap (λ blocks. end_of p.shape (joined blocks) (last_state p.shape (committed es))) (own_ends at ends)
-      ∙ ap (λ events. end_of p.shape events (last_state p.shape (committed es))) (joined_more (pending c es) (block_ended ends))
-      ∙ ends_in_parts p.shape (joined (pending c es)) (block_ended ends) (last_state p.shape (committed es))
+      ∙ ap (λ blocks. end_of p.shape (joined blocks) (last_state p.shape (as_made es))) (own_ends at ends)
+      ∙ ap (λ events. end_of p.shape events (last_state p.shape (as_made es))) (joined_more (pending c es) (block_ended ends))
+      ∙ ends_in_parts p.shape (joined (pending c es)) (block_ended ends) (last_state p.shape (as_made es))
     where
-      stays : (node : Node) → node ≡ Client c → committed es ++ committed_at node e.input es ≡ committed es
-      stays node at = ap (λ node. committed es ++ committed_at node e.input es) at ∙ append-nil (committed es)
-
--- what holds of each holds of those that are left when the first are dropped
-pub each_dropped : {X : Type 0} (P : X → Type 0) (n : ℕ) (xs : List X) → AllByRecursion P xs → AllByRecursion P (drop n xs)
-each_dropped P zero xs each = each
-each_dropped P (suc n) [] each = tt
-each_dropped P (suc n) (x ∷ xs) each = each_dropped P n xs each.1
-
--- In a journal without waits no pending block has one.
-pub pending_are_calm : (c : ℕ) (es : List Entry) → WithoutWaits es → AllByRecursion IsCalm (pending c es)
-pending_are_calm c es calm = each_dropped IsCalm (handed_in c es) (ended_blocks (entries_of (Client c) es))
-    (ended_are_calm (entries_of (Client c) es) (each_of_node (λ e. HasNoWait e.event) (Client c) es calm))
-
--- so nobody times out in one,
-pub pending_in_time : (c : ℕ) (es : List Entry) → WithoutWaits es → AllByRecursion NobodyTimesOut (pending c es)
-pending_in_time c es calm = each_in_time (pending c es) (pending_are_calm c es calm)
-  where
-    each_in_time : (blocks : List (List Event)) → AllByRecursion IsCalm blocks → AllByRecursion NobodyTimesOut blocks
-    each_in_time [] each = tt
-    each_in_time (block ∷ blocks) each = (nobody_times_out block each.0, each_in_time blocks each.1)
-
--- and nobody in an open block.
-pub open_in_time : (t : ThreadId) (node : Node) (es : List Entry) → WithoutWaits es → NobodyTimesOut (open_block t (entries_of node es))
-open_in_time t node es calm = nobody_times_out (open_block t (entries_of node es)) (open_is_calm t (entries_of node es) (each_of_node (λ e. HasNoWait e.event) node es calm))
+      stays : (node : Node) → node ≡ Client c → as_made es ++ made_at node e.input es ≡ as_made es
+      stays node at = ap (λ node. as_made es ++ made_at node e.input es) at ∙ append-nil (as_made es)
 
 -- who loses nobody doesn't lose the client
 loses_not : (c : ℕ) (i : Input) → is_loss i ≡ false → loses c i ≡ false

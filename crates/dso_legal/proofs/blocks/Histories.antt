@@ -1,8 +1,8 @@
--- The history of a journal without waits: the blocks whose records the server took, and of each thread of a client that
--- isn't lost just the events of those of its client.
-use Rattle.std.specs.List.{list_any, AllByRecursion}
-use Rattle.std.proofs.Common.{ℕ, zero, suc, ◌≡◌, ◌⊎◌, inl, inr, refl, sym, ◌∙◌, ap, subst, Bool, true, false, cond, eqb, ◌||◌, Option, List, [], ◌∷◌, ◌++◌}
-use Rattle.std.specs.Prelude.{filter, take}
+-- The history as made: the blocks whose records the server took, and of each thread of a client that isn't lost just the events
+-- of those of its client.
+use Rattle.std.specs.List.{list_any}
+use Rattle.std.proofs.Common.{ℕ, ◌≡◌, ◌⊎◌, inl, inr, refl, sym, ◌∙◌, ap, subst, Bool, true, false, cond, eqb, ◌||◌, Option, List, [], ◌∷◌, ◌++◌}
+use Rattle.std.specs.Prelude.{filter}
 use Rattle.std.proofs.lemmas.List.{append_assoc, append-nil, take-append-drop}
 use Rattle.dso_base.specs.declared.journal.Entry.{Entry}
 use Rattle.dso_base.specs.declared.journal.Input.{Input}
@@ -16,7 +16,7 @@ use Rattle.dso_base.specs.declared.request.Event.{Event}
 use Rattle.dso_base.specs.declared.request.Event.TheVariants.{Lost}
 use Rattle.dso_base.specs.declared.request.Request.{Request}
 use Rattle.dso_base.specs.Following.{is_thread}
-use Rattle.dso_plain.specs.History.{is_act_of, events_of}
+use Rattle.dso_plain.specs.History.{events_of}
 use Rattle.dso_plain.proofs.keys.SameKeys.{same_number, number_self, same_thread}
 use Rattle.dso_plain.proofs.histories.LegalGoesOn.{events_in_parts}
 use Rattle.dso_law.specs.Settings.{Settings, threads_of}
@@ -24,21 +24,15 @@ use Rattle.dso_law.specs.Entries.{entries_of, events_in}
 use Rattle.dso_law.specs.Threads.{open_block}
 use Rattle.dso_law.specs.ServerReadings.{is_lost, counted}
 use Rattle.dso_law.specs.ServerStep.{HeardOrLost, ServerStepOn}
-use Rattle.dso_law.specs.ServerWaiters.{waiters_of}
 use Rattle.dso_legal.specs.Lawful.{NodeFollows, MayFollow, AllFollow}
-use Rattle.dso_legal.specs.WaitsAndLosses.{is_wait, HasNoWait, WithoutWaits}
-use Rattle.dso_legal.specs.Committed.{ended_blocks, block_numbered, resolved, block_taken, committed_by, committed_at, committed}
+use Rattle.dso_legal.specs.Committed.{ended_blocks, block_numbered}
+use Rattle.dso_legal.specs.AsMade.{made_by, made_at, as_made}
 use Rattle.dso_legal.specs.PendingBlocks.{joined, handed_in, taken_in, pending}
-use Rattle.dso_legal.specs.Blocks.{HistoriesHoldBlocks, HistoriesHoldBlocksAsMade}
-use Rattle.dso_legal.specs.Central.{server_lists}
-use Rattle.dso_legal.specs.Resolved.{AreResolved}
 use Rattle.dso_legal.proofs.blocks.ClientBlocks.{joined_more, joined_parts, no_events, keeps_thread}
 use Rattle.dso_legal.proofs.records.BothEnds.{not_lost_before}
 use Rattle.dso_legal.proofs.records.Handing.{takes_record}
 use Rattle.dso_legal.proofs.records.HandedIn.{TakesBlock, DoesToBlocks, does_to_blocks, takes_its_block}
 use Rattle.dso_legal.proofs.leases.LeaseSteps.{unless_true, if_true, no_both}
-use Rattle.dso_legal.proofs.blocks.BlocksWithoutWaits.{IsCalm, each_both, no_choice, each_of_node, ended_are_calm, numbered_is_calm}
-use Rattle.dso_legal.proofs.blocks.ResolvedBlocks.{resolved_acts, are_resolved, resolved_both, resolved_of, resolved_as_made}
 
 -- a thread that is found among those of a client is one of the client
 found_in : (t : ThreadId) (c : ℕ) (threads : List ThreadId) → list_any (is_thread t) (filter (λ u. eqb u.client c) threads) ≡ true → t.client ≡ c
@@ -80,17 +74,12 @@ module _ (p : Settings) (next : ThreadId → List Event → Option Request) (e :
   pub taken_of_client : (d : ℕ) (txn : Txn) → is_lost d (entries_of Server es) ≡ false → TakesBlock p d txn e es → txn.thread.client ≡ d
   taken_of_client d txn alive takes = its_at e.node d txn takes.does.node_is takes.does.input_is alive follows.rule
 
-  module _ (follow : AllFollow p next es) (calm : WithoutWaits es) where
-    -- what the server takes in without waits is the block as it stands
-    block_as_said : (d n : ℕ) → block_taken d n es ≡ block_numbered n (ended_blocks (entries_of (Client d) es))
-    block_as_said d n = no_choice (block_numbered n (ended_blocks (entries_of (Client d) es))) (λ l. waiters_of l (counted (entries_of Server es)))
-        (numbered_is_calm n (ended_blocks (entries_of (Client d) es)) (ended_are_calm (entries_of (Client d) es) (each_of_node (λ e. HasNoWait e.event) (Client d) es calm)))
-
+  module _ (follow : AllFollow p next es) where
     -- The history goes on by the block whose record the server takes.
-    pub history_takes : (d : ℕ) (txn : Txn) → is_lost d (entries_of Server es) ≡ false → (takes : TakesBlock p d txn e es) → committed (e ∷ es) ≡ committed es ++ takes.block
-    history_takes d txn alive takes = ap (λ more. committed es ++ more)
-        (ap (λ node. committed_at node e.input es) takes.does.node_is ∙ ap (λ i. committed_by i es) takes.does.input_is
-        ∙ unless_true (is_lost d (entries_of Server es)) [] (block_taken d txn.seq es) alive ∙ block_as_said d txn.seq ∙ sym takes.numbered)
+    pub history_takes : (d : ℕ) (txn : Txn) → is_lost d (entries_of Server es) ≡ false → (takes : TakesBlock p d txn e es) → as_made (e ∷ es) ≡ as_made es ++ takes.block
+    history_takes d txn alive takes = ap (λ more. as_made es ++ more)
+        (ap (λ node. made_at node e.input es) takes.does.node_is ∙ ap (λ i. made_by i es) takes.does.input_is
+        ∙ unless_true (is_lost d (entries_of Server es)) [] (block_numbered txn.seq (ended_blocks (entries_of (Client d) es))) alive ∙ sym takes.numbered)
 
     -- the entry gives the history the block of a client that isn't lost
     pub record GivesBlock : Type 0 where
@@ -98,25 +87,25 @@ module _ (p : Settings) (next : ThreadId → List Event → Option Request) (e :
       pub txn : Txn
       pub alive : is_lost client (entries_of Server es) ≡ false
       pub takes : TakesBlock p client txn e es
-      pub grows : committed (e ∷ es) ≡ committed es ++ takes.block
+      pub grows : as_made (e ∷ es) ≡ as_made es ++ takes.block
 
     -- it gives a loss
     pub record GivesLoss : Type 0 where
       pub client : ℕ
       pub at : e.node ≡ Server
       pub is : e.input ≡ input.Lose client
-      pub grows : committed (e ∷ es) ≡ committed es ++ Lost client ∷ []
+      pub grows : as_made (e ∷ es) ≡ as_made es ++ Lost client ∷ []
 
     -- it gives a block, a loss, or nothing
     abbrev pub Gives : Type 0
-    Gives = GivesBlock ⊎ (GivesLoss ⊎ (committed (e ∷ es) ≡ committed es))
+    Gives = GivesBlock ⊎ (GivesLoss ⊎ (as_made (e ∷ es) ≡ as_made es))
 
     -- where it gives nothing
-    gives_nothing : (node : Node) (i : Input) → e.node ≡ node → e.input ≡ i → committed_at node i es ≡ [] → Gives
-    gives_nothing node i at is none = inr (inr (ap (λ more. committed es ++ more) (ap (λ node. committed_at node e.input es) at ∙ ap (λ i. committed_at node i es) is ∙ none) ∙ append-nil (committed es)))
+    gives_nothing : (node : Node) (i : Input) → e.node ≡ node → e.input ≡ i → made_at node i es ≡ [] → Gives
+    gives_nothing node i at is none = inr (inr (ap (λ more. as_made es ++ more) (ap (λ node. made_at node e.input es) at ∙ ap (λ i. made_at node i es) is ∙ none) ∙ append-nil (as_made es)))
 
     gives_record : (d : ℕ) (txn : Txn) (b : Bool) → is_lost d (entries_of Server es) ≡ b → e.node ≡ Server → e.input ≡ input.TookUp d (up.Commit txn) → Gives
-    gives_record d txn true lost at is = gives_nothing Server (input.TookUp d (up.Commit txn)) at is (if_true (is_lost d (entries_of Server es)) [] (block_taken d txn.seq es) lost)
+    gives_record d txn true lost at is = gives_nothing Server (input.TookUp d (up.Commit txn)) at is (if_true (is_lost d (entries_of Server es)) [] (block_numbered txn.seq (ended_blocks (entries_of (Client d) es))) lost)
     gives_record d txn false alive at is =
         let takes = takes_its_block p next d es follow alive e follows txn at is in
         inl (record { client = d; txn = txn; alive = alive; takes = takes; grows = history_takes d txn alive takes })
@@ -127,7 +116,7 @@ module _ (p : Settings) (next : ThreadId → List Event → Option Request) (e :
       client = d;
       at = at;
       is = is;
-      grows = ap (λ more. committed es ++ more) (ap (λ node. committed_at node e.input es) at ∙ ap (λ i. committed_by i es) is);
+      grows = ap (λ more. as_made es ++ more) (ap (λ node. made_at node e.input es) at ∙ ap (λ i. made_by i es) is);
     }))
     gives_at node i at is = gives_nothing node i at is refl
 
@@ -136,116 +125,69 @@ module _ (p : Settings) (next : ThreadId → List Event → Option Request) (e :
     gives = gives_at e.node e.input refl refl
 
   module _ (follow : AllFollow p next es) (t : ThreadId) where
-    -- the history goes on by the block whose record the server takes, resolved
-    takes_resolved : (d : ℕ) (txn : Txn) → is_lost d (entries_of Server es) ≡ false → (takes : TakesBlock p d txn e es) → committed (e ∷ es) ≡ committed es ++ resolved takes.block (server_lists es)
-    takes_resolved d txn alive takes = ap (λ more. committed es ++ more)
-        (ap (λ node. committed_at node e.input es) takes.does.node_is ∙ ap (λ i. committed_by i es) takes.does.input_is
-        ∙ unless_true (is_lost d (entries_of Server es)) [] (block_taken d txn.seq es) alive ∙ ap (λ block. resolved block (server_lists es)) (sym takes.numbered))
-
     -- a record of another client
     record_of_other : (d : ℕ) (txn : Txn) (b : Bool) → is_lost d (entries_of Server es) ≡ b → e.node ≡ Server → e.input ≡ input.TookUp d (up.Commit txn) → eqb t.client d ≡ false
-        → events_of t (cond b [] (block_taken d txn.seq es)) ≡ []
+        → events_of t (cond b [] (block_numbered txn.seq (ended_blocks (entries_of (Client d) es)))) ≡ []
     record_of_other d txn true lost at is other = refl
     record_of_other d txn false alive at is other =
         let takes = takes_its_block p next d es follow alive e follows txn at is in
-        ap (λ block. events_of t (resolved block (server_lists es))) (sym takes.numbered)
-        ∙ no_events t txn.thread (resolved takes.block (server_lists es)) (other_client t txn.thread t.client d refl (taken_of_client d txn alive takes) other) (resolved_acts txn.thread takes.block (server_lists es) takes.its.acts)
+        ap (events_of t) (sym takes.numbered)
+        ∙ no_events t txn.thread takes.block (other_client t txn.thread t.client d refl (taken_of_client d txn alive takes) other) takes.its.acts
 
     -- what an entry gives that takes no record of the thread's client
-    gives_none : (node : Node) (i : Input) → e.node ≡ node → e.input ≡ i → takes_record t.client node i ≡ false → events_of t (committed_at node i es) ≡ []
+    gives_none : (node : Node) (i : Input) → e.node ≡ node → e.input ≡ i → takes_record t.client node i ≡ false → events_of t (made_at node i es) ≡ []
     gives_none Server (input.TookUp d (up.Commit txn)) at is other = record_of_other d txn (is_lost d (entries_of Server es)) refl at is other
     gives_none Server (input.Lose d) at is other = refl
     gives_none node i at is other = refl
 
     -- the thread's events stay
-    history_stays : takes_record t.client e.node e.input ≡ false → events_of t (committed (e ∷ es)) ≡ events_of t (committed es)
-    history_stays none = events_in_parts t (committed es) (committed_at e.node e.input es)
-        ∙ ap (λ more. events_of t (committed es) ++ more) (gives_none e.node e.input refl refl none) ∙ append-nil (events_of t (committed es))
+    history_stays : takes_record t.client e.node e.input ≡ false → events_of t (as_made (e ∷ es)) ≡ events_of t (as_made es)
+    history_stays none = events_in_parts t (as_made es) (made_at e.node e.input es)
+        ∙ ap (λ more. events_of t (as_made es) ++ more) (gives_none e.node e.input refl refl none) ∙ append-nil (events_of t (as_made es))
 
-    -- the history has the thread's events of the blocks that the server took in, resolved
+    -- the history has the thread's events of the blocks that the server took in
     abbrev HoldsBlocks : List Entry → Type 0
-    HoldsBlocks js = AreResolved (events_of t (joined (taken_in t.client js))) (events_of t (committed js))
+    HoldsBlocks js = events_of t (as_made js) ≡ events_of t (joined (taken_in t.client js))
 
     -- so it is where both stay
-    still_holds : events_of t (committed (e ∷ es)) ≡ events_of t (committed es) → taken_in t.client (e ∷ es) ≡ taken_in t.client es → HoldsBlocks es → HoldsBlocks (e ∷ es)
-    still_holds history taken before = subst (λ blocks. AreResolved (events_of t (joined blocks)) (events_of t (committed (e ∷ es)))) (sym taken)
-        (subst (λ events. AreResolved (events_of t (joined (taken_in t.client es))) events) (sym history) before)
+    still_holds : events_of t (as_made (e ∷ es)) ≡ events_of t (as_made es) → taken_in t.client (e ∷ es) ≡ taken_in t.client es → HoldsBlocks es → HoldsBlocks (e ∷ es)
+    still_holds history taken before = history ∙ before ∙ ap (λ blocks. events_of t (joined blocks)) (sym taken)
 
     -- and has them after the entry
     holds_after : is_lost t.client (entries_of Server es) ≡ false → DoesToBlocks p t.client e es → HoldsBlocks es → HoldsBlocks (e ∷ es)
     holds_after alive (inl (txn, takes)) before =
         let mades : events_of t (joined (taken_in t.client (e ∷ es))) ≡ events_of t (joined (taken_in t.client es)) ++ events_of t takes.block =
         ap (λ blocks. events_of t (joined blocks)) takes.taken ∙ ap (events_of t) (joined_more (taken_in t.client es) takes.block) ∙ events_in_parts t (joined (taken_in t.client es)) takes.block in
-        let events : events_of t (committed (e ∷ es)) ≡ events_of t (committed es) ++ events_of t (resolved takes.block (server_lists es)) =
-        ap (events_of t) (takes_resolved t.client txn alive takes) ∙ events_in_parts t (committed es) (resolved takes.block (server_lists es)) in
-        subst (λ all. AreResolved all (events_of t (committed (e ∷ es)))) (sym mades)
-        (subst (λ all. AreResolved (events_of t (joined (taken_in t.client es)) ++ events_of t takes.block) all) (sym events)
-        (resolved_both (events_of t (joined (taken_in t.client es))) (events_of t (committed es)) (events_of t takes.block) (events_of t (resolved takes.block (server_lists es))) before
-        (resolved_of t takes.block (resolved takes.block (server_lists es)) (are_resolved takes.block (server_lists es)))))
+        ap (events_of t) (history_takes follow t.client txn alive takes) ∙ events_in_parts t (as_made es) takes.block
+        ∙ ap (λ events. events ++ events_of t takes.block) before ∙ sym mades
     holds_after alive (inr (inl ends)) before = still_holds (history_stays (ap (λ node. takes_record t.client node e.input) ends.does.node_is)) ends.taken before
     holds_after alive (inr (inr keeps)) before = still_holds (history_stays keeps.none) keeps.taken_stays before
 
--- of each thread among the events of calm blocks
-calm_of_thread : (t : ThreadId) (events : List Event) → IsCalm events → IsCalm (events_of t events)
-calm_of_thread t [] calm = tt
-calm_of_thread t (event ∷ events) calm = by (is_act_of t event) (calm_of_thread t events calm.1)
-  where
-    by : (b : Bool) → IsCalm (events_of t events) → IsCalm (cond b (event ∷ events_of t events) (events_of t events))
-    by true later = (calm.0, later)
-    by false later = later
-
--- and among calm blocks one behind the other
-calm_joined : (blocks : List (List Event)) → AllByRecursion IsCalm blocks → IsCalm (joined blocks)
-calm_joined [] calm = tt
-calm_joined (block ∷ blocks) calm = each_both (λ event. is_wait event ≡ false) block (joined blocks) calm.0 (calm_joined blocks calm.1)
-
--- the first of calm blocks are calm
-calm_taken : (n : ℕ) (blocks : List (List Event)) → AllByRecursion IsCalm blocks → AllByRecursion IsCalm (take n blocks)
-calm_taken zero blocks calm = tt
-calm_taken (suc n) [] calm = tt
-calm_taken (suc n) (block ∷ blocks) calm = (calm.0, calm_taken n blocks calm.1)
-
 module _ (p : Settings) (next : ThreadId → List Event → Option Request) (t : ThreadId) where
-  -- the history has the thread's events of the blocks that were taken in, resolved,
-  pub holds_resolved : (es : List Entry) → AllFollow p next es → is_lost t.client (entries_of Server es) ≡ false
-      → AreResolved (events_of t (joined (taken_in t.client es))) (events_of t (committed es))
-  holds_resolved [] follow alive = tt
-  holds_resolved (e ∷ es) follow alive =
+  -- the history has the thread's events of the blocks that were taken in
+  pub holds_blocks : (es : List Entry) → AllFollow p next es → is_lost t.client (entries_of Server es) ≡ false
+      → events_of t (as_made es) ≡ events_of t (joined (taken_in t.client es))
+  holds_blocks [] follow alive = refl
+  holds_blocks (e ∷ es) follow alive =
       let before = not_lost_before t.client e.node e es alive in
-      holds_after p next e es follow.1 follow.0 t before (does_to_blocks p next t.client es follow.0 before e follow.1) (holds_resolved es follow.0 before)
-
-  -- and without waits just as they were made
-  pub holds_blocks : (es : List Entry) → AllFollow p next es → WithoutWaits es → is_lost t.client (entries_of Server es) ≡ false
-      → events_of t (committed es) ≡ events_of t (joined (taken_in t.client es))
-  holds_blocks es follow calm alive = resolved_as_made (events_of t (joined (taken_in t.client es))) (events_of t (committed es))
-      (calm_of_thread t (joined (taken_in t.client es)) (calm_joined (taken_in t.client es) (calm_taken (handed_in t.client es) (ended_blocks (entries_of (Client t.client) es))
-      (ended_are_calm (entries_of (Client t.client) es) (each_of_node (λ e. HasNoWait e.event) (Client t.client) es calm)))))
-      (holds_resolved es follow alive)
+      holds_after p next e es follow.1 follow.0 t before (does_to_blocks p next t.client es follow.0 before e follow.1) (holds_blocks es follow.0 before)
 
   -- a thread's events in three parts, at its client
-  in_parts : (es : List Entry) → AllFollow p next es → WithoutWaits es → is_lost t.client (entries_of Server es) ≡ false
-      → events_of t (committed es) ++ (events_of t (joined (pending t.client es)) ++ open_block t (entries_of (Client t.client) es)) ≡ events_in t (entries_of (Client t.client) es)
-  in_parts es follow calm alive =
+  in_parts : (es : List Entry) → AllFollow p next es → is_lost t.client (entries_of Server es) ≡ false
+      → events_of t (as_made es) ++ (events_of t (joined (pending t.client es)) ++ open_block t (entries_of (Client t.client) es)) ≡ events_in t (entries_of (Client t.client) es)
+  in_parts es follow alive =
       let own = entries_of (Client t.client) es in
       let n = handed_in t.client es in
-      ap (λ events. events ++ (events_of t (joined (pending t.client es)) ++ open_block t own)) (holds_blocks es follow calm alive)
+      ap (λ events. events ++ (events_of t (joined (pending t.client es)) ++ open_block t own)) (holds_blocks es follow alive)
       ∙ sym (append_assoc (events_of t (joined (taken_in t.client es))) (events_of t (joined (pending t.client es))) (open_block t own))
       ∙ ap (λ events. events ++ open_block t own) (sym (events_in_parts t (joined (taken_in t.client es)) (joined (pending t.client es)))
       ∙ ap (events_of t) (sym (joined_parts (taken_in t.client es) (pending t.client es)) ∙ ap joined (take-append-drop n (ended_blocks own))))
       ∙ (keeps_thread p.shape t own).events
 
 -- A thread's events in three parts: those in the history, those of its client's pending blocks, and its open block.
-pub thread_in_parts : (p : Settings) (next : ThreadId → List Event → Option Request) (t : ThreadId) (c : ℕ) → t.client ≡ c → (es : List Entry) → AllFollow p next es → WithoutWaits es
+pub thread_in_parts : (p : Settings) (next : ThreadId → List Event → Option Request) (t : ThreadId) (c : ℕ) → t.client ≡ c → (es : List Entry) → AllFollow p next es
     → is_lost c (entries_of Server es) ≡ false
-    → events_of t (committed es) ++ (events_of t (joined (pending c es)) ++ open_block t (entries_of (Client c) es)) ≡ events_in t (entries_of (Client c) es)
-thread_in_parts p next t c its es follow calm alive =
-    subst (λ n. events_of t (committed es) ++ (events_of t (joined (pending n es)) ++ open_block t (entries_of (Client n) es)) ≡ events_in t (entries_of (Client n) es)) its
-    (in_parts p next t es follow calm (subst (λ n. is_lost n (entries_of Server es) ≡ false) (sym its) alive))
-
--- The history has, of each thread of a client that isn't lost, the events of the blocks that the server took in, resolved;
-pub histories_hold_blocks : HistoriesHoldBlocks
-histories_hold_blocks p next es lawful t alive = holds_resolved p next t es lawful.follow alive
-
--- without waits, just as they were made.
-pub histories_hold_blocks_as_made : HistoriesHoldBlocksAsMade
-histories_hold_blocks_as_made p next es lawful calm t alive = holds_blocks p next t es lawful.follow calm alive
+    → events_of t (as_made es) ++ (events_of t (joined (pending c es)) ++ open_block t (entries_of (Client c) es)) ≡ events_in t (entries_of (Client c) es)
+thread_in_parts p next t c its es follow alive =
+    subst (λ n. events_of t (as_made es) ++ (events_of t (joined (pending n es)) ++ open_block t (entries_of (Client n) es)) ≡ events_in t (entries_of (Client n) es)) its
+    (in_parts p next t es follow (subst (λ n. is_lost n (entries_of Server es) ≡ false) (sym its) alive))

@@ -15,13 +15,13 @@ use Rattle.dso_base.specs.declared.shape.Shape.{Shape}
 use Rattle.dso_plain.specs.KeyTests.{is_lock, is_place}
 use Rattle.dso_lookup.specs.Maps.{writes, or_old, written}
 use Rattle.dso_plain.specs.State.{Hold, PlainState, is_shared, hold_on_guard}
-use Rattle.dso_plain.specs.Possible.{May, IsPossible}
+use Rattle.dso_plain.specs.Possible.{MayButMarks, IsPossibleButMarks}
 use Rattle.dso_plain.specs.After as plain
 use Rattle.dso_plain.specs.After.{nothing, after, apply, change_of, read, read_shared, put, waits, resumes, notifies, loses, entered, exited, count_of}
-use Rattle.dso_plain.specs.History.{Runs, end_of, is_act_of, events_of}
+use Rattle.dso_plain.specs.History.{RunsButMarks, end_of, is_act_of, events_of}
 use Rattle.dso_plain.specs.Touches.{AreActsOf}
 use Rattle.dso_plain.proofs.keys.SameKeys.{number_self, same_thread, thread_self, same_lock}
-use Rattle.dso_legal.proofs.PlainRuns.{quiet_act}
+use Rattle.dso_plain.proofs.independence.RunsSwap.{quiet_act}
 use Rattle.dso_law.specs.Threads.{Locks, Waiting, hold_in, with_hold, waiting_on, resumed, locks_by, locks_after}
 use Rattle.dso_law.proofs.client.ClientLaws.{holds_after}
 use Rattle.dso_base.specs.declared.value.Value.{Value}
@@ -126,7 +126,7 @@ module _ (shape : Shape) (t : ThreadId) (locks : Locks) (s : PlainState) (have :
   notify_same l (Some w) = record { holds = have.holds; waits = have.waits }
 
   -- an act of the thread makes of its monitors and waits what it makes of its locks
-  own_act : (request : Request) (reply : Reply) (woken : Option ThreadId) → IsPossible shape t request reply woken s → HaveLocks t (locks_by request reply locks) (apply (change_of shape t request reply woken s) s)
+  own_act : (request : Request) (reply : Reply) (woken : Option ThreadId) → IsPossibleButMarks shape t request reply s → HaveLocks t (locks_by request reply locks) (apply (change_of shape t request reply woken s) s)
   own_act (Enter l level) Done woken p = hold_set l (entered level (s.monitors (l, t))) (entered level (hold_in l locks.holds)) (ap (entered level) (have.holds l))
   own_act (Exit l) Done woken p = hold_set l (exited (s.monitors (l, t))) (exited (hold_in l locks.holds)) (ap exited (have.holds l))
   own_act (Wait l) Done woken p = wait_set l p.awake
@@ -183,14 +183,14 @@ other_lost t client locks s ne have = locks_kept t locks s (apply (loses client)
     (λ l. ap (λ b. or_old (cond b (Some None) None) (s.asleep (l, t))) ne)
 
 -- an act of another thread leaves them
-other_act : (shape : Shape) (t u : ThreadId) (request : Request) (reply : Reply) (woken : Option ThreadId) (locks : Locks) (s : PlainState) → u ≢ t → May shape (Act u request reply woken) s → HaveLocks t locks s → HaveLocks t locks (after shape (Act u request reply woken) s)
+other_act : (shape : Shape) (t u : ThreadId) (request : Request) (reply : Reply) (woken : Option ThreadId) (locks : Locks) (s : PlainState) → u ≢ t → MayButMarks shape (Act u request reply woken) s → HaveLocks t locks s → HaveLocks t locks (after shape (Act u request reply woken) s)
 other_act shape t u request reply woken locks s ne may have =
     let quiet = quiet_act shape u request reply woken s may in
     let other : t ≢ u = λ e. ne (sym e) in
     locks_kept t locks s (after shape (Act u request reply woken) s) have (λ l. quiet.monitors l t other) (λ l. quiet.own_waits l t other)
 
 -- Where no event is a loss of its client, a thread's monitors and waits are those that its events make of its locks.
-pub locks_of_spared : (shape : Shape) (t : ThreadId) (locks : Locks) (events : List Event) (s : PlainState) → NoLossOf t.client events → Runs shape events s → HaveLocks t locks s
+pub locks_of_spared : (shape : Shape) (t : ThreadId) (locks : Locks) (events : List Event) (s : PlainState) → NoLossOf t.client events → RunsButMarks shape events s → HaveLocks t locks s
     → HaveLocks t (locks_through t (events_of t events) locks) (end_of shape events s)
 locks_of_spared shape t locks [] s none runs have = have
 locks_of_spared shape t locks (Lost client ∷ events) s none runs have = locks_of_spared shape t locks events (after shape (Lost client) s) none.1 runs.1 (other_lost t client locks s none.0 have)
@@ -201,17 +201,17 @@ locks_of_spared shape t locks (Act u request reply woken ∷ events) s none runs
     by true e later = later (locks_after t (Act u request reply woken) locks)
         (subst (λ b. HaveLocks t (cond b (locks_by request reply locks) locks) (after shape (Act u request reply woken) s)) (sym e)
         (subst (λ w. HaveLocks t (locks_by request reply locks) (after shape (Act w request reply woken) s)) (sym (same_thread t u e))
-        (own_act shape t locks s have request reply woken (subst (λ w. IsPossible shape w request reply woken s) (same_thread t u e) runs.0))))
+        (own_act shape t locks s have request reply woken (subst (λ w. IsPossibleButMarks shape w request reply s) (same_thread t u e) runs.0))))
     by false e later = later locks
         (other_act shape t u request reply woken locks s (λ same. no_both (is_thread t u) (subst (λ w. is_thread t w ≡ true) (sym same) (thread_self t)) e) runs.0 have)
 
 -- Where no event is a loss.
-pub locks_of_acts : (shape : Shape) (t : ThreadId) (locks : Locks) (events : List Event) (s : PlainState) → NoLosses events → Runs shape events s → HaveLocks t locks s
+pub locks_of_acts : (shape : Shape) (t : ThreadId) (locks : Locks) (events : List Event) (s : PlainState) → NoLosses events → RunsButMarks shape events s → HaveLocks t locks s
     → HaveLocks t (locks_through t (events_of t events) locks) (end_of shape events s)
 locks_of_acts shape t locks events s none = locks_of_spared shape t locks events s (no_loss_of t.client events none)
 
 -- Of the thread's own events.
-pub locks_of_own : (shape : Shape) (t : ThreadId) (locks : Locks) (events : List Event) (s : PlainState) → AreActsOf t events → Runs shape events s → HaveLocks t locks s
+pub locks_of_own : (shape : Shape) (t : ThreadId) (locks : Locks) (events : List Event) (s : PlainState) → AreActsOf t events → RunsButMarks shape events s → HaveLocks t locks s
     → HaveLocks t (locks_through t events locks) (end_of shape events s)
 locks_of_own shape t locks events s acts runs have = subst (λ own. HaveLocks t (locks_through t own locks) (end_of shape events s)) (events_of_own t events acts)
     (locks_of_acts shape t locks events s (own_no_losses t events acts) runs have)

@@ -13,7 +13,7 @@ use Rattle.dso_base.specs.declared.request.Event.TheVariants.{Act, Lost}
 use Rattle.dso_base.specs.declared.request.Request.{Request}
 use Rattle.dso_base.specs.declared.shape.Shape.{Shape}
 use Rattle.dso_plain.specs.State.{PlainState, level_of}
-use Rattle.dso_plain.specs.History.{Runs, end_of, is_act_of, events_of}
+use Rattle.dso_plain.specs.History.{RunsButMarks, end_of, is_act_of, events_of}
 use Rattle.dso_plain.specs.Touches.{TouchesIn, IsActOf, AreActsOf}
 use Rattle.dso_law.specs.Settings.{Settings}
 use Rattle.dso_law.specs.Entries.{entries_of}
@@ -70,7 +70,7 @@ locks_now shape t own keeps = ap (locks_through t (open_block t own)) (sym (thro
 pub record OpensFrom (shape : Shape) (t : ThreadId) (own : List Entry) (s : PlainState) : Type 0 where
   pub keeps : KeepsThread shape t own
   pub have : HaveLocks t (locks_before t own) s
-  pub runs : Runs shape (open_block t own) s
+  pub runs : RunsButMarks shape (open_block t own) s
 
 -- the open block as a run without endings
 pub opens_run : (shape : Shape) (t : ThreadId) (own : List Entry) (s : PlainState) → OpensFrom shape t own s → HoldsItsTouches shape t (open_block t own) s (locks_before t own)
@@ -104,7 +104,7 @@ module _ (p : Settings) (next : ThreadId → List Event → Option Request) (es 
     open_touches l x h = subst (IsHeldFor l x) (locks_now p.shape t own opens.keeps) ((opens_run p.shape t own s opens).touched l x h)
 
     -- so it does what the block with an ending behind it touches
-    pub ended_touches : (ending : Ending) (event : Event) → IsActOf t event → ending_of event (locks_of t own) ≡ Some ending → AreActsOf t (open_block t own ++ event ∷ []) → Runs p.shape (open_block t own ++ event ∷ []) s
+    pub ended_touches : (ending : Ending) (event : Event) → IsActOf t event → ending_of event (locks_of t own) ≡ Some ending → AreActsOf t (open_block t own ++ event ∷ []) → RunsButMarks p.shape (open_block t own ++ event ∷ []) s
         → (l : LockName) (x : Level) → TouchesIn p.shape (open_block t own ++ event ∷ []) s l x → IsHeldFor l x (locks_of t own)
     ended_touches ending event its ends acts runs l x h = subst (IsHeldFor l x) (locks_now p.shape t own opens.keeps)
         (parts_touched p.shape t ending (open_block t own) event s (locks_before t own) acts runs opens.have opens.keeps.stays (ap (ending_of event) (locks_now p.shape t own opens.keeps) ∙ ends) l x h)

@@ -15,8 +15,8 @@ use Rattle.dso_base.specs.declared.request.Event.{Event}
 use Rattle.dso_base.specs.declared.request.Request.{Request}
 use Rattle.dso_base.specs.Following.{is_thread}
 use Rattle.dso_plain.specs.State.{PlainState}
-use Rattle.dso_plain.specs.History.{Runs, end_of, is_act_of}
-use Rattle.dso_plain.specs.Touches.{MakesIn, IsActOf, AreActsOf, NobodyTimesOut, NoCommonId}
+use Rattle.dso_plain.specs.History.{RunsButMarks, end_of, is_act_of}
+use Rattle.dso_plain.specs.Touches.{MakesIn, IsActOf, AreActsOf, NoCommonId}
 use Rattle.dso_plain.proofs.keys.SameKeys.{thread_self}
 use Rattle.dso_law.specs.Settings.{Settings}
 use Rattle.dso_law.specs.Entries.{entries_of, by_event}
@@ -40,10 +40,10 @@ own_still c Server e es still = refl
 own_still c (Client d) e es other = unless_true (eqb c d) (e ∷ entries_of (Client c) es) (entries_of (Client c) es) other
 
 -- The open blocks run again after an entry elsewhere.
-pub opens_still : (p : Settings) (c : ℕ) (t : ThreadId) (e : Entry) (es : List Entry) → IsElsewhere c e.node e.input → Runs p.shape (open_block t (entries_of (Client c) es)) (state_at p c es)
-    → Runs p.shape (open_block t (entries_of (Client c) (e ∷ es))) (state_at p c (e ∷ es))
-opens_still p c t e es elsewhere runs = subst (λ own. Runs p.shape (open_block t own) (state_at p c (e ∷ es))) (sym (own_still c e.node e es elsewhere))
-    (subst (λ s. Runs p.shape (open_block t (entries_of (Client c) es)) s) (sym (stands_still p c e es elsewhere).state) runs)
+pub opens_still : (p : Settings) (c : ℕ) (t : ThreadId) (e : Entry) (es : List Entry) → IsElsewhere c e.node e.input → RunsButMarks p.shape (open_block t (entries_of (Client c) es)) (state_at p c es)
+    → RunsButMarks p.shape (open_block t (entries_of (Client c) (e ∷ es))) (state_at p c (e ∷ es))
+opens_still p c t e es elsewhere runs = subst (λ own. RunsButMarks p.shape (open_block t own) (state_at p c (e ∷ es))) (sym (own_still c e.node e es elsewhere))
+    (subst (λ s. RunsButMarks p.shape (open_block t (entries_of (Client c) es)) s) (sym (stands_still p c e es elsewhere).state) runs)
 
 module _ (p : Settings) (next : ThreadId → List Event → Option Request) (es : List Entry) (follow : AllFollow p next es) (c : ℕ) where
   abbrev own : List Entry
@@ -51,13 +51,13 @@ module _ (p : Settings) (next : ThreadId → List Event → Option Request) (es 
 
   -- The open block of a thread of the client runs from behind another client's block.
   pub opens_passed : (t : ThreadId) (txn : Txn) (block : List Event) (e : Entry) → t.client ≡ c → is_lost c (entries_of Server es) ≡ false → OpensFrom p.shape t own (state_at p c es) → RecordPasses p c txn block e es
-      → NoCommonId (MakesIn block) (MakesIn (open_block t own)) → NobodyTimesOut (open_block t own) → Runs p.shape (open_block t own) (state_at p c (e ∷ es))
-  opens_passed t txn block e its alive opens passes ids in_time =
+      → NoCommonId (MakesIn block) (MakesIn (open_block t own)) → RunsButMarks p.shape (open_block t own) (state_at p c (e ∷ es))
+  opens_passed t txn block e its alive opens passes ids =
       let other : txn.thread ≢ t = λ same. passes.other (ap (λ (w : ThreadId). w.client) same ∙ its) in
       let swap = open_passed p.shape t txn.thread (open_block t own) block (state_at p c es) (locks_before t own) other opens.keeps.acts passes.acts opens.runs passes.runs opens.have opens.keeps.stays
       (λ l a b touched held. passes.free l a b touched (lease_is_lent p next es follow c l b alive
-      (held_leased p next es follow c t l b (subst (IsHeldFor l b) (locks_now p.shape t own opens.keeps) held)))) ids in_time passes.in_time in
-      subst (λ s. Runs p.shape (open_block t own) s) (sym passes.state) swap.own_after
+      (held_leased p next es follow c t l b (subst (IsHeldFor l b) (locks_now p.shape t own opens.keeps) held)))) ids in
+      subst (λ s. RunsButMarks p.shape (open_block t own) s) (sym passes.state) swap.own_after
 
   -- two threads of the client hold no lock in conflict
   mates_apart : (t u : ThreadId) → is_thread t u ≡ false → (l : LockName) (a b : Level) → IsHeldFor l a (locks_of u own) → IsHeldFor l b (locks_of t own) → (a ≡ Read) × (b ≡ Read)
@@ -69,13 +69,13 @@ module _ (p : Settings) (next : ThreadId → List Event → Option Request) (es 
 
   -- The open block of a thread of the client runs from behind the block that another thread of the client ends.
   pub opens_mate : (t u : ThreadId) (s : PlainState) (ending : Ending) (event : Event) → is_thread t u ≡ false → OpensFrom p.shape t own s → OpensFrom p.shape u own s → IsActOf u event → ending_of event (locks_of u own) ≡ Some ending
-      → AreActsOf u (open_block u own ++ event ∷ []) → Runs p.shape (open_block u own ++ event ∷ []) s → NoCommonId (MakesIn (open_block u own ++ event ∷ [])) (MakesIn (open_block t own))
-      → NobodyTimesOut (open_block t own) → NobodyTimesOut (open_block u own ++ event ∷ []) → Runs p.shape (open_block t own) (end_of p.shape (open_block u own ++ event ∷ []) s)
-  opens_mate t u s ending event apart mine its is_act ends acts runs ids own_in_time its_in_time =
+      → AreActsOf u (open_block u own ++ event ∷ []) → RunsButMarks p.shape (open_block u own ++ event ∷ []) s → NoCommonId (MakesIn (open_block u own ++ event ∷ [])) (MakesIn (open_block t own))
+      → RunsButMarks p.shape (open_block t own) (end_of p.shape (open_block u own ++ event ∷ []) s)
+  opens_mate t u s ending event apart mine its is_act ends acts runs ids =
       let other : u ≢ t = λ same. no_both (is_thread t t) (thread_self t) (subst (λ w. is_thread t w ≡ false) same apart) in
       (open_passed p.shape t u (open_block t own) (open_block u own ++ event ∷ []) s (locks_before t own) other mine.keeps.acts acts mine.runs runs mine.have mine.keeps.stays
       (λ l a b touched held. mates_apart t u apart l a b (ended_touches p next es follow c u s its ending event is_act ends acts runs l a touched)
-      (subst (IsHeldFor l b) (locks_now p.shape t own mine.keeps) held)) ids own_in_time its_in_time).own_after
+      (subst (IsHeldFor l b) (locks_now p.shape t own mine.keeps) held)) ids).own_after
 
 -- the open block after one more entry of the client, by its event
 abbrev block_with : ThreadId → List Entry → Option Event → List Event

@@ -98,7 +98,7 @@ set_keeps k l x o holds keeps e = ap level_of (holds_after k l o holds) ∙ by (
     by false is = e
 
 -- the lock just set is held so
-set_there : (k : LockName) (o : Option Hold) (holds : List Held) → hold_in k (with_hold k o holds) ≡ o
+pub set_there : (k : LockName) (o : Option Hold) (holds : List Held) → hold_in k (with_hold k o holds) ≡ o
 set_there k o holds = holds_after k k o holds ∙ ap (λ b. cond b o (hold_in k holds)) (lock_self k)
 
 -- a wait that is there on a lock is the thread's, and has its count

@@ -15,13 +15,14 @@ use Rattle.dso_base.specs.declared.request.Request.{Request}
 use Rattle.dso_base.specs.declared.request.Request.TheVariants.{Enter, Resume}
 use Rattle.dso_base.specs.declared.shape.Shape.{Shape}
 use Rattle.dso_plain.specs.State.{Hold, PlainState, level_of}
-use Rattle.dso_plain.specs.Possible.{May}
+use Rattle.dso_plain.specs.Possible.{MayButMarks}
 use Rattle.dso_plain.specs.After.{after}
-use Rattle.dso_plain.specs.History.{Runs, end_of}
-use Rattle.dso_plain.specs.Touches.{Touches, TouchesIn, Takes, MakesIn, IsActOf, AreActsOf, NobodyTimesOut, NoClash, NoCommonId}
+use Rattle.dso_plain.specs.History.{RunsButMarks, end_of}
+use Rattle.dso_plain.specs.Touches.{Touches, TouchesIn, Takes, MakesIn, IsActOf, AreActsOf, NoClash, NoCommonId}
 use Rattle.dso_plain.proofs.keys.SameKeys.{thread_self}
-use Rattle.dso_plain.proofs.independence.RunsSwap.{runs_in_parts}
-use Rattle.dso_legal.proofs.PlainRuns.{RunsCanSwap, swap_runs}
+use Rattle.dso_plain.proofs.independence.RunsSwap.{runs_but_marks_in_parts}
+use Rattle.dso_plain.specs.Laws.{CanSwap}
+use Rattle.dso_plain.proofs.independence.RunsSwap.{diamond}
 use Rattle.dso_law.specs.RequestNeeds.{is_enough}
 use Rattle.dso_law.specs.Threads.{Locks, hold_in, locks_by, locks_after, ending_by, ending_of}
 use Rattle.dso_legal.specs.PendingBlocks.{locks_through, StaysOpen}
@@ -37,7 +38,7 @@ pub record KeepsLocks (shape : Shape) (t : ThreadId) (e : Event) (s : PlainState
   pub touched : (l : LockName) (x : Level) → Touches e s l x → IsHeldFor l x (locks_after t e locks)
 
 -- an act of the thread
-act_keeps_locks : (shape : Shape) (t : ThreadId) (request : Request) (reply : Reply) (woken : Option ThreadId) (s : PlainState) (locks : Locks) → HaveLocks t locks s → May shape (Act t request reply woken) s
+act_keeps_locks : (shape : Shape) (t : ThreadId) (request : Request) (reply : Reply) (woken : Option ThreadId) (s : PlainState) (locks : Locks) → HaveLocks t locks s → MayButMarks shape (Act t request reply woken) s
     → ending_by request reply locks ≡ None → KeepsLocks shape t (Act t request reply woken) s locks
 act_keeps_locks shape t request reply woken s locks have may none =
     let same : locks_by request reply locks ≡ locks_after t (Act t request reply woken) locks = sym (ap (λ b. cond b (locks_by request reply locks) locks) (thread_self t)) in
@@ -48,7 +49,7 @@ act_keeps_locks shape t request reply woken s locks have may none =
     }
 
 -- an event of the thread
-event_keeps_locks : (shape : Shape) (t : ThreadId) (e : Event) (s : PlainState) (locks : Locks) → HaveLocks t locks s → IsActOf t e → May shape e s → ending_of e locks ≡ None → KeepsLocks shape t e s locks
+event_keeps_locks : (shape : Shape) (t : ThreadId) (e : Event) (s : PlainState) (locks : Locks) → HaveLocks t locks s → IsActOf t e → MayButMarks shape e s → ending_of e locks ≡ None → KeepsLocks shape t e s locks
 event_keeps_locks shape t (Act u request reply woken) s locks have its may none =
     subst (λ w. KeepsLocks shape w (Act u request reply woken) s locks) its (act_keeps_locks shape u request reply woken s locks (subst (λ w. HaveLocks w locks s) (sym its) have) may none)
 event_keeps_locks shape t (Lost client) s locks have its may none = absurd its
@@ -62,7 +63,7 @@ pub record HoldsItsTouches (shape : Shape) (t : ThreadId) (y : List Event) (s : 
 
 module _ (shape : Shape) (t : ThreadId) where
   -- A run of the thread without endings holds its touches.
-  pub open_run : (y : List Event) (s : PlainState) (locks : Locks) → AreActsOf t y → Runs shape y s → HaveLocks t locks s → StaysOpen t y locks → HoldsItsTouches shape t y s locks
+  pub open_run : (y : List Event) (s : PlainState) (locks : Locks) → AreActsOf t y → RunsButMarks shape y s → HaveLocks t locks s → StaysOpen t y locks → HoldsItsTouches shape t y s locks
   open_run [] s locks acts runs have stays = record { have = have; keeps = λ l x e. e; touched = λ l x h. absurd h }
   open_run (e ∷ y) s locks acts runs have stays =
       let one = event_keeps_locks shape t e s locks have acts.0 runs.0 stays.0 in
@@ -133,11 +134,11 @@ touches_in_parts shape (e ∷ xs) ys s l x (inr h) = elim (touches_in_parts shap
 ]
 
 -- events without an ending, and then one that is an ending, touch what is held before the last one
-pub parts_touched : (shape : Shape) (t : ThreadId) (ending : Ending) (earlier : List Event) (last : Event) (s : PlainState) (locks : Locks) → AreActsOf t (earlier ++ last ∷ []) → Runs shape (earlier ++ last ∷ []) s → HaveLocks t locks s
+pub parts_touched : (shape : Shape) (t : ThreadId) (ending : Ending) (earlier : List Event) (last : Event) (s : PlainState) (locks : Locks) → AreActsOf t (earlier ++ last ∷ []) → RunsButMarks shape (earlier ++ last ∷ []) s → HaveLocks t locks s
     → StaysOpen t earlier locks → ending_of last (locks_through t earlier locks) ≡ Some ending → (l : LockName) (x : Level) → TouchesIn shape (earlier ++ last ∷ []) s l x → IsHeldFor l x (locks_through t earlier locks)
 parts_touched shape t ending earlier last s locks acts runs have stays ends l x h =
     let whose = acts_in_parts t earlier (last ∷ []) acts in
-    let run = open_run shape t earlier s locks whose.0 ((runs_in_parts shape earlier (last ∷ []) s).0 runs).0 have stays in
+    let run = open_run shape t earlier s locks whose.0 ((runs_but_marks_in_parts shape earlier (last ∷ []) s).0 runs).0 have stays in
     elim (touches_in_parts shape earlier (last ∷ []) s l x h) [
       | inl k ↦ run.touched l x k
       | inr k ↦ elim k [
@@ -147,24 +148,22 @@ parts_touched shape t ending earlier last s locks acts runs have stays ends l x 
     ]
 
 -- Runs of two threads from one state can swap, where their locks don't clash and they make no common id.
-pub open_foreign : (shape : Shape) (t u : ThreadId) (y x : List Event) (s : PlainState) → u ≢ t → AreActsOf t y → AreActsOf u x → Runs shape y s → Runs shape x s
-    → NoClash (TouchesIn shape x s) (TouchesIn shape y s) → NoCommonId (MakesIn x) (MakesIn y) → NobodyTimesOut y → NobodyTimesOut x → RunsCanSwap shape x y s
-open_foreign shape t u y x s ne own acts runs foreign locks ids own_in_time others_in_time = swap_runs shape t x y s (record {
+pub open_foreign : (shape : Shape) (t u : ThreadId) (y x : List Event) (s : PlainState) → u ≢ t → AreActsOf t y → AreActsOf u x → RunsButMarks shape y s → RunsButMarks shape x s
+    → NoClash (TouchesIn shape x s) (TouchesIn shape y s) → NoCommonId (MakesIn x) (MakesIn y) → CanSwap shape x y s
+open_foreign shape t u y x s ne own acts runs foreign locks ids = diamond shape t x y s (record {
   others_act = acts_of_other t u x ne acts;
   own_acts = own;
   others_run = foreign;
   own_runs = runs;
-  others_in_time = others_in_time;
-  own_in_time = own_in_time;
   locks = locks;
   ids = ids;
 })
 
 -- an open run of a thread that ends with holds not in conflict with what a run of another thread touches can swap with it
-pub open_passed : (shape : Shape) (t u : ThreadId) (y x : List Event) (s : PlainState) (locks : Locks) → u ≢ t → AreActsOf t y → AreActsOf u x → Runs shape y s → Runs shape x s → HaveLocks t locks s → StaysOpen t y locks
-    → ((l : LockName) (a b : Level) → TouchesIn shape x s l a → IsHeldFor l b (locks_through t y locks) → (a ≡ Read) × (b ≡ Read)) → NoCommonId (MakesIn x) (MakesIn y) → NobodyTimesOut y → NobodyTimesOut x → RunsCanSwap shape x y s
-open_passed shape t u y x s locks ne own acts runs foreign have stays free ids own_in_time others_in_time =
-    open_foreign shape t u y x s ne own acts runs foreign (λ l a b p q. free l a b p ((open_run shape t y s locks own runs have stays).touched l b q)) ids own_in_time others_in_time
+pub open_passed : (shape : Shape) (t u : ThreadId) (y x : List Event) (s : PlainState) (locks : Locks) → u ≢ t → AreActsOf t y → AreActsOf u x → RunsButMarks shape y s → RunsButMarks shape x s → HaveLocks t locks s → StaysOpen t y locks
+    → ((l : LockName) (a b : Level) → TouchesIn shape x s l a → IsHeldFor l b (locks_through t y locks) → (a ≡ Read) × (b ≡ Read)) → NoCommonId (MakesIn x) (MakesIn y) → CanSwap shape x y s
+open_passed shape t u y x s locks ne own acts runs foreign have stays free ids =
+    open_foreign shape t u y x s ne own acts runs foreign (λ l a b p q. free l a b p ((open_run shape t y s locks own runs have stays).touched l b q)) ids
 
 -- what is enough for a level that is enough for another is enough for that
 pub enough_through : (x y : Level) (o : Option Level) → is_enough x (Some y) ≡ true → is_enough y o ≡ true → is_enough x o ≡ true

@@ -1,4 +1,5 @@
--- A client's entries are orderly: only threads of the cluster act, and none waits where no event is a wait.
+-- A client's entries are orderly: only threads of the cluster act, none of them holds the lock that it waits on, and none waits
+-- where no event is a wait.
 use Rattle.std.specs.List.{list_any}
 use Rattle.std.proofs.Common.{ℕ, ◌≡◌, ◌⊎◌, inl, inr, refl, sym, ◌∙◌, ap, subst, Bool, true, false, cond, eqb, Option, Some, None, List, [], ◌∷◌}
 use Rattle.std.proofs.lemmas.Bool.{eq-eqb}
@@ -15,21 +16,19 @@ use Rattle.dso_base.specs.declared.request.Reply.TheVariants.{Done}
 use Rattle.dso_base.specs.declared.request.Request.{Request}
 use Rattle.dso_base.specs.declared.request.Request.TheVariants.{Enter, Exit, Wait, Resume}
 use Rattle.dso_base.specs.Following.{is_thread}
-use Rattle.dso_plain.specs.State.{PlainState}
-use Rattle.dso_plain.specs.Possible.{IsPossible}
 use Rattle.dso_plain.proofs.keys.SameKeys.{same_number, same_thread}
 use Rattle.dso_law.specs.Settings.{Settings}
 use Rattle.dso_law.specs.Entries.{is_node, entries_of, by_event, events_in}
 use Rattle.dso_law.specs.ClientStep.{DoesOrAsks, ActsOn, ClientStepOn, ClientStep}
 use Rattle.dso_law.specs.RequestNeeds.{Need, unmet}
-use Rattle.dso_law.specs.Replies.{reply_of, woken_by}
+use Rattle.dso_law.specs.Replies.{woken_by}
 use Rattle.dso_law.specs.Threads.{Locks, locks_by, locks_after, locks_of, hold_in, resumed}
 use Rattle.dso_legal.specs.WaitsAndLosses.{waits_or_notifies, HasNoWait, WithoutWaits}
 use Rattle.dso_legal.specs.Lawful.{next_after, NodeFollows, AllFollow}
 use Rattle.dso_legal.specs.PendingBlocks.{no_locks}
-use Rattle.dso_legal.specs.SoundProgram.{KeepsTo}
-use Rattle.dso_legal.specs.Views.{OnlyListedHold, IsOrderly, Sees}
-use Rattle.dso_legal.proofs.acts.Acts.{acts_are_possible}
+use Rattle.dso_legal.specs.SoundProgram.{event_tells, IsSound}
+use Rattle.dso_legal.specs.Views.{OnlyListedHold, IsOrderly}
+use Rattle.dso_legal.proofs.blocks.WaitsApart.{waits_apart}
 use Rattle.dso_legal.proofs.leases.LeaseSteps.{no_both, unless_true}
 
 -- the entry's event is an act of a thread of the client, which is one of the cluster's
@@ -130,15 +129,7 @@ nobody_waits (e ∷ es) calm node t = by (is_node node e.node) (nobody_waits es 
     by true was = awake_after t e.event (locks_of t (entries_of node es)) calm.0 was
     by false was = was
 
--- So a client's entries are orderly.
-pub is_orderly : (p : Settings) (next : ThreadId → List Event → Option Request) (es : List Entry) → AllFollow p next es → WithoutWaits es → (c : ℕ) (t : ThreadId) → IsOrderly p t (entries_of (Client c) es)
-is_orderly p next es h calm c t = record { awake = nobody_waits es calm (Client c) t; listed = only_listed_hold p next es h c }
-
--- Acts are possible, in a lawful journal without waits.
-pub acts_in_journals : (p : Settings) (next : ThreadId → List Event → Option Request) (es : List Entry) → AllFollow p next es → WithoutWaits es
-    → (asks : ThreadId → Option Request) (c : ℕ) (t : ThreadId) (request : Request) (reply : Reply) (start_state s : PlainState)
-    → Sees p t (entries_of (Client c) es) start_state s → KeepsTo p.shape t (events_in t (entries_of (Client c) es)) request → waits_or_notifies request ≡ false
-    → unmet p t.client asks t request (entries_of (Client c) es) ≡ None → reply_of p t request (entries_of (Client c) es) ≡ Some reply
-    → IsPossible p.shape t request reply (woken_by request reply (entries_of (Client c) es)) s
-acts_in_journals p next es h calm asks c t request reply start_state s sees keeps quiet met answered =
-    acts_are_possible p asks t request reply (entries_of (Client c) es) start_state s sees (is_orderly p next es h calm c t) keeps quiet met answered
+-- A client's entries are orderly, where a sound program's thread was told of no object 0.
+pub is_orderly : (p : Settings) (next : ThreadId → List Event → Option Request) → IsSound p.shape next → (es : List Entry) → AllFollow p next es
+    → (t : ThreadId) → list_any (event_tells 0) (events_in t (entries_of (Client t.client) es)) ≡ false → IsOrderly p t (entries_of (Client t.client) es)
+is_orderly p next sound es h t untold = record { listed = only_listed_hold p next es h t.client; apart = waits_apart p next sound t es h untold }

@@ -211,7 +211,7 @@ module _ (p : Settings) (next : ThreadId → List Event → Option Request) (t :
 
 module _ (p : Settings) (next : ThreadId → List Event → Option Request) (t : ThreadId) where
   -- the next act of the thread follows its events
-  act_follows : (e : Entry) (es : List Entry) (it : IsNextAct p t.client (next_after next es) e (entries_of (Client t.client) es)) → it.thread ≡ t → FollowsProgram next (Listed next) t (events_in t (entries_of (Client t.client) es))
+  pub act_follows : (e : Entry) (es : List Entry) (it : IsNextAct p t.client (next_after next es) e (entries_of (Client t.client) es)) → it.thread ≡ t → FollowsProgram next (Listed next) t (events_in t (entries_of (Client t.client) es))
       → FollowsProgram next (Listed next) t (events_in t (entries_of (Client t.client) es) ++ Act it.thread it.request it.reply (woken_by it.request it.reply (entries_of (Client t.client) es)) ∷ [])
   act_follows e es it is follows =
       let asked : next t (events_in t (entries_of (Client t.client) es)) ≡ Some it.request = subst (λ u. next_after next es u ≡ Some it.request) is it.asked in
@@ -240,7 +240,7 @@ waits_more t (event ∷ events) e locks held last = (held.0, waits_more t events
 
 module _ (p : Settings) (next : ThreadId → List Event → Option Request) (t : ThreadId) where
   -- the next act of the thread waits only with the lock held
-  act_waits : (e : Entry) (es : List Entry) (it : IsNextAct p t.client (next_after next es) e (entries_of (Client t.client) es)) → it.thread ≡ t → WaitsAreHeld t (events_in t (entries_of (Client t.client) es)) no_locks
+  pub act_waits : (e : Entry) (es : List Entry) (it : IsNextAct p t.client (next_after next es) e (entries_of (Client t.client) es)) → it.thread ≡ t → WaitsAreHeld t (events_in t (entries_of (Client t.client) es)) no_locks
       → WaitsAreHeld t (events_in t (entries_of (Client t.client) es) ++ Act it.thread it.request it.reply (woken_by it.request it.reply (entries_of (Client t.client) es)) ∷ []) no_locks
   act_waits e es it is held =
       let own : List Entry = entries_of (Client t.client) es in

@@ -20,12 +20,11 @@ use Rattle.dso_law.specs.ServerReadings.{is_lost}
 use Rattle.dso_legal.specs.Agreement.{messages}
 use Rattle.dso_legal.specs.Lawful.{next_after, ClientFollows, NodeFollows, AllFollow}
 use Rattle.dso_legal.specs.PendingBlocks.{handed_in, records_in, records_sent}
-use Rattle.dso_legal.proofs.blocks.BlockSteps.{each_dropped}
 use Rattle.dso_legal.proofs.records.ClientRecords.{EndsNone, EndsBlock, record_ended, records_more, client_ends}
 use Rattle.dso_legal.proofs.records.BothEnds.{client_with}
 use Rattle.dso_legal.proofs.records.HandedIn.{hands_in}
 use Rattle.dso_legal.proofs.leases.LeaseSteps.{no_both}
-use Rattle.dso_legal.proofs.blocks.BlocksWithoutWaits.{each_both}
+use Rattle.dso_legal.proofs.blocks.EachEvent.{each_both, each_dropped}
 use Rattle.dso_legal.proofs.blocks.OwnActs.{IsNextAct, next_act}
 
 -- the event, if there is one, is an act of a thread of the client

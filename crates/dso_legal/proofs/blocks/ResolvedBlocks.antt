@@ -1,24 +1,31 @@
--- Events as a history has them, resolved: where none waits they are just those that were made.
+-- The history is the one that was made, each notification that left the choice to the server with whom it chose; and in a journal
+-- without waits it is just the one that was made.
 use Rattle.std.specs.List.{AllByRecursion}
-use Rattle.std.proofs.Common.{◌≡◌, refl, sym, ◌∙◌, ap, subst, Bool, true, false, cond, None, List, [], ◌∷◌, ◌++◌}
+use Rattle.std.proofs.Common.{◌≡◌, refl, sym, ◌∙◌, ap, subst, Bool, true, false, cond, Option, Some, None, List, [], ◌∷◌, ◌++◌}
+use Rattle.dso_base.specs.declared.journal.Entry.{Entry}
+use Rattle.dso_base.specs.declared.journal.Input.{Input}
+use Rattle.dso_base.specs.declared.journal.Input.TheVariants as input
+use Rattle.dso_base.specs.declared.journal.Node.{Node}
+use Rattle.dso_base.specs.declared.journal.Node.TheVariants.{Server, Client}
 use Rattle.dso_base.specs.declared.lock.LockName.{LockName}
 use Rattle.dso_base.specs.declared.lock.ThreadId.{ThreadId}
+use Rattle.dso_base.specs.declared.message.Up.TheVariants as up
 use Rattle.dso_base.specs.declared.request.Event.{Event}
 use Rattle.dso_base.specs.declared.request.Event.TheVariants.{Act, Lost}
-use Rattle.dso_base.specs.declared.request.Reply.TheVariants.{Done}
+use Rattle.dso_base.specs.declared.request.Reply.{Reply}
+use Rattle.dso_base.specs.declared.request.Request.{Request}
 use Rattle.dso_base.specs.declared.request.Request.TheVariants.{Notify}
 use Rattle.dso_plain.specs.History.{is_act_of, events_of}
-use Rattle.dso_plain.specs.Touches.{AreActsOf}
-use Rattle.dso_legal.specs.Committed.{lists_after_event, resolved_event, resolved}
+use Rattle.dso_law.specs.Entries.{entries_of}
+use Rattle.dso_law.specs.ServerReadings.{is_lost, counted}
+use Rattle.dso_law.specs.ServerWaiters.{waiters_of}
+use Rattle.dso_legal.specs.AsMade.{made_by, made_at, as_made}
+use Rattle.dso_legal.specs.Blocks.{HistoriesHoldBlocks, HistoriesHoldBlocksAsMade}
+use Rattle.dso_legal.specs.Committed.{ended_blocks, block_numbered, block_taken, woken_there, lists_after_event, resolved_event, resolved, committed_by, committed_at, committed}
 use Rattle.dso_legal.specs.Resolved.{IsResolved, AreResolved}
-use Rattle.dso_legal.specs.WaitsAndLosses.{is_wait}
-use Rattle.dso_legal.proofs.blocks.BlocksWithoutWaits.{woken_as_said}
-
--- a thread's acts are still its own
-pub resolved_acts : (t : ThreadId) (block : List Event) (lists : LockName → List ThreadId) → AreActsOf t block → AreActsOf t (resolved block lists)
-resolved_acts t [] lists acts = tt
-resolved_acts t (Act u request reply woken ∷ block) lists acts = (acts.0, resolved_acts t block (lists_after_event (Act u request reply woken) lists) acts.1)
-resolved_acts t (Lost client ∷ block) lists acts = absurd acts.0
+use Rattle.dso_legal.specs.WaitsAndLosses.{waits_or_notifies, is_wait, HasNoWait, WithoutWaits}
+use Rattle.dso_legal.proofs.blocks.EachEvent.{AtClient, each_follows, each_made}
+use Rattle.dso_legal.proofs.blocks.Histories.{holds_blocks}
 
 -- a block that the server resolves is resolved event by event
 pub are_resolved : (block : List Event) (lists : LockName → List ThreadId) → AreResolved block (resolved block lists)
@@ -52,25 +59,62 @@ resolved_of t (made ∷ mades) (event ∷ events) are = subst (λ b. AreResolved
     by true later = (are.0, later)
     by false later = later
 
+-- what an entry gives is resolved
+given_resolved : (i : Input) (es : List Entry) → AreResolved (made_by i es) (committed_by i es)
+given_resolved (input.TookUp c (up.Commit txn)) es = by (is_lost c (entries_of Server es))
+  where
+    block : List Event
+    block = block_numbered txn.seq (ended_blocks (entries_of (Client c) es))
+
+    by : (b : Bool) → AreResolved (cond b [] block) (cond b [] (block_taken c txn.seq es))
+    by true = tt
+    by false = are_resolved block (λ l. waiters_of l (counted (entries_of Server es)))
+given_resolved (input.Lose c) es = (record { lists = λ l. []; same = refl }, tt)
+given_resolved i es = tt
+
+given_at : (node : Node) (i : Input) (es : List Entry) → AreResolved (made_at node i es) (committed_at node i es)
+given_at Server i es = given_resolved i es
+given_at (Client c) i es = tt
+
+-- The history is the one that was made, resolved.
+pub history_resolved : (es : List Entry) → AreResolved (as_made es) (committed es)
+history_resolved [] = tt
+history_resolved (e ∷ es) = resolved_both (as_made es) (committed es) (made_at e.node e.input es) (committed_at e.node e.input es) (history_resolved es) (given_at e.node e.input es)
+
+-- who woke nobody left no choice
+woken_as_said : (request : Request) (reply : Reply) (woken : Option ThreadId) (lists : LockName → List ThreadId) → waits_or_notifies request ≡ false → woken_there request reply woken lists ≡ woken
+woken_as_said (Notify l) reply woken lists calm = absurd (cc calm)
+woken_as_said request reply woken lists calm = refl
+
 -- an event that doesn't wait is resolved as it stands
-as_made : (made event : Event) → is_wait made ≡ false → IsResolved made event → event ≡ made
-as_made (Act t request reply woken) event calm is = is.same ∙ ap (λ chosen. Act t request reply chosen) (woken_as_said request reply woken is.lists calm)
-as_made (Lost client) event calm is = is.same
+as_it_stands : (made event : Event) → is_wait made ≡ false → IsResolved made event → event ≡ made
+as_it_stands (Act t request reply woken) event calm is = is.same ∙ ap (λ chosen. Act t request reply chosen) (woken_as_said request reply woken is.lists calm)
+as_it_stands (Lost client) event calm is = is.same
 
--- Where nobody waits, what is resolved is what was made.
-pub resolved_as_made : (mades events : List Event) → AllByRecursion (λ event. is_wait event ≡ false) mades → AreResolved mades events → events ≡ mades
-resolved_as_made [] [] calm are = refl
-resolved_as_made [] (event ∷ events) calm are = absurd are
-resolved_as_made (made ∷ mades) [] calm are = absurd are
-resolved_as_made (made ∷ mades) (event ∷ events) calm are = ap (λ e. e ∷ events) (as_made made event calm.0 are.0) ∙ ap (λ es. made ∷ es) (resolved_as_made mades events calm.1 are.1)
+-- so are such events
+resolved_calm : (mades events : List Event) → AllByRecursion (λ event. is_wait event ≡ false) mades → AreResolved mades events → events ≡ mades
+resolved_calm [] [] calm are = refl
+resolved_calm [] (event ∷ events) calm are = absurd are
+resolved_calm (made ∷ mades) [] calm are = absurd are
+resolved_calm (made ∷ mades) (event ∷ events) calm are = ap (λ e. e ∷ events) (as_it_stands made event calm.0 are.0) ∙ ap (λ es. made ∷ es) (resolved_calm mades events calm.1 are.1)
 
--- an event is its own resolution, by lists in which nobody stands
-event_itself : (event : Event) → event ≡ resolved_event event (λ l. [])
-event_itself (Act t (Notify l) Done None) = refl
-event_itself (Act t request reply woken) = refl
-event_itself (Lost client) = refl
+-- an entry without a wait has no event that is one
+no_wait : (node : Node) (event : Option Event) → HasNoWait event → AtClient (λ event. is_wait event ≡ false) node event
+no_wait Server event calm = tt
+no_wait (Client c) None calm = tt
+no_wait (Client c) (Some event) calm = calm
 
--- and so are events
-pub resolved_itself : (events : List Event) → AreResolved events events
-resolved_itself [] = tt
-resolved_itself (event ∷ events) = (record { lists = λ l. []; same = event_itself event }, resolved_itself events)
+-- In a journal without waits the history is just the one that was made.
+pub history_calm : (es : List Entry) → WithoutWaits es → committed es ≡ as_made es
+history_calm es calm = resolved_calm (as_made es) (committed es)
+    (each_made (λ event. is_wait event ≡ false) (λ c. refl) es (each_follows (λ e. HasNoWait e.event) (λ e. AtClient (λ event. is_wait event ≡ false) e.node e.event) (λ e. no_wait e.node e.event) es calm))
+    (history_resolved es)
+
+-- The history has, of each thread of a client that isn't lost, the events of the blocks that the server took in, resolved;
+pub histories_hold_blocks : HistoriesHoldBlocks
+histories_hold_blocks p next es lawful t alive = subst (λ events. AreResolved events (events_of t (committed es))) (holds_blocks p next t es lawful.follow alive)
+    (resolved_of t (as_made es) (committed es) (history_resolved es))
+
+-- without waits, just as they were made.
+pub histories_hold_blocks_as_made : HistoriesHoldBlocksAsMade
+histories_hold_blocks_as_made p next es lawful calm t alive = ap (events_of t) (history_calm es calm) ∙ holds_blocks p next t es lawful.follow alive

@@ -7,7 +7,6 @@ use Rattle.dso_base.specs.declared.journal.Input.{Input}
 use Rattle.dso_base.specs.declared.journal.Input.TheVariants as input
 use Rattle.dso_base.specs.declared.journal.Node.{Node}
 use Rattle.dso_base.specs.declared.journal.Node.TheVariants.{Server, Client}
-use Rattle.dso_base.specs.declared.lock.LockName.{LockName}
 use Rattle.dso_base.specs.declared.lock.ThreadId.{ThreadId}
 use Rattle.dso_base.specs.declared.message.Up.{Up}
 use Rattle.dso_base.specs.declared.message.Up.TheVariants as up
@@ -17,10 +16,10 @@ use Rattle.dso_base.specs.declared.request.Event.TheVariants.{Act, Lost}
 use Rattle.dso_plain.specs.History.{is_act_of}
 use Rattle.dso_plain.proofs.keys.SameKeys.{thread_self}
 use Rattle.dso_law.specs.Entries.{is_node, entries_of, by_event}
-use Rattle.dso_law.specs.ServerReadings.{loses, is_lost, counted}
+use Rattle.dso_law.specs.ServerReadings.{loses, is_lost}
 use Rattle.dso_law.specs.Threads.{ending_of, locks_of, open_block, block_after}
-use Rattle.dso_law.specs.ServerWaiters.{waiters_of}
-use Rattle.dso_legal.specs.Committed.{block_if, ended_by, ended_blocks, block_numbered, lists_after_act, resolved, block_taken, committed_by, committed_at, committed}
+use Rattle.dso_legal.specs.Committed.{block_if, ended_by, ended_blocks, block_numbered}
+use Rattle.dso_legal.specs.AsMade.{made_by, made_at, as_made}
 use Rattle.dso_legal.proofs.blocks.LocksOfEvents.{NoLosses, NoLossOf, no_loss_of}
 
 -- with an act of the thread at its end
@@ -78,12 +77,6 @@ numbered_spared (suc n) [] h = tt
 numbered_spared (suc zero) (block ∷ blocks) h = h.0
 numbered_spared (suc (suc n)) (block ∷ blocks) h = numbered_spared (suc n) blocks h.1
 
--- nor one with other choices
-resolved_spared : (block : List Event) (lists : LockName → List ThreadId) → NoLosses block → NoLosses (resolved block lists)
-resolved_spared [] lists h = tt
-resolved_spared (Act t request reply woken ∷ block) lists h = resolved_spared block (lists_after_act request reply woken lists) h
-resolved_spared (Lost client ∷ block) lists h = absurd h
-
 -- two lists without a loss of the client
 pub no_loss_parts : (c : ℕ) (first second : List Event) → NoLossOf c first → NoLossOf c second → NoLossOf c (first ++ second)
 no_loss_parts c [] second h k = k
@@ -92,30 +85,30 @@ no_loss_parts c (Lost client ∷ first) second h k = (h.0, no_loss_parts c first
 
 module _ (c : ℕ) where
   -- a record's block
-  taken_spared : (b : Bool) (d n : ℕ) (es : List Entry) → NoLossOf c (cond b [] (block_taken d n es))
+  taken_spared : (b : Bool) (d n : ℕ) (es : List Entry) → NoLossOf c (cond b [] (block_numbered n (ended_blocks (entries_of (Client d) es))))
   taken_spared true d n es = tt
-  taken_spared false d n es = no_loss_of c (block_taken d n es) (resolved_spared (block_numbered n (ended_blocks (entries_of (Client d) es))) (λ l. waiters_of l (counted (entries_of Server es)))
-      (numbered_spared n (ended_blocks (entries_of (Client d) es)) (ended_blocks_spared (entries_of (Client d) es))))
+  taken_spared false d n es = no_loss_of c (block_numbered n (ended_blocks (entries_of (Client d) es)))
+      (numbered_spared n (ended_blocks (entries_of (Client d) es)) (ended_blocks_spared (entries_of (Client d) es)))
 
   -- a message taken
-  record_spared : (d : ℕ) (m : Up) (es : List Entry) → NoLossOf c (committed_by (input.TookUp d m) es)
+  record_spared : (d : ℕ) (m : Up) (es : List Entry) → NoLossOf c (made_by (input.TookUp d m) es)
   record_spared d (up.Commit txn) es = taken_spared (is_lost d (entries_of Server es)) d txn.seq es
   record_spared d m es = tt
 
   -- what an entry of the server gives that doesn't lose the client
-  given_spared : (i : Input) (es : List Entry) → loses c i ≡ false → NoLossOf c (committed_by i es)
+  given_spared : (i : Input) (es : List Entry) → loses c i ≡ false → NoLossOf c (made_by i es)
   given_spared (input.TookUp d m) es none = record_spared d m es
   given_spared (input.Lose d) es none = (none, tt)
   given_spared other es none = tt
 
   -- one more entry
-  at_node : (node : Node) (e : Entry) (es : List Entry) → e.node ≡ node → is_lost c (entries_of Server (e ∷ es)) ≡ false → (is_lost c (entries_of Server es) ≡ false → NoLossOf c (committed es)) → NoLossOf c (committed es ++ committed_at node e.input es)
+  at_node : (node : Node) (e : Entry) (es : List Entry) → e.node ≡ node → is_lost c (entries_of Server (e ∷ es)) ≡ false → (is_lost c (entries_of Server es) ≡ false → NoLossOf c (as_made es)) → NoLossOf c (as_made es ++ made_at node e.input es)
   at_node Server e es is none before =
       let parts = or_parts (loses c e.input) (is_lost c (entries_of Server es)) (subst (λ node. is_lost c (cond (is_node Server node) (e ∷ entries_of Server es) (entries_of Server es)) ≡ false) is none) in
-      no_loss_parts c (committed es) (committed_by e.input es) (before parts.1) (given_spared e.input es parts.0)
-  at_node (Client d) e es is none before = no_loss_parts c (committed es) [] (before (subst (λ node. is_lost c (cond (is_node Server node) (e ∷ entries_of Server es) (entries_of Server es)) ≡ false) is none)) tt
+      no_loss_parts c (as_made es) (made_by e.input es) (before parts.1) (given_spared e.input es parts.0)
+  at_node (Client d) e es is none before = no_loss_parts c (as_made es) [] (before (subst (λ node. is_lost c (cond (is_node Server node) (e ∷ entries_of Server es) (entries_of Server es)) ≡ false) is none)) tt
 
   -- The history has no loss of a client that isn't lost.
-  pub history_spared : (es : List Entry) → is_lost c (entries_of Server es) ≡ false → NoLossOf c (committed es)
+  pub history_spared : (es : List Entry) → is_lost c (entries_of Server es) ≡ false → NoLossOf c (as_made es)
   history_spared [] none = tt
   history_spared (e ∷ es) none = at_node e.node e es refl none (history_spared es)

@@ -10,10 +10,10 @@ use Rattle.dso_base.specs.declared.request.Event.{Event}
 use Rattle.dso_base.specs.declared.request.Event.TheVariants.{Act, Lost}
 use Rattle.dso_base.specs.declared.request.Request.{Request}
 use Rattle.dso_base.specs.Following.{is_thread}
-use Rattle.dso_plain.specs.History.{Runs, end_of, last_state, events_of}
+use Rattle.dso_plain.specs.History.{RunsButMarks, end_of, last_state, events_of}
 use Rattle.dso_plain.specs.State.{PlainState, Object, opening}
 use Rattle.dso_plain.specs.Touches.{MakesIn}
-use Rattle.dso_plain.proofs.independence.RunsSwap.{runs_in_parts, ends_in_parts}
+use Rattle.dso_plain.proofs.independence.RunsSwap.{runs_but_marks_in_parts, ends_in_parts}
 use Rattle.dso_plain.proofs.keys.SameKeys.{number_self, same_number, same_thread, thread_self}
 use Rattle.dso_lookup.proofs.Tests.{both}
 use Rattle.dso_plain.proofs.histories.LegalGoesOn.{events_in_parts}
@@ -23,15 +23,17 @@ use Rattle.dso_law.specs.Records.{next_id}
 use Rattle.dso_law.specs.ServerReadings.{Batch, is_in_batch, batches_given, counted}
 use Rattle.dso_law.specs.Settings.{Settings}
 use Rattle.dso_law.specs.Threads.{open_block, ends_thread}
-use Rattle.dso_legal.specs.WaitsAndLosses.{WithoutWaits, WithoutLosses}
-use Rattle.dso_legal.specs.Committed.{committed, ended_blocks}
+use Rattle.dso_legal.specs.WaitsAndLosses.{WithoutLosses}
+use Rattle.dso_legal.specs.Committed.{ended_blocks}
+use Rattle.dso_legal.specs.AsMade.{as_made}
 use Rattle.dso_legal.specs.CopiesStand.{state_at}
 use Rattle.dso_legal.specs.Lawful.{AllFollow}
 use Rattle.dso_legal.specs.MadeOnce.{is_made, objects_made, objects_of}
 use Rattle.dso_legal.specs.Names.{NameOnlyTold, NamesAreKnown}
 use Rattle.dso_legal.specs.PendingBlocks.{joined, pending, taken_in, handed_in}
 use Rattle.dso_legal.specs.SoundProgram.{event_tells, IsSound}
-use Rattle.dso_legal.proofs.blocks.BlockSteps.{none_is_lost, each_dropped}
+use Rattle.dso_legal.proofs.blocks.BlockSteps.{none_is_lost}
+use Rattle.dso_legal.proofs.blocks.EachEvent.{each_dropped}
 use Rattle.dso_legal.proofs.blocks.ClientBlocks.{keeps_thread, own_events, no_events, joined_parts}
 use Rattle.dso_legal.proofs.copies.FieldMoves.{apart}
 use Rattle.dso_legal.proofs.ids.GivenOnce.{gives, InTurn, in_turn}
@@ -101,7 +103,7 @@ lose_none [] h = tt
 lose_none (Act t request reply woken ∷ events) h = lose_none events h
 lose_none (Lost client ∷ events) h = apart (number_self client) (h client).0
 
-module _ (p : Settings) (next : ThreadId → List Event → Option Request) (es : List Entry) (follow : AllFollow p next es) (calm : WithoutWaits es) (none : WithoutLosses es) (t : ThreadId) where
+module _ (p : Settings) (next : ThreadId → List Event → Option Request) (es : List Entry) (follow : AllFollow p next es) (none : WithoutLosses es) (t : ThreadId) where
   abbrev own : List Entry
   own = entries_of (Client t.client) es
 
@@ -111,11 +113,11 @@ module _ (p : Settings) (next : ThreadId → List Event → Option Request) (es 
 
   -- the history as the thread has it
   abbrev pub thread_history : List Event
-  thread_history = committed es ++ (waiting ++ open_block t own)
+  thread_history = as_made es ++ (waiting ++ open_block t own)
 
   -- it has the events of each thread in three parts
-  in_three : (u : ThreadId) → events_of u thread_history ≡ events_of u (committed es) ++ (events_of u waiting ++ events_of u (open_block t own))
-  in_three u = events_in_parts u (committed es) (waiting ++ open_block t own) ∙ ap (λ events. events_of u (committed es) ++ events) (events_in_parts u waiting (open_block t own))
+  in_three : (u : ThreadId) → events_of u thread_history ≡ events_of u (as_made es) ++ (events_of u waiting ++ events_of u (open_block t own))
+  in_three u = events_in_parts u (as_made es) (waiting ++ open_block t own) ∙ ap (λ events. events_of u (as_made es) ++ events) (events_in_parts u waiting (open_block t own))
 
   -- of another client's thread no event is in flight
   none_waiting : (u : ThreadId) → eqb t.client u.client ≡ false → events_of u waiting ≡ []
@@ -125,8 +127,8 @@ module _ (p : Settings) (next : ThreadId → List Event → Option Request) (es 
 
   -- Of each thread it has a prefix of its events: of the thread itself all.
   all_own : events_of t thread_history ≡ events_in t own
-  all_own = in_three t ∙ (ap (λ events. events_of t (committed es) ++ (events_of t waiting ++ events)) (own_events t (open_block t own) (keeps_thread p.shape t own).acts)
-      ∙ thread_in_parts p next t t.client refl es follow calm (none_is_lost t.client es none))
+  all_own = in_three t ∙ (ap (λ events. events_of t (as_made es) ++ (events_of t waiting ++ events)) (own_events t (open_block t own) (keeps_thread p.shape t own).acts)
+      ∙ thread_in_parts p next t t.client refl es follow (none_is_lost t.client es none))
 
   others_open : (u : ThreadId) → is_thread u t ≡ false → events_of u (open_block t own) ≡ []
   others_open u other = no_events u t (open_block t own) other (keeps_thread p.shape t own).acts
@@ -134,24 +136,24 @@ module _ (p : Settings) (next : ThreadId → List Event → Option Request) (es 
   first_of_mate : (u : ThreadId) → is_thread u t ≡ false → t.client ≡ u.client → IsPrefix (events_of u thread_history) (events_in u (entries_of (Client u.client) es))
   first_of_mate u other mate = record {
     rest = open_block u (entries_of (Client u.client) es);
-    whole = sym (thread_in_parts p next u u.client refl es follow calm (none_is_lost u.client es none))
-        ∙ (sym (append_assoc (events_of u (committed es)) (events_of u (joined (pending u.client es))) (open_block u (entries_of (Client u.client) es)))
+    whole = sym (thread_in_parts p next u u.client refl es follow (none_is_lost u.client es none))
+        ∙ (sym (append_assoc (events_of u (as_made es)) (events_of u (joined (pending u.client es))) (open_block u (entries_of (Client u.client) es)))
         ∙ ap (λ events. events ++ open_block u (entries_of (Client u.client) es)) (sym parts));
   }
     where
-      parts : events_of u thread_history ≡ events_of u (committed es) ++ events_of u (joined (pending u.client es))
-      parts = in_three u ∙ (ap (λ events. events_of u (committed es) ++ (events_of u waiting ++ events)) (others_open u other)
-          ∙ (ap (λ events. events_of u (committed es) ++ events) (append-nil (events_of u waiting)) ∙ ap (λ c. events_of u (committed es) ++ events_of u (joined (pending c es))) mate))
+      parts : events_of u thread_history ≡ events_of u (as_made es) ++ events_of u (joined (pending u.client es))
+      parts = in_three u ∙ (ap (λ events. events_of u (as_made es) ++ (events_of u waiting ++ events)) (others_open u other)
+          ∙ (ap (λ events. events_of u (as_made es) ++ events) (append-nil (events_of u waiting)) ∙ ap (λ c. events_of u (as_made es) ++ events_of u (joined (pending c es))) mate))
 
   first_of_stranger : (u : ThreadId) → is_thread u t ≡ false → eqb t.client u.client ≡ false → IsPrefix (events_of u thread_history) (events_in u (entries_of (Client u.client) es))
   first_of_stranger u other stranger = record {
     rest = events_of u (joined (pending u.client es)) ++ open_block u (entries_of (Client u.client) es);
-    whole = sym (thread_in_parts p next u u.client refl es follow calm (none_is_lost u.client es none)) ∙ ap (λ events. events ++ (events_of u (joined (pending u.client es)) ++ open_block u (entries_of (Client u.client) es))) (sym parts);
+    whole = sym (thread_in_parts p next u u.client refl es follow (none_is_lost u.client es none)) ∙ ap (λ events. events ++ (events_of u (joined (pending u.client es)) ++ open_block u (entries_of (Client u.client) es))) (sym parts);
   }
     where
-      parts : events_of u thread_history ≡ events_of u (committed es)
-      parts = in_three u ∙ (ap (λ events. events_of u (committed es) ++ (events_of u waiting ++ events)) (others_open u other)
-          ∙ (ap (λ events. events_of u (committed es) ++ (events ++ [])) (none_waiting u stranger) ∙ append-nil (events_of u (committed es))))
+      parts : events_of u thread_history ≡ events_of u (as_made es)
+      parts = in_three u ∙ (ap (λ events. events_of u (as_made es) ++ (events_of u waiting ++ events)) (others_open u other)
+          ∙ (ap (λ events. events_of u (as_made es) ++ (events ++ [])) (none_waiting u stranger) ∙ append-nil (events_of u (as_made es))))
 
   first_part : (u : ThreadId) → IsPrefix (events_of u thread_history) (events_in u (entries_of (Client u.client) es))
   first_part u = by (is_thread u t) refl
@@ -169,7 +171,7 @@ module _ (p : Settings) (next : ThreadId → List Event → Option Request) (es 
 
   -- it loses nobody
   loses_nobody : LoseNone thread_history
-  loses_nobody = lose_none_joined (committed es) (waiting ++ open_block t own) (lose_none (committed es) (λ c. history_spared c es (none_is_lost c es none)))
+  loses_nobody = lose_none_joined (as_made es) (waiting ++ open_block t own) (lose_none (as_made es) (λ c. history_spared c es (none_is_lost c es none)))
       (lose_none_acts (waiting ++ open_block t own) (no_losses_parts waiting (open_block t own) (no_losses_joined (pending t.client es) (each_dropped NoLosses (handed_in t.client es) (ended_blocks own) (ended_blocks_spared own))) (open_spared t own)))
 
   -- The state behind the history as the thread has it.
@@ -177,12 +179,12 @@ module _ (p : Settings) (next : ThreadId → List Event → Option Request) (es 
   acting_state = end_of p.shape (open_block t own) (state_at p t.client es)
 
   same_state : last_state p.shape thread_history ≡ acting_state
-  same_state = ends_in_parts p.shape (committed es) (waiting ++ open_block t own) (opening p.shape) ∙ ends_in_parts p.shape waiting (open_block t own) (last_state p.shape (committed es))
+  same_state = ends_in_parts p.shape (as_made es) (waiting ++ open_block t own) (opening p.shape) ∙ ends_in_parts p.shape waiting (open_block t own) (last_state p.shape (as_made es))
 
-  module _ (runs : Runs p.shape (committed es) (opening p.shape)) (line : Runs p.shape waiting (last_state p.shape (committed es))) (opened : Runs p.shape (open_block t own) (state_at p t.client es)) where
+  module _ (runs : RunsButMarks p.shape (as_made es) (opening p.shape)) (line : RunsButMarks p.shape waiting (last_state p.shape (as_made es))) (opened : RunsButMarks p.shape (open_block t own) (state_at p t.client es)) where
     -- it runs
-    history_runs : Runs p.shape thread_history (opening p.shape)
-    history_runs = (runs_in_parts p.shape (committed es) (waiting ++ open_block t own) (opening p.shape)).1 (runs, (runs_in_parts p.shape waiting (open_block t own) (last_state p.shape (committed es))).1 (line, opened))
+    history_runs : RunsButMarks p.shape thread_history (opening p.shape)
+    history_runs = (runs_but_marks_in_parts p.shape (as_made es) (waiting ++ open_block t own) (opening p.shape)).1 (runs, (runs_but_marks_in_parts p.shape waiting (open_block t own) (last_state p.shape (as_made es))).1 (line, opened))
 
     -- where nothing told a thread of object 0
     module _ (sound : IsSound p.shape next) (untold : (u : ThreadId) → list_any (event_tells 0) (events_in u (entries_of (Client u.client) es)) ≡ false) where

@@ -16,8 +16,8 @@ use Rattle.dso_base.specs.Following.{is_thread}
 use Rattle.dso_lookup.specs.Maps.{or_old}
 use Rattle.dso_plain.specs.State.{Hold, PlainState, opening, is_shared, hold_on_guard}
 use Rattle.dso_plain.specs.After.{apply, after, change_of, read, read_shared, put, notifies}
-use Rattle.dso_plain.specs.History.{Runs, end_of, last_state, events_of, is_act_of}
-use Rattle.dso_legal.proofs.PlainRuns.{quiet_act}
+use Rattle.dso_plain.specs.History.{RunsButMarks, end_of, last_state, events_of, is_act_of}
+use Rattle.dso_plain.proofs.independence.RunsSwap.{quiet_act}
 use Rattle.dso_plain.proofs.keys.SameKeys.{same_thread, thread_self}
 use Rattle.dso_law.specs.Threads.{ends_thread}
 
@@ -123,13 +123,13 @@ LoseNone (Act t request reply woken ∷ es) = LoseNone es
 LoseNone (Lost client ∷ es) = ⊥
 
 -- a run that loses no client leaves the lost ones
-pub loses_none : (shape : Shape) (es : List Event) (s : PlainState) → Runs shape es s → LoseNone es → (c : ℕ) → (end_of shape es s).lost c ≡ s.lost c
+pub loses_none : (shape : Shape) (es : List Event) (s : PlainState) → RunsButMarks shape es s → LoseNone es → (c : ℕ) → (end_of shape es s).lost c ≡ s.lost c
 loses_none shape [] s m none c = refl
 loses_none shape (Act t request reply woken ∷ es) s m none c = loses_none shape es (after shape (Act t request reply woken) s) m.1 none c ∙ (quiet_act shape t request reply woken s m.0).lost c
 loses_none shape (Lost client ∷ es) s m none c = absurd none
 
 -- Connected: after a history that loses no client, each client is connected.
-pub connected : (shape : Shape) (h : List Event) → Runs shape h (opening shape) → LoseNone h → (c : ℕ) → (last_state shape h).lost c ≡ false
+pub connected : (shape : Shape) (h : List Event) → RunsButMarks shape h (opening shape) → LoseNone h → (c : ℕ) → (last_state shape h).lost c ≡ false
 connected shape h m none c = loses_none shape h (opening shape) m none c
 
 -- joined lists that lose none lose none

@@ -13,7 +13,7 @@ use Rattle.dso_base.specs.declared.shape.Shape.{Shape}
 use Rattle.dso_base.specs.declared.value.Value.{Value}
 use Rattle.dso_base.specs.Following.{is_thread}
 use Rattle.dso_plain.specs.After.{after, read, read_shared, put}
-use Rattle.dso_plain.specs.History.{Runs, end_of}
+use Rattle.dso_plain.specs.History.{RunsButMarks, end_of}
 use Rattle.dso_plain.specs.KeyTests.{is_view}
 use Rattle.dso_lookup.specs.Maps.{or_old, written}
 use Rattle.dso_plain.specs.Own.{LeavesField}
@@ -22,7 +22,7 @@ use Rattle.dso_plain.specs.State.{PlainState, Object, Hold, IsShared, is_shared,
 use Rattle.dso_plain.specs.Touches.{TouchesIn, AreActsOf}
 use Rattle.dso_plain.proofs.keys.SameKeys.{same_number}
 use Rattle.dso_lookup.proofs.Tests.{both}
-use Rattle.dso_legal.proofs.PlainRuns.{leaves_field}
+use Rattle.dso_plain.proofs.independence.LeftAlone.{leaves_field}
 
 -- no object is both private and shared
 not_both : (t : ThreadId) (object : Option Object) → is_private_to t object ≡ true → is_shared object ≡ true → ⊥
@@ -88,7 +88,7 @@ module _ (shape : Shape) (t : ThreadId) (o f : ℕ) where
   act_seen request reply woken s may shared outside = refl
 
   -- What the thread has seen of a shared field stays in a run of its own that doesn't touch the guard.
-  pub seen_stays : (es : List Event) (s : PlainState) → AreActsOf t es → Runs shape es s → IsShared o s → ((x : Level) → TouchesIn shape es s (guard_in shape s o f) x → ⊥)
+  pub seen_stays : (es : List Event) (s : PlainState) → AreActsOf t es → RunsButMarks shape es s → IsShared o s → ((x : Level) → TouchesIn shape es s (guard_in shape s o f) x → ⊥)
       → (end_of shape es s).seen (t, o, f) ≡ s.seen (t, o, f)
   seen_stays [] s acts runs shared free = refl
   seen_stays (Lost client ∷ es) s acts runs shared free = absurd acts.0

@@ -8,7 +8,7 @@ use Rattle.dso_base.specs.declared.lock.ThreadId.{ThreadId}
 use Rattle.dso_base.specs.declared.message.Down.{Down}
 use Rattle.dso_base.specs.declared.request.Event.{Event}
 use Rattle.dso_base.specs.declared.value.Value.{Value}
-use Rattle.dso_plain.specs.History.{Runs, end_of}
+use Rattle.dso_plain.specs.History.{RunsButMarks, end_of}
 use Rattle.dso_plain.specs.Past.{KeepsPast}
 use Rattle.dso_plain.specs.Possible.{StandsFrom, IsOf}
 use Rattle.dso_plain.specs.State.{PlainState, IsShared, is_shared, HoldsGuard, guard_in, guard_of_object, hold_on_guard}
@@ -32,7 +32,7 @@ use Rattle.dso_legal.proofs.copies.SeenStays.{seen_stays}
 -- and what it holds there its client has a lease of.
 pub record ActsFrom (p : Settings) (t : ThreadId) (events : List Event) (s r : PlainState) (own : List Entry) : Type 0 where
   pub acts : AreActsOf t events
-  pub runs : Runs p.shape events s
+  pub runs : RunsButMarks p.shape events s
   pub ends : r ≡ end_of p.shape events s
   pub past : KeepsPast r
   pub tells : TellsWork t (work_of p.shape t own) s r

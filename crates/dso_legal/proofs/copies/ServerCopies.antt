@@ -1,6 +1,7 @@
 -- A client's copies stand again after an entry of the server.
 use Rattle.std.specs.List.{list_any}
 use Rattle.std.proofs.Common.{ℕ, ◌≡◌, ◌≢◌, refl, sym, ◌∙◌, ap, subst, Bool, true, false, cond, eqb, Option, Some, None, List, [], ◌∷◌, ◌++◌, filter, length}
+use Rattle.std.proofs.lemmas.List.{append_assoc}
 use Rattle.dso_base.specs.Shape.{guard_of}
 use Rattle.dso_base.specs.declared.journal.Entry.{Entry}
 use Rattle.dso_base.specs.declared.journal.Input.{Input}
@@ -16,14 +17,14 @@ use Rattle.dso_base.specs.declared.request.Event.{Event}
 use Rattle.dso_base.specs.declared.request.Request.{Request}
 use Rattle.dso_base.specs.declared.shape.Shape.{Shape}
 use Rattle.dso_base.specs.declared.value.ClassId.{ClassId}
-use Rattle.dso_plain.specs.History.{Runs, end_of, last_state}
+use Rattle.dso_plain.specs.History.{RunsButMarks, end_of, last_state}
 use Rattle.dso_plain.specs.StepInvariants.{PastInvariant}
 use Rattle.dso_plain.specs.Possible.{IsOf}
 use Rattle.dso_plain.specs.State.{PlainState, Object, IsShared, is_shared, guard_in, guard_of_object}
 use Rattle.dso_plain.proofs.keys.SameKeys.{same_number, number_self}
-use Rattle.dso_legal.proofs.PlainRuns.{leaves_own}
+use Rattle.dso_plain.proofs.independence.LeftAlone.{leaves_own}
 use Rattle.dso_plain.proofs.invariants.PastsHold.{kept_past}
-use Rattle.dso_legal.proofs.PlainRuns.{run_kept, pasts_grow}
+use Rattle.dso_plain.proofs.invariants.PastsHold.{run_kept, pasts_grow}
 use Rattle.dso_law.specs.Channels.{up_in_flight, down_in_flight}
 use Rattle.dso_law.specs.Copies.{is_resident, resident_by_taken, is_set_of, value_by_sets}
 use Rattle.dso_law.specs.Entries.{entries_of}
@@ -34,8 +35,8 @@ use Rattle.dso_law.specs.Granting.{standing_with}
 use Rattle.dso_law.specs.Settings.{Settings}
 use Rattle.dso_law.specs.Store.{stored, holds_object}
 use Rattle.dso_legal.specs.Agreement.{messages, after}
-use Rattle.dso_legal.specs.WaitsAndLosses.{WithoutWaits, WithoutLosses, is_loss}
-use Rattle.dso_legal.specs.Committed.{committed}
+use Rattle.dso_legal.specs.WaitsAndLosses.{WithoutLosses, is_loss}
+use Rattle.dso_legal.specs.AsMade.{as_made}
 use Rattle.dso_legal.specs.CopiesStand.{state_at, CopiesStand}
 use Rattle.dso_legal.specs.Lawful.{ServerFollows, AllFollow}
 use Rattle.dso_legal.specs.PendingBlocks.{joined, pending, taken_in, records_in}
@@ -44,7 +45,6 @@ use Rattle.dso_legal.proofs.line.AllStandOn.{takes, passes}
 use Rattle.dso_legal.proofs.objects.BodiesHeld.{set_of_object}
 use Rattle.dso_legal.proofs.blocks.BlockSteps as steps
 use Rattle.dso_legal.proofs.blocks.BlockSteps.{none_is_lost}
-use Rattle.dso_legal.proofs.central.ServerWithoutWaits.{told_of_record}
 use Rattle.dso_legal.proofs.copies.CopiesForeign.{IsForeign, copies_after_foreign}
 use Rattle.dso_legal.proofs.copies.ChangesSent.{changes_down}
 use Rattle.dso_legal.proofs.channels.InFlight.{told_to}
@@ -53,7 +53,7 @@ use Rattle.dso_legal.proofs.copies.CopiesObject.{Brings, copies_after_object}
 use Rattle.dso_legal.proofs.copies.FieldMoves.{apart, sets_other}
 use Rattle.dso_legal.proofs.copies.ForeignRecord.{set_is_stored, set_is_held, set_is_unleased_behind}
 use Rattle.dso_legal.proofs.records.HandedIn.{TakesBlock, are_records_split}
-use Rattle.dso_legal.proofs.leases.LeasesInFlight.{server_rule, server_first}
+use Rattle.dso_legal.proofs.leases.LeasesInFlight.{server_rule}
 use Rattle.dso_legal.proofs.line.LineParts.{line_runs}
 use Rattle.dso_legal.proofs.line.LineForeign.{acts_of_other, clients_apart}
 use Rattle.dso_legal.proofs.line.LineTaken.{RecordPasses}
@@ -67,6 +67,7 @@ use Rattle.dso_legal.specs.Store.{IsHeapBody}
 use Rattle.dso_legal.proofs.objects.StoreIsHeap.{store_is_heap}
 use Rattle.dso_legal.proofs.channels.AfterEntry.{ServerTurn, server_turn}
 use Rattle.dso_legal.proofs.line.LineElsewhere.{IsElsewhere, moves, stands_still}
+use Rattle.dso_legal.proofs.copies.ServerMessages as messages_to
 use Rattle.dso_legal.proofs.copies.ServerMessages.{IsElse, told_silent}
 use Rattle.dso_legal.proofs.objects.WorksTell.{works_tell, history_kept}
 
@@ -80,7 +81,7 @@ guard_is : (shape : Shape) (o f : ℕ) (class : ClassId) (n : ℕ) (object : Opt
 guard_is shape o f class n None is = absurd is
 guard_is shape o f class n (Some object) is = ap (λ x. guard_of shape x o f) is.0
 
-module _ (p : Settings) (next : ThreadId → List Event → Option Request) (e : Entry) (es : List Entry) (follow : AllFollow p next (e ∷ es)) (calm : WithoutWaits (e ∷ es)) (safe : WithoutLosses (e ∷ es)) (stand : AllStand p es) (copies : AllCopies p es) (at : e.node ≡ Server) (c : ℕ) where
+module _ (p : Settings) (next : ThreadId → List Event → Option Request) (e : Entry) (es : List Entry) (follow : AllFollow p next (e ∷ es)) (safe : WithoutLosses (e ∷ es)) (stand : AllStand p es) (copies : AllCopies p es) (at : e.node ≡ Server) (c : ℕ) where
   rule : ServerFollows p next e es
   rule = server_rule p next e es at follow.1
 
@@ -100,14 +101,14 @@ module _ (p : Settings) (next : ThreadId → List Event → Option Request) (e :
   s = state_at p c es
 
   abbrev history_state : PlainState
-  history_state = last_state p.shape (committed es)
+  history_state = last_state p.shape (as_made es)
 
   -- the client's blocks in flight run
-  pends : Runs p.shape (joined (pending c es)) history_state
+  pends : RunsButMarks p.shape (joined (pending c es)) history_state
   pends = line_runs p.shape c (messages (up_in_flight c es)) (pending c es) (λ l. standing_with c l (counted (entries_of Server es))) history_state (stand.lines c).line
 
   kept_here : PastInvariant s
-  kept_here = run_kept p.shape (joined (pending c es)) history_state pends (history_kept p.shape (committed es) stand.runs)
+  kept_here = run_kept p.shape (joined (pending c es)) history_state pends (history_kept p.shape (as_made es) stand.runs)
 
   -- what is told speaks of no object, and the state stays
   silent_copies : IsElse c e.input → state_at p c (e ∷ es) ≡ s → CopiesStand p.shape c (state_at p c (e ∷ es)) (messages (down_in_flight c (e ∷ es))) (entries_of (Client c) (e ∷ es))
@@ -124,11 +125,11 @@ module _ (p : Settings) (next : ThreadId → List Event → Option Request) (e :
     sent = object_sent p next c o e es follow.0 (alive c) rule asks
 
     heap_body : IsHeapBody o sent.body history_state
-    heap_body = (store_is_heap works_tell p next es follow.0 calm.1 stand.runs o).each sent.body sent.is_stored
+    heap_body = (store_is_heap works_tell p next es follow.0 stand.runs o).each sent.body sent.is_stored
 
     leaves : LeavesObject o history_state s
-    leaves = pending_leaves p.shape c o (taken_in c es) (records_in (messages (up_in_flight c es))) (pending c es) (committed es) stand.runs pends (are_records_split p next c es follow.0 (alive c)) (way_of_client p next c es follow.0 (alive c))
-        (λ t its. privates_taken_of works_tell p next t c its es follow.0 calm.1 (alive c) stand.runs) sent.untouched heap_body.shared
+    leaves = pending_leaves p.shape c o (taken_in c es) (records_in (messages (up_in_flight c es))) (pending c es) (as_made es) stand.runs pends (are_records_split p next c es follow.0 (alive c)) (way_of_client p next c es follow.0 (alive c))
+        (λ t its. privates_taken_of works_tell p next t c its es follow.0 (alive c) stand.runs) sent.untouched heap_body.shared
 
     brings_it : Brings c sent.body s ms own
     brings_it = record {
@@ -147,17 +148,17 @@ module _ (p : Settings) (next : ThreadId → List Event → Option Request) (e :
   -- the server takes a record
   module _ (d : ℕ) (txn : Txn) (took : e.input ≡ input.TookUp d (up.Commit txn)) where
     abbrev taken : TakesBlock p d txn e es
-    taken = takes p next e es follow calm safe stand at d txn took
+    taken = takes p next e es follow safe stand at d txn took
 
     -- of the client itself
     own_record : c ≡ d → CopiesStand p.shape c (state_at p c (e ∷ es)) (messages (down_in_flight c (e ∷ es))) (entries_of (Client c) (e ∷ es))
     own_record same = silent_copies (subst (IsElse c) (sym took) (subst (λ n. eqb c n ≡ true) same (number_self c)))
-        (subst (λ n. state_at p n (e ∷ es) ≡ state_at p n es) (sym same) (steps.state_taken p next d es follow.0 (alive d) e follow.1 calm.1 txn taken))
+        (subst (λ n. state_at p n (e ∷ es) ≡ state_at p n es) (sym same) (steps.state_taken p next d es follow.0 (alive d) e follow.1 txn taken))
 
     -- of another client
     module _ (other : eqb c d ≡ false) where
       passed : RecordPasses p c txn taken.block e es
-      passed = passes p next e es follow calm safe stand at d txn took c other
+      passed = passes p next e es follow safe stand at d txn took c other
 
       abbrev r : PlainState
       r = end_of p.shape taken.block s
@@ -170,7 +171,7 @@ module _ (p : Settings) (next : ThreadId → List Event → Option Request) (e :
           by false unlike = unlike
 
       tells : TellsRecord txn s r
-      tells = tells_elsewhere works_tell p next es follow.0 calm.1 stand.runs e follow.1 d (alive d) txn taken c apart_too (alive c) pends passed.runs
+      tells = tells_elsewhere works_tell p next es follow.0 stand.runs e follow.1 d (alive d) txn taken c apart_too (alive c) pends passed.runs
 
       -- where the record sets a field of a shared object, its guard isn't leased to the client
       unleased : (o f : ℕ) → IsShared o s → value_by_sets o f tells.work.sets None ≢ None → (after (standing_down (guard_in p.shape s o f)) ms (standing (guard_in p.shape s o f) own)).lease ≡ None
@@ -180,7 +181,7 @@ module _ (p : Settings) (next : ThreadId → List Event → Option Request) (e :
           from_body set body is = subst (λ l. (after (standing_down l) ms (standing l own)).lease ≡ None) (sym guard) (set_is_unleased_behind p next d txn e es follow.0 rule took (alive d) c (alive c) apart_too o f body is (subst (λ sets. list_any (is_set_of o f) sets ≡ true) tells.sets set))
             where
               heap_body : IsHeapBody o body history_state
-              heap_body = (store_is_heap works_tell p next es follow.0 calm.1 stand.runs o).each body is
+              heap_body = (store_is_heap works_tell p next es follow.0 stand.runs o).each body is
 
               guard : guard_in p.shape s o f ≡ guard_of p.shape body.class o f
               guard = ap (λ object. guard_of_object p.shape object o f) (shared_stays p.shape (joined (pending c es)) history_state o pends heap_body.shared) ∙ guard_is p.shape o f body.class (length body.values) (history_state.objects o) heap_body.class
@@ -203,15 +204,22 @@ module _ (p : Settings) (next : ThreadId → List Event → Option Request) (e :
         unleased = unleased;
       }
 
+      -- what it is told: the changes, and then who is woken
+      told : messages_to.TellsRecord c d txn (counted (entries_of Server es)) (told_to c e.sent)
+      told = messages_to.record_is_told p next c e es follow.0 rule d txn took (alive d)
+
+      abbrev changes : List Down
+      changes = changes_down (filter (λ set. holds_object c set.object (counted (entries_of Server es))) tells.work.sets)
+
+      sends : told_to c e.sent ≡ changes ++ told.woken
+      sends = told.tells ∙ ap (λ ms. ms ++ told.woken) (ap (λ b. cond b (down.Ack txn.seq ∷ []) (changes_down (sets_for c txn (counted (entries_of Server es))))) other
+          ∙ ap (λ sets. changes_down (filter (λ set. holds_object c set.object (counted (entries_of Server es))) sets)) (sym tells.sets))
+
       foreign_copies : CopiesStand p.shape c (state_at p c (e ∷ es)) (messages (down_in_flight c (e ∷ es))) (entries_of (Client c) (e ∷ es))
-      foreign_copies = moved p c r (state_at p c (e ∷ es)) (ms ++ changes_down (filter (λ set. holds_object c set.object (counted (entries_of Server es))) tells.work.sets)) (messages (down_in_flight c (e ∷ es))) own (entries_of (Client c) (e ∷ es))
-          passed.state (turn.down ∙ ap (λ more. ms ++ more) told) turn.own
-          (copies_after_foreign p.shape c txn.thread tells.work (λ o. holds_object c o (counted (entries_of Server es))) s r ms own foreign (copies c))
-        where
-          told : told_to c e.sent ≡ changes_down (filter (λ set. holds_object c set.object (counted (entries_of Server es))) tells.work.sets)
-          told = told_of_record p next c d txn e es follow.0 calm.1 rule took (server_first p next d (up.Commit txn) e es at follow.1 took) (alive d)
-              ∙ (ap (λ b. cond b (down.Ack txn.seq ∷ []) (changes_down (sets_for c txn (counted (entries_of Server es))))) other
-              ∙ ap (λ sets. changes_down (filter (λ set. holds_object c set.object (counted (entries_of Server es))) sets)) (sym tells.sets))
+      foreign_copies = moved p c r (state_at p c (e ∷ es)) ((ms ++ changes) ++ told.woken) (messages (down_in_flight c (e ∷ es))) own (entries_of (Client c) (e ∷ es))
+          passed.state (turn.down ∙ ap (λ more. ms ++ more) sends ∙ sym (append_assoc ms changes told.woken)) turn.own
+          (copies_go_on p.shape c r (ms ++ changes) told.woken own (messages_to.each_so messages_to.wake_silent told.woken told.wake)
+          (copies_after_foreign p.shape c txn.thread tells.work (λ o. holds_object c o (counted (entries_of Server es))) s r ms own foreign (copies c)))
 
   -- The copies stand again.
   server_by : (i : Input) → e.input ≡ i → CopiesStand p.shape c (state_at p c (e ∷ es)) (messages (down_in_flight c (e ∷ es))) (entries_of (Client c) (e ∷ es))

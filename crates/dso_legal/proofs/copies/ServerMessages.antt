@@ -79,15 +79,19 @@ module _ (p : Settings) where
   serve_one true l waiter served rest h = told_each_map IsOfLease (λ d. d) (λ d. down.Recall l) _ (λ d. tt)
   serve_one false l waiter served rest h = (tt, h)
 
-  serve_each : (l : LockName) (queue : List Waiter) (served : LeaseTable) → EachTold IsOfLease (serve_queue p l queue served)
+  pub serve_each : (l : LockName) (queue : List Waiter) (served : LeaseTable) → EachTold IsOfLease (serve_queue p l queue served)
   serve_each l [] served = tt
   serve_each l (waiter ∷ queue) served = serve_one (list_any (is_against waiter served) (clients_of p)) l waiter served (serve_queue p l queue (with_grant waiter served)) (serve_each l queue (with_grant waiter served))
 
   serves_told : (c : ℕ) (l : LockName) (es : List Entry) → AllByRecursion IsOfLease (told_to c (serves p l es))
   serves_told c l es = each_told IsOfLease c (serves p l es) (serve_each l (queue_of l es) (leases_so_far l es))
 
+  -- and so does serving all
+  pub serves_all_told : (es : List Entry) → EachTold IsOfLease (serves_all p es)
+  serves_all_told es = told_each_flat IsOfLease (λ l. serves p l es) (requested es) (λ l. serve_each l (queue_of l es) (leases_so_far l es))
+
   all_told : (c : ℕ) (es : List Entry) → AllByRecursion IsOfLease (told_to c (serves_all p es))
-  all_told c es = each_told IsOfLease c (serves_all p es) (told_each_flat IsOfLease (λ l. serves p l es) (requested es) (λ l. serve_each l (queue_of l es) (leases_so_far l es)))
+  all_told c es = each_told IsOfLease c (serves_all p es) (serves_all_told es)
 
 -- For a fault the client itself is told the object as it is stored, no other client anything.
 pub record TellsObject (p : Settings) (c d o : ℕ) (server : List Entry) (ms : List Down) : Type 0 where
@@ -194,6 +198,13 @@ module _ (p : Settings) (next : ThreadId → List Event → Option Request) (c :
   -- What the server's entry tells the client.
   pub what_is_told : ServerFollows p next e es → IsToldOn p c e.input (is_of_lost e.input (entries_of Server es)) server (told_to c e.sent)
   what_is_told h = told_on e.input refl h.step
+
+-- For a record of a client that isn't lost it tells whether it was taken, what it sets, and then who is woken.
+pub record_is_told : (p : Settings) (next : ThreadId → List Event → Option Request) (c : ℕ) (e : Entry) (es : List Entry) → AllFollow p next es → ServerFollows p next e es
+    → (d : ℕ) (txn : Txn) → e.input ≡ input.TookUp d (up.Commit txn) → is_lost d (entries_of Server es) ≡ false → TellsRecord c d txn (counted (entries_of Server es)) (told_to c e.sent)
+record_is_told p next c e es follow h d txn is alive =
+    subst (λ b. IsToldOn p c (input.TookUp d (up.Commit txn)) b (counted (entries_of Server es)) (told_to c e.sent)) alive
+    (subst (λ i. IsToldOn p c i (is_of_lost i (entries_of Server es)) (counted (entries_of Server es)) (told_to c e.sent)) is (what_is_told p next c e es follow h))
 
 -- what the server takes in is neither a fault of the client nor a record of another one
 abbrev pub IsElse : ℕ → Input → Type 0

@@ -19,7 +19,7 @@ use Rattle.dso_plain.specs.History.{end_of, last_state}
 use Rattle.dso_plain.specs.Own.{LeavesOwn}
 use Rattle.dso_plain.specs.Touches.{AreActsOfOthers}
 use Rattle.dso_plain.proofs.keys.SameKeys.{same_number}
-use Rattle.dso_legal.proofs.PlainRuns.{leaves_own}
+use Rattle.dso_plain.proofs.independence.LeftAlone.{leaves_own}
 use Rattle.dso_law.specs.Settings.{Settings}
 use Rattle.dso_law.specs.Entries.{entries_of}
 use Rattle.dso_law.specs.Channels.{up_in_flight}
@@ -29,7 +29,7 @@ use Rattle.dso_law.specs.ServerReadings.{is_lost, counted}
 use Rattle.dso_law.specs.Granting.{standing_with, leased_to}
 use Rattle.dso_law.specs.Threads.{hold_of, open_block}
 use Rattle.dso_legal.specs.Agreement.{messages}
-use Rattle.dso_legal.specs.Committed.{committed}
+use Rattle.dso_legal.specs.AsMade.{as_made}
 use Rattle.dso_legal.specs.CopiesStand.{state_at}
 use Rattle.dso_legal.specs.Lawful.{AllFollow}
 use Rattle.dso_legal.specs.Line.{Standings, standings_up, HoldsWithin, Line}
@@ -100,19 +100,19 @@ module _ (p : Settings) (next : ThreadId → List Event → Option Request) (es 
     mate_known u l mate (Some hold) e = inr (sym (holds_still p next es follow c u (state_at p c es) (opens u mate) l hold.level (ap level_of e)) ∙ same_levels (hold_of u l own))
 
     -- what a thread of another client holds doesn't conflict with the client's leases
-    other_beside : LineStands p c es → (u : ThreadId) → u.client ≢ c → HoldsWithin u.client (λ l. standing_with u.client l (counted (entries_of Server es))) (last_state p.shape (committed es))
+    other_beside : LineStands p c es → (u : ThreadId) → u.client ≢ c → HoldsWithin u.client (λ l. standing_with u.client l (counted (entries_of Server es))) (last_state p.shape (as_made es))
         → (l : LockName) (x : Level) → is_enough x (leased l own) ≡ true → IsCompatible x (level_of (s.monitors (l, u)))
     other_beside line u other within l x enough =
-        let same : s.monitors (l, u) ≡ (last_state p.shape (committed es)).monitors (l, u) =
+        let same : s.monitors (l, u) ≡ (last_state p.shape (as_made es)).monitors (l, u) =
         (left_by_open u (λ e. other (ap (λ (w : ThreadId). w.client) e ∙ its))).monitors l
-        ∙ (line_leaves_own p.shape c u other (messages (up_in_flight c es)) (pending c es) (λ l. standing_with c l (counted (entries_of Server es))) (last_state p.shape (committed es)) line).monitors l in
+        ∙ (line_leaves_own p.shape c u other (messages (up_in_flight c es)) (pending c es) (λ l. standing_with c l (counted (entries_of Server es))) (last_state p.shape (as_made es)) line).monitors l in
         beside_read x (s.monitors (l, u)) (λ y e. both_read y x (leased_to u.client l (counted (entries_of Server es))) (leased_to c l (counted (entries_of Server es)))
         (within u l y refl (sym (ap level_of same) ∙ e))
         (lease_is_lent p next es follow c l x alive enough)
         (λ z f. (all_lent p next es follow l).compatible c u.client z (told_apart c u.client (λ e. other (sym e))) f))
 
     -- A thread sees the holds, where its open block ends.
-    pub sees_holds : LineStands p c es → ((d : ℕ) → HoldsWithin d (λ l. standing_with d l (counted (entries_of Server es))) (last_state p.shape (committed es))) → SeesHolds t own s
+    pub sees_holds : LineStands p c es → ((d : ℕ) → HoldsWithin d (λ l. standing_with d l (counted (entries_of Server es))) (last_state p.shape (as_made es))) → SeesHolds t own s
     sees_holds line within = record {
       own = have_now p next es follow c t (state_at p c es) (opens t its);
       mates = λ u l other mate.

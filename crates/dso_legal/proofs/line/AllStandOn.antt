@@ -1,5 +1,4 @@
 -- One step of the induction for lines and open blocks: what stands of all clients stands again after one more entry.
-use Rattle.std.specs.List.{AllByRecursion}
 use Rattle.std.proofs.Common.{ℕ, ◌≡◌, ◌≢◌, refl, sym, subst, Bool, true, false, eqb, List, ◌∷◌, ◌++◌}
 use Rattle.std.specs.Prelude.{Option}
 use Rattle.dso_base.specs.declared.journal.Entry.{Entry}
@@ -13,19 +12,19 @@ use Rattle.dso_base.specs.declared.record.Txn.{Txn}
 use Rattle.dso_base.specs.declared.request.Event.{Event}
 use Rattle.dso_base.specs.declared.request.Request.{Request}
 use Rattle.dso_plain.specs.State.{opening}
-use Rattle.dso_plain.specs.History.{Runs}
-use Rattle.dso_plain.specs.Touches.{MakesIn, NobodyTimesOut, NoCommonId}
+use Rattle.dso_plain.specs.History.{RunsButMarks}
+use Rattle.dso_plain.specs.Touches.{MakesIn, NoCommonId}
 use Rattle.dso_plain.proofs.keys.SameKeys.{same_number, number_self}
 use Rattle.dso_law.specs.Settings.{Settings}
 use Rattle.dso_law.specs.Entries.{entries_of}
 use Rattle.dso_law.specs.ServerReadings.{is_lost}
 use Rattle.dso_law.specs.Threads.{open_block}
-use Rattle.dso_legal.specs.WaitsAndLosses.{is_loss, WithoutWaits, WithoutLosses}
-use Rattle.dso_legal.specs.Committed.{committed}
+use Rattle.dso_legal.specs.WaitsAndLosses.{is_loss, WithoutLosses}
+use Rattle.dso_legal.specs.AsMade.{as_made}
 use Rattle.dso_legal.specs.CopiesStand.{state_at}
 use Rattle.dso_legal.specs.Lawful.{AllFollow}
 use Rattle.dso_legal.specs.PendingBlocks.{joined, pending}
-use Rattle.dso_legal.proofs.blocks.BlockSteps.{pending_in_time, open_in_time, none_is_lost}
+use Rattle.dso_legal.proofs.blocks.BlockSteps.{none_is_lost}
 use Rattle.dso_legal.proofs.records.HandedIn.{TakesBlock, takes_its_block}
 use Rattle.dso_legal.proofs.blocks.Histories.{history_takes}
 use Rattle.dso_legal.proofs.leases.LeaseSteps.{no_both}
@@ -52,7 +51,7 @@ moves_by_record (input.TookUp d other) m none = absurd (cc m)
 moves_by_record (input.Lose d) m none = absurd (cc none)
 moves_by_record other m none = absurd (cc m)
 
-module _ (p : Settings) (next : ThreadId → List Event → Option Request) (e : Entry) (es : List Entry) (follow : AllFollow p next (e ∷ es)) (calm : WithoutWaits (e ∷ es)) (safe : WithoutLosses (e ∷ es)) (stand : AllStand p es) where
+module _ (p : Settings) (next : ThreadId → List Event → Option Request) (e : Entry) (es : List Entry) (follow : AllFollow p next (e ∷ es)) (safe : WithoutLosses (e ∷ es)) (stand : AllStand p es) where
   -- A client stands again after an entry elsewhere.
   pub stands_elsewhere : (c : ℕ) → IsElsewhere c e.node e.input → LinesStand p c (e ∷ es)
   stands_elsewhere c elsewhere = record {
@@ -61,13 +60,13 @@ module _ (p : Settings) (next : ThreadId → List Event → Option Request) (e :
   }
 
   -- the history runs again where it stays
-  runs_still : committed (e ∷ es) ≡ committed es → Runs p.shape (committed (e ∷ es)) (opening p.shape)
-  runs_still history = subst (λ h. Runs p.shape h (opening p.shape)) (sym history) stand.runs
+  runs_still : as_made (e ∷ es) ≡ as_made es → RunsButMarks p.shape (as_made (e ∷ es)) (opening p.shape)
+  runs_still history = subst (λ h. RunsButMarks p.shape h (opening p.shape)) (sym history) stand.runs
 
   -- an entry of a client
   module _ (d : ℕ) (is : e.node ≡ Client d) (can : ActsCan p next e es) where
     own_by : (c : ℕ) (b : Bool) → eqb c d ≡ b → LinesStand p c (e ∷ es)
-    own_by c true same = subst (λ n. LinesStand p n (e ∷ es)) (sym (same_number c d same)) (stands_own p next e es follow calm safe stand d is can)
+    own_by c true same = subst (λ n. LinesStand p n (e ∷ es)) (sym (same_number c d same)) (stands_own p next e es follow safe stand d is can)
     own_by c false other = stands_elsewhere c (subst (λ node. IsElsewhere c node e.input) (sym is) other)
 
     -- all stand again after it
@@ -91,15 +90,15 @@ module _ (p : Settings) (next : ThreadId → List Event → Option Request) (e :
     abbrev block : List Event
     block = takes.block
 
-    history : committed (e ∷ es) ≡ committed es ++ block
-    history = history_takes p next e es follow.1 follow.0 calm.1 d txn alive takes
+    history : as_made (e ∷ es) ≡ as_made es ++ block
+    history = history_takes p next e es follow.1 follow.0 d txn alive takes
 
     -- the client whose record it is
     stands_taken : LinesStand p d (e ∷ es)
     stands_taken = record {
       line = line_taken p next e es follow d txn is took alive block history takes.first (stand.lines d).line;
-      opens = λ t its. subst (λ own. Runs p.shape (open_block t own) (state_at p d (e ∷ es))) (sym (server_turn d e es is).own)
-          (subst (λ s. Runs p.shape (open_block t (entries_of (Client d) es)) s) (sym (state_taken p next e es follow d txn is took alive block history takes.first (stand.lines d).line)) ((stand.lines d).opens t its));
+      opens = λ t its. subst (λ own. RunsButMarks p.shape (open_block t own) (state_at p d (e ∷ es))) (sym (server_turn d e es is).own)
+          (subst (λ s. RunsButMarks p.shape (open_block t (entries_of (Client d) es)) s) (sym (state_taken p next e es follow d txn is took alive block history takes.first (stand.lines d).line)) ((stand.lines d).opens t its));
     }
 
     -- another client
@@ -114,19 +113,15 @@ module _ (p : Settings) (next : ThreadId → List Event → Option Request) (e :
       ids : NoCommonId (MakesIn block) (MakesIn (joined (pending c es)))
       ids id made too = pending_apart p es (made_once p next es follow.0) c d unlike (stand.lines d).line (stand.lines c).line id (block_makes id made) too
 
-      -- nobody times out in the block, which is one of the pending ones
-      block_in_time : NobodyTimesOut block
-      block_in_time = (subst (λ blocks. AllByRecursion NobodyTimesOut blocks) takes.first (pending_in_time d es calm.1)).0
-
       pub passes : RecordPasses p c txn block e es
-      passes = line_passed p next e es follow d txn is took alive block history takes.first (stand.lines d).line c other ids block_in_time (pending_in_time c es calm.1) (stand.lines c).line
+      passes = line_passed p next e es follow d txn is took alive block history takes.first (stand.lines d).line c other ids (stand.lines c).line
 
       stands_passed : LinesStand p c (e ∷ es)
       stands_passed = record {
         line = passes.line;
-        opens = λ t its. subst (λ own. Runs p.shape (open_block t own) (state_at p c (e ∷ es))) (sym (server_turn c e es is).own)
-            (opens_passed p next es follow.0 c t txn block e its (none_is_lost c es safe.1) (opens_from p next es follow.0 calm.1 safe.1 stand c t its) passes
-            (λ id made too. open_apart p es (made_once p next es follow.0) c d unlike (stand.lines d).line t its id (block_makes id made) too) (open_in_time t (Client c) es calm.1));
+        opens = λ t its. subst (λ own. RunsButMarks p.shape (open_block t own) (state_at p c (e ∷ es))) (sym (server_turn c e es is).own)
+            (opens_passed p next es follow.0 c t txn block e its (none_is_lost c es safe.1) (opens_from p next es follow.0 safe.1 stand c t its) passes
+            (λ id made too. open_apart p es (made_once p next es follow.0) c d unlike (stand.lines d).line t its id (block_makes id made) too));
       }
 
     taken_by : (c : ℕ) (b : Bool) → eqb c d ≡ b → LinesStand p c (e ∷ es)
@@ -151,6 +146,6 @@ module _ (p : Settings) (next : ThreadId → List Event → Option Request) (e :
   all_at can (Client d) is = all_by_client d is can
 
 -- All stands again after an entry whose event is possible.
-pub all_stand_on : (p : Settings) (next : ThreadId → List Event → Option Request) (e : Entry) (es : List Entry) → AllFollow p next (e ∷ es) → WithoutWaits (e ∷ es) → WithoutLosses (e ∷ es) → ActsCan p next e es
+pub all_stand_on : (p : Settings) (next : ThreadId → List Event → Option Request) (e : Entry) (es : List Entry) → AllFollow p next (e ∷ es) → WithoutLosses (e ∷ es) → ActsCan p next e es
     → AllStand p es → AllStand p (e ∷ es)
-all_stand_on p next e es follow calm safe can stand = all_at p next e es follow calm safe stand can e.node refl
+all_stand_on p next e es follow safe can stand = all_at p next e es follow safe stand can e.node refl

@@ -19,14 +19,14 @@ use Rattle.dso_base.specs.declared.request.Request.{Request}
 use Rattle.dso_base.specs.declared.request.Request.TheVariants.{Exit, Wait, Timeout, End}
 use Rattle.dso_base.specs.declared.shape.Shape.{Shape}
 use Rattle.dso_base.specs.Following.{is_thread}
-use Rattle.dso_plain.specs.History.{Runs, end_of, last_state}
+use Rattle.dso_plain.specs.History.{RunsButMarks, end_of, last_state}
 use Rattle.dso_plain.specs.StepInvariants.{PastInvariant}
 use Rattle.dso_plain.specs.State.{PlainState, IsShared, guard_in}
 use Rattle.dso_plain.specs.Touches.{AreActsOf, TouchesIn}
 use Rattle.dso_plain.proofs.keys.SameKeys.{same_thread}
-use Rattle.dso_legal.proofs.PlainRuns.{leaves_own}
+use Rattle.dso_plain.proofs.independence.LeftAlone.{leaves_own}
 use Rattle.dso_plain.proofs.invariants.PastsHold.{kept_past}
-use Rattle.dso_legal.proofs.PlainRuns.{run_kept}
+use Rattle.dso_plain.proofs.invariants.PastsHold.{run_kept}
 use Rattle.dso_law.specs.Copies.{is_resident, is_set_of}
 use Rattle.dso_law.specs.Entries.{entries_of}
 use Rattle.dso_law.specs.Leases.{standing, leased}
@@ -36,8 +36,8 @@ use Rattle.dso_law.specs.Granting.{standing_with}
 use Rattle.dso_law.specs.Settings.{Settings}
 use Rattle.dso_law.specs.Threads.{Locks, ending_by, locks_of, open_block, privates_before, work_of}
 use Rattle.dso_legal.specs.Agreement.{messages}
-use Rattle.dso_legal.specs.WaitsAndLosses.{WithoutWaits, WithoutLosses}
-use Rattle.dso_legal.specs.Committed.{committed}
+use Rattle.dso_legal.specs.WaitsAndLosses.{WithoutLosses}
+use Rattle.dso_legal.specs.AsMade.{as_made}
 use Rattle.dso_legal.specs.CopiesStand.{state_at}
 use Rattle.dso_legal.specs.Lawful.{AllFollow}
 use Rattle.dso_legal.specs.PendingBlocks.{joined, pending}
@@ -67,8 +67,8 @@ ending_work shape (Timeout l) reply woken work locks ending ends = refl
 ending_work shape (End fault) reply woken work locks ending ends = refl
 ending_work shape request reply woken work locks ending ends = absurd (cc ends)
 
-module _ (p : Settings) (next : ThreadId → List Event → Option Request) (e : Entry) (es : List Entry) (follow : AllFollow p next (e ∷ es)) (calm : WithoutWaits (e ∷ es)) (safe : WithoutLosses (e ∷ es)) (stand : AllStand p es)
-    (c : ℕ) (at : e.node ≡ Client c) (it : EndsBlock p e (entries_of (Client c) es)) (runs : Runs p.shape (block_ended it) (state_at p c es)) where
+module _ (p : Settings) (next : ThreadId → List Event → Option Request) (e : Entry) (es : List Entry) (follow : AllFollow p next (e ∷ es)) (safe : WithoutLosses (e ∷ es)) (stand : AllStand p es)
+    (c : ℕ) (at : e.node ≡ Client c) (it : EndsBlock p e (entries_of (Client c) es)) (runs : RunsButMarks p.shape (block_ended it) (state_at p c es)) where
   abbrev own : List Entry
   own = entries_of (Client c) es
 
@@ -91,7 +91,7 @@ module _ (p : Settings) (next : ThreadId → List Event → Option Request) (e :
   its_client = ending_thread p next c e es follow.0 follow.1 at it
 
   opens : OpensFrom p.shape it.thread own s
-  opens = opens_from p next es follow.0 calm.1 safe.1 stand c it.thread its_client
+  opens = opens_from p next es follow.0 safe.1 stand c it.thread its_client
 
   acts : AreActsOf it.thread (block_ended it)
   acts = block_acts it.thread it.request it.reply it.woken own
@@ -102,17 +102,17 @@ module _ (p : Settings) (next : ThreadId → List Event → Option Request) (e :
       (ended_touches p next es follow.0 c it.thread s opens it.ending (Act it.thread it.request it.reply it.woken) refl it.ends acts runs l x touch))
 
   -- the blocks in flight run
-  pends : Runs p.shape (joined (pending c es)) (last_state p.shape (committed es))
-  pends = line_runs p.shape c (messages (up_in_flight c es)) (pending c es) (λ l. standing_with c l (counted (entries_of Server es))) (last_state p.shape (committed es)) (stand.lines c).line
+  pends : RunsButMarks p.shape (joined (pending c es)) (last_state p.shape (as_made es))
+  pends = line_runs p.shape c (messages (up_in_flight c es)) (pending c es) (λ l. standing_with c l (counted (entries_of Server es))) (last_state p.shape (as_made es)) (stand.lines c).line
 
   -- pasts are kept where the client stands
   kept : PastInvariant s
-  kept = run_kept p.shape (joined (pending c es)) (last_state p.shape (committed es)) pends (history_kept p.shape (committed es) stand.runs)
+  kept = run_kept p.shape (joined (pending c es)) (last_state p.shape (as_made es)) pends (history_kept p.shape (as_made es) stand.runs)
 
   -- the private objects are those of the state
   are : ArePrivates it.thread privates s
   are = subst (λ bodies. ArePrivates it.thread bodies s) (sym (keeps_thread p.shape it.thread own).privates)
-      (privates_at_of works_tell p next it.thread c its_client es follow.0 calm.1 (none_is_lost c es safe.1) stand.runs pends)
+      (privates_at_of works_tell p next it.thread c its_client es follow.0 (none_is_lost c es safe.1) stand.runs pends)
 
   -- what the block sets is of leased guards
   sets_leased : (o f : ℕ) → list_any (is_set_of o f) work.sets ≡ true → (standing (guard_in p.shape s o f) own).lease ≢ None

@@ -32,7 +32,8 @@ use Rattle.dso_law.specs.RequestNeeds.{is_enough}
 use Rattle.dso_law.specs.ServerReadings.{is_lost, is_of_lost, counted, number_by, last_number}
 use Rattle.dso_law.specs.Granting.{standing_by, standing_with}
 use Rattle.dso_legal.specs.Agreement.{messages, after, EachMay}
-use Rattle.dso_legal.specs.Committed.{ended_blocks, committed, committed_by, committed_at}
+use Rattle.dso_legal.specs.Committed.{ended_blocks}
+use Rattle.dso_legal.specs.AsMade.{as_made, made_by, made_at}
 use Rattle.dso_legal.specs.CopiesStand.{state_at}
 use Rattle.dso_legal.specs.Lawful.{ServerFollows, NodeFollows, AllFollow}
 use Rattle.dso_legal.specs.Line.{Standings, standings_up, Line}
@@ -47,7 +48,7 @@ use Rattle.dso_legal.proofs.channels.InFlight.{told_to}
 
 -- the line of a client, after the entries
 abbrev pub LineStands : Settings → ℕ → List Entry → Type 0
-LineStands p c es = Line p.shape c (messages (up_in_flight c es)) (pending c es) (λ l. standing_with c l (counted (entries_of Server es))) (last_state p.shape (committed es))
+LineStands p c es = Line p.shape c (messages (up_in_flight c es)) (pending c es) (λ l. standing_with c l (counted (entries_of Server es))) (last_state p.shape (as_made es))
 
 -- whether the input moves the history: a record, or a loss
 abbrev pub moves : Input → Bool
@@ -61,7 +62,7 @@ IsElsewhere c Server input = moves input ≡ false
 IsElsewhere c (Client d) input = eqb c d ≡ false
 
 -- an input that doesn't move the history gives it nothing
-pub gives_none : (input : Input) (es : List Entry) → moves input ≡ false → committed_by input es ≡ []
+pub gives_none : (input : Input) (es : List Entry) → moves input ≡ false → made_by input es ≡ []
 gives_none (input.TookUp d (up.Commit txn)) es still = absurd (cc still)
 gives_none (input.TookUp d m) es still = refl
 gives_none (input.Lose d) es still = absurd (cc still)
@@ -129,7 +130,7 @@ module _ (c : ℕ) (e : Entry) (es : List Entry) where
   pending_with node = drop (last_number c (counted (server_with node e es))) (ended_blocks (client_with c node e es))
 
   abbrev pub committed_with : Node → List Event
-  committed_with node = committed es ++ committed_at node e.input es
+  committed_with node = as_made es ++ made_at node e.input es
 
   abbrev pub standings_with : Node → Standings
   standings_with node l = standing_with c l (counted (server_with node e es))
@@ -146,9 +147,9 @@ module _ (c : ℕ) (e : Entry) (es : List Entry) where
   pending_still (Client d) other = ap (λ own. drop (last_number c (counted (entries_of Server es))) (ended_blocks own)) (unless_true (eqb c d) (e ∷ entries_of (Client c) es) (entries_of (Client c) es) other)
 
   -- The history stays.
-  pub committed_still : (node : Node) → IsElsewhere c node e.input → committed_with node ≡ committed es
-  committed_still Server still = ap (λ more. committed es ++ more) (gives_none e.input es still) ∙ append-nil (committed es)
-  committed_still (Client d) other = append-nil (committed es)
+  pub committed_still : (node : Node) → IsElsewhere c node e.input → committed_with node ≡ as_made es
+  committed_still Server still = ap (λ more. as_made es ++ more) (gives_none e.input es still) ∙ append-nil (as_made es)
+  committed_still (Client d) other = append-nil (as_made es)
 
 module _ (p : Settings) (next : ThreadId → List Event → Option Request) (c : ℕ) (e : Entry) (es : List Entry) where
   -- what is told to the client lets its leases grow
@@ -164,34 +165,34 @@ module _ (p : Settings) (next : ThreadId → List Event → Option Request) (c :
 
   -- the line after an entry of the server that counts
   line_counted : AllFollow p next es → TakesFirst e.input Server es → ServerFollows p next e es → is_of_lost e.input (entries_of Server es) ≡ false → moves e.input ≡ false → LineStands p c es
-      → Line p.shape c (messages (in_flight_after (to_server c) e Server (up_in_flight c es))) (pending c es) (standings_with c e es Server) (last_state p.shape (committed es))
+      → Line p.shape c (messages (in_flight_after (to_server c) e Server (up_in_flight c es))) (pending c es) (standings_with c e es Server) (last_state p.shape (as_made es))
   line_counted follow first h counts still line =
       let same : counted (e ∷ entries_of Server es) ≡ e ∷ counted (entries_of Server es) = unless_true (is_of_lost e.input (entries_of Server es)) (counted (entries_of Server es)) (e ∷ counted (entries_of Server es)) counts in
-      subst (λ js. Line p.shape c (messages (in_flight_after (to_server c) e Server (up_in_flight c es))) (pending c es) (λ l. standing_with c l js) (last_state p.shape (committed es))) (sym same)
+      subst (λ js. Line p.shape c (messages (in_flight_after (to_server c) e Server (up_in_flight c es))) (pending c es) (λ l. standing_with c l js) (last_state p.shape (as_made es))) (sym same)
       (line_grows p.shape c (messages (in_flight_after (to_server c) e Server (up_in_flight c es))) (pending c es) (λ l. standing_by c l e.input (standing_with c l (counted (entries_of Server es)))) (λ l. standing_with c l (e ∷ counted (entries_of Server es)))
-      (last_state p.shape (committed es)) (told_grow follow h counts)
-      (heard p.shape c e.input es (pending c es) (λ l. standing_with c l (counted (entries_of Server es))) (last_state p.shape (committed es)) still first line))
+      (last_state p.shape (as_made es)) (told_grow follow h counts)
+      (heard p.shape c e.input es (pending c es) (λ l. standing_with c l (counted (entries_of Server es))) (last_state p.shape (as_made es)) still first line))
 
   -- and after one that doesn't
   line_skipped : is_of_lost e.input (entries_of Server es) ≡ true → is_lost c (entries_of Server es) ≡ false → LineStands p c es
-      → Line p.shape c (messages (in_flight_after (to_server c) e Server (up_in_flight c es))) (pending c es) (standings_with c e es Server) (last_state p.shape (committed es))
+      → Line p.shape c (messages (in_flight_after (to_server c) e Server (up_in_flight c es))) (pending c es) (standings_with c e es Server) (last_state p.shape (as_made es))
   line_skipped skipped alive line =
       let same : counted (e ∷ entries_of Server es) ≡ counted (entries_of Server es) = if_true (is_of_lost e.input (entries_of Server es)) (counted (entries_of Server es)) (e ∷ counted (entries_of Server es)) skipped in
       let way : in_flight_after (to_server c) e Server (up_in_flight c es) ≡ up_in_flight c es = unless_true (takes_up c e.input) (drop 1 (up_in_flight c es)) (up_in_flight c es) (skipped_way c e.input (entries_of Server es) skipped alive) in
-      subst (λ js. Line p.shape c (messages (in_flight_after (to_server c) e Server (up_in_flight c es))) (pending c es) (λ l. standing_with c l js) (last_state p.shape (committed es))) (sym same)
-      (subst (λ w. Line p.shape c (messages w) (pending c es) (λ l. standing_with c l (counted (entries_of Server es))) (last_state p.shape (committed es))) (sym way) line)
+      subst (λ js. Line p.shape c (messages (in_flight_after (to_server c) e Server (up_in_flight c es))) (pending c es) (λ l. standing_with c l js) (last_state p.shape (as_made es))) (sym same)
+      (subst (λ w. Line p.shape c (messages w) (pending c es) (λ l. standing_with c l (counted (entries_of Server es))) (last_state p.shape (as_made es))) (sym way) line)
 
   -- by whether it counts
   line_by_server : (b : Bool) → is_of_lost e.input (entries_of Server es) ≡ b → AllFollow p next es → TakesFirst e.input Server es → ServerFollows p next e es → is_lost c (entries_of Server es) ≡ false → moves e.input ≡ false → LineStands p c es
-      → Line p.shape c (messages (in_flight_after (to_server c) e Server (up_in_flight c es))) (pending c es) (standings_with c e es Server) (last_state p.shape (committed es))
+      → Line p.shape c (messages (in_flight_after (to_server c) e Server (up_in_flight c es))) (pending c es) (standings_with c e es Server) (last_state p.shape (as_made es))
   line_by_server true skipped follow first h alive still line = line_skipped skipped alive line
   line_by_server false counts follow first h alive still line = line_counted follow first h counts still line
 
   -- the line, with the pending blocks and the history that were before
   line_at : (node : Node) → AllFollow p next es → TakesFirst e.input node es → NodeFollows p next node e es → is_lost c (entries_of Server es) ≡ false → IsElsewhere c node e.input → LineStands p c es
-      → Line p.shape c (messages (in_flight_after (to_server c) e node (up_in_flight c es))) (pending c es) (standings_with c e es node) (last_state p.shape (committed es))
+      → Line p.shape c (messages (in_flight_after (to_server c) e node (up_in_flight c es))) (pending c es) (standings_with c e es node) (last_state p.shape (as_made es))
   line_at Server follow first h alive still line = line_by_server (is_of_lost e.input (entries_of Server es)) refl follow first h alive still line
-  line_at (Client d) follow first h alive other line = subst (λ w. Line p.shape c (messages w) (pending c es) (standings_with c e es (Client d)) (last_state p.shape (committed es)))
+  line_at (Client d) follow first h alive other line = subst (λ w. Line p.shape c (messages w) (pending c es) (standings_with c e es (Client d)) (last_state p.shape (as_made es)))
       (sym (unless_true (eqb c d) _ (up_in_flight c es) other)) line
 
   line_with : (node : Node) → AllFollow p next es → TakesFirst e.input node es → NodeFollows p next node e es → is_lost c (entries_of Server es) ≡ false → IsElsewhere c node e.input → LineStands p c es → Line p.shape c (messages (in_flight_after (to_server c) e node (up_in_flight c es))) (pending_with c e es node) (standings_with c e es node) (last_state p.shape (committed_with c e es node))
@@ -203,18 +204,18 @@ module _ (p : Settings) (next : ThreadId → List Event → Option Request) (c :
 -- what stays of a client at an entry elsewhere
 pub record StandsStill (p : Settings) (c : ℕ) (e : Entry) (es : List Entry) : Type 0 where
   pub blocks : pending c (e ∷ es) ≡ pending c es
-  pub history : committed (e ∷ es) ≡ committed es
+  pub history : as_made (e ∷ es) ≡ as_made es
   pub state : state_at p c (e ∷ es) ≡ state_at p c es
 
 -- The pending blocks, the history and so the state at the client stay at an entry elsewhere.
 pub stands_still : (p : Settings) (c : ℕ) (e : Entry) (es : List Entry) → IsElsewhere c e.node e.input → StandsStill p c e es
 stands_still p c e es elsewhere =
     let blocks : pending c (e ∷ es) ≡ pending c es = pending_still c e es e.node elsewhere in
-    let history : committed (e ∷ es) ≡ committed es = committed_still c e es e.node elsewhere in
+    let history : as_made (e ∷ es) ≡ as_made es = committed_still c e es e.node elsewhere in
     record {
       blocks = blocks;
       history = history;
-      state = ap (λ blocks. end_of p.shape (joined blocks) (last_state p.shape (committed (e ∷ es)))) blocks ∙ ap (λ h. end_of p.shape (joined (pending c es)) (last_state p.shape h)) history;
+      state = ap (λ blocks. end_of p.shape (joined blocks) (last_state p.shape (as_made (e ∷ es)))) blocks ∙ ap (λ h. end_of p.shape (joined (pending c es)) (last_state p.shape h)) history;
     }
 
 -- The line of a client that isn't lost stands again at an entry elsewhere.

@@ -18,7 +18,7 @@ use Rattle.dso_base.specs.declared.request.Event.TheVariants.{Act}
 use Rattle.dso_base.specs.declared.request.Reply.{Reply}
 use Rattle.dso_base.specs.declared.request.Request.{Request}
 use Rattle.dso_base.specs.Block.{txn_of}
-use Rattle.dso_plain.specs.History.{Runs, end_of}
+use Rattle.dso_plain.specs.History.{RunsButMarks, end_of}
 use Rattle.dso_plain.specs.Touches.{IsActOf, AreActsOf}
 use Rattle.dso_law.specs.Settings.{Settings}
 use Rattle.dso_law.specs.Entries.{entries_of, by_event}
@@ -123,7 +123,7 @@ module _ (p : Settings) (next : ThreadId → List Event → Option Request) (e :
 
   -- The line after an act that ends a block.
   pub own_ends : (it : HasEvent p e own) (ending : Ending) → ending_of (event_it p e own it) (locks_of it.thread own) ≡ Some ending → it.thread.client ≡ c → OpensFrom p.shape it.thread own (state_at p c es)
-      → Runs p.shape (block_it p e own it) (state_at p c es) → HoldsLeased c (e ∷ own) (end_of p.shape (block_it p e own it) (state_at p c es)) → EndsBlock p c (block_it p e own it) e es
+      → RunsButMarks p.shape (block_it p e own it) (state_at p c es) → HoldsLeased c (e ∷ own) (end_of p.shape (block_it p e own it) (state_at p c es)) → EndsBlock p c (block_it p e own it) e es
   own_ends it ending ends its opens runs held =
       let acts : AreActsOf it.thread (block_it p e own it) = acts_more it.thread (open_block it.thread own) (event_it p e own it) opens.keeps.acts refl in
       line_ended p next e es follow c is alive (record_it p e own it ending) (block_it p e own it) it.rest (says_with p e own it (Some ending) ends) (all_plain it.rest it.no_records) few

@@ -11,8 +11,8 @@ use Rattle.dso_base.specs.declared.request.Event.{Event}
 use Rattle.dso_base.specs.declared.shape.Shape.{Shape}
 use Rattle.dso_plain.specs.KeyTests.{is_lock}
 use Rattle.dso_plain.specs.State.{PlainState}
-use Rattle.dso_plain.specs.History.{Runs, end_of}
-use Rattle.dso_plain.proofs.independence.RunsSwap.{runs_in_parts, ends_in_parts}
+use Rattle.dso_plain.specs.History.{RunsButMarks, end_of}
+use Rattle.dso_plain.proofs.independence.RunsSwap.{runs_but_marks_in_parts, ends_in_parts}
 use Rattle.dso_law.specs.declared.readings.Standing.{Standing}
 use Rattle.dso_law.specs.RequestNeeds.{is_enough}
 use Rattle.dso_legal.specs.Agreement.{after}
@@ -63,11 +63,11 @@ message_grows m st st' more l x e = more l x e
 
 module _ (shape : Shape) (c : ℕ) where
   -- the blocks of a line run one after the other
-  pub line_runs : (ms : List Up) (blocks : List (List Event)) (st : Standings) (s : PlainState) → Line shape c ms blocks st s → Runs shape (joined blocks) s
+  pub line_runs : (ms : List Up) (blocks : List (List Event)) (st : Standings) (s : PlainState) → Line shape c ms blocks st s → RunsButMarks shape (joined blocks) s
   line_runs [] [] st s h = tt
   line_runs [] (block ∷ blocks) st s h = absurd h
   line_runs (up.Commit txn ∷ ms) [] st s h = absurd h
-  line_runs (up.Commit txn ∷ ms) (block ∷ blocks) st s h = (runs_in_parts shape block (joined blocks) s).1 (h.1.runs, line_runs ms blocks st (end_of shape block s) h.2)
+  line_runs (up.Commit txn ∷ ms) (block ∷ blocks) st s h = (runs_but_marks_in_parts shape block (joined blocks) s).1 (h.1.runs, line_runs ms blocks st (end_of shape block s) h.2)
   line_runs (m ∷ ms) blocks st s h = line_runs ms blocks (standings_up m st) s h.1
 
   -- at the line's front what is held is within the leases

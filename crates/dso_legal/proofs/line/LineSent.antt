@@ -15,7 +15,7 @@ use Rattle.dso_base.specs.declared.request.Event.{Event}
 use Rattle.dso_base.specs.declared.request.Request.{Request}
 use Rattle.dso_base.specs.declared.shape.Shape.{Shape}
 use Rattle.dso_plain.specs.State.{PlainState, level_of}
-use Rattle.dso_plain.specs.History.{Runs, end_of, last_state}
+use Rattle.dso_plain.specs.History.{RunsButMarks, end_of, last_state}
 use Rattle.dso_plain.specs.Touches.{TouchesIn, AreActsOf}
 use Rattle.dso_plain.proofs.keys.SameKeys.{number_self}
 use Rattle.dso_plain.proofs.independence.RunsSwap.{ends_in_parts}
@@ -28,7 +28,8 @@ use Rattle.dso_law.specs.RequestNeeds.{is_enough}
 use Rattle.dso_law.specs.ServerReadings.{is_lost, counted, last_number}
 use Rattle.dso_law.specs.Granting.{standing_with}
 use Rattle.dso_legal.specs.Agreement.{messages, after}
-use Rattle.dso_legal.specs.Committed.{ended_blocks, committed, committed_at}
+use Rattle.dso_legal.specs.Committed.{ended_blocks}
+use Rattle.dso_legal.specs.AsMade.{as_made, made_at}
 use Rattle.dso_legal.specs.CopiesStand.{state_at}
 use Rattle.dso_legal.specs.Lawful.{AllFollow}
 use Rattle.dso_legal.specs.Line.{Standings, standings_up, HoldsWithin, Line}
@@ -73,7 +74,7 @@ joined_more (first ∷ blocks) block = ap (λ rest. first ++ rest) (joined_more 
 
 -- a record and then messages that are no records, behind a line
 line_goes_on : (shape : Shape) (c : ℕ) (txn : Txn) (block : List Event) (ns ms : List Up) (blocks : List (List Event)) (st : Standings) (s : PlainState) → AllByRecursion (λ m. is_record m ≡ false) ns
-    → txn.thread.client ≡ c → AreActsOf txn.thread block → Runs shape block (end_of shape (joined blocks) s)
+    → txn.thread.client ≡ c → AreActsOf txn.thread block → RunsButMarks shape block (end_of shape (joined blocks) s)
     → ((l : LockName) (x : Level) → TouchesIn shape block (end_of shape (joined blocks) s) l x → is_enough x (after standings_up ms st l).lease ≡ true)
     → HoldsWithin c (after standings_up (ms ++ up.Commit txn ∷ ns) st) (end_of shape block (end_of shape (joined blocks) s))
     → Line shape c ms blocks st s → Line shape c (ms ++ up.Commit txn ∷ ns) (blocks ++ block ∷ []) st s
@@ -95,14 +96,14 @@ line_goes_on shape c txn block ns ms blocks st s plain its acts runs within held
 pub record SendsOn (p : Settings) (c : ℕ) (e : Entry) (es : List Entry) : Type 0 where
   pub line : LineStands p c (e ∷ es)
   pub blocks : pending c (e ∷ es) ≡ pending c es
-  pub history : committed (e ∷ es) ≡ committed es
+  pub history : as_made (e ∷ es) ≡ as_made es
   pub state : state_at p c (e ∷ es) ≡ state_at p c es
 
 -- and of one for which it ends a block
 pub record EndsBlock (p : Settings) (c : ℕ) (block : List Event) (e : Entry) (es : List Entry) : Type 0 where
   pub line : LineStands p c (e ∷ es)
   pub blocks : pending c (e ∷ es) ≡ pending c es ++ block ∷ []
-  pub history : committed (e ∷ es) ≡ committed es
+  pub history : as_made (e ∷ es) ≡ as_made es
   pub state : state_at p c (e ∷ es) ≡ end_of p.shape block (state_at p c es)
 
 module _ (p : Settings) (next : ThreadId → List Event → Option Request) (e : Entry) (es : List Entry) (follow : AllFollow p next (e ∷ es)) (c : ℕ) (is : e.node ≡ Client c) (alive : is_lost c (entries_of Server es) ≡ false) where
@@ -113,7 +114,7 @@ module _ (p : Settings) (next : ThreadId → List Event → Option Request) (e :
   st l = standing_with c l (counted (entries_of Server es))
 
   abbrev s : PlainState
-  s = last_state p.shape (committed es)
+  s = last_state p.shape (as_made es)
 
   -- the server's entries stay, the client's are one more, what it says is in flight, and the history stays
   server_now : entries_of Server (e ∷ es) ≡ entries_of Server es
@@ -125,8 +126,8 @@ module _ (p : Settings) (next : ThreadId → List Event → Option Request) (e :
   pub way_now : messages (up_in_flight c (e ∷ es)) ≡ messages (up_in_flight c es) ++ said_of e.sent
   way_now = ap (λ n. messages (in_flight_after (to_server c) e n (up_in_flight c es))) is ∙ ap (λ letters. messages letters) (if_true (eqb c c) (by_sent_up (posted e.clock) e.sent (up_in_flight c es)) (up_in_flight c es) (number_self c)) ∙ said_letters e.clock e.sent (up_in_flight c es)
 
-  history_now : committed (e ∷ es) ≡ committed es
-  history_now = ap (λ n. committed es ++ committed_at n e.input es) is ∙ append-nil (committed es)
+  history_now : as_made (e ∷ es) ≡ as_made es
+  history_now = ap (λ n. as_made es ++ made_at n e.input es) is ∙ append-nil (as_made es)
 
   -- the pending blocks have behind them those that the entry ends
   pub pending_now : (more : List (List Event)) → handed_in c es ≤ length (ended_blocks own) → ended_blocks (e ∷ own) ≡ ended_blocks own ++ more → pending c (e ∷ es) ≡ pending c es ++ more
@@ -136,9 +137,9 @@ module _ (p : Settings) (next : ThreadId → List Event → Option Request) (e :
 
   -- the line from its parts
   stands : (ms : List Up) (blocks : List (List Event)) → messages (up_in_flight c (e ∷ es)) ≡ ms → pending c (e ∷ es) ≡ blocks → Line p.shape c ms blocks st s → LineStands p c (e ∷ es)
-  stands ms blocks way ended line = subst (λ n. Line p.shape c n (pending c (e ∷ es)) (λ l. standing_with c l (counted (entries_of Server (e ∷ es)))) (last_state p.shape (committed (e ∷ es)))) (sym way)
-      (subst (λ n. Line p.shape c ms n (λ l. standing_with c l (counted (entries_of Server (e ∷ es)))) (last_state p.shape (committed (e ∷ es)))) (sym ended)
-      (subst (λ server. Line p.shape c ms blocks (λ l. standing_with c l (counted server)) (last_state p.shape (committed (e ∷ es)))) (sym server_now)
+  stands ms blocks way ended line = subst (λ n. Line p.shape c n (pending c (e ∷ es)) (λ l. standing_with c l (counted (entries_of Server (e ∷ es)))) (last_state p.shape (as_made (e ∷ es)))) (sym way)
+      (subst (λ n. Line p.shape c ms n (λ l. standing_with c l (counted (entries_of Server (e ∷ es)))) (last_state p.shape (as_made (e ∷ es)))) (sym ended)
+      (subst (λ server. Line p.shape c ms blocks (λ l. standing_with c l (counted server)) (last_state p.shape (as_made (e ∷ es)))) (sym server_now)
       (subst (λ h. Line p.shape c ms blocks st (last_state p.shape h)) (sym history_now) line)))
 
   -- what is held within the client's leases after the entry is so at the end of what is in flight to the server
@@ -160,13 +161,13 @@ module _ (p : Settings) (next : ThreadId → List Event → Option Request) (e :
             (subst (λ r. HoldsWithin c r (state_at p c es)) leases (held_now (state_at p c es) held)));
         blocks = blocks;
         history = history_now;
-        state = ap (λ b. end_of p.shape (joined b) (last_state p.shape (committed (e ∷ es)))) blocks ∙ ap (λ h. end_of p.shape (joined (pending c es)) (last_state p.shape h)) history_now;
+        state = ap (λ b. end_of p.shape (joined b) (last_state p.shape (as_made (e ∷ es)))) blocks ∙ ap (λ h. end_of p.shape (joined (pending c es)) (last_state p.shape h)) history_now;
       }
 
   -- The line of a client at an entry of its own that ends a block: the block can run, what it touches is within the leases that
   -- the client had, and what is held behind it within those that it has then.
   pub line_ended : (txn : Txn) (block : List Event) (ns : List Up) → said_of e.sent ≡ up.Commit txn ∷ ns → AllByRecursion (λ m. is_record m ≡ false) ns → handed_in c es ≤ length (ended_blocks own)
-      → ended_blocks (e ∷ own) ≡ ended_blocks own ++ block ∷ [] → txn.thread.client ≡ c → AreActsOf txn.thread block → Runs p.shape block (state_at p c es)
+      → ended_blocks (e ∷ own) ≡ ended_blocks own ++ block ∷ [] → txn.thread.client ≡ c → AreActsOf txn.thread block → RunsButMarks p.shape block (state_at p c es)
       → ((l : LockName) (x : Level) → TouchesIn p.shape block (state_at p c es) l x → is_enough x (leased l own) ≡ true) → HoldsLeased c (e ∷ own) (end_of p.shape block (state_at p c es))
       → LineStands p c es → EndsBlock p c block e es
   line_ended txn block ns said plain few ended its acts runs within held line =
@@ -180,6 +181,6 @@ module _ (p : Settings) (next : ThreadId → List Event → Option Request) (e :
             line);
         blocks = blocks;
         history = history_now;
-        state = ap (λ b. end_of p.shape (joined b) (last_state p.shape (committed (e ∷ es)))) blocks ∙ ap (λ h. end_of p.shape (joined (pending c es ++ block ∷ [])) (last_state p.shape h)) history_now
+        state = ap (λ b. end_of p.shape (joined b) (last_state p.shape (as_made (e ∷ es)))) blocks ∙ ap (λ h. end_of p.shape (joined (pending c es ++ block ∷ [])) (last_state p.shape h)) history_now
             ∙ ap (λ h. end_of p.shape h s) (joined_more (pending c es) block) ∙ ends_in_parts p.shape (joined (pending c es)) block s;
       }

@@ -1,6 +1,5 @@
 -- A client's line where the server takes a record: the client's own line is cut behind the first block, which becomes the
 -- history's last; another client's line has that block in front.
-use Rattle.std.specs.List.{AllByRecursion}
 use Rattle.std.proofs.Common.{ℕ, ◌≡◌, ◌≢◌, refl, sym, ◌∙◌, ap, subst, Bool, true, false, cond, eqb, List, [], ◌∷◌, ◌++◌}
 use Rattle.std.specs.Prelude.{Option, Some, None, drop}
 use Rattle.dso_base.specs.declared.journal.Entry.{Entry}
@@ -16,10 +15,10 @@ use Rattle.dso_base.specs.declared.request.Event.{Event}
 use Rattle.dso_base.specs.declared.request.Request.{Request}
 use Rattle.dso_base.specs.declared.shape.Shape.{Shape}
 use Rattle.dso_plain.specs.State.{PlainState, opening}
-use Rattle.dso_plain.specs.History.{Runs, end_of, last_state}
-use Rattle.dso_plain.specs.Touches.{MakesIn, AreActsOf, NobodyTimesOut, NoCommonId}
+use Rattle.dso_plain.specs.History.{RunsButMarks, end_of, last_state}
+use Rattle.dso_plain.specs.Touches.{MakesIn, AreActsOf, NoCommonId}
 use Rattle.dso_plain.proofs.keys.SameKeys.{number_self}
-use Rattle.dso_plain.proofs.independence.RunsSwap.{runs_in_parts, ends_in_parts}
+use Rattle.dso_plain.proofs.independence.RunsSwap.{runs_but_marks_in_parts, ends_in_parts}
 use Rattle.dso_law.specs.declared.readings.Standing.{Standing}
 use Rattle.dso_law.specs.Settings.{Settings}
 use Rattle.dso_law.specs.Entries.{entries_of, by_taken_up}
@@ -28,7 +27,8 @@ use Rattle.dso_law.specs.RequestNeeds.{is_enough, conflicts}
 use Rattle.dso_law.specs.ServerReadings.{is_lost, is_of_lost, counted, number_by, last_number}
 use Rattle.dso_law.specs.Granting.{standing_by, standing_with, leased_to}
 use Rattle.dso_legal.specs.Agreement.{messages}
-use Rattle.dso_legal.specs.Committed.{ended_blocks, committed}
+use Rattle.dso_legal.specs.Committed.{ended_blocks}
+use Rattle.dso_legal.specs.AsMade.{as_made}
 use Rattle.dso_legal.specs.CopiesStand.{state_at}
 use Rattle.dso_legal.specs.Lawful.{NodeFollows, AllFollow}
 use Rattle.dso_legal.specs.Line.{Standings, HoldsWithin, CanRun, Line}
@@ -77,8 +77,7 @@ pub record RecordPasses (p : Settings) (c : ℕ) (txn : Txn) (block : List Event
   pub line : LineStands p c (e ∷ es)
   pub other : txn.thread.client ≢ c
   pub acts : AreActsOf txn.thread block
-  pub in_time : NobodyTimesOut block
-  pub runs : Runs p.shape block (state_at p c es)
+  pub runs : RunsButMarks p.shape block (state_at p c es)
   pub free : IsFreeOf p.shape block (λ l. standing_with c l (counted (entries_of Server es))) (state_at p c es)
   pub state : state_at p c (e ∷ es) ≡ end_of p.shape block (state_at p c es)
 
@@ -121,13 +120,13 @@ module _ (p : Settings) (next : ThreadId → List Event → Option Request) (e :
   pending_of_other c other = ap (λ n. drop n (ended_blocks (entries_of (Client c) (e ∷ es)))) (number_now c ∙ unless_true (eqb c d) txn.seq (last_number c before) other)
       ∙ ap (λ blocks. drop (last_number c before) blocks) (blocks_now c)
 
-  module _ (block : List Event) (history : committed (e ∷ es) ≡ committed es ++ block) (mine : pending d es ≡ block ∷ pending d (e ∷ es)) (line : LineStands p d es) where
+  module _ (block : List Event) (history : as_made (e ∷ es) ≡ as_made es ++ block) (mine : pending d es ≡ block ∷ pending d (e ∷ es)) (line : LineStands p d es) where
     abbrev s : PlainState
-    s = last_state p.shape (committed es)
+    s = last_state p.shape (as_made es)
 
     -- the history ends behind the block
-    pub state_now : last_state p.shape (committed (e ∷ es)) ≡ end_of p.shape block s
-    state_now = ap (last_state p.shape) history ∙ ends_in_parts p.shape (committed es) block (opening p.shape)
+    pub state_now : last_state p.shape (as_made (e ∷ es)) ≡ end_of p.shape block s
+    state_now = ap (last_state p.shape) history ∙ ends_in_parts p.shape (as_made es) block (opening p.shape)
 
     -- The first block of the line is the record's.
     pub taken_block : FirstBlock p.shape d txn (up_in_flight d es) block (pending d (e ∷ es)) (λ l. standing_with d l before) s
@@ -135,12 +134,12 @@ module _ (p : Settings) (next : ThreadId → List Event → Option Request) (e :
         (subst (λ blocks. Line p.shape d (messages (up_in_flight d es)) blocks (λ l. standing_with d l before) s) mine line)
 
     -- The history runs with the block behind it.
-    pub runs_taken : Runs p.shape (committed es) (opening p.shape) → Runs p.shape (committed (e ∷ es)) (opening p.shape)
-    runs_taken runs = subst (λ h. Runs p.shape h (opening p.shape)) (sym history) ((runs_in_parts p.shape (committed es) block (opening p.shape)).1 (runs, taken_block.can.runs))
+    pub runs_taken : RunsButMarks p.shape (as_made es) (opening p.shape) → RunsButMarks p.shape (as_made (e ∷ es)) (opening p.shape)
+    runs_taken runs = subst (λ h. RunsButMarks p.shape h (opening p.shape)) (sym history) ((runs_but_marks_in_parts p.shape (as_made es) block (opening p.shape)).1 (runs, taken_block.can.runs))
 
     -- The client's own line stands again.
     pub line_taken : LineStands p d (e ∷ es)
-    line_taken = subst (λ w. Line p.shape d (messages w) (pending d (e ∷ es)) (λ l. standing_with d l (counted (entries_of Server (e ∷ es)))) (last_state p.shape (committed (e ∷ es))))
+    line_taken = subst (λ w. Line p.shape d (messages w) (pending d (e ∷ es)) (λ l. standing_with d l (counted (entries_of Server (e ∷ es)))) (last_state p.shape (as_made (e ∷ es))))
         (sym (way_now d ∙ if_true (eqb d d) (drop 1 (up_in_flight d es)) (up_in_flight d es) (number_self d)))
         (subst (λ r. Line p.shape d (messages (drop 1 (up_in_flight d es))) (pending d (e ∷ es)) (λ l. standing_with d l (counted (entries_of Server (e ∷ es)))) r) (sym state_now)
         (line_grows p.shape d (messages (drop 1 (up_in_flight d es))) (pending d (e ∷ es)) (λ l. standing_with d l before) (λ l. standing_with d l (counted (entries_of Server (e ∷ es)))) (end_of p.shape block s) (record_grows d) taken_block.behind))
@@ -149,7 +148,7 @@ module _ (p : Settings) (next : ThreadId → List Event → Option Request) (e :
     pub state_taken : state_at p d (e ∷ es) ≡ state_at p d es
     state_taken = ap (λ r. end_of p.shape (joined (pending d (e ∷ es))) r) state_now ∙ sym (ends_in_parts p.shape block (joined (pending d (e ∷ es))) s) ∙ ap (λ blocks. end_of p.shape (joined blocks) s) (sym mine)
 
-    module _ (c : ℕ) (apart : eqb c d ≡ false) (ids : NoCommonId (MakesIn block) (MakesIn (joined (pending c es)))) (in_time : NobodyTimesOut block) (others_in_time : AllByRecursion NobodyTimesOut (pending c es)) (its : LineStands p c es) where
+    module _ (c : ℕ) (apart : eqb c d ≡ false) (ids : NoCommonId (MakesIn block) (MakesIn (joined (pending c es)))) (its : LineStands p c es) where
       -- the block touches nothing in conflict with the other client's leases
       free_block : IsFreeOf p.shape block (λ l. standing_with c l before) s
       free_block l a b touched enough = both_read a b (leased_to d l before) (leased_to c l before) (taken_block.can.within l a touched) enough
@@ -159,20 +158,19 @@ module _ (p : Settings) (next : ThreadId → List Event → Option Request) (e :
       foreign same = absurd (cc (sym (number_self c) ∙ ap (eqb c) (sym same ∙ taken_block.can.its) ∙ apart))
 
       passes : PassesLine p.shape c block (messages (up_in_flight c es)) (pending c es) (λ l. standing_with c l before) s
-      passes = line_foreign p.shape c txn.thread foreign block taken_block.can.acts (messages (up_in_flight c es)) (pending c es) (λ l. standing_with c l before) s taken_block.can.runs free_block ids in_time others_in_time its
+      passes = line_foreign p.shape c txn.thread foreign block taken_block.can.acts (messages (up_in_flight c es)) (pending c es) (λ l. standing_with c l before) s taken_block.can.runs free_block ids its
 
       -- Another client's line stands again, and the block runs where it ends.
       pub line_passed : RecordPasses p c txn block e es
       line_passed = record {
-        line = subst (λ w. Line p.shape c (messages w) (pending c (e ∷ es)) (λ l. standing_with c l (counted (entries_of Server (e ∷ es)))) (last_state p.shape (committed (e ∷ es))))
+        line = subst (λ w. Line p.shape c (messages w) (pending c (e ∷ es)) (λ l. standing_with c l (counted (entries_of Server (e ∷ es)))) (last_state p.shape (as_made (e ∷ es))))
             (sym (way_now c ∙ unless_true (eqb c d) (drop 1 (up_in_flight c es)) (up_in_flight c es) apart))
-            (subst (λ blocks. Line p.shape c (messages (up_in_flight c es)) blocks (λ l. standing_with c l (counted (entries_of Server (e ∷ es)))) (last_state p.shape (committed (e ∷ es)))) (sym (pending_of_other c apart))
+            (subst (λ blocks. Line p.shape c (messages (up_in_flight c es)) blocks (λ l. standing_with c l (counted (entries_of Server (e ∷ es)))) (last_state p.shape (as_made (e ∷ es)))) (sym (pending_of_other c apart))
             (subst (λ r. Line p.shape c (messages (up_in_flight c es)) (pending c es) (λ l. standing_with c l (counted (entries_of Server (e ∷ es)))) r) (sym state_now)
             (line_grows p.shape c (messages (up_in_flight c es)) (pending c es) (λ l. standing_with c l before) (λ l. standing_with c l (counted (entries_of Server (e ∷ es)))) (end_of p.shape block s) (record_grows c) passes.line)));
         other = foreign;
         acts = taken_block.can.acts;
-        in_time = in_time;
         runs = passes.runs;
         free = λ l a b touched enough. free_block l a b (passes.touches l a touched) enough;
-        state = ap (λ blocks. end_of p.shape (joined blocks) (last_state p.shape (committed (e ∷ es)))) (pending_of_other c apart) ∙ ap (λ r. end_of p.shape (joined (pending c es)) r) state_now ∙ passes.same;
+        state = ap (λ blocks. end_of p.shape (joined blocks) (last_state p.shape (as_made (e ∷ es)))) (pending_of_other c apart) ∙ ap (λ r. end_of p.shape (joined (pending c es)) r) state_now ∙ passes.same;
       }

@@ -11,8 +11,8 @@ use Rattle.dso_base.specs.declared.request.Event.{Event}
 use Rattle.dso_base.specs.declared.request.Event.TheVariants.{Act}
 use Rattle.dso_base.specs.declared.request.Request.{Request}
 use Rattle.dso_plain.specs.State.{Hold, PlainState, opening, level_of}
-use Rattle.dso_plain.specs.Possible.{May}
-use Rattle.dso_plain.specs.History.{Runs, end_of, last_state}
+use Rattle.dso_plain.specs.Possible.{MayButMarks}
+use Rattle.dso_plain.specs.History.{RunsButMarks, end_of, last_state}
 use Rattle.dso_plain.specs.Past.{KeepsPast}
 use Rattle.dso_plain.specs.Touches.{TouchesIn}
 use Rattle.dso_law.specs.Settings.{Settings}
@@ -25,8 +25,9 @@ use Rattle.dso_law.specs.ServerReadings.{counted}
 use Rattle.dso_law.specs.Granting.{standing_with}
 use Rattle.dso_law.specs.Threads.{hold_in, locks_of, open_block, work_of}
 use Rattle.dso_legal.specs.Agreement.{messages}
-use Rattle.dso_legal.specs.WaitsAndLosses.{WithoutWaits, WithoutLosses}
-use Rattle.dso_legal.specs.Committed.{ended_blocks, committed}
+use Rattle.dso_legal.specs.WaitsAndLosses.{WithoutLosses}
+use Rattle.dso_legal.specs.Committed.{ended_blocks}
+use Rattle.dso_legal.specs.AsMade.{as_made}
 use Rattle.dso_legal.specs.CopiesStand.{state_at}
 use Rattle.dso_legal.specs.Lawful.{next_after, AllFollow}
 use Rattle.dso_legal.specs.Line.{Line}
@@ -46,31 +47,31 @@ use Rattle.dso_legal.proofs.copies.SeesCopies.{ActsFrom}
 
 -- a client's line stands, and each of its threads' open blocks runs from where the line ends
 pub record LinesStand (p : Settings) (c : ℕ) (es : List Entry) : Type 0 where
-  pub line : Line p.shape c (messages (up_in_flight c es)) (pending c es) (λ l. standing_with c l (counted (entries_of Server es))) (last_state p.shape (committed es))
-  pub opens : (t : ThreadId) → t.client ≡ c → Runs p.shape (open_block t (entries_of (Client c) es)) (state_at p c es)
+  pub line : Line p.shape c (messages (up_in_flight c es)) (pending c es) (λ l. standing_with c l (counted (entries_of Server es))) (last_state p.shape (as_made es))
+  pub opens : (t : ThreadId) → t.client ≡ c → RunsButMarks p.shape (open_block t (entries_of (Client c) es)) (state_at p c es)
 
 -- the history runs, and the lines of all clients stand
 pub record AllStand (p : Settings) (es : List Entry) : Type 0 where
-  pub runs : Runs p.shape (committed es) (opening p.shape)
+  pub runs : RunsButMarks p.shape (as_made es) (opening p.shape)
   pub lines : (c : ℕ) → LinesStand p c es
 
 -- the entry's event, where it is a client's next act, is possible at the end of its thread's open block
 abbrev pub ActsCan : Settings → (ThreadId → List Event → Option Request) → Entry → List Entry → Type 0
 ActsCan p next e es = (c : ℕ) → e.node ≡ Client c → (it : IsNextAct p c (next_after next es) e (entries_of (Client c) es))
-    → May p.shape (Act it.thread it.request it.reply (woken_by it.request it.reply (entries_of (Client c) es))) (end_of p.shape (open_block it.thread (entries_of (Client c) es)) (state_at p c es))
+    → MayButMarks p.shape (Act it.thread it.request it.reply (woken_by it.request it.reply (entries_of (Client c) es))) (end_of p.shape (open_block it.thread (entries_of (Client c) es)) (state_at p c es))
 
 -- All stands before the first entry.
 pub all_stand_start : (p : Settings) → AllStand p []
 all_stand_start p = record { runs = tt; lines = λ c. record { line = λ t l x its held. absurd (cc held); opens = λ t its. tt } }
 
-module _ (p : Settings) (next : ThreadId → List Event → Option Request) (es : List Entry) (follow : AllFollow p next es) (calm : WithoutWaits es) (safe : WithoutLosses es) (stand : AllStand p es) where
+module _ (p : Settings) (next : ThreadId → List Event → Option Request) (es : List Entry) (follow : AllFollow p next es) (safe : WithoutLosses es) (stand : AllStand p es) where
   -- the thread's blocks run on
   pub runs_on : (t : ThreadId) → RunsOn p t es
   runs_on t = record {
     history = stand.runs;
-    pending = line_runs p.shape t.client (messages (up_in_flight t.client es)) (pending t.client es) (λ l. standing_with t.client l (counted (entries_of Server es))) (last_state p.shape (committed es)) (stand.lines t.client).line;
+    pending = line_runs p.shape t.client (messages (up_in_flight t.client es)) (pending t.client es) (λ l. standing_with t.client l (counted (entries_of Server es))) (last_state p.shape (as_made es)) (stand.lines t.client).line;
     opened = (stand.lines t.client).opens t refl;
-    taken = holds_blocks p next t es follow calm (none_is_lost t.client es safe);
+    taken = holds_blocks p next t es follow (none_is_lost t.client es safe);
     keeps = keeps_thread p.shape t (entries_of (Client t.client) es);
     blocks = blocks_of_records p.shape [] (records_sent (entries_of (Client t.client) es)) (ended_blocks (entries_of (Client t.client) es)) (records_are p next t.client es follow);
     connected = none_is_lost t.client es safe;
@@ -96,7 +97,7 @@ module _ (p : Settings) (next : ThreadId → List Event → Option Request) (es 
     -- the thread sees the holds there
     pub holds_seen : SeesHolds t (entries_of (Client c) es) acts_at
     holds_seen = sees_holds p next es follow c (none_is_lost c es safe) t its (opens_from c) (stand.lines c).line
-        (λ d. line_starts p.shape d (messages (up_in_flight d es)) (pending d es) (λ l. standing_with d l (counted (entries_of Server es))) (last_state p.shape (committed es)) (stand.lines d).line)
+        (λ d. line_starts p.shape d (messages (up_in_flight d es)) (pending d es) (λ l. standing_with d l (counted (entries_of Server es))) (last_state p.shape (as_made es)) (stand.lines d).line)
 
     -- its locks there
     locks_there : HaveLocks t (locks_of t (entries_of (Client c) es)) acts_at

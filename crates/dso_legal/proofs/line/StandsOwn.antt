@@ -10,24 +10,22 @@ use Rattle.dso_base.specs.declared.request.Event.TheVariants.{Act, Lost}
 use Rattle.dso_base.specs.declared.request.Request.{Request}
 use Rattle.dso_base.specs.Following.{is_thread}
 use Rattle.dso_plain.specs.State.{PlainState}
-use Rattle.dso_plain.specs.Possible.{May}
-use Rattle.dso_plain.specs.History.{Runs, end_of}
+use Rattle.dso_plain.specs.Possible.{MayButMarks}
+use Rattle.dso_plain.specs.History.{RunsButMarks, end_of}
 use Rattle.dso_plain.specs.Touches.{MakesIn, AreActsOf}
-use Rattle.dso_plain.proofs.independence.RunsSwap.{runs_in_parts}
+use Rattle.dso_plain.proofs.independence.RunsSwap.{runs_but_marks_in_parts}
 use Rattle.dso_plain.proofs.keys.SameKeys.{same_thread, thread_self}
 use Rattle.dso_law.specs.Settings.{Settings}
 use Rattle.dso_law.specs.Entries.{entries_of, by_event, events_in}
 use Rattle.dso_law.specs.ServerReadings.{is_lost}
 use Rattle.dso_law.specs.Threads.{ending_of, locks_of, open_block}
-use Rattle.dso_legal.specs.WaitsAndLosses.{is_wait, HasNoWait, WithoutWaits, WithoutLosses}
+use Rattle.dso_legal.specs.WaitsAndLosses.{WithoutLosses}
 use Rattle.dso_legal.specs.Committed.{block_if, ended_by, ended_blocks}
 use Rattle.dso_legal.specs.CopiesStand.{state_at}
 use Rattle.dso_legal.specs.Lawful.{next_after, ClientFollows, NodeFollows, AllFollow}
 use Rattle.dso_legal.specs.PendingBlocks.{joined, handed_in, no_locks, locks_through}
 use Rattle.dso_legal.specs.Works.{HaveLocks}
-use Rattle.dso_legal.proofs.blocks.BlockSteps.{open_in_time, none_is_lost}
-use Rattle.dso_legal.proofs.PlainRuns.{nobody_times_out}
-use Rattle.dso_legal.proofs.blocks.BlocksWithoutWaits.{each_both, each_of_node, open_is_calm}
+use Rattle.dso_legal.proofs.blocks.BlockSteps.{none_is_lost}
 use Rattle.dso_legal.proofs.acts.ClientActs.{IsQuiet, HasEvent, client_acted}
 use Rattle.dso_legal.proofs.blocks.ClientBlocks.{joined_more, block_acts, keeps_thread}
 use Rattle.dso_legal.proofs.records.ClientRecords.{quiet_ends_none, goes_on}
@@ -53,7 +51,7 @@ thread_of (Lost client) = record { client = client; index = 0 }
 abbrev OpensAfter : Settings → ℕ → Entry → List Entry → PlainState → Type 0
 OpensAfter p c e es r = (t : ThreadId) → t.client ≡ c → OpensFrom p.shape t (e ∷ entries_of (Client c) es) r
 
-module _ (p : Settings) (next : ThreadId → List Event → Option Request) (e : Entry) (es : List Entry) (follow : AllFollow p next (e ∷ es)) (calm : WithoutWaits (e ∷ es)) (safe : WithoutLosses (e ∷ es)) (stand : AllStand p es)
+module _ (p : Settings) (next : ThreadId → List Event → Option Request) (e : Entry) (es : List Entry) (follow : AllFollow p next (e ∷ es)) (safe : WithoutLosses (e ∷ es)) (stand : AllStand p es)
     (c : ℕ) (is : e.node ≡ Client c) where
   abbrev own : List Entry
   own = entries_of (Client c) es
@@ -76,10 +74,10 @@ module _ (p : Settings) (next : ThreadId → List Event → Option Request) (e :
 
   -- the open blocks before the entry
   opens : (t : ThreadId) → t.client ≡ c → OpensFrom p.shape t own s
-  opens t its = opens_from p next es follow.0 calm.1 safe.1 stand c t its
+  opens t its = opens_from p next es follow.0 safe.1 stand c t its
 
   -- an open block after an entry that ends no block
-  opens_same : ended_blocks (e ∷ own) ≡ ended_blocks own → (t : ThreadId) → t.client ≡ c → Runs p.shape (open_block t (e ∷ own)) s → OpensFrom p.shape t (e ∷ own) s
+  opens_same : ended_blocks (e ∷ own) ≡ ended_blocks own → (t : ThreadId) → t.client ≡ c → RunsButMarks p.shape (open_block t (e ∷ own)) s → OpensFrom p.shape t (e ∷ own) s
   opens_same ended t its runs = record {
     keeps = keeps_thread p.shape t (e ∷ own);
     have = subst (λ blocks. HaveLocks t (locks_through t (joined blocks) no_locks) s) (sym ended) (opens t its).have;
@@ -87,8 +85,8 @@ module _ (p : Settings) (next : ThreadId → List Event → Option Request) (e :
   }
 
   -- and after one that ends this block
-  opens_more : (u : ThreadId) (block : List Event) → AreActsOf u block → Runs p.shape block s → ended_blocks (e ∷ own) ≡ ended_blocks own ++ block ∷ []
-      → (t : ThreadId) → t.client ≡ c → Runs p.shape (open_block t (e ∷ own)) (end_of p.shape block s) → OpensFrom p.shape t (e ∷ own) (end_of p.shape block s)
+  opens_more : (u : ThreadId) (block : List Event) → AreActsOf u block → RunsButMarks p.shape block s → ended_blocks (e ∷ own) ≡ ended_blocks own ++ block ∷ []
+      → (t : ThreadId) → t.client ≡ c → RunsButMarks p.shape (open_block t (e ∷ own)) (end_of p.shape block s) → OpensFrom p.shape t (e ∷ own) (end_of p.shape block s)
   opens_more u block acts block_runs ended t its runs = record {
     keeps = keeps_thread p.shape t (e ∷ own);
     have = subst (λ locks. HaveLocks t locks (end_of p.shape block s))
@@ -107,14 +105,14 @@ module _ (p : Settings) (next : ThreadId → List Event → Option Request) (e :
   stands_from : (r : PlainState) → OpensAfter p c e es r → LineStands p c (e ∷ es) → state_at p c (e ∷ es) ≡ r → LinesStand p c (e ∷ es)
   stands_from r after line state = record {
     line = line;
-    opens = λ t its. subst (λ mine. Runs p.shape (open_block t mine) (state_at p c (e ∷ es))) (sym own_now)
-        (subst (λ r. Runs p.shape (open_block t (e ∷ own)) r) (sym state) (after t its).runs);
+    opens = λ t its. subst (λ mine. RunsButMarks p.shape (open_block t mine) (state_at p c (e ∷ es))) (sym own_now)
+        (subst (λ r. RunsButMarks p.shape (open_block t (e ∷ own)) r) (sym state) (after t its).runs);
   }
 
   -- after a quiet entry
   after_quiet : IsQuiet e → OpensAfter p c e es s
   after_quiet quiet t its = opens_same (quiet_ends_none p e own quiet).blocks t its
-      (subst (λ block. Runs p.shape block s) (sym (open_at_none t e own quiet.event)) (opens t its).runs)
+      (subst (λ block. RunsButMarks p.shape block s) (sym (open_at_none t e own quiet.event)) (opens t its).runs)
 
   stands_quiet : IsQuiet e → LinesStand p c (e ∷ es)
   stands_quiet quiet =
@@ -133,26 +131,26 @@ module _ (p : Settings) (next : ThreadId → List Event → Option Request) (e :
     its_client = thread_is_its p c (next_after next es) (next_after next (e ∷ es)) e own rule.step it
 
     -- the event is possible
-    may_it : ActsCan p next e es → May p.shape event (end_of p.shape (open_block it.thread own) s)
+    may_it : ActsCan p next e es → MayButMarks p.shape event (end_of p.shape (open_block it.thread own) s)
     may_it can = by (next_act p c (next_after next es) (next_after next (e ∷ es)) e own rule.step)
       where
         same_event : (first second : Event) → Some first ≡ Some second → first ≡ second
         same_event first second same = cc same
 
-        by : (e.event ≡ None) ⊎ IsNextAct p c (next_after next es) e own → May p.shape event (end_of p.shape (open_block it.thread own) s)
+        by : (e.event ≡ None) ⊎ IsNextAct p c (next_after next es) e own → MayButMarks p.shape event (end_of p.shape (open_block it.thread own) s)
         by (inl none) = absurd (cc (sym none ∙ it.event))
-        by (inr act) = subst (λ event. May p.shape event (end_of p.shape (open_block (thread_of event) own) s)) (same_event _ event (sym act.event ∙ it.event)) (can c is act)
+        by (inr act) = subst (λ event. MayButMarks p.shape event (end_of p.shape (open_block (thread_of event) own) s)) (same_event _ event (sym act.event ∙ it.event)) (can c is act)
 
-    module _ (may : May p.shape event (end_of p.shape (open_block it.thread own) s)) where
+    module _ (may : MayButMarks p.shape event (end_of p.shape (open_block it.thread own) s)) where
       -- the block runs with the event behind it
-      block_runs : Runs p.shape block s
-      block_runs = (runs_in_parts p.shape (open_block it.thread own) (event ∷ []) s).1 ((opens it.thread its_client).runs, (may, tt))
+      block_runs : RunsButMarks p.shape block s
+      block_runs = (runs_but_marks_in_parts p.shape (open_block it.thread own) (event ∷ []) s).1 ((opens it.thread its_client).runs, (may, tt))
 
       -- an open block after an event that is no ending
-      grown_runs : ending_of event (locks_of it.thread own) ≡ None → (t : ThreadId) → t.client ≡ c → (b : Bool) → is_thread t it.thread ≡ b → Runs p.shape (open_block t (e ∷ own)) s
-      grown_runs none t its true same = subst (λ u. Runs p.shape (open_block u (e ∷ own)) s) (same_thread t it.thread same)
-          (subst (λ block. Runs p.shape block s) (sym (open_grows it.thread e own event it.event (thread_self it.thread) none)) block_runs)
-      grown_runs none t its false other = subst (λ block. Runs p.shape block s) (sym (open_at_other t e own event it.event other)) (opens t its).runs
+      grown_runs : ending_of event (locks_of it.thread own) ≡ None → (t : ThreadId) → t.client ≡ c → (b : Bool) → is_thread t it.thread ≡ b → RunsButMarks p.shape (open_block t (e ∷ own)) s
+      grown_runs none t its true same = subst (λ u. RunsButMarks p.shape (open_block u (e ∷ own)) s) (same_thread t it.thread same)
+          (subst (λ block. RunsButMarks p.shape block s) (sym (open_grows it.thread e own event it.event (thread_self it.thread) none)) block_runs)
+      grown_runs none t its false other = subst (λ block. RunsButMarks p.shape block s) (sym (open_at_other t e own event it.event other)) (opens t its).runs
 
       after_act : ending_of event (locks_of it.thread own) ≡ None → OpensAfter p c e es s
       after_act none t its = opens_same (goes_on p e own it none).blocks t its (grown_runs none t its (is_thread t it.thread) refl)
@@ -171,20 +169,19 @@ module _ (p : Settings) (next : ThreadId → List Event → Option Request) (e :
         blocks_more = ap (λ event. by_event (λ event blocks. blocks ++ ended_by event own) event (ended_blocks own)) it.event ∙ ap (λ ending. ended_blocks own ++ block_if ending block) ends
 
         -- another thread's open block runs behind the one that ends
-        mate_runs : (t : ThreadId) → t.client ≡ c → is_thread t it.thread ≡ false → Runs p.shape (open_block t own) (end_of p.shape block s)
+        mate_runs : (t : ThreadId) → t.client ≡ c → is_thread t it.thread ≡ false → RunsButMarks p.shape (open_block t own) (end_of p.shape block s)
         mate_runs t its other = opens_mate p next es follow.0 c t it.thread s ending event other (opens t its) (opens it.thread its_client) refl ends acts block_runs
             (λ id made too.
             let unlike = threads_apart (e ∷ es) (made_once p next (e ∷ es) follow) c c t it.thread its its_client other in
             unlike id
             (subst (λ mine. MakesIn (events_in t mine) id) (sym own_now) (open_makes p.shape t (e ∷ own) id (subst (λ block. MakesIn block id) (sym (open_at_other t e own event it.event other)) too)))
             (subst (λ mine. MakesIn (events_in it.thread mine) id) (sym own_now) (act_makes p.shape it.thread e own event it.event (thread_self it.thread) id made)))
-            (open_in_time t (Client c) es calm.1) (nobody_times_out block (each_both (λ event. is_wait event ≡ false) (open_block it.thread own) (event ∷ []) (open_is_calm it.thread own (each_of_node (λ e. HasNoWait e.event) (Client c) es calm.1)) (subst HasNoWait it.event calm.0, tt)))
 
         -- an open block after an ending
-        ended_runs : (t : ThreadId) → t.client ≡ c → (b : Bool) → is_thread t it.thread ≡ b → Runs p.shape (open_block t (e ∷ own)) (end_of p.shape block s)
-        ended_runs t its true same = subst (λ u. Runs p.shape (open_block u (e ∷ own)) (end_of p.shape block s)) (same_thread t it.thread same)
-            (subst (λ rest. Runs p.shape rest (end_of p.shape block s)) (sym (open_ends it.thread e own event ending it.event (thread_self it.thread) ends)) tt)
-        ended_runs t its false other = subst (λ rest. Runs p.shape rest (end_of p.shape block s)) (sym (open_at_other t e own event it.event other)) (mate_runs t its other)
+        ended_runs : (t : ThreadId) → t.client ≡ c → (b : Bool) → is_thread t it.thread ≡ b → RunsButMarks p.shape (open_block t (e ∷ own)) (end_of p.shape block s)
+        ended_runs t its true same = subst (λ u. RunsButMarks p.shape (open_block u (e ∷ own)) (end_of p.shape block s)) (same_thread t it.thread same)
+            (subst (λ rest. RunsButMarks p.shape rest (end_of p.shape block s)) (sym (open_ends it.thread e own event ending it.event (thread_self it.thread) ends)) tt)
+        ended_runs t its false other = subst (λ rest. RunsButMarks p.shape rest (end_of p.shape block s)) (sym (open_at_other t e own event it.event other)) (mate_runs t its other)
 
         after_ending : OpensAfter p c e es (end_of p.shape block s)
         after_ending t its = opens_more it.thread block acts block_runs blocks_more t its (ended_runs t its (is_thread t it.thread) refl)

@@ -23,7 +23,8 @@ use Rattle.dso_law.specs.ServerReadings.{counted}
 use Rattle.dso_law.specs.Granting.{standing_with}
 use Rattle.dso_law.specs.Threads.{open_block}
 use Rattle.dso_legal.specs.Agreement.{messages}
-use Rattle.dso_legal.specs.Committed.{ended_blocks, committed}
+use Rattle.dso_legal.specs.Committed.{ended_blocks}
+use Rattle.dso_legal.specs.AsMade.{as_made}
 use Rattle.dso_legal.specs.Line.{Standings, standings_up, Line}
 use Rattle.dso_legal.specs.MadeOnce.{MadeOnce}
 use Rattle.dso_legal.specs.PendingBlocks.{joined, handed_in, taken_in, pending}
@@ -112,7 +113,7 @@ module _ (p : Settings) (es : List Entry) where
   pub pending_makes : (c id : ℕ) → LineStands p c es → MakesIn (joined (pending c es)) id → MadeByClient c id
   pending_makes c id line made =
       let own : List Entry = entries_of (Client c) es in
-      let it = line_makes p.shape c id (messages (up_in_flight c es)) (pending c es) (λ l. standing_with c l (counted (entries_of Server es))) (last_state p.shape (committed es)) line made in
+      let it = line_makes p.shape c id (messages (up_in_flight c es)) (pending c es) (λ l. standing_with c l (counted (entries_of Server es))) (last_state p.shape (as_made es)) line made in
       let ended : joined (taken_in c es) ++ joined (pending c es) ≡ joined (ended_blocks own) = sym (joined_parts (taken_in c es) (pending c es)) ∙ ap joined (take-append-drop (handed_in c es) (ended_blocks own)) in
       let among = made_later c (joined (taken_in c es)) (joined (pending c es)) id it in
       record {

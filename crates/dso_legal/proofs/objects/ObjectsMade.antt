@@ -4,9 +4,9 @@ use Rattle.dso_base.specs.declared.request.Event.{Event}
 use Rattle.dso_base.specs.declared.request.Event.TheVariants.{Act, Lost}
 use Rattle.dso_base.specs.declared.shape.Shape.{Shape}
 use Rattle.dso_plain.specs.State.{PlainState, opening, roots_object}
-use Rattle.dso_plain.specs.Possible.{May}
+use Rattle.dso_plain.specs.Possible.{MayButMarks}
 use Rattle.dso_plain.specs.After.{after, change_of}
-use Rattle.dso_plain.specs.History.{Runs, end_of}
+use Rattle.dso_plain.specs.History.{RunsButMarks, end_of}
 use Rattle.dso_plain.specs.Touches.{Makes, MakesIn}
 use Rattle.dso_plain.proofs.independence.WritesGuarded.{guarded}
 use Rattle.dso_plain.proofs.keys.SameKeys.{same_number, written_is}
@@ -14,7 +14,7 @@ use Rattle.dso_plain.proofs.independence.LeavesOthers.{absent_private}
 use Rattle.dso_legal.specs.Names.{ObjectsAreMade}
 
 -- an object that is there after an event was there before it, or the event makes it
-made_by : (shape : Shape) (e : Event) (s : PlainState) (o : ℕ) → May shape e s → (after shape e s).objects o ≢ None → (s.objects o ≢ None) ⊎ Makes e o
+made_by : (shape : Shape) (e : Event) (s : PlainState) (o : ℕ) → MayButMarks shape e s → (after shape e s).objects o ≢ None → (s.objects o ≢ None) ⊎ Makes e o
 made_by shape (Lost client) s o m there = inl there
 made_by shape (Act t request reply woken) s o m there =
     let c = change_of shape t request reply woken s in
@@ -27,7 +27,7 @@ made_by shape (Act t request reply woken) s o m there =
     (λ some. inl some) there
 
 -- an object that is there after a run was there before it, or the run makes it
-pub made_in : (shape : Shape) (es : List Event) (s : PlainState) (o : ℕ) → Runs shape es s → (end_of shape es s).objects o ≢ None → (s.objects o ≢ None) ⊎ MakesIn es o
+pub made_in : (shape : Shape) (es : List Event) (s : PlainState) (o : ℕ) → RunsButMarks shape es s → (end_of shape es s).objects o ≢ None → (s.objects o ≢ None) ⊎ MakesIn es o
 made_in shape [] s o m there = inl there
 made_in shape (e ∷ es) s o m there = elim (made_in shape es (after shape e s) o m.1 there) [
   | inl before ↦ elim (made_by shape e s o m.0 before) [

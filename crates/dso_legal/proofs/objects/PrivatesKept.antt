@@ -17,15 +17,15 @@ use Rattle.dso_base.specs.Following.{is_thread}
 use Rattle.dso_plain.specs.State.{PlainState, opening, roots_object, is_private_to, IsPrivate}
 use Rattle.dso_plain.specs.Possible.{IsOf}
 use Rattle.dso_plain.specs.After.{after}
-use Rattle.dso_plain.specs.History.{Runs, end_of, last_state, is_act_of, events_of}
+use Rattle.dso_plain.specs.History.{RunsButMarks, end_of, last_state, is_act_of, events_of}
 use Rattle.dso_plain.specs.StepInvariants.{PastInvariant}
 use Rattle.dso_plain.specs.Own.{LeavesOwn}
 use Rattle.dso_plain.specs.Touches.{AreActsOf, AreActsOfOthers}
 use Rattle.dso_plain.proofs.keys.SameKeys.{same_thread, thread_self}
 use Rattle.dso_plain.proofs.histories.LegalGoesOn.{events_in_parts}
-use Rattle.dso_legal.proofs.PlainRuns.{leaves_own}
+use Rattle.dso_plain.proofs.independence.LeftAlone.{leaves_own}
 use Rattle.dso_plain.proofs.invariants.PastsHold.{opening_kept}
-use Rattle.dso_legal.proofs.PlainRuns.{event_kept}
+use Rattle.dso_plain.proofs.invariants.PastsHold.{event_kept}
 use Rattle.dso_legal.specs.PendingBlocks.{joined, no_locks, locks_through, privates_by, privates_through}
 use Rattle.dso_legal.specs.Works.{HasBody, ArePrivates, HaveLocks}
 use Rattle.dso_legal.proofs.objects.FoundBodies.{found_is}
@@ -49,7 +49,7 @@ module _ (t : ThreadId) (bodies : List Body) (s r : PlainState) (left : LeavesOw
   }
 
 -- Other threads leave a thread's private objects.
-pub privates_left : (shape : Shape) (t : ThreadId) (bodies : List Body) (events : List Event) (s : PlainState) → ArePrivates t bodies s → AreActsOfOthers t events → Runs shape events s → ArePrivates t bodies (end_of shape events s)
+pub privates_left : (shape : Shape) (t : ThreadId) (bodies : List Body) (events : List Event) (s : PlainState) → ArePrivates t bodies s → AreActsOfOthers t events → RunsButMarks shape events s → ArePrivates t bodies (end_of shape events s)
 privates_left shape t bodies events s own others runs = privates_where_left t bodies s (end_of shape events s) (leaves_own shape t events s runs others) own
 
 -- A loss leaves every thread's private objects.
@@ -118,7 +118,7 @@ privates_parts shape first second privates = ap (λ (work : Work). work.privates
     ∙ same_privates shape second (worked shape first (start privates)) (start (worked shape first (start privates)).privates) refl
 
 -- One event after another: whatever happens, the thread's private objects are those that its own events leave.
-pub privates_of_events : (shape : Shape) (t : ThreadId) (privates : List Body) (events : List Event) (s : PlainState) → PastInvariant s → ArePrivates t privates s → Runs shape events s
+pub privates_of_events : (shape : Shape) (t : ThreadId) (privates : List Body) (events : List Event) (s : PlainState) → PastInvariant s → ArePrivates t privates s → RunsButMarks shape events s
     → ArePrivates t (worked shape (events_of t events) (start privates)).privates (end_of shape events s)
 privates_of_events shape t privates [] s kept own runs = own
 privates_of_events shape t privates (Lost client ∷ events) s kept own runs = privates_of_events shape t privates events (after shape (Lost client) s) (event_kept shape (Lost client) s runs.0 kept) (privates_lost shape t privates client s own) runs.1
@@ -138,11 +138,11 @@ privates_of_events shape t privates (Act u request reply woken ∷ events) s kep
     by false e later = later privates (privates_left shape t privates (Act u request reply woken ∷ []) s own (other e, tt) (runs.0, tt))
 
 -- After a history the thread's private objects are those that its events leave.
-pub privates_of_history : (shape : Shape) (t : ThreadId) (h : List Event) → Runs shape h (opening shape) → ArePrivates t (worked shape (events_of t h) (start [])).privates (last_state shape h)
+pub privates_of_history : (shape : Shape) (t : ThreadId) (h : List Event) → RunsButMarks shape h (opening shape) → ArePrivates t (worked shape (events_of t h) (start [])).privates (last_state shape h)
 privates_of_history shape t h runs = privates_of_events shape t [] h (opening shape) (opening_kept shape) (privates_at_first shape t) runs
 
 -- And its locks, where its client is not lost, are those that its events make.
-pub locks_of_history : (shape : Shape) (t : ThreadId) (h : List Event) → NoLossOf t.client h → Runs shape h (opening shape) → HaveLocks t (locks_through t (events_of t h) no_locks) (last_state shape h)
+pub locks_of_history : (shape : Shape) (t : ThreadId) (h : List Event) → NoLossOf t.client h → RunsButMarks shape h (opening shape) → HaveLocks t (locks_through t (events_of t h) no_locks) (last_state shape h)
 locks_of_history shape t h spared runs = locks_of_spared shape t no_locks h (opening shape) spared runs (record { holds = λ l. refl; waits = λ l. refl })
 
 -- each block is of one thread

@@ -14,8 +14,8 @@ use Rattle.dso_base.specs.declared.request.Request.TheVariants.{New, Look, Put, 
 use Rattle.dso_base.specs.declared.shape.Shape.{Shape}
 use Rattle.dso_base.specs.declared.value.Value.{Value}
 use Rattle.dso_plain.specs.After.{after}
-use Rattle.dso_plain.specs.History.{Runs}
-use Rattle.dso_plain.specs.Possible.{May, MayPut, Answers, AnswersPut}
+use Rattle.dso_plain.specs.History.{RunsButMarks}
+use Rattle.dso_plain.specs.Possible.{MayButMarks, MayPut, Answers, AnswersPut}
 use Rattle.dso_plain.specs.State.{PlainState, IsShared, guard_in, guard_of_object, level_of}
 use Rattle.dso_plain.specs.Touches.{AreActsOf, TouchesIn}
 use Rattle.dso_plain.proofs.keys.SameKeys.{same_number}
@@ -100,7 +100,7 @@ act_sets shape o f request reply woken work is = inl is
 
 module _ (shape : Shape) (t : ThreadId) (o f : ℕ) where
   -- a put sets a field under its guard
-  set_now : (before s : PlainState) (work : Work) (request : Request) (reply : Reply) (woken : Option ThreadId) → Goes t work before s → May shape (Act t request reply woken) s → SetsNow o f work request reply
+  set_now : (before s : PlainState) (work : Work) (request : Request) (reply : Reply) (woken : Option ThreadId) → Goes t work before s → MayButMarks shape (Act t request reply woken) s → SetsNow o f work request reply
       → level_of (s.monitors (guard_in shape before o f, t)) ≡ Some Write
   set_now before s work request reply woken goes may now = by answers.1
     where
@@ -116,23 +116,23 @@ module _ (shape : Shape) (t : ThreadId) (o f : ℕ) where
           same (inr new) = absurd (apart new now.not_new)
 
   -- What a run of the thread's acts sets anew, it touches the guard of at Write.
-  pub sets_touched : (events : List Event) (work : Work) (before s : PlainState) → AreActsOf t events → Runs shape events s → Goes t work before s → list_any (is_set_of o f) (worked shape events work).sets ≡ true
+  pub sets_touched : (events : List Event) (work : Work) (before s : PlainState) → AreActsOf t events → RunsButMarks shape events s → Goes t work before s → list_any (is_set_of o f) (worked shape events work).sets ≡ true
       → (list_any (is_set_of o f) work.sets ≡ true) ⊎ TouchesIn shape events s (guard_in shape before o f) Write
   sets_touched [] work before s acts runs goes is = inl is
   sets_touched (Lost client ∷ events) work before s acts runs goes is = absurd acts.0
   sets_touched (Act u request reply woken ∷ events) work before s acts runs goes is =
       first u acts.0 (sets_touched events (work_by shape request reply woken work) before (after shape (Act u request reply woken) s) acts.1 runs.1 (goes_by u acts.0 runs.0) is)
     where
-      goes_by : (w : ThreadId) → w ≡ t → May shape (Act w request reply woken) s → Goes t (work_by shape request reply woken work) before (after shape (Act w request reply woken) s)
-      goes_by w same may = subst (λ z. Goes t (work_by shape request reply woken work) before (after shape (Act z request reply woken) s)) (sym same) (act_goes shape t work before s goes request reply woken (subst (λ z. May shape (Act z request reply woken) s) same may))
+      goes_by : (w : ThreadId) → w ≡ t → MayButMarks shape (Act w request reply woken) s → Goes t (work_by shape request reply woken work) before (after shape (Act w request reply woken) s)
+      goes_by w same may = subst (λ z. Goes t (work_by shape request reply woken work) before (after shape (Act z request reply woken) s)) (sym same) (act_goes shape t work before s goes request reply woken (subst (λ z. MayButMarks shape (Act z request reply woken) s) same may))
 
       held : (w : ThreadId) → w ≡ t → level_of (s.monitors (guard_in shape before o f, t)) ≡ Some Write → level_of (s.monitors (guard_in shape before o f, w)) ≡ Some Write
       held w same level = subst (λ z. level_of (s.monitors (guard_in shape before o f, z)) ≡ Some Write) (sym same) level
 
-      by : (w : ThreadId) → w ≡ t → May shape (Act w request reply woken) s → (list_any (is_set_of o f) work.sets ≡ true) ⊎ SetsNow o f work request reply
+      by : (w : ThreadId) → w ≡ t → MayButMarks shape (Act w request reply woken) s → (list_any (is_set_of o f) work.sets ≡ true) ⊎ SetsNow o f work request reply
           → (list_any (is_set_of o f) work.sets ≡ true) ⊎ TouchesIn shape (Act w request reply woken ∷ events) s (guard_in shape before o f) Write
       by w same may (inl before_it) = inl before_it
-      by w same may (inr now) = inr (inl (inl (held w same (set_now before s work request reply woken goes (subst (λ z. May shape (Act z request reply woken) s) same may) now))))
+      by w same may (inr now) = inr (inl (inl (held w same (set_now before s work request reply woken goes (subst (λ z. MayButMarks shape (Act z request reply woken) s) same may) now))))
 
       first : (w : ThreadId) → w ≡ t → (list_any (is_set_of o f) (work_by shape request reply woken work).sets ≡ true) ⊎ TouchesIn shape events (after shape (Act u request reply woken) s) (guard_in shape before o f) Write
           → (list_any (is_set_of o f) work.sets ≡ true) ⊎ TouchesIn shape (Act u request reply woken ∷ events) s (guard_in shape before o f) Write

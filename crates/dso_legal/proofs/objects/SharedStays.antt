@@ -8,11 +8,11 @@ use Rattle.dso_base.specs.declared.request.Event.{Event}
 use Rattle.dso_base.specs.declared.request.Event.TheVariants.{Act, Lost}
 use Rattle.dso_base.specs.declared.shape.Shape.{Shape}
 use Rattle.dso_plain.specs.After.{after}
-use Rattle.dso_plain.specs.History.{Runs, end_of, last_state}
-use Rattle.dso_plain.specs.Possible.{May}
+use Rattle.dso_plain.specs.History.{RunsButMarks, end_of, last_state}
+use Rattle.dso_plain.specs.Possible.{MayButMarks}
 use Rattle.dso_plain.specs.State.{PlainState, IsShared, is_shared, opening}
-use Rattle.dso_plain.proofs.independence.RunsSwap.{runs_in_parts, ends_in_parts}
-use Rattle.dso_legal.proofs.PlainRuns.{quiet_act}
+use Rattle.dso_plain.proofs.independence.RunsSwap.{runs_but_marks_in_parts, ends_in_parts}
+use Rattle.dso_plain.proofs.independence.RunsSwap.{quiet_act}
 use Rattle.dso_plain.proofs.independence.LeavesOthers.{absent_shared}
 use Rattle.dso_plain.proofs.independence.LeavesOthers.{private_or_shared}
 use Rattle.dso_legal.specs.PendingBlocks.{joined, privates_through, IsRecordOf, AreRecordsOf}
@@ -25,12 +25,12 @@ use Rattle.dso_legal.proofs.objects.PrivatesTaken.{privates_of_block, through_mo
 use Rattle.dso_legal.proofs.objects.WorksTell.{works_tell}
 
 -- an event
-shared_after : (shape : Shape) (e : Event) (s : PlainState) (o : ℕ) → May shape e s → IsShared o s → (after shape e s).objects o ≡ s.objects o
+shared_after : (shape : Shape) (e : Event) (s : PlainState) (o : ℕ) → MayButMarks shape e s → IsShared o s → (after shape e s).objects o ≡ s.objects o
 shared_after shape (Lost client) s o may shared = refl
 shared_after shape (Act t request reply woken) s o may shared = (quiet_act shape t request reply woken s may).stays o (λ own. private_or_shared t (s.objects o) own shared) (λ absent. absent_shared (s.objects o) absent shared)
 
 -- A run leaves a shared object what it is.
-pub shared_stays : (shape : Shape) (es : List Event) (s : PlainState) (o : ℕ) → Runs shape es s → IsShared o s → (end_of shape es s).objects o ≡ s.objects o
+pub shared_stays : (shape : Shape) (es : List Event) (s : PlainState) (o : ℕ) → RunsButMarks shape es s → IsShared o s → (end_of shape es s).objects o ≡ s.objects o
 shared_stays shape [] s o runs shared = refl
 shared_stays shape (e ∷ es) s o runs shared =
     let one : (after shape e s).objects o ≡ s.objects o = shared_after shape e s o runs.0 shared in
@@ -47,7 +47,7 @@ module _ (shape : Shape) (c o : ℕ) where
   PrivatesOf before s = (t : ThreadId) → t.client ≡ c → ArePrivates t (privates_through shape t before []) s
 
   -- a block whose record leaves the object alone
-  block_leaves : (before : List (List Event)) (txn : Txn) (block : List Event) (h : List Event) → Runs shape h (opening shape) → Runs shape block (last_state shape h) → IsRecordOf shape before txn block → txn.thread.client ≡ c
+  block_leaves : (before : List (List Event)) (txn : Txn) (block : List Event) (h : List Event) → RunsButMarks shape h (opening shape) → RunsButMarks shape block (last_state shape h) → IsRecordOf shape before txn block → txn.thread.client ≡ c
       → PrivatesOf before (last_state shape h) → LeavesAlone o txn → IsShared o (last_state shape h) → LeavesObject o (last_state shape h) (end_of shape block (last_state shape h))
   block_leaves before txn block h ran runs is its privates alone shared = record {
     object = (tells.left o shared).object;
@@ -58,22 +58,22 @@ module _ (shape : Shape) (c o : ℕ) where
       tells = works_tell shape txn.thread (privates_through shape txn.thread before []) block h ran (privates txn.thread its) is.acts runs
 
   -- Blocks whose records leave the object alone leave it what it is.
-  pub pending_leaves : (before : List (List Event)) (txns : List Txn) (blocks : List (List Event)) (h : List Event) → Runs shape h (opening shape) → Runs shape (joined blocks) (last_state shape h) → AreRecordsOf shape before txns blocks
+  pub pending_leaves : (before : List (List Event)) (txns : List Txn) (blocks : List (List Event)) (h : List Event) → RunsButMarks shape h (opening shape) → RunsButMarks shape (joined blocks) (last_state shape h) → AreRecordsOf shape before txns blocks
       → AllByRecursion (IsRecordOfClient c) txns → PrivatesOf before (last_state shape h) → AllByRecursion (LeavesAlone o) txns → IsShared o (last_state shape h) → LeavesObject o (last_state shape h) (end_of shape (joined blocks) (last_state shape h))
   pending_leaves before [] [] h ran runs are its privates alone shared = record { object = refl; heap = λ f. refl }
   pending_leaves before [] (block ∷ blocks) h ran runs are its privates alone shared = absurd are
   pending_leaves before (txn ∷ txns) [] h ran runs are its privates alone shared = absurd are
   pending_leaves before (txn ∷ txns) (block ∷ blocks) h ran runs are its privates alone shared =
-      behind (pending_leaves (before ++ block ∷ []) txns blocks (h ++ block) ran_on (subst (Runs shape (joined blocks)) (sym ends) both.1) are.1 its.1 privates_on alone.1 (ap (λ (s : PlainState). is_shared (s.objects o)) ends ∙ (ap is_shared first.object ∙ shared)))
+      behind (pending_leaves (before ++ block ∷ []) txns blocks (h ++ block) ran_on (subst (RunsButMarks shape (joined blocks)) (sym ends) both.1) are.1 its.1 privates_on alone.1 (ap (λ (s : PlainState). is_shared (s.objects o)) ends ∙ (ap is_shared first.object ∙ shared)))
     where
-      both : Runs shape block (last_state shape h) × Runs shape (joined blocks) (end_of shape block (last_state shape h))
-      both = (runs_in_parts shape block (joined blocks) (last_state shape h)).0 runs
+      both : RunsButMarks shape block (last_state shape h) × RunsButMarks shape (joined blocks) (end_of shape block (last_state shape h))
+      both = (runs_but_marks_in_parts shape block (joined blocks) (last_state shape h)).0 runs
 
       ends : last_state shape (h ++ block) ≡ end_of shape block (last_state shape h)
       ends = ends_in_parts shape h block (opening shape)
 
-      ran_on : Runs shape (h ++ block) (opening shape)
-      ran_on = (runs_in_parts shape h block (opening shape)).1 (ran, both.0)
+      ran_on : RunsButMarks shape (h ++ block) (opening shape)
+      ran_on = (runs_but_marks_in_parts shape h block (opening shape)).1 (ran, both.0)
 
       first : LeavesObject o (last_state shape h) (end_of shape block (last_state shape h))
       first = block_leaves before txn block h ran both.0 are.0 its.0 privates alone.0 shared

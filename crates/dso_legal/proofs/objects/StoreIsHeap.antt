@@ -20,7 +20,7 @@ use Rattle.dso_base.specs.declared.value.Value.TheVariants as value
 use Rattle.dso_base.specs.Block.{body_in}
 use Rattle.dso_plain.specs.State.{PlainState, IsShared, is_shared, roots_object, opening}
 use Rattle.dso_plain.specs.Possible.{IsOf}
-use Rattle.dso_plain.specs.History.{Runs, end_of, last_state}
+use Rattle.dso_plain.specs.History.{RunsButMarks, end_of, last_state}
 use Rattle.dso_plain.proofs.keys.SameKeys.{same_number}
 use Rattle.dso_law.specs.Settings.{Settings}
 use Rattle.dso_law.specs.Copies.{value_by_sets}
@@ -29,8 +29,8 @@ use Rattle.dso_law.specs.FitsUp.{FitsStored, FitsSet, FitsRecord}
 use Rattle.dso_law.specs.ServerReadings.{is_lost, is_of_lost, counted}
 use Rattle.dso_law.specs.ServerStep.{HeardOrLost, ServerStepOn}
 use Rattle.dso_law.specs.Store.{opening_roots, body_by_news, body_by_sets, body_by, stored}
-use Rattle.dso_legal.specs.WaitsAndLosses.{WithoutWaits}
-use Rattle.dso_legal.specs.Committed.{block_taken, committed_at, committed_by, committed}
+use Rattle.dso_legal.specs.Committed.{ended_blocks, block_numbered}
+use Rattle.dso_legal.specs.AsMade.{made_at, made_by, as_made}
 use Rattle.dso_legal.specs.Lawful.{NodeFollows, MayFollow, AllFollow}
 use Rattle.dso_legal.specs.Residency.{is_set}
 use Rattle.dso_legal.specs.OwnObjects.{count_bodies}
@@ -164,26 +164,26 @@ either_way false x = refl
 
 -- The server's store is the heap of the history.
 abbrev pub StoresHeap : Settings → List Entry → Type 0
-StoresHeap p es = (o : ℕ) → IsHeapOf o (stored p.shape o (counted (entries_of Server es))) (last_state p.shape (committed es))
+StoresHeap p es = (o : ℕ) → IsHeapOf o (stored p.shape o (counted (entries_of Server es))) (last_state p.shape (as_made es))
 
 module _ (works_tell : WorksTell) (p : Settings) (next : ThreadId → List Event → Option Request) where
-  module _ (e : Entry) (es : List Entry) (follows : MayFollow p next e es) (follow : AllFollow p next es) (calm : WithoutWaits es) (runs : Runs p.shape (committed (e ∷ es)) (opening p.shape)) (before : StoresHeap p es) where
+  module _ (e : Entry) (es : List Entry) (follows : MayFollow p next e es) (follow : AllFollow p next es) (runs : RunsButMarks p.shape (as_made (e ∷ es)) (opening p.shape)) (before : StoresHeap p es) where
     abbrev js : List Entry
     js = counted (entries_of Server es)
 
     -- an entry that leaves the store and the history
-    unmoved : (node : Node) (i : Input) → e.node ≡ node → e.input ≡ i → ((o : ℕ) → stored_by o node i (entries_of Server es) (stored p.shape o js) ≡ stored p.shape o js) → committed_at node i es ≡ [] → StoresHeap p (e ∷ es)
+    unmoved : (node : Node) (i : Input) → e.node ≡ node → e.input ≡ i → ((o : ℕ) → stored_by o node i (entries_of Server es) (stored p.shape o js) ≡ stored p.shape o js) → made_at node i es ≡ [] → StoresHeap p (e ∷ es)
     unmoved node i at is same none o =
-        subst (λ at. IsHeapOf o at (last_state p.shape (committed (e ∷ es)))) (sym (stored_with p.shape o e es node i at is ∙ same o))
+        subst (λ at. IsHeapOf o at (last_state p.shape (as_made (e ∷ es)))) (sym (stored_with p.shape o e es node i at is ∙ same o))
         (subst (λ h. IsHeapOf o (stored p.shape o js) (last_state p.shape h))
-        (sym (ap (λ more. committed es ++ more) (ap (λ node. committed_at node e.input es) at ∙ ap (λ i. committed_at node i es) is ∙ none) ∙ append-nil (committed es)))
+        (sym (ap (λ more. as_made es ++ more) (ap (λ node. made_at node e.input es) at ∙ ap (λ i. made_at node i es) is ∙ none) ∙ append-nil (as_made es)))
         (before o))
 
     -- a loss
     loss : (d : ℕ) → e.node ≡ Server → e.input ≡ input.Lose d → StoresHeap p (e ∷ es)
     loss d at is o =
-        let it = grew p.shape (committed es) (Lost d ∷ []) (committed (e ∷ es)) (ap (λ more. committed es ++ more) (ap (λ node. committed_at node e.input es) at ∙ ap (λ i. committed_by i es) is)) runs in
-        subst (λ at. IsHeapOf o at (last_state p.shape (committed (e ∷ es)))) (sym (stored_with p.shape o e es Server (input.Lose d) at is))
+        let it = grew p.shape (as_made es) (Lost d ∷ []) (as_made (e ∷ es)) (ap (λ more. as_made es ++ more) (ap (λ node. made_at node e.input es) at ∙ ap (λ i. made_by i es) is)) runs in
+        subst (λ at. IsHeapOf o at (last_state p.shape (as_made (e ∷ es)))) (sym (stored_with p.shape o e es Server (input.Lose d) at is))
         (subst (IsHeapOf o (stored p.shape o js)) (sym it.ends)
         (record {
           each = λ body found. let had = before o in let is = had.each body found in record { shared = is.shared; class = is.class; values = is.values };
@@ -212,11 +212,11 @@ module _ (works_tell : WorksTell) (p : Settings) (next : ThreadId → List Event
     taken : (d : ℕ) (txn : Txn) → is_lost d (entries_of Server es) ≡ false → e.node ≡ Server → e.input ≡ input.TookUp d (up.Commit txn) → StoresHeap p (e ∷ es)
     taken d txn alive at is o =
         let takes : TakesBlock p d txn e es = takes_its_block p next d es follow alive e follows txn at is in
-        let it = grew p.shape (committed es) takes.block (committed (e ∷ es)) (history_takes p next e es follows follow calm d txn alive takes) runs in
-        let s : PlainState = last_state p.shape (committed es) in
-        let tells = tells_taken works_tell p next es follow calm it.ran e follows d alive txn takes it.runs in
+        let it = grew p.shape (as_made es) takes.block (as_made (e ∷ es)) (history_takes p next e es follows follow d txn alive takes) runs in
+        let s : PlainState = last_state p.shape (as_made es) in
+        let tells = tells_taken works_tell p next es follow it.ran e follows d alive txn takes it.runs in
         let fits = fits_record d txn at is alive in
-        subst (λ at. IsHeapOf o at (last_state p.shape (committed (e ∷ es))))
+        subst (λ at. IsHeapOf o at (last_state p.shape (as_made (e ∷ es))))
         (sym (stored_with p.shape o e es Server (input.TookUp d (up.Commit txn)) at is
         ∙ unless_true (is_lost d (entries_of Server es)) (stored p.shape o js) (body_by o d (up.Commit txn) (stored p.shape o js)) alive))
         (subst (IsHeapOf o (body_by o d (up.Commit txn) (stored p.shape o js))) (sym it.ends)
@@ -227,7 +227,7 @@ module _ (works_tell : WorksTell) (p : Settings) (next : ThreadId → List Event
     of_record d txn true lost at is =
         unmoved Server (input.TookUp d (up.Commit txn)) at is
         (λ o. if_true (is_lost d (entries_of Server es)) (stored p.shape o js) (body_by o d (up.Commit txn) (stored p.shape o js)) lost)
-        (if_true (is_lost d (entries_of Server es)) [] (block_taken d txn.seq es) lost)
+        (if_true (is_lost d (entries_of Server es)) [] (block_numbered txn.seq (ended_blocks (entries_of (Client d) es))) lost)
     of_record d txn false alive at is = taken d txn alive at is
 
     -- any entry
@@ -238,6 +238,6 @@ module _ (works_tell : WorksTell) (p : Settings) (next : ThreadId → List Event
     of_entry node i at is = unmoved node i at is (λ o. refl) refl
 
   -- The server's store is the heap of the history, over a whole journal, with losses or without.
-  pub store_is_heap : (es : List Entry) → AllFollow p next es → WithoutWaits es → Runs p.shape (committed es) (opening p.shape) → StoresHeap p es
-  store_is_heap [] follow calm runs = λ o. opening_is_heap p.shape o
-  store_is_heap (e ∷ es) follow calm runs = of_entry e es follow.1 follow.0 calm.1 runs (store_is_heap es follow.0 calm.1 (ran_before p e es runs)) e.node e.input refl refl
+  pub store_is_heap : (es : List Entry) → AllFollow p next es → RunsButMarks p.shape (as_made es) (opening p.shape) → StoresHeap p es
+  store_is_heap [] follow runs = λ o. opening_is_heap p.shape o
+  store_is_heap (e ∷ es) follow runs = of_entry e es follow.1 follow.0 runs (store_is_heap es follow.0 (ran_before p e es runs)) e.node e.input refl refl

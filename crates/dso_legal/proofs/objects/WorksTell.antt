@@ -17,16 +17,16 @@ use Rattle.dso_base.specs.Block as block
 use Rattle.dso_base.specs.Block.{Work, body_in, insert_bodies, start, with_value, insert_set, is_published, publish, is_field_before, work_by, work_after, worked}
 use Rattle.dso_lookup.specs.Maps.{or_old}
 use Rattle.dso_plain.specs.State.{PlainState, IsPrivate, IsShared, opening, is_shared, size_of, hold_on_guard}
-use Rattle.dso_plain.specs.Possible.{IsOf, May, Answers, AnswersPut}
+use Rattle.dso_plain.specs.Possible.{IsOf, MayButMarks, Answers, AnswersPut}
 use Rattle.dso_plain.specs.After.{after, apply, change_of, read, read_shared, put, published, present, notifies}
 use Rattle.dso_plain.specs.After as plain
-use Rattle.dso_plain.specs.History.{Runs, end_of, last_state}
+use Rattle.dso_plain.specs.History.{RunsButMarks, end_of, last_state}
 use Rattle.dso_plain.specs.StepInvariants.{PastInvariant}
 use Rattle.dso_plain.specs.Touches.{AreActsOf}
 use Rattle.dso_plain.proofs.independence.WritesGuarded.{published_private, private_unshared}
 use Rattle.dso_plain.proofs.keys.SameKeys.{same_number}
 use Rattle.dso_plain.proofs.invariants.PastsHold.{opening_kept}
-use Rattle.dso_legal.proofs.PlainRuns.{event_kept, run_kept}
+use Rattle.dso_plain.proofs.invariants.PastsHold.{event_kept, run_kept}
 use Rattle.dso_plain.proofs.independence.LeavesOthers.{private_or_shared, absent_private, absent_shared}
 use Rattle.dso_legal.specs.OwnObjects.{count_bodies, count_in_hand}
 use Rattle.dso_legal.specs.Works.{HasBody, ArePrivates, TellsWork, WorksTell}
@@ -199,7 +199,7 @@ module _ (shape : Shape) (t : ThreadId) (work : Work) (before s : PlainState) (g
   few_act request reply woken a p = subst (λ n. n ≤ 1) (sym (count_act p shape request reply woken work (λ x e. absurd (cc e)))) (none_before (count_in_hand p work) (goes.few p))
 
   -- An act of the thread goes on.
-  pub act_goes : (request : Request) (reply : Reply) (woken : Option ThreadId) → May shape (Act t request reply woken) s → Goes t (work_by shape request reply woken work) before (after shape (Act t request reply woken) s)
+  pub act_goes : (request : Request) (reply : Reply) (woken : Option ThreadId) → MayButMarks shape (Act t request reply woken) s → Goes t (work_by shape request reply woken work) before (after shape (Act t request reply woken) s)
   act_goes request reply woken may = record {
     tells = act_tells request reply woken may.answers;
     few = few_act request reply woken may.answers;
@@ -208,13 +208,13 @@ module _ (shape : Shape) (t : ThreadId) (work : Work) (before s : PlainState) (g
   }
 
 -- Acts of the thread go on, one after the other.
-pub acts_go : (shape : Shape) (t : ThreadId) (events : List Event) (work : Work) (before s : PlainState) → AreActsOf t events → Runs shape events s → Goes t work before s → Goes t (worked shape events work) before (end_of shape events s)
+pub acts_go : (shape : Shape) (t : ThreadId) (events : List Event) (work : Work) (before s : PlainState) → AreActsOf t events → RunsButMarks shape events s → Goes t work before s → Goes t (worked shape events work) before (end_of shape events s)
 acts_go shape t [] work before s acts runs goes = goes
 acts_go shape t (Lost client ∷ events) work before s acts runs goes = absurd acts.0
 acts_go shape t (Act u request reply woken ∷ events) work before s acts runs goes =
     acts_go shape t events (work_by shape request reply woken work) before (after shape (Act u request reply woken) s) acts.1 runs.1
     (subst (λ w. Goes t (work_by shape request reply woken work) before (after shape (Act w request reply woken) s)) (sym acts.0)
-    (act_goes shape t work before s goes request reply woken (subst (λ w. May shape (Act w request reply woken) s) acts.0 runs.0)))
+    (act_goes shape t work before s goes request reply woken (subst (λ w. MayButMarks shape (Act w request reply woken) s) acts.0 runs.0)))
 
 -- a body that is told is one that the state has
 has_body : (o : ℕ) (body : Body) (s : PlainState) → body.object ≡ o → IsBodyOf body (s.objects o) (λ f. s.heap (o, f)) → HasBody body s
@@ -268,11 +268,11 @@ told_work t work before s goes = record {
 }
 
 -- the pasts are kept in the last state of a history
-pub history_kept : (shape : Shape) (h : List Event) → Runs shape h (opening shape) → PastInvariant (last_state shape h)
+pub history_kept : (shape : Shape) (h : List Event) → RunsButMarks shape h (opening shape) → PastInvariant (last_state shape h)
 history_kept shape h runs = run_kept shape h (opening shape) runs (opening_kept shape)
 
 -- The work of a block from any state in which pasts are kept.
-pub works_tell_from : (shape : Shape) (t : ThreadId) (privates : List Body) (events : List Event) (s : PlainState) → PastInvariant s → ArePrivates t privates s → AreActsOf t events → Runs shape events s
+pub works_tell_from : (shape : Shape) (t : ThreadId) (privates : List Body) (events : List Event) (s : PlainState) → PastInvariant s → ArePrivates t privates s → AreActsOf t events → RunsButMarks shape events s
     → TellsWork t (worked shape events (start privates)) s (end_of shape events s)
 works_tell_from shape t privates events s kept own acts runs =
     told_work t (worked shape events (start privates)) s (end_of shape events s) (acts_go shape t events (start privates) s s acts runs (start_goes t privates s kept own))

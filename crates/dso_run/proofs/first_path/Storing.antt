@@ -21,8 +21,7 @@ use Rattle.dso_law.specs.ServerReadings.{counted, is_end}
 use Rattle.dso_law.specs.Store.{body_by_sets}
 use Rattle.dso_law.specs.ServerStep.{HeardStep, HeardOrLost}
 use Rattle.dso_law.specs.ServerWaiters.{waiters_of}
-use Rattle.dso_legal.proofs.central.ClientWithoutWaits.{IsInTime}
-use Rattle.dso_legal.proofs.central.ServerWithoutWaits.{none_late}
+use Rattle.dso_legal.proofs.waiting.EndingsInTime.{IsInTime, none_late}
 use Rattle.dso_legal.specs.Lawful.{MayFollow}
 use Rattle.dso_legal.specs.Slots.{TakesUp}
 use Rattle.dso_run.specs.first_path.Counter.{settings}

@@ -1,5 +1,5 @@
 use Rattle.dso_legal.proofs.laws.histories_hold_blocks.Goals as goal
-use Rattle.dso_legal.proofs.blocks.Histories.{histories_hold_blocks, histories_hold_blocks_as_made}
+use Rattle.dso_legal.proofs.blocks.ResolvedBlocks.{histories_hold_blocks, histories_hold_blocks_as_made}
 
 pub returns-clause-resolved : goal.returns-clause-resolved
 returns-clause-resolved c = histories_hold_blocks

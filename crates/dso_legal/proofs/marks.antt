@@ -1,0 +1,3 @@
+-- Marks: who of the waiters is marked in the one heap.
+pub mod BlockMarks
+pub mod SameRuns
