@@ -1,0 +1,17 @@
+//! The record of a block: what a thread does between two endings, gathered as it goes or folded from its events, and
+//! the changes of it that are another client's.
+#![tactic(auto)]
+
+mod apply;
+mod bodies;
+mod changes;
+mod draft;
+mod folding;
+mod opening;
+mod publish;
+mod sets;
+
+pub use bodies::set_in;
+pub use changes::changes_for;
+pub use draft::{Draft, put};
+pub use folding::fold;

@@ -1,0 +1,93 @@
+//! The open block of a thread.
+ghost use Rattle.std.specs.Prelude.{◌≡◌, [], ◌∷◌, ◌++◌, OnOk, OnErr, IfOk};
+ghost use Rattle.std.specs.Option.{option_copied};
+ghost use Rattle.dso_base.specs.Block.{Work, put_shared, publish};
+ghost use Rattle.dso_change.specs.Hands.{hand_of, record_from, IsOnce, IsBlank};
+ghost use Rattle.dso_txn.specs.InHand.{hand_in, news_in, sets_in, value_in};
+ghost use Rattle.dso_txn.specs.declared.privates.Privates as privates;
+
+use crate::privates::Privates;
+use dso_base::{Body, Ending, NoMemory, Note, Set, ThreadId, Txn, Value};
+use dso_change::{Draft, put};
+use std::alloc::Global;
+
+/// What a thread did since its last ending: the objects that it published, the last value of each field that it put in
+/// an object that was shared before, the printed values and the notifications.
+///
+/// Beside the thread's [`Privates`] it stands for the work that the thread has in hand.
+#[derive(Drop)]
+pub struct OpenBlock {
+    thread: ThreadId,
+    draft: Draft,
+}
+
+impl OpenBlock {
+    /// The empty block of the thread.
+    pub fn new(alloc: Global, thread: ThreadId) -> OpenBlock
+        ensures thread { result.thread ≡ thread }
+        ensures empty { IsBlank result.draft }
+    {
+        OpenBlock {
+            thread,
+            draft: Draft::new(alloc),
+        }
+    }
+
+    /// Adds a write to a shared object, and publishes the private objects that the value reaches: whatever work the two
+    /// stood for, they stand for that work after the put. It costs the logarithm of what there is for each object that
+    /// moves and each reference of it.
+    ///
+    /// It answers `NoMemory` where an allocation was refused; the block and the private objects are spent then.
+    pub fn put(&mut self, alloc: Global, privates: &mut Privates, set: Set) -> Result<(), NoMemory>
+        ensures work { OnOk result ((work : Work) → IsOnce work → hand_in privates.old self.old ≡ hand_of work → hand_in privates.new self.new ≡ hand_of (publish set.value (put_shared set.object set.field set.value work))) }
+        ensures thread { self.new.thread ≡ self.old.thread }
+    {
+        put(alloc, &mut privates.bodies, &mut self.draft, set)
+    }
+
+    /// The block's latest value of the field: that of an object published in the block, or the last one put. None exactly
+    /// where it has none. It takes no memory.
+    pub fn value(&self, object: u64, field: u32) -> Option<Value>
+        ensures { result ≡ value_in (news_in self.now) (sets_in self.now) object field }
+    {
+        match self.draft.news.get(&object) {
+            Some(body) => body.values.get(field as usize).copied(),
+            None => self.draft.sets.get(&(object, field)).copied(),
+        }
+    }
+
+    /// An object published in the block, with its contents now; None exactly where it isn't one. It takes no memory.
+    pub fn body(&self, object: u64) -> Option<&Body>
+        ensures { option_copied result ≡ news_in self.now object }
+    {
+        self.draft.news.get(&object)
+    }
+
+    /// Adds a printed value. It answers `NoMemory` where an allocation was refused; the block is spent then.
+    pub fn print(&mut self, value: Value) -> Result<(), NoMemory>
+        ensures ok { OnOk result (self.new ≡ record self.old { draft = record self.old.draft { outs = self.old.draft.outs ++ value ∷ [] } }) }
+    {
+        self.draft.outs.push(value)?;
+        Ok(())
+    }
+
+    /// Adds a notification. It answers `NoMemory` where an allocation was refused; the block is spent then.
+    pub fn note(&mut self, note: Note) -> Result<(), NoMemory>
+        ensures ok { OnOk result (self.new ≡ record self.old { draft = record self.old.draft { notes = self.old.draft.notes ++ note ∷ [] } }) }
+    {
+        self.draft.notes.push(note)?;
+        Ok(())
+    }
+
+    /// The record of the block, with its number and its ending: of whatever work the block stood for, beside whatever
+    /// private objects. The block is empty then.
+    ///
+    /// It answers `NoMemory` where an allocation was refused; the block is spent then.
+    pub fn close(&mut self, alloc: Global, seq: u64, ending: Ending) -> Result<Txn, NoMemory>
+        ensures record { IfOk result (λ txn. (own : privates.Privates) (work : Work) → IsOnce work → hand_in own self.old ≡ hand_of work → txn ≡ record_from seq self.old.thread work ending) }
+        ensures empty { IsBlank self.new.draft }
+        ensures thread { self.new.thread ≡ self.old.thread }
+    {
+        self.draft.close(alloc, seq, self.thread, ending)
+    }
+}
