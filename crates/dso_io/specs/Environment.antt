@@ -1,5 +1,6 @@
 -- Files and a sink as the program sees them: what is told of their bytes, and their counts of faults.
-use Rattle.std.specs.Prelude.{◌≡◌, ℕ, ◌++◌, ◌+◌, ◌-◌, ◌<◌, ◌≤◌, ◌^◌, ◌⊎◌, List, length, min, take, Option, None, Result, Ok, Err}
+use Rattle.std.specs.Prelude.{◌≡◌, ℕ, ◌++◌, ◌+◌, ◌-◌, ◌<◌, ◌≤◌, ◌^◌, ◌⊎◌, min}
+use Rattle.std.specs.Prelude.{List, length, take, Option, None, Result, Ok, Err}
 use Rattle.std.specs.Option.{option_map}
 use Rattle.dso_io.specs.declared.environment.FileFault.{FileFault}
 use Rattle.dso_io.specs.declared.environment.FileFault.TheVariants.{Failed, NoMemory}

@@ -7,7 +7,8 @@ use Rattle.dso_syntax.specs.declared.tree.Ast.{Ast}
 use Rattle.dso_run.specs.declared.status.Refusal.TheVariants as refusal
 use Rattle.dso_run.specs.declared.verdict.Verdict.{Verdict}
 use Rattle.dso_run.specs.declared.verdict.Verdict.TheVariants.{Refused, Accepted}
-use Rattle.dso_run.specs.Accepted.{AreTaken, IsConfigRefusal, IsProgramRefusal, IsTaken, IsTakenText, IsTextFault, IsTreeFault, IsUnbuiltCluster}
+use Rattle.dso_run.specs.Accepted.{AreTaken, IsConfigRefusal, IsProgramRefusal, IsTaken, IsTakenText}
+use Rattle.dso_run.specs.Accepted.{IsTextFault, IsTreeFault, IsUnbuiltCluster}
 use Rattle.dso_io.specs.Environment.{Told, MayGive}
 use Rattle.dso_run.specs.Headline.{most_read}
 use Rattle.dso_run.specs.first_path.Spelling.{IsPlainlySpelled}
@@ -30,8 +31,10 @@ module _ (config : Config) where
 
 -- what the texts of a configuration and of a program come to
 abbrev pub IsVerdictOnTexts : List ℕ → List ℕ → Verdict → Type 0
-IsVerdictOnTexts config_text program_text (Refused (refusal.Config fault)) = IsConfigRefusal config_text program_text fault
-IsVerdictOnTexts config_text program_text (Refused (refusal.Program fault)) = IsProgramRefusal config_text program_text fault
+IsVerdictOnTexts config_text program_text (Refused (refusal.Config fault)) =
+    IsConfigRefusal config_text program_text fault
+IsVerdictOnTexts config_text program_text (Refused (refusal.Program fault)) =
+    IsProgramRefusal config_text program_text fault
 IsVerdictOnTexts config_text program_text (Accepted p) = AreTaken config_text program_text p
 IsVerdictOnTexts config_text program_text verdict = ⊥
 
