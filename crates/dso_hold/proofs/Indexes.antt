@@ -6,7 +6,8 @@ use Rattle.dso_base.specs.declared.lock.LockName.{LockName}
 use Rattle.dso_base.specs.declared.lock.ThreadId.{ThreadId}
 use Rattle.dso_hold.specs.declared.held.Held.{Held}
 use Rattle.dso_hold.specs.declared.tables.Tables.{Tables}
-use Rattle.dso_hold.specs.Holds.{lock_order, thread_order, hold_in, is_place, with_hold}
+use Rattle.dso_lookup.specs.Orders.{lock_order, thread_order}
+use Rattle.dso_hold.specs.Holds.{hold_in, is_place, with_hold}
 use Rattle.dso_hold.specs.Tables.{IndexesAgree}
 use Rattle.dso_hold.proofs.Places.{one_written, written_again}
 use Rattle.dso_lookup.specs.Maps.{writes, or_old, written}

@@ -1,4 +1,3 @@
-pub mod RowsInPlace
 pub mod Places
 pub mod Indexes
 pub mod Exclusion

@@ -9,7 +9,8 @@ use Rattle.std.specs.declared.cmp.Ordering.TheVariants.{Less, Equal, Greater}
 use Rattle.dso_base.specs.declared.lock.LockName.{LockName}
 use Rattle.dso_base.specs.declared.lock.LockName.TheVariants.{Mon, Name}
 use Rattle.dso_base.specs.declared.lock.ThreadId.{ThreadId}
-use Rattle.dso_hold.specs.Holds.{lock_order, thread_order, is_place}
+use Rattle.dso_lookup.specs.Orders.{lock_order, thread_order}
+use Rattle.dso_hold.specs.Holds.{is_place}
 use Rattle.dso_lookup.specs.Maps.{writes, or_old, written}
 use Rattle.dso_lookup.proofs.Tests.{both, number_at}
 

@@ -3,8 +3,6 @@ use Rattle.std.specs.Prelude.{ℕ, ◌+◌, ◌-◌, ◌≡◌, ◌≢◌, Bool,
 use Rattle.std.specs.Option.{option_map, option_map_or}
 use Rattle.std.specs.Ordering.{is_lt}
 use Rattle.std.specs.declared.cmp.Ordering.{Ordering}
-use Rattle.dso_base.specs.contracts.lock.LockNameOrd.TheImpl as lock
-use Rattle.dso_base.specs.contracts.lock.ThreadIdOrd.TheImpl as thread
 use Rattle.dso_base.specs.declared.lock.Level.{Level}
 use Rattle.dso_base.specs.declared.lock.Level.TheVariants.{Read, Write}
 use Rattle.dso_base.specs.declared.lock.LockName.{LockName}
@@ -14,15 +12,8 @@ use Rattle.dso_hold.specs.declared.held.Enter.TheVariants.{Entered, LockUpgrade,
 use Rattle.dso_hold.specs.declared.held.Held.{Held}
 use Rattle.dso_hold.specs.declared.tables.Tables.{Tables}
 use Rattle.dso_lookup.specs.Maps.{writes, written}
+use Rattle.dso_lookup.specs.Orders.{lock_order, thread_order}
 use Rattle.dso_lookup.specs.Rows.{look_in, is_at_pair}
-
--- the order of locks: monitors before names, each kind by rising number
-abbrev pub lock_order : LockName → LockName → Ordering
-lock_order = (lock.ghosts).cmp
-
--- the order of threads: by client, and then by index
-abbrev pub thread_order : ThreadId → ThreadId → Ordering
-thread_order = (thread.ghosts).cmp
 
 -- the first thread stands before the second
 abbrev pub is_before : ThreadId → ThreadId → Bool

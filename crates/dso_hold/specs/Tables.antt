@@ -6,7 +6,8 @@ use Rattle.dso_base.specs.declared.lock.LockName.{LockName}
 use Rattle.dso_base.specs.declared.lock.ThreadId.{ThreadId}
 use Rattle.dso_hold.specs.declared.held.Held.{Held}
 use Rattle.dso_hold.specs.declared.tables.Tables.{Tables}
-use Rattle.dso_hold.specs.Holds.{lock_order, thread_order, hold_in, excludes}
+use Rattle.dso_lookup.specs.Orders.{lock_order, thread_order}
+use Rattle.dso_hold.specs.Holds.{hold_in, excludes}
 use Rattle.dso_lookup.specs.Rows.{look_in}
 
 -- The table by thread lists exactly the locks that the thread holds.

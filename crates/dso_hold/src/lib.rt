@@ -4,7 +4,6 @@
 mod entries;
 mod held;
 mod hold;
-mod rows;
 mod tables;
 
 pub use held::{Enter, Held};

@@ -6,9 +6,8 @@ ghost use Rattle.dso_hold.specs.Holds.{hold_in, with_hold, is_before, HoldsSome,
 ghost use Rattle.dso_hold.specs.Tables.{IndexesAgree, HoldsAgree};
 
 use crate::held::Held;
-use crate::rows::{insert_in, remove_in, replace_in};
 use dso_base::{Level, LockName, NoMemory, ThreadId};
-use dso_lookup::{find_in, is_row_empty, is_row_taken};
+use dso_lookup::{find_in, insert_in, is_row_empty, is_row_taken, remove_in, replace_in};
 use std::alloc::Global;
 use std::collections::BTreeMap;
 

@@ -3,7 +3,6 @@ use Rattle.std.specs.Prelude.{Bool, true, false, cond, not, ◌&&◌, ◌||◌, 
 use Rattle.std.specs.BTreeMap.{is_at}
 use Rattle.std.specs.declared.cmp.Ordering.{Ordering}
 use Rattle.std.specs.Option.{option_map, option_map_or}
-use Rattle.dso_base.specs.contracts.lock.LockNameOrd.TheImpl as lock
 use Rattle.dso_base.specs.declared.lock.Level.{Level}
 use Rattle.dso_base.specs.declared.lock.Level.TheVariants.{Read, Write}
 use Rattle.dso_base.specs.declared.lock.LockName.{LockName}
@@ -13,11 +12,8 @@ use Rattle.dso_lease.specs.declared.standing.Standing.{Standing}
 use Rattle.dso_lease.specs.declared.standing.Standing.TheVariants.{Asked, Leased}
 use Rattle.dso_lease.specs.declared.standing.Want.{Want}
 use Rattle.dso_lease.specs.declared.standing.Want.TheVariants.{Held, Ask, Waiting, Closing}
+use Rattle.dso_lookup.specs.Orders.{lock_order}
 use Rattle.dso_lookup.specs.Maps.{look, writes, written}
-
--- the order of locks: monitors before names, each kind by rising number
-abbrev pub lock_order : LockName → LockName → Ordering
-lock_order = (lock.ghosts).cmp
 
 -- how each lock stands, None where it is neither leased nor asked for
 abbrev pub standing_in : Leases → LockName → Option Standing

@@ -3,7 +3,8 @@ ghost use Rattle.std.specs.Prelude.{◌≡◌, None, Some, is_some, true, OnOk, 
 ghost use Rattle.std.specs.Bool.{OnTrue, OnFalse};
 ghost use Rattle.std.specs.Option.{option_map};
 ghost use Rattle.dso_lookup.specs.Maps.{look};
-ghost use Rattle.dso_lease.specs.Leases.{lock_order, standing_in, with_standing, answer, after_want, entered, recalled, granted_at, is_asked, is_leased, is_returned, level_of, was_entered, is_closing, is_admitted};
+ghost use Rattle.dso_lookup.specs.Orders.{lock_order};
+ghost use Rattle.dso_lease.specs.Leases.{standing_in, with_standing, answer, after_want, entered, recalled, granted_at, is_asked, is_leased, is_returned, level_of, was_entered, is_closing, is_admitted};
 
 use crate::standing::{Lease, Standing, Want};
 use dso_base::{Level, LockName, NoMemory};

@@ -6,7 +6,7 @@ use Rattle.std.specs.Ordering.{nat_cmp}
 use Rattle.dso_base.specs.declared.lock.LockName.{LockName}
 use Rattle.dso_base.specs.declared.lock.ThreadId.{ThreadId}
 use Rattle.dso_lookup.specs.Maps.{look}
-use Rattle.dso_plain.specs.Tables.{lock_order, thread_order}
+use Rattle.dso_lookup.specs.Orders.{lock_order, thread_order}
 use Rattle.dso_legal.specs.Committed.{or_empty}
 use Rattle.dso_legal.specs.JournalPass.{ThreadState, ClientState, ServerState, PassState}
 use Rattle.dso_legal.specs.declared.committing.PassState as table_pass

@@ -6,7 +6,7 @@ ghost use Rattle.std.specs.BTreeMap.{is_at};
 ghost use Rattle.dso_base.specs.declared.lock.ThreadId.{ThreadId};
 ghost use Rattle.dso_base.specs.declared.request.Event.TheVariants.{Act};
 ghost use Rattle.dso_lookup.specs.Maps.{writes, written, look};
-ghost use Rattle.dso_plain.specs.Tables.{thread_order};
+ghost use Rattle.dso_lookup.specs.Orders.{thread_order};
 ghost use Rattle.dso_legal.specs.Committed.{block_numbered};
 ghost use Rattle.dso_legal.specs.JournalPass.{one_less, with_count, with_entry, counts_after, with_resume, ends_block, block_ended, thread_state_after, client_state_after, CountsFit};
 ghost use Rattle.dso_legal.specs.JournalPassTables.{no_thread_state, thread_state_in, no_client_state, client_state_in};

@@ -5,7 +5,7 @@ ghost use Rattle.dso_lookup.specs.Maps.{written, writes, look};
 ghost use Rattle.dso_plain.specs.KeyTests.{is_lock};
 ghost use Rattle.dso_law.specs.Entries.{one_sent_down, by_sent_down};
 ghost use Rattle.dso_law.specs.ClientWaiters.{without};
-ghost use Rattle.dso_plain.specs.Tables.{lock_order};
+ghost use Rattle.dso_lookup.specs.Orders.{lock_order};
 ghost use Rattle.dso_base.specs.declared.message.Down.TheVariants.{Wake};
 ghost use Rattle.dso_base.specs.declared.message.Up.TheVariants.{Return};
 ghost use Rattle.dso_base.specs.Following.{is_thread};

@@ -3,3 +3,4 @@ pub mod Rows
 pub mod Lists
 pub mod Reaching
 pub mod Search
+pub mod Orders

@@ -5,7 +5,8 @@ use Rattle.dso_base.specs.declared.lock.ThreadId.{ThreadId}
 use Rattle.dso_base.specs.Following.{is_thread}
 use Rattle.dso_plain.specs.KeyTests.{is_lock, is_place}
 use Rattle.dso_lookup.specs.Maps.{writes, written}
-use Rattle.dso_plain.specs.Tables.{lock_order, thread_order, either, state_of}
+use Rattle.dso_lookup.specs.Orders.{lock_order, thread_order}
+use Rattle.dso_plain.specs.Tables.{either, state_of}
 use Rattle.dso_plain.specs.declared.tables.Tables.{Tables}
 use Rattle.dso_lookup.specs.Rows.{look_in}
 use Rattle.dso_plain.specs.State.{Hold, PlainState}

@@ -6,7 +6,8 @@ use Rattle.dso_base.specs.declared.lock.ThreadId.{ThreadId}
 use Rattle.dso_plain.specs.declared.tables.Tables.{Tables}
 use Rattle.dso_lookup.specs.Rows.{look_in}
 use Rattle.dso_plain.specs.StepInvariants.{PastInvariant, MonitorInvariant}
-use Rattle.dso_plain.specs.Tables.{lock_order, thread_order, state_of}
+use Rattle.dso_lookup.specs.Orders.{lock_order, thread_order}
+use Rattle.dso_plain.specs.Tables.{state_of}
 
 -- The tables by thread list exactly the locks that the thread holds, and those on which it waits; no wait is both
 -- marked and not; and each client's threads that hold or wait are listed by client.

@@ -4,8 +4,6 @@ use Rattle.std.specs.Prelude.{ℕ, ◌≡◌, Bool, false, eqb, ltb, ◌&&◌, i
 use Rattle.std.specs.Option.{option_map, unwrap_or}
 use Rattle.std.specs.declared.cmp.Ordering.{Ordering}
 use Rattle.std.specs.Ordering.{nat_cmp, ordering_then}
-use Rattle.dso_base.specs.contracts.lock.LockNameOrd.TheImpl as lock
-use Rattle.dso_base.specs.contracts.lock.ThreadIdOrd.TheImpl as thread
 use Rattle.dso_base.specs.declared.lock.LockName.{LockName}
 use Rattle.dso_base.specs.declared.lock.ThreadId.{ThreadId}
 use Rattle.dso_base.specs.declared.value.Value.{Value}
@@ -14,16 +12,9 @@ use Rattle.dso_plain.specs.declared.tables.Object as table_object
 use Rattle.dso_plain.specs.declared.tables.Tables.{Tables}
 use Rattle.dso_lookup.specs.Lists.{newest_first}
 use Rattle.dso_lookup.specs.Maps.{look}
+use Rattle.dso_lookup.specs.Orders.{lock_order, thread_order}
 use Rattle.dso_lookup.specs.Rows.{look_in}
 use Rattle.dso_plain.specs.State.{Object, Hold, PlainState}
-
--- the order of locks in a table
-abbrev pub lock_order : LockName → LockName → Ordering
-lock_order = (lock.ghosts).cmp
-
--- the order of threads in a table
-abbrev pub thread_order : ThreadId → ThreadId → Ordering
-thread_order = (thread.ghosts).cmp
 
 -- the order of fields in a table: by object, and then by field
 abbrev pub field_order : ℕ × ℕ → ℕ × ℕ → Ordering

@@ -6,7 +6,8 @@ ghost use Rattle.dso_plain.specs.TableInvariants.{IndexesAgree};
 ghost use Rattle.dso_plain.specs.Changes.{dropped, without, Mirrors, ClearsRow};
 ghost use Rattle.dso_lookup.specs.Maps.{look};
 ghost use Rattle.dso_lookup.specs.Rows.{look_in};
-ghost use Rattle.dso_plain.specs.Tables.{state_of, lock_order, thread_order};
+ghost use Rattle.dso_lookup.specs.Orders.{lock_order, thread_order};
+ghost use Rattle.dso_plain.specs.Tables.{state_of};
 
 use crate::tables::Tables;
 use dso_base::{LockName, NoMemory, ThreadId};

@@ -3,7 +3,8 @@ ghost use Rattle.std.specs.Prelude.{◌≡◌, ◌≢◌, true, false, None, Som
 ghost use Rattle.dso_plain.specs.TableInvariants.{IndexesAgree};
 ghost use Rattle.dso_lookup.specs.Rows.{look_in};
 ghost use Rattle.dso_plain.specs.Changes.{with_hold, with_wait};
-ghost use Rattle.dso_plain.specs.Tables.{state_of, hold_of, lock_order, thread_order};
+ghost use Rattle.dso_lookup.specs.Orders.{lock_order, thread_order};
+ghost use Rattle.dso_plain.specs.Tables.{state_of, hold_of};
 
 use crate::count::Count;
 use crate::tables::{Hold, Tables};

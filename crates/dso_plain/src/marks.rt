@@ -5,7 +5,8 @@ ghost use Rattle.dso_plain.specs.TableInvariants.{IndexesAgree};
 ghost use Rattle.dso_plain.specs.Changes.{moved};
 ghost use Rattle.dso_lookup.specs.Maps.{look};
 ghost use Rattle.dso_lookup.specs.Rows.{look_in};
-ghost use Rattle.dso_plain.specs.Tables.{state_of, lock_order, thread_order};
+ghost use Rattle.dso_lookup.specs.Orders.{lock_order, thread_order};
+ghost use Rattle.dso_plain.specs.Tables.{state_of};
 
 use crate::count::Count;
 use crate::tables::Tables;

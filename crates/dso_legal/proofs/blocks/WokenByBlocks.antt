@@ -8,7 +8,7 @@ use Rattle.dso_base.specs.declared.lock.ThreadId.{ThreadId}
 use Rattle.dso_base.specs.declared.record.Choice.{Choice}
 use Rattle.dso_lookup.specs.Maps.{written, writes, or_old, look}
 use Rattle.dso_plain.specs.KeyTests.{is_lock}
-use Rattle.dso_plain.specs.Tables.{lock_order}
+use Rattle.dso_lookup.specs.Orders.{lock_order}
 use Rattle.dso_plain.proofs.keys.SameKeys.{same_lock}
 use Rattle.dso_plain.proofs.keys.TableOrders.{lock_at}
 use Rattle.dso_law.specs.ServerWaiters.{waiters_left, lists_after}

@@ -15,7 +15,7 @@ use Rattle.dso_base.specs.Following.{is_thread}
 use Rattle.dso_plain.specs.History.{is_act_of}
 use Rattle.dso_plain.specs.KeyTests.{is_lock}
 use Rattle.dso_lookup.specs.Maps.{writes, or_old, written, look}
-use Rattle.dso_plain.specs.Tables.{lock_order, thread_order}
+use Rattle.dso_lookup.specs.Orders.{lock_order, thread_order}
 use Rattle.dso_plain.proofs.keys.TableOrders.{lock_at, thread_at}
 use Rattle.dso_plain.proofs.keys.Writes.{renamed}
 use Rattle.dso_legal.specs.JournalPass.{ThreadState, ClientState, with_count, ends_block, block_ended, thread_state_after, client_state_after}

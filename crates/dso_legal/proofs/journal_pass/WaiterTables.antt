@@ -15,7 +15,7 @@ use Rattle.dso_base.specs.declared.lock.ThreadId.{ThreadId}
 use Rattle.dso_base.specs.declared.message.Up.TheVariants.{Return}
 use Rattle.dso_plain.specs.KeyTests.{is_lock}
 use Rattle.dso_lookup.specs.Maps.{writes, or_old, written, look}
-use Rattle.dso_plain.specs.Tables.{lock_order}
+use Rattle.dso_lookup.specs.Orders.{lock_order}
 use Rattle.dso_plain.proofs.keys.SameKeys.{same_lock}
 use Rattle.dso_plain.proofs.keys.TableOrders.{lock_at}
 use Rattle.dso_lookup.proofs.Tests.{number_at}

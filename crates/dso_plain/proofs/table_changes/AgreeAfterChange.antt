@@ -10,7 +10,8 @@ use Rattle.dso_plain.specs.declared.tables.Hold as table
 use Rattle.dso_plain.specs.KeyTests.{is_lock, is_place}
 use Rattle.dso_lookup.specs.Maps.{writes, or_old, written}
 use Rattle.dso_lookup.specs.Rows.{is_at_pair}
-use Rattle.dso_plain.specs.Tables.{lock_order, thread_order, hold_of}
+use Rattle.dso_lookup.specs.Orders.{lock_order, thread_order}
+use Rattle.dso_plain.specs.Tables.{hold_of}
 use Rattle.dso_plain.proofs.keys.SameKeys.{number_self, thread_self}
 use Rattle.dso_lookup.proofs.Tests.{number_at}
 use Rattle.dso_plain.proofs.keys.TableOrders.{place_at, thread_at, lock_at}

@@ -19,7 +19,8 @@ use Rattle.dso_plain.specs.State.{opening, roots_object}
 use Rattle.dso_plain.specs.After.{present}
 use Rattle.dso_plain.specs.StepInvariants.{PastInvariant, MonitorInvariant}
 use Rattle.dso_plain.specs.TableInvariants.{IndexesAgree, TablesInvariant}
-use Rattle.dso_plain.specs.Tables.{lock_order, thread_order, field_order, view_order, object_of, hold_of, pasts_of, either, state_of, is_below, blank, IsBlank}
+use Rattle.dso_lookup.specs.Orders.{lock_order, thread_order}
+use Rattle.dso_plain.specs.Tables.{field_order, view_order, object_of, hold_of, pasts_of, either, state_of, is_below, blank, IsBlank}
 use Rattle.dso_lookup.specs.Lists.{newest_first}
 use Rattle.dso_lookup.proofs.Tests.{number_at}
 use Rattle.dso_plain.proofs.keys.Writes.{through}

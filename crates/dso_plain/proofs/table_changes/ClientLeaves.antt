@@ -15,7 +15,8 @@ use Rattle.dso_plain.specs.State.{PlainState}
 use Rattle.dso_plain.specs.After.{apply, loses}
 use Rattle.dso_plain.specs.TableInvariants.{IndexesAgree}
 use Rattle.dso_plain.specs.Changes.{without, Mirrors, ClearsRow}
-use Rattle.dso_plain.specs.Tables.{lock_order, thread_order, either, state_of}
+use Rattle.dso_lookup.specs.Orders.{lock_order, thread_order}
+use Rattle.dso_plain.specs.Tables.{either, state_of}
 use Rattle.dso_plain.proofs.keys.SameKeys.{same_number, same_thread}
 use Rattle.dso_lookup.proofs.Tests.{both, number_at}
 use Rattle.dso_plain.proofs.keys.TableOrders.{thread_at}

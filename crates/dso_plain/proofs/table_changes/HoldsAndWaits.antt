@@ -14,7 +14,8 @@ use Rattle.dso_lookup.specs.Rows.{look_in, is_at_pair}
 use Rattle.dso_plain.specs.State.{Hold}
 use Rattle.dso_plain.specs.TableInvariants.{IndexesAgree}
 use Rattle.dso_plain.specs.Changes.{with_hold, with_wait}
-use Rattle.dso_plain.specs.Tables.{lock_order, thread_order, hold_of, either, state_of}
+use Rattle.dso_lookup.specs.Orders.{lock_order, thread_order}
+use Rattle.dso_plain.specs.Tables.{hold_of, either, state_of}
 use Rattle.dso_plain.proofs.keys.SameKeys.{same_place}
 use Rattle.dso_plain.proofs.keys.TableOrders.{place_at}
 use Rattle.dso_plain.proofs.keys.Writes.{renamed}

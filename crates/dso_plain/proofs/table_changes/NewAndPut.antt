@@ -19,7 +19,8 @@ use Rattle.dso_plain.specs.State.{PlainState, IsShared, is_shared, size_of}
 use Rattle.dso_plain.specs.After.{apply, made_new, put, published, present, opening_value, opening_field}
 use Rattle.dso_plain.specs.StepInvariants.{PastInvariant}
 use Rattle.dso_plain.specs.Publishing.{with_shared}
-use Rattle.dso_plain.specs.Tables.{thread_order, field_order, view_order, object_of, pasts_of, is_below, state_of}
+use Rattle.dso_lookup.specs.Orders.{thread_order}
+use Rattle.dso_plain.specs.Tables.{field_order, view_order, object_of, pasts_of, is_below, state_of}
 use Rattle.dso_lookup.specs.Lists.{lists_of}
 use Rattle.dso_plain.proofs.keys.SameKeys.{same_number}
 use Rattle.dso_plain.proofs.independence.WritesGuarded.{published_private, private_unshared}

@@ -12,7 +12,8 @@ use Rattle.dso_lookup.specs.Rows.{look_in, in_row, is_at_pair}
 use Rattle.dso_plain.specs.After.{apply, times_out, notifies_all}
 use Rattle.dso_plain.specs.Changes.{moved}
 use Rattle.dso_plain.specs.TableInvariants.{IndexesAgree}
-use Rattle.dso_plain.specs.Tables.{lock_order, thread_order, either, state_of}
+use Rattle.dso_lookup.specs.Orders.{lock_order, thread_order}
+use Rattle.dso_plain.specs.Tables.{either, state_of}
 use Rattle.dso_plain.proofs.keys.SameKeys.{same_place, same_lock, same_thread}
 use Rattle.dso_plain.proofs.keys.TableOrders.{place_at, lock_at, thread_at}
 use Rattle.dso_plain.proofs.keys.Writes.{renamed}

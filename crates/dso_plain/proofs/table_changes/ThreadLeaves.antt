@@ -12,7 +12,8 @@ use Rattle.dso_plain.specs.KeyTests.{is_lock}
 use Rattle.dso_lookup.specs.Maps.{writes, or_old, written, look}
 use Rattle.dso_lookup.specs.Rows.{look_in, in_row, is_at_pair}
 use Rattle.dso_plain.specs.Changes.{dropped, without, Mirrors}
-use Rattle.dso_plain.specs.Tables.{lock_order, thread_order, hold_of, either, state_of}
+use Rattle.dso_lookup.specs.Orders.{lock_order, thread_order}
+use Rattle.dso_plain.specs.Tables.{hold_of, either, state_of}
 use Rattle.dso_plain.proofs.keys.SameKeys.{same_lock, same_thread}
 use Rattle.dso_plain.proofs.keys.TableOrders.{place_at, lock_at, thread_at}
 

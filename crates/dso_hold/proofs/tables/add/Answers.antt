@@ -1,7 +1,7 @@
 use Rattle.std.proofs.Common.{Some, refl}
 use Rattle.dso_hold.proofs.Indexes.{agree_same, agree_both, agree_undone}
 use Rattle.dso_lookup.specs.Rows.{look_in}
-use Rattle.dso_hold.specs.Holds.{lock_order, thread_order}
+use Rattle.dso_lookup.specs.Orders.{lock_order, thread_order}
 use Rattle.dso_hold.proofs.tables.add.Goals as goal
 
 pub returns-in_err-insert_in-clause-agree : goal.returns-in_err-insert_in-clause-agree

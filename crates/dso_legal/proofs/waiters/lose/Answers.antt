@@ -1,6 +1,6 @@
 use Rattle.std.proofs.Common.{rules, ◌≡◌, ◌∙◌, sym, ap, []}
 use Rattle.dso_law.specs.ServerWaiters.{without_client}
-use Rattle.dso_plain.specs.Tables.{lock_order}
+use Rattle.dso_lookup.specs.Orders.{lock_order}
 use Rattle.dso_lookup.proofs.MapChanges.{changed_by, emptied}
 use Rattle.dso_legal.specs.JournalPassTables.{waiters_in}
 use Rattle.dso_legal.proofs.journal_pass.WaiterTables.{nothing_in, leaves_first, leaves_next, leaves_last}

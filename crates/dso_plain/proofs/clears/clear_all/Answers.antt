@@ -1,5 +1,5 @@
 use Rattle.dso_lookup.specs.Maps.{look}
-use Rattle.dso_plain.specs.Tables.{thread_order}
+use Rattle.dso_lookup.specs.Orders.{thread_order}
 use Rattle.dso_plain.proofs.table_changes.ClientLeaves.{clears_first, clears_next, clears_last}
 use Rattle.dso_lookup.proofs.MapChanges.{changed_by, emptied}
 use Rattle.dso_plain.proofs.clears.clear_all.Goals as goal

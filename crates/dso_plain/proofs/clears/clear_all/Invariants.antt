@@ -1,6 +1,6 @@
 use Rattle.std.specs.BTreeMap.{btree_map_len}
 use Rattle.dso_lookup.specs.Maps.{look}
-use Rattle.dso_plain.specs.Tables.{thread_order}
+use Rattle.dso_lookup.specs.Orders.{thread_order}
 use Rattle.dso_plain.proofs.table_changes.ClientLeaves.{ClearsSoFar}
 use Rattle.dso_plain.proofs.clears.clear_all.Given as goal
 

@@ -1,7 +1,7 @@
 use Rattle.std.proofs.Common.{ap, ◌∙◌, is_some}
 use Rattle.dso_lookup.specs.Maps.{look}
 use Rattle.dso_lookup.specs.Rows.{look_in}
-use Rattle.dso_plain.specs.Tables.{lock_order, thread_order}
+use Rattle.dso_lookup.specs.Orders.{lock_order, thread_order}
 use Rattle.dso_plain.proofs.table_changes.ThreadLeaves.{one_dropped, none_dropped}
 use Rattle.dso_lookup.proofs.MapChanges.{changed_by, emptied}
 use Rattle.dso_plain.proofs.clears.drop_row.Goals as goal

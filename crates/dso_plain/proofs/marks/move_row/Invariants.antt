@@ -3,7 +3,7 @@ use Rattle.std.specs.BTreeMap.{btree_map_len}
 use Rattle.dso_plain.specs.Changes.{moved}
 use Rattle.dso_lookup.specs.Maps.{look}
 use Rattle.dso_lookup.specs.Rows.{look_in}
-use Rattle.dso_plain.specs.Tables.{lock_order, thread_order}
+use Rattle.dso_lookup.specs.Orders.{lock_order, thread_order}
 use Rattle.dso_plain.proofs.marks.move_row.Given as goal
 
 abbrev pub invariant-loop-thread : goal.invariant-loop-thread

@@ -4,13 +4,13 @@ ghost use Rattle.dso_lookup.specs.Maps.{writes, written};
 ghost use Rattle.dso_lookup.specs.Rows.{look_in, is_at_pair};
 
 use dso_base::NoMemory;
-use dso_lookup::is_row_empty;
+use crate::rows::is_row_empty;
 use std::alloc::Global;
 use std::collections::BTreeMap;
 
 /// Puts a value at a key of a row, instead of one there. It answers `NoMemory` where an allocation was refused, and the
 /// rows are then as before.
-pub(crate) fn insert_in<J: Ord + Drop, K: Ord + Drop, V: Drop>(
+pub fn insert_in<J: Ord + Drop, K: Ord + Drop, V: Drop>(
     alloc: Global,
     rows: &mut BTreeMap<J, BTreeMap<K, V>>,
     at: J,
@@ -34,7 +34,7 @@ pub(crate) fn insert_in<J: Ord + Drop, K: Ord + Drop, V: Drop>(
 }
 
 /// Puts a value at a key of a row instead of the one there. It takes no memory.
-pub(crate) fn replace_in<J: Ord + Drop, K: Ord + Drop, V: Drop>(
+pub fn replace_in<J: Ord + Drop, K: Ord + Drop, V: Drop>(
     rows: &mut BTreeMap<J, BTreeMap<K, V>>,
     at: &J,
     key: &K,
@@ -73,7 +73,7 @@ fn drop_empty<J: Ord + Drop, K: Ord + Drop, V: Drop>(rows: &mut BTreeMap<J, BTre
 }
 
 /// Drops what stands at a key of a row, and the row where nothing else stands in it. It takes no memory.
-pub(crate) fn remove_in<J: Ord + Drop, K: Ord + Drop, V: Drop>(
+pub fn remove_in<J: Ord + Drop, K: Ord + Drop, V: Drop>(
     rows: &mut BTreeMap<J, BTreeMap<K, V>>,
     at: &J,
     key: &K,

@@ -1,8 +1,8 @@
 use Rattle.std.proofs.Common.{None, ap, ◌∙◌}
 use Rattle.dso_lookup.specs.Rows.{look_in}
 use Rattle.dso_lookup.proofs.MapChanges.{changed_by}
-use Rattle.dso_hold.proofs.RowsInPlace.{in_there, written_through, row_changed, row_absent}
-use Rattle.dso_hold.proofs.rows.clear_in.Goals as goal
+use Rattle.dso_lookup.proofs.RowsInPlace.{in_there, written_through, row_changed, row_absent}
+use Rattle.dso_lookup.proofs.rows_in_place.clear_in.Goals as goal
 
 pub returns-in-Some : goal.returns-in-Some
 returns-in-Some g c =

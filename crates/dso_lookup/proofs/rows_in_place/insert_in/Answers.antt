@@ -2,8 +2,8 @@ use Rattle.std.proofs.Common.{◌≡◌, Some, subst}
 use Rattle.std.specs.BTreeMap.{is_at}
 use Rattle.dso_lookup.specs.Maps.{look, writes, written}
 use Rattle.dso_lookup.proofs.MapChanges.{changed_by}
-use Rattle.dso_hold.proofs.RowsInPlace.{in_there, in_none, on_err, same_entries, written_through, row_changed, row_kept}
-use Rattle.dso_hold.proofs.rows.insert_in.Goals as goal
+use Rattle.dso_lookup.proofs.RowsInPlace.{in_there, in_none, on_err, same_entries, written_through, row_changed, row_kept}
+use Rattle.dso_lookup.proofs.rows_in_place.insert_in.Goals as goal
 
 pub returns-in_err-insert-in-Some-clause-err : goal.returns-in_err-insert-in-Some-clause-err
 returns-in_err-insert-in-Some-clause-err g c =

@@ -1,6 +1,6 @@
 use Rattle.std.proofs.Common.{Some}
-use Rattle.dso_hold.proofs.RowsInPlace.{in_there, written_through, row_changed}
-use Rattle.dso_hold.proofs.rows.replace_in.Goals as goal
+use Rattle.dso_lookup.proofs.RowsInPlace.{in_there, written_through, row_changed}
+use Rattle.dso_lookup.proofs.rows_in_place.replace_in.Goals as goal
 
 pub returns-in-Some-get_mut : goal.returns-in-Some-get_mut
 returns-in-Some-get_mut g c =
