@@ -11,10 +11,10 @@ use thiserror::Error;
 #[derive(Clone, Copy, Debug, PartialEq, Eq, Error)]
 pub enum ProgramFault {
     /// It isn't of the grammar.
-    #[error("the program's text breaks the grammar: {0:?}")]
+    #[error("the program's text breaks the grammar: {0}")]
     Syntax(SyntaxFault),
     /// Its names break a rule.
-    #[error("a name of the program breaks a rule: {0:?}")]
+    #[error("a name of the program breaks a rule: {0}")]
     Name(NameFault),
     /// It asks for what isn't built yet.
     #[error("the program asks for something that is not built yet")]
