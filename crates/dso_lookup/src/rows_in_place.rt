@@ -3,8 +3,8 @@ ghost use Rattle.std.specs.Prelude.{◌≡◌, true, is_some, None, Some, OnOk, 
 ghost use Rattle.dso_lookup.specs.Maps.{writes, written};
 ghost use Rattle.dso_lookup.specs.Rows.{look_in, is_at_pair};
 
-use dso_base::NoMemory;
 use crate::rows::is_row_empty;
+use dso_base::NoMemory;
 use std::alloc::Global;
 use std::collections::BTreeMap;
 
