@@ -185,6 +185,10 @@ pub record Asks (words : List (List ℕ)) (command : Command) : Type 0 where
   pub gives : Gives rest given
   pub asked : IsAsked first given command
 
+-- Words ask for one thing at most.
+abbrev pub WordsAskOnce : Type 0
+WordsAskOnce = (words : List (List ℕ)) (command other : Command) → Asks words command → Asks words other → command ≡ other
+
 -- What of it is built: `sim`, without a seed and without a file for the journal.
 abbrev pub IsBuilt : Command → Type 0
 IsBuilt (Sim call) = (call.seed ≡ None) × (call.journal ≡ None)

@@ -7,6 +7,7 @@ mod command;
 mod counter;
 mod given;
 mod known;
+pub mod laws;
 mod main_call;
 mod numbers;
 mod option_name;

@@ -1,14 +1,15 @@
 //! The cases of the top call: reads settings and trials from standard input, and prints what each trial comes to.
 //!
 //! A line is a word, a space and the rest. `try NAME` calls the program with what the lines before it set, and prints the
-//! name, the status, the exit number and the bytes that the sink took; `journal NAME` prints the journal too. Then all but
-//! the program is set back. `words LINE` tells what becomes of a command line. The other words are those of `Trial::set`. In texts `\n`, `\t`, `\r` and `\1` stand for bytes.
+//! name, the status, the exit number and the bytes that the sink took; `journal NAME` prints the journal too, `reason NAME`
+//! only why nothing was run. Then all but the program is set back. `words LINE` tells what becomes of a command line. The
+//! other words are those of `Trial::set`. In texts `\n`, `\t`, `\r` and `\1` stand for bytes.
 #![tactic(auto)]
 
 mod trial;
 
 use std::io;
-use trial::{Trial, show_journal, show_trial, show_words};
+use trial::{Trial, show_journal, show_reason, show_trial, show_words};
 
 fn main(rt: HostRuntime) -> io::Result<()> {
     let text = io::read_to_string(rt.alloc(), rt.reader())?;
@@ -21,6 +22,10 @@ fn main(rt: HostRuntime) -> io::Result<()> {
             }
             Some(("journal", name)) => {
                 show_journal(&rt, name, &trial)?;
+                trial = Trial::of_program(trial.program);
+            }
+            Some(("reason", name)) => {
+                show_reason(&rt, name, &trial)?;
                 trial = Trial::of_program(trial.program);
             }
             Some(("words", line)) => show_words(&rt, line)?,

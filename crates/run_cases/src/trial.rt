@@ -1,7 +1,8 @@
 //! A call of the program over files and a sink in memory.
 use dso_base::NoMemory;
 use dso_io::{MemFiles, MemSink};
-use dso_run::{Done, dso_main};
+use dso_run::laws::words_ask_once;
+use dso_run::{Done, Status, dso_main};
 use std::alloc::{AllocError, Global};
 use std::io;
 
@@ -156,6 +157,7 @@ pub fn show_trial(rt: &HostRuntime, name: &str, trial: &Trial<'_>) -> io::Result
 /// Tries these words over a configuration that is no TOML, and prints what becomes of them: the configuration's fault
 /// where the words are taken and name the two files, or what is wrong with the words or the names.
 pub fn show_words(rt: &HostRuntime, line: &str) -> io::Result<()> {
+    words_ask_once();
     let trial = Trial {
         line,
         config: "=",
@@ -174,6 +176,18 @@ pub fn show_journal(rt: &HostRuntime, name: &str, trial: &Trial<'_>) -> io::Resu
             show_answer(rt, name, &answer)?;
             show_entries(rt, &answer.done)
         }
+        Err(NoMemory) => println!(rt; "{name}: no memory"),
+    }
+}
+
+/// Tries the call as `show_trial`, and prints in a sentence why nothing was run.
+pub fn show_reason(rt: &HostRuntime, name: &str, trial: &Trial<'_>) -> io::Result<()> {
+    match trial.answer(rt.alloc()) {
+        Ok(answer) => match answer.done.status {
+            Status::BadConfig(fault) => println!(rt; "{name}: {fault}"),
+            Status::BadProgram(fault) => println!(rt; "{name}: {fault}"),
+            status => println!(rt; "{name}: {status:?}"),
+        },
         Err(NoMemory) => println!(rt; "{name}: no memory"),
     }
 }
