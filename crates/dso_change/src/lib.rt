@@ -15,3 +15,4 @@ pub use bodies::set_in;
 pub use changes::changes_for;
 pub use draft::{Draft, put};
 pub use folding::fold;
+pub use opening::opening_body;
