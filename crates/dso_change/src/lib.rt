@@ -7,6 +7,7 @@ mod bodies;
 mod changes;
 mod draft;
 mod folding;
+pub mod laws;
 mod opening;
 mod publish;
 mod sets;

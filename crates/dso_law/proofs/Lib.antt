@@ -4,3 +4,4 @@ pub mod client
 pub mod server
 pub mod Insert
 pub mod Published
+pub mod core

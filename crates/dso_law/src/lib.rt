@@ -7,6 +7,7 @@ mod blocks;
 mod bodies;
 mod channels;
 mod copies;
+pub mod core_laws;
 mod entries;
 mod events;
 mod ids;
