@@ -5,3 +5,4 @@ pub mod server
 pub mod Insert
 pub mod Published
 pub mod core
+pub mod runs

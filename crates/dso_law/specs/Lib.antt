@@ -30,3 +30,5 @@ pub mod LeaseHeld
 pub mod IdsAhead
 pub mod ResidentCount
 pub mod CoreLaws
+pub mod ClientRun
+pub mod RunLaws

@@ -16,6 +16,7 @@ mod leases;
 mod opening;
 mod publish;
 mod readings;
+pub mod run_laws;
 mod store;
 mod threads;
 mod work;
