@@ -2,3 +2,5 @@
 pub mod OwnRequests
 pub mod Returned
 pub mod Quiet
+pub mod Others
+pub mod Awaiting

@@ -1,6 +1,6 @@
 -- Laws of runs of one client.
 use Rattle.std.specs.List.{list_any}
-use Rattle.std.specs.Prelude.{ℕ, ◌≡◌, true, false, cond, Option, Some, None, List, [], ◌∷◌}
+use Rattle.std.specs.Prelude.{ℕ, ◌≡◌, true, eqb, Option, Some, List, [], ◌∷◌}
 use Rattle.dso_base.specs.declared.journal.Entry.{Entry}
 use Rattle.dso_base.specs.declared.journal.Input.TheVariants as input
 use Rattle.dso_base.specs.declared.lock.Level.TheVariants.{Read}
@@ -9,12 +9,13 @@ use Rattle.dso_base.specs.declared.lock.ThreadId.{ThreadId}
 use Rattle.dso_base.specs.declared.request.Event.{Event}
 use Rattle.dso_base.specs.declared.request.Request.{Request}
 use Rattle.dso_plain.specs.KeyTests.{is_lock}
-use Rattle.dso_law.specs.Settings.{Settings}
-use Rattle.dso_law.specs.Entries.{unsent}
+use Rattle.dso_law.specs.Settings.{Settings, threads_of}
+use Rattle.dso_law.specs.Entries.{unsent, by_taken_down, by_event}
 use Rattle.dso_law.specs.Leases.{leased}
 use Rattle.dso_law.specs.Closing.{due}
 use Rattle.dso_law.specs.ClientStep.{ClientStep}
-use Rattle.dso_law.specs.ClientRun.{ClientRun, AreSameFor, awaits_lease, next_in}
+use Rattle.dso_law.specs.LeaseHeld.{Lease, awaits_lease, kept_lease, lease_by_taken, lease_by_event, lease_by_wants, lease_by_return}
+use Rattle.dso_law.specs.ClientRun.{ClientRun, AreSameFor, next_in}
 
 -- Own requests: the client rule looks at the next requests of the client's own threads alone.
 abbrev pub OwnRequestsCount : Type 0
@@ -24,5 +25,29 @@ OwnRequestsCount = (p : Settings) (c : ℕ) (before other_before later other_lat
 
 -- Quiet: in a run no lease is to be given back between two entries.
 abbrev pub NothingIsDue : Type 0
-NothingIsDue = (p : Settings) (c : ℕ) (next : ThreadId → List Event → Option Request) (es : List Entry) → ClientRun p c next es
-    → due p c (next_in next es) es ≡ []
+NothingIsDue = (p : Settings) (c : ℕ) (next : ThreadId → List Event → Option Request) (es : List Entry)
+    → ClientRun p c next es → due p c (next_in next es) es ≡ []
+
+-- Awaiting: a thread that wants at Write a lease of level Read makes no act entry.
+abbrev pub WhoAwaitsStays : Type 0
+WhoAwaitsStays = (p : Settings) (c : ℕ) (before later : ThreadId → Option Request) (e : Entry) (es : List Entry)
+    (t : ThreadId) (l : LockName) → ClientStep p c before later e es → eqb t.client c ≡ true → leased l es ≡ Some Read
+    → awaits_lease p c before l es t ≡ true → e.input ≡ input.Act t.index → ⊥
+
+-- Lasting: so it wants the lease after the entry, too.
+abbrev pub WhoAwaitsGoesOn : Type 0
+WhoAwaitsGoesOn = (p : Settings) (c : ℕ) (next : ThreadId → List Event → Option Request) (e : Entry) (es : List Entry)
+    (t : ThreadId) (l : LockName) → ClientRun p c next (e ∷ es) → eqb t.client c ≡ true → leased l es ≡ Some Read
+    → awaits_lease p c (next_in next es) l es t ≡ true → awaits_lease p c (next_in next (e ∷ es)) l (e ∷ es) t ≡ true
+
+-- the lease of the lock after an entry: by the message taken, by the event, by who wants it then, and given back where it is
+-- due
+abbrev pub lease_after : Settings → ℕ → (ThreadId → List Event → Option Request) → LockName → Entry → List Entry → Option Lease
+lease_after p c next l e es = lease_by_return (list_any (is_lock l) (due p c (next_in next (e ∷ es)) (unsent e ∷ es)))
+    (lease_by_wants (list_any (awaits_lease p c (next_in next (e ∷ es)) l (e ∷ es)) (threads_of p c))
+    (by_event (lease_by_event l) e.event (by_taken_down (lease_by_taken l) e.input (kept_lease p c (next_in next es) l es))))
+
+-- Kept: in a run the lease of a lock that stays closing is kept from entry to entry.
+abbrev pub LeasesAreKept : Type 0
+LeasesAreKept = (p : Settings) (c : ℕ) (next : ThreadId → List Event → Option Request) (l : LockName) (e : Entry) (es : List Entry)
+    → ClientRun p c next (e ∷ es) → kept_lease p c (next_in next (e ∷ es)) l (e ∷ es) ≡ lease_after p c next l e es

@@ -1,6 +1,6 @@
 //! Laws of runs of one client, whose entries each follow those before it by the client rule. Each is the contract of a
 //! function that does nothing.
-ghost use Rattle.dso_law.specs.RunLaws.{OwnRequestsCount, NothingIsDue};
+ghost use Rattle.dso_law.specs.RunLaws.{OwnRequestsCount, NothingIsDue, WhoAwaitsStays, WhoAwaitsGoesOn};
 
 /// The client rule looks at the next requests of the client's own threads alone.
 pub fn own_requests()
@@ -10,4 +10,10 @@ pub fn own_requests()
 /// No lease is to be given back between two entries.
 pub fn quiet()
     ensures { NothingIsDue }
+{}
+
+/// A thread that wants at Write a lease of level Read makes no act entry, and wants it after each other entry.
+pub fn awaiting()
+    ensures stays { WhoAwaitsStays }
+    ensures goes_on { WhoAwaitsGoesOn }
 {}
