@@ -4,3 +4,4 @@ pub mod Returned
 pub mod Quiet
 pub mod Others
 pub mod Awaiting
+pub mod Kept

@@ -1,6 +1,6 @@
 //! Laws of runs of one client, whose entries each follow those before it by the client rule. Each is the contract of a
 //! function that does nothing.
-ghost use Rattle.dso_law.specs.RunLaws.{OwnRequestsCount, NothingIsDue, WhoAwaitsStays, WhoAwaitsGoesOn};
+ghost use Rattle.dso_law.specs.RunLaws.{OwnRequestsCount, NothingIsDue, WhoAwaitsStays, WhoAwaitsGoesOn, LeasesAreKept};
 
 /// The client rule looks at the next requests of the client's own threads alone.
 pub fn own_requests()
@@ -16,4 +16,10 @@ pub fn quiet()
 pub fn awaiting()
     ensures stays { WhoAwaitsStays }
     ensures goes_on { WhoAwaitsGoesOn }
+{}
+
+/// The lease of a lock is kept from entry to entry: a grant begins it; an entry of the lock enters it; a recall closes it,
+/// and so does a thread that wants it at Write where its level is Read; and it is gone where it is given back.
+pub fn leases()
+    ensures { LeasesAreKept }
 {}
