@@ -5,3 +5,9 @@ pub mod Quiet
 pub mod Others
 pub mod Awaiting
 pub mod Kept
+pub mod AsksForAbsent
+pub mod MakesNext
+pub mod Said
+pub mod Numbers
+pub mod Apart
+pub mod IdsTaken

@@ -1,6 +1,7 @@
 //! Laws of runs of one client, whose entries each follow those before it by the client rule. Each is the contract of a
 //! function that does nothing.
 ghost use Rattle.dso_law.specs.RunLaws.{OwnRequestsCount, NothingIsDue, WhoAwaitsStays, WhoAwaitsGoesOn, LeasesAreKept};
+ghost use Rattle.dso_law.specs.RunLaws.{RecordsAreNumbered, RecordsAreAckedInOrder, AskedIsAbsent, IdsRunOut};
 
 /// The client rule looks at the next requests of the client's own threads alone.
 pub fn own_requests()
@@ -22,4 +23,21 @@ pub fn awaiting()
 /// and so does a thread that wants it at Write where its level is Read; and it is gone where it is given back.
 pub fn leases()
     ensures { LeasesAreKept }
+{}
+
+/// The records that aren't acknowledged have consecutive numbers, up to the client's latest one; so they are acknowledged in
+/// the order of their numbers.
+pub fn numbers()
+    ensures numbered { RecordsAreNumbered }
+    ensures in_order { RecordsAreAckedInOrder }
+{}
+
+/// No object is both asked for and resident.
+pub fn apart()
+    ensures { AskedIsAbsent }
+{}
+
+/// The client made no more objects than it took ids, and while a batch is asked for it made as many: no id is left.
+pub fn ids()
+    ensures { IdsRunOut }
 {}

@@ -12,7 +12,7 @@ next_is : (es : List Entry) → ids_from 0 es ≡ next_id es
 next_is es = let same : made es + 0 ≡ made es = omega arith in ap (id_at (batches es)) same
 
 -- a number behind the first batch is there for the batches behind it
-behind : (n : ℕ) → ltb n batch_size ≡ false → 256 ≤ n
+pub behind : (n : ℕ) → ltb n batch_size ≡ false → 256 ≤ n
 behind n is = elim (leb_tells (suc n) 256) [ inl h ↦ absurd (cc (sym is ∙ h.0)) | inr h ↦ let far = h.1 in omega (arith, far) ]
 
 -- so far behind the first batch
