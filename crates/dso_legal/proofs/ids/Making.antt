@@ -32,7 +32,7 @@ use Rattle.dso_law.specs.ClientWaiters.{is_marked}
 use Rattle.dso_law.specs.Replies.{put_reply, enter_reply, monitor_reply, timeout_reply, class_known, value_seen, value_in, put_answer, answer_put, reply_of}
 use Rattle.dso_law.specs.FitsDown.{FitsDown}
 use Rattle.dso_law.specs.ClientStep.{DoesOrAsks, ActsOn, ClientStepOn}
-unfoldable pub use Rattle.dso_law.proofs.runs.MakesNext.{IsNew, only_new, makes_next}
+pub use Rattle.dso_law.proofs.runs.MakesNext.{IsNew, only_new, makes_next}
 use Rattle.dso_legal.specs.Lawful.{next_after, ClientFollows, NodeFollows, AllFollow}
 use Rattle.dso_legal.specs.MadeOnce.{objects_by_reply, objects_by, objects_made, Falls, IdsRise}
 use Rattle.dso_legal.proofs.records.BothEnds.{client_with}
@@ -189,7 +189,7 @@ module _ (p : Settings) (c : ℕ) (before after_it : ThreadId → Option Request
   acts t None step h = absurd step
   acts t (Some request) step h = does_or_asks t request (unmet p c before t request es) step h
 
-  steps : (i : Input) → ClientStepOn p c i before after_it e es → InOrder (batches es) (objects_made es) → InOrder (by_taken_down batches_by_taken i (batches es)) (objects_made (e ∷ es))
+  pub steps : (i : Input) → ClientStepOn p c i before after_it e es → InOrder (batches es) (objects_made es) → InOrder (by_taken_down batches_by_taken i (batches es)) (objects_made (e ∷ es))
   steps (input.Act index) step h = acts (record { client = c; index = index }) (before (record { client = c; index = index })) step.acts h
   steps (input.TookDown m) step h = no_event (batches_by_taken m (batches es)) step.event (taken m step.fits h)
   steps (input.Flush o) step h = no_event (batches es) step.event h
