@@ -1,5 +1,5 @@
 -- Loops over sets and lists: what was moved and listed so far.
-use Rattle.std.proofs.Common.{ℕ, ◌+◌, ◌<◌, ◌≤◌, ◌-◌, ◌≡◌, refl, sym, ◌∙◌, ap, subst, arith, Bool, true, false, cond, eqb, ◌||◌, length, get_or, Option, Some, None, List, [], ◌∷◌, drop, zero, suc, take, filter, ◌++◌, OnOk, Result, Ok, Err}
+use Rattle.std.proofs.Common.{ℕ, ◌+◌, ◌<◌, ◌≡◌, refl, sym, ◌∙◌, ap, arith, Bool, true, false, cond, eqb, ◌||◌, length, get_or, Option, Some, None, List, [], ◌∷◌, drop, zero, suc, take, filter, ◌++◌, OnOk, Result, Ok, Err}
 use Rattle.std.proofs.Math.Path.{fun_ext}
 use Rattle.std.proofs.Math.Seq.{drop-cons}
 use Rattle.std.proofs.lemmas.Bool.{eqb-true}

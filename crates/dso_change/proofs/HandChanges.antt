@@ -1,13 +1,12 @@
 -- What the tables keep after a change stands for the work after it.
-use Rattle.std.proofs.Common.{ℕ, ◌+◌, ◌<◌, ◌≡◌, refl, sym, ◌∙◌, ap, subst, Bool, true, false, cond, not, eqb, ltb, is_some, Option, Some, None, List, [], ◌∷◌, ◌++◌, map, filter, ◌&&◌, ◌||◌, ◌≤◌, arith}
+use Rattle.std.proofs.Common.{ℕ, ◌<◌, ◌≡◌, refl, sym, ◌∙◌, ap, Bool, true, false, cond, eqb, ltb, is_some, Some, None, List, [], ◌∷◌, ◌++◌, map, filter, ◌&&◌, ◌||◌, arith}
 use Rattle.std.proofs.Math.Path.{fun_ext}
 use Rattle.std.proofs.lemmas.Bool.{eqb-true, eq-eqb, lt-ltb, le-ltb}
 use Rattle.std.specs.BTreeMap.{BTreeMap, is_at, insert_entry, IsOrdered}
 use Rattle.std.specs.BTreeSet.{BTreeSet, contains}
 use Rattle.std.specs.Cmp.{ranked}
 use Rattle.std.specs.Map.{lookup}
-use Rattle.std.specs.Option.{option_map}
-use Rattle.std.specs.Ordering.{nat_cmp, ordering_then, match_ordering, is_eq, is_lt}
+use Rattle.std.specs.Ordering.{nat_cmp, ordering_then, match_ordering}
 use Rattle.std.specs.declared.cmp.Ordering.{Ordering}
 use Rattle.std.specs.declared.cmp.Ordering.TheVariants.{Less, Equal, Greater}
 use Rattle.dso_base.specs.declared.lock.LockName.{LockName}
@@ -18,9 +17,9 @@ use Rattle.dso_base.specs.declared.record.Ending.{Ending}
 use Rattle.dso_base.specs.declared.record.Note.{Note}
 use Rattle.dso_base.specs.declared.record.Set.{Set}
 use Rattle.dso_base.specs.declared.value.Value.{Value}
-use Rattle.dso_base.specs.Block.{Work, body_in, with_value, insert_set, is_same_field, is_field_before, is_published, insert_bodies, publish, put_shared, put, noted, start}
+use Rattle.dso_base.specs.Block.{Work, body_in, with_value, insert_set, is_published, insert_bodies, publish, put_shared, put, noted, start}
 use Rattle.dso_change.specs.declared.draft.Draft.{Draft}
-use Rattle.dso_change.specs.Hands.{Bodies, Hand, hand_of, hand_in, set_of_entry, sets_of, values_of, record_from, IsBlank, with_field_at, either, kept, joined, IsOnce, AreDifferent}
+use Rattle.dso_change.specs.Hands.{Bodies, hand_of, hand_in, set_of_entry, sets_of, values_of, record_from, IsBlank, with_field_at, either, kept, joined, IsOnce}
 use Rattle.dso_change.proofs.BodyLists.{value_written, kept_found, moved_found, inserts_found}
 use Rattle.dso_change.proofs.RisingBodies.{different_moved, same_bodies}
 use Rattle.dso_lookup.specs.Maps.{look, writes, or_old, written}

@@ -1,20 +1,11 @@
 -- Each object stays in hand once: after a put, after what it publishes, and after a New of an object that wasn't in hand.
-use Rattle.std.proofs.Common.{ℕ, ◌≡◌, refl, sym, ◌∙◌, ap, subst, Bool, true, false, cond, not, eqb, is_some, Option, Some, None, List, [], ◌∷◌, filter, take}
+use Rattle.std.proofs.Common.{ℕ, ◌≡◌, refl, sym, ◌∙◌, ap, Bool, true, false, cond, not, eqb, is_some, Option, Some, None, List, ◌∷◌, filter}
 use Rattle.std.proofs.lemmas.Bool.{eqb-true}
 use Rattle.std.specs.Option.{option_map}
 use Rattle.dso_base.specs.declared.record.Body.{Body}
-use Rattle.dso_base.specs.declared.lock.ThreadId.{ThreadId}
-use Rattle.dso_base.specs.declared.request.Event.{Event}
-use Rattle.dso_base.specs.declared.request.Event.TheVariants.{Act, Lost}
-use Rattle.dso_base.specs.declared.request.Reply.{Reply}
-use Rattle.dso_base.specs.declared.request.Reply.TheVariants.{Done, Made, Seen, Val, Local, Refused}
-use Rattle.dso_base.specs.declared.request.Request.{Request}
-use Rattle.dso_base.specs.declared.request.Request.TheVariants.{New, Look, Get, Put, Enter, Exit, Wait, Tick, Timeout, Resume, Notify, NotifyAll, Print, End, Pause, Settle}
-use Rattle.dso_base.specs.declared.shape.Shape.{Shape}
 use Rattle.dso_base.specs.declared.value.Value.{Value}
-use Rattle.dso_base.specs.Block.{Work, body_in, with_value, insert_set, opening_body, is_published, insert_bodies, publish, put_shared, put, work_by, work_after}
-use Rattle.dso_change.specs.Events.{IsNew, IsNewIn}
-use Rattle.dso_change.specs.Hands.{IsOnce, with_field, either, AreDifferent, AreRising}
+use Rattle.dso_base.specs.Block.{Work, body_in, with_value, insert_set, is_published, insert_bodies, publish, put_shared, put}
+use Rattle.dso_change.specs.Hands.{IsOnce, with_field, either}
 use Rattle.dso_change.proofs.BodyLists.{nothing, value_found, kept_found, moved_found, inserts_found}
 use Rattle.dso_change.proofs.RisingBodies.{rising_inserts, different_value, rising_value, different_moved}
 

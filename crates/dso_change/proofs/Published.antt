@@ -11,7 +11,7 @@ use Rattle.dso_base.specs.declared.value.Value.TheVariants as value
 use Rattle.dso_base.specs.Block.{body_in, has_reference, body_names, is_published}
 use Rattle.dso_base.specs.Reach.{Reached}
 use Rattle.dso_lookup.specs.Reaching.{IsListed}
-use Rattle.dso_lookup.specs.Search.{is_listed, reference_in}
+use Rattle.dso_lookup.specs.Search.{is_listed}
 use Rattle.dso_lookup.proofs.Reaching.{reach_tells}
 use Rattle.dso_lookup.proofs.Tests.{same_tests}
 use Rattle.dso_change.specs.Hands.{with_references}

@@ -1,20 +1,18 @@
 -- Bodies of different objects, and bodies by rising id.
-use Rattle.std.proofs.Common.{ℕ, ◌+◌, ◌<◌, ◌≤◌, ◌≡◌, ◌≢◌, refl, sym, ◌∙◌, ap, subst, arith, Bool, true, false, cond, not, eqb, ltb, is_some, Option, Some, None, List, [], ◌∷◌, map, filter}
+use Rattle.std.proofs.Common.{ℕ, ◌<◌, ◌≡◌, ◌≢◌, refl, sym, ◌∙◌, ap, subst, arith, Bool, true, false, cond, eqb, ltb, is_some, Some, None, List, [], ◌∷◌, map, filter}
 use Rattle.std.proofs.lemmas.Bool.{eqb-true, eq-eqb, ltb-true, ltb-false}
-use Rattle.std.specs.BTreeMap.{BTreeMap, is_at, IsOrdered}
+use Rattle.std.specs.BTreeMap.{is_at}
 use Rattle.std.specs.Cmp.{ranked}
 use Rattle.std.specs.List.{AllByRecursion}
 use Rattle.std.specs.List.Sorted.{IsStrictlySortedBy}
 use Rattle.std.specs.Map.{lookup}
 use Rattle.std.specs.Ordering.{nat_cmp, MatchOrdering}
 use Rattle.std.specs.declared.cmp.Ordering.TheVariants.{Less}
-use Rattle.std.proofs.Math.Path.{fun_ext}
 use Rattle.dso_base.specs.declared.record.Body.{Body}
 use Rattle.dso_base.specs.declared.value.Value.{Value}
 use Rattle.dso_base.specs.Block.{body_in, with_value, insert_body, insert_bodies}
-use Rattle.dso_change.specs.Hands.{with_field, either, AreDifferent, AreRising, values_of}
+use Rattle.dso_change.specs.Hands.{with_field, either, AreDifferent, AreRising}
 use Rattle.dso_change.proofs.BodyLists.{nothing, value_found, moved_found, inserts_found}
-use Rattle.dso_lookup.specs.Maps.{look}
 use Rattle.dso_lookup.proofs.Tests.{number_at}
 
 -- nothing is found in a list of bodies of greater objects

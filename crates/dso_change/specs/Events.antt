@@ -1,5 +1,5 @@
 -- Events that make each object once.
-use Rattle.std.specs.Prelude.{ℕ, ◌≡◌, None, List, [], ◌∷◌}
+use Rattle.std.specs.Prelude.{◌≡◌, None, List, [], ◌∷◌}
 use Rattle.dso_base.specs.declared.request.Event.{Event}
 use Rattle.dso_base.specs.declared.request.Event.TheVariants.{Act, Lost}
 use Rattle.dso_base.specs.declared.request.Reply.{Reply}

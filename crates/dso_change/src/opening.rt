@@ -51,8 +51,9 @@ fn opening_values(
     Ok(values)
 }
 
-/// A new object of this class and size.
-pub(crate) fn opening_body(
+/// A new object of this class and size, each field with the opening value of its kind: 0, false, or null for texts and
+/// references. It answers `NoMemory` where an allocation was refused.
+pub fn opening_body(
     alloc: Global,
     shape: &Shape,
     class: ClassId,

@@ -4,3 +4,5 @@ pub mod client
 pub mod server
 pub mod Insert
 pub mod Published
+pub mod core
+pub mod runs

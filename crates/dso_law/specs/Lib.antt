@@ -24,3 +24,11 @@ pub mod Laws
 pub mod Publishing
 pub mod WorkInHand
 pub mod HoldCounts
+pub mod HeldBody
+pub mod ChangeMarks
+pub mod LeaseHeld
+pub mod IdsAhead
+pub mod ResidentCount
+pub mod CoreLaws
+pub mod ClientRun
+pub mod RunLaws

@@ -5,6 +5,7 @@ pub mod leases
 pub mod records
 pub mod ids
 pub mod objects
+pub mod runs
 pub mod fitting
 pub mod acts
 pub mod copies

@@ -8,7 +8,6 @@ pub mod ResidentClient
 pub mod ResidentServer
 pub mod Residency
 pub mod ObjectsInFlight
-pub mod AsksForAbsent
 pub mod SetsResident
 pub mod SetsFound
 pub mod SetsOfFields

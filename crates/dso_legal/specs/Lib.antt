@@ -34,6 +34,7 @@ pub mod Views
 pub mod CopiesStand
 pub mod Central
 pub mod Store
+pub mod Runs
 pub mod JournalPass
 pub mod JournalPassTables
 pub mod examples

@@ -1,5 +1,5 @@
 //! The leases: `want m5 read outer`, `entered m5`, `granted m5 read`, `recalled m5`, `return m5 free`, `level m5`,
-//! `asked m5`, `is-entered m5`, `closing m5`, `admits m5 read inner`, `random 7 500`.
+//! `standing m5`, `asked m5`, `is-entered m5`, `closing m5`, `admits m5 read inner`, `random 7 500`.
 
 use crate::plain_leases;
 use crate::words::{debugged, first_of, level, lock, shown};
@@ -34,6 +34,7 @@ fn of_lock(
         "recalled" => shown(alloc, leases.recalled(lock)),
         "return" => shown(alloc, leases.try_return(lock, text == "free")),
         "level" => debugged(alloc, leases.lease(lock)),
+        "standing" => debugged(alloc, leases.standing(lock)),
         "asked" => shown(alloc, leases.is_asked(lock)),
         "is-entered" => shown(alloc, leases.is_entered(lock)),
         "closing" => shown(alloc, leases.is_closing(lock)),

@@ -4,12 +4,16 @@
 //! line is printed as it stands, and all parts are new from there on. The commands are told in `parts.rt`.
 #![tactic(auto)]
 
+mod block_rows;
+mod block_words;
 mod holds;
 mod ids;
 mod leases;
 mod parts;
 mod plain_holds;
 mod plain_leases;
+mod record_words;
+mod unacked_rows;
 mod waits;
 mod words;
 

@@ -8,13 +8,17 @@
 //! | `hold random 7 500` | 500 calls drawn from a number, beside a plain list of holds (`plain_holds.rt`) |
 //! | `lease want m5 read outer` | the leases (`leases.rt`) |
 //! | `lease random 7 500` | 500 calls drawn from a number, beside a plain list of locks (`plain_leases.rt`) |
+//! | `block put 0 0 r5` | what a thread has in hand, and the record of it (`block_rows.rt`) |
+//! | `unacked add 1` | the records that are not acknowledged (`unacked_rows.rt`) |
 
+use crate::block_rows::Hand;
 use crate::words::{first_of, shown};
-use crate::{holds, ids, leases, waits};
+use crate::{holds, ids, leases, unacked_rows, waits};
 use dso_base::NoMemory;
 use dso_hold::Hold;
 use dso_ids::{IdPool, IdSource};
 use dso_lease::Leases;
+use dso_txn::Unacked;
 use dso_wait::WaitList;
 use std::alloc::{AllocError, Global};
 
@@ -26,6 +30,8 @@ pub struct Parts {
     waiters: WaitList,
     holds: Hold,
     leases: Leases,
+    hand: Hand,
+    unacked: Unacked,
 }
 
 impl Parts {
@@ -37,6 +43,8 @@ impl Parts {
             waiters: WaitList::new(alloc),
             holds: Hold::new(alloc),
             leases: Leases::new(alloc),
+            hand: Hand::new(alloc),
+            unacked: Unacked::new(alloc),
         }
     }
 
@@ -60,6 +68,8 @@ impl Parts {
             "wait" => waits::told(alloc, &mut self.waiters, rest),
             "hold" => holds::told(alloc, &mut self.holds, rest),
             "lease" => leases::told(alloc, &mut self.leases, rest),
+            "block" => self.hand.told(alloc, rest),
+            "unacked" => unacked_rows::told(alloc, &mut self.unacked, rest),
             _ => shown(alloc, "no such command"),
         }
     }

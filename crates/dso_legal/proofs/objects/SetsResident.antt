@@ -87,7 +87,7 @@ of_client c t (u ∷ threads) mine e = by (is_thread t u) (eqb u.client c) refl 
     by false false x y e later = later e
 
 -- a test that isn't made false
-not_true : (b : Bool) → not b ≡ true → b ≡ false
+pub not_true : (b : Bool) → not b ≡ true → b ≡ false
 not_true true e = absurd (cc e)
 not_true false e = refl
 
@@ -151,7 +151,7 @@ module _ (o : ℕ) where
   stays_taken (input.TookDown (down.Object body)) b e = ap (cond (eqb body.object o) true) e ∙ same_either (eqb body.object o) true
   stays_taken other b e = e
 
-  abbrev IsOtherInput : Input → Type 0
+  abbrev pub IsOtherInput : Input → Type 0
   IsOtherInput (input.Flush x) = eqb x o ≡ false
   IsOtherInput other = Unit {0}
 
@@ -159,7 +159,7 @@ module _ (o : ℕ) where
   stays_unflushed (input.Flush x) b other e = unless_true (eqb x o) false b other ∙ e
   stays_unflushed i b other e = e
 
-  stays : (e : Entry) (es : List Entry) → IsOtherInput e.input → is_resident o es ≡ true → is_resident o (e ∷ es) ≡ true
+  pub stays : (e : Entry) (es : List Entry) → IsOtherInput e.input → is_resident o es ≡ true → is_resident o (e ∷ es) ≡ true
   stays e es other there = stays_unflushed e.input _ other (stays_said e.sent _ (stays_taken e.input (is_resident o es) there))
 
   module _ (p : Settings) (c : ℕ) where
@@ -298,7 +298,7 @@ module _ (o : ℕ) where
                 no_both (list_any (event_puts_to o) (open_block t es)) ((held t).put_to set) (subst (λ n. list_any (event_puts_to n) (open_block t es) ≡ false) (same_number x o e) none)
             by false e = refl
 
-        held_step : (i : Input) → e.input ≡ i → ClientStepOn p c i before after_it e es → AllHeld (e ∷ es)
+        pub held_step : (i : Input) → e.input ≡ i → ClientStepOn p c i before after_it e es → AllHeld (e ∷ es)
         held_step (input.Act index) is h = held_acts index (record { client = c; index = index }) (before (record { client = c; index = index })) (of_client c (record { client = c; index = index }) p.threads (number_self c) h.its) is h.acts
         held_step (input.TookDown m) is h = held_quiet h.event (λ t set. subst IsOtherInput (sym is) tt)
         held_step (input.Flush x) is h = held_quiet h.event (λ t set. subst IsOtherInput (sym is) (unflushable x h.may.flushable t set))
@@ -316,7 +316,7 @@ module _ (o : ℕ) where
       held_at Server e es h held = held
       held_at (Client d) e es h held = held_client (eqb c d) d e es refl h held
 
-      start_held : AllHeld []
+      pub start_held : AllHeld []
       start_held t = record { there = λ set. absurd (never set); put_to = λ set. absurd (never set); known = λ set. absurd (never set) }
         where
           never : false ≡ true → ⊥

@@ -31,7 +31,7 @@ use Rattle.dso_law.specs.Closing.{is_closing, due}
 use Rattle.dso_law.specs.RequestNeeds.{Need, NeedsId, NeedsObject, NeedsClass, NeedsMark, NeedsLease, NeedsOthersOut, NeedsAck, unmet, ask_for}
 use Rattle.dso_law.specs.Replies.{woken_by}
 use Rattle.dso_law.specs.ClientStep.{record_of, commits, returns, asks_again, Does, Asks, DoesOrAsks, ActsOn, ClientStepOn, ClientStep}
-use Rattle.dso_legal.proofs.objects.AsksForAbsent.{IsLacking, lacking}
+use Rattle.dso_law.proofs.runs.AsksForAbsent.{IsLacking, lacking}
 use Rattle.dso_legal.proofs.leases.ClientLeases.{ask_is}
 use Rattle.dso_legal.proofs.channels.InFlight.{said_of, said_all}
 

@@ -33,7 +33,7 @@ use Rattle.dso_law.specs.Replies.{woken_by}
 use Rattle.dso_law.specs.ClientStep.{record_of, commits, returns, asks_again, Does, DoesOrAsks, ActsOn, ClientStepOn, ClientStep}
 use Rattle.dso_legal.specs.Agreement.{after, EachMay}
 use Rattle.dso_legal.proofs.channels.Agreement.{AllDeaf, IsDeaf, more_deaf, may_append, after_append}
-use Rattle.dso_legal.proofs.objects.AsksForAbsent.{IsLacking, lacking}
+use Rattle.dso_law.proofs.runs.AsksForAbsent.{IsLacking, lacking}
 use Rattle.dso_legal.proofs.leases.ClientLeases.{ask_is}
 use Rattle.dso_legal.proofs.channels.InFlight.{said_of, said_all, said_status}
 

@@ -42,7 +42,7 @@ in_hand_is_fresh p next c o index es follow among =
     }
 
 -- an ending leaves the work in hand
-ending_leaves : (shape : Shape) (request : Request) (reply : Reply) (woken : Option ThreadId) (locks : Locks) (ending : Ending) (work : Work) → ending_by request reply locks ≡ Some ending → work_by shape request reply woken work ≡ work
+pub ending_leaves : (shape : Shape) (request : Request) (reply : Reply) (woken : Option ThreadId) (locks : Locks) (ending : Ending) (work : Work) → ending_by request reply locks ≡ Some ending → work_by shape request reply woken work ≡ work
 ending_leaves shape (Exit l) reply woken locks ending work e = refl
 ending_leaves shape (Wait l) reply woken locks ending work e = refl
 ending_leaves shape (Timeout l) reply woken locks ending work e = refl

@@ -1,4 +1,4 @@
-use Rattle.std.proofs.Common.{◌≡◌, ◌<◌, ◌-◌, arith, length, suc, subst, drop, sym, ◌∙◌}
+use Rattle.std.proofs.Common.{◌≡◌, ◌<◌, ◌-◌, arith, length, suc, subst, drop, ◌∙◌}
 use Rattle.std.specs.Ordering.{nat_cmp}
 use Rattle.dso_base.specs.Block.{body_in}
 use Rattle.dso_lookup.specs.Maps.{look}

@@ -1,4 +1,4 @@
--- A client asks for an object only where it isn't resident.
+-- A client asks for an object only where it isn't resident, and for ids only where none is left.
 use Rattle.std.specs.List.{list_any}
 use Rattle.std.proofs.Common.{ℕ, ◌≡◌, refl, Bool, true, false, cond, not, ◌&&◌, ◌||◌, is_some, Option, Some, None, List}
 use Rattle.dso_base.specs.declared.journal.Entry.{Entry}
@@ -17,8 +17,9 @@ use Rattle.dso_law.specs.ClientWaiters.{is_marked}
 use Rattle.dso_law.specs.Closing.{admits}
 use Rattle.dso_law.specs.RequestNeeds.{Need, NeedsId, NeedsObject, NeedsClass, NeedsMark, NeedsLease, NeedsOthersOut, NeedsAck, is_enough, is_in_conflict, entry_need, look_need, access_need, unless, first_unmet, unmet}
 
--- What the need says, where it is an object: that it isn't resident.
+-- What the need says: of an object, that it isn't resident; of an id, that there is none.
 abbrev pub IsLacking : List Entry → Option Need → Type 0
+IsLacking es (Some NeedsId) = next_id es ≡ None
 IsLacking es (Some (NeedsObject o)) = is_resident o es ≡ false
 IsLacking es need = Unit {0}
 
@@ -31,6 +32,10 @@ other_unless es false need h = h
 lacking_first : (es : List Entry) (a b : Option Need) → IsLacking es a → IsLacking es b → IsLacking es (first_unmet a b)
 lacking_first es None b h k = k
 lacking_first es (Some need) b h k = h
+
+lacking_id : (es : List Entry) (id : Option ℕ) → next_id es ≡ id → IsLacking es (unless (is_some id) NeedsId)
+lacking_id es None e = e
+lacking_id es (Some o) e = tt
 
 lacking_unless : (es : List Entry) (o : ℕ) (a b : Bool) → is_resident o es ≡ b → IsLacking es (unless (a || b) (NeedsObject o))
 lacking_unless es o true b e = tt
@@ -55,7 +60,7 @@ module _ (p : Settings) (c : ℕ) (next : ThreadId → Option Request) (t : Thre
 
   -- the first need that isn't met
   pub lacking : (request : Request) → IsLacking es (unmet p c next t request es)
-  lacking (New class n) = other_unless es (is_some (next_id es)) NeedsId tt
+  lacking (New class n) = lacking_id es (next_id es) refl
   lacking (Look o) = lacking_look o
   lacking (Get o f) = lacking_access o
   lacking (Put o f v) = lacking_access o

@@ -1,0 +1,4 @@
+-- Runs of one client.
+pub mod ClientsRun
+pub mod ChangesResident
+pub mod IdsInRuns

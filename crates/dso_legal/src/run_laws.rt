@@ -1,0 +1,17 @@
+//! Laws of runs of one client beside those of dso_law. Each is the contract of a function that does nothing.
+ghost use Rattle.dso_legal.specs.Runs.{ClientsRun, ChangesStayResident, IdsRiseInRuns};
+
+/// In a lawful journal the entries of each client are a run of it, of a lost one too.
+pub fn clients_run()
+    ensures { ClientsRun }
+{}
+
+/// What the open block of a thread sets is resident, and so is what a record changes that isn't acknowledged.
+pub fn changes()
+    ensures { ChangesStayResident }
+{}
+
+/// The ids of the objects made rise, and the next one is above them.
+pub fn ids()
+    ensures { IdsRiseInRuns }
+{}
