@@ -11,3 +11,4 @@ pub mod RepliesThere
 pub mod ValuesFit
 pub mod LocksMade
 pub mod LocksThere
+pub mod GuardsHeld

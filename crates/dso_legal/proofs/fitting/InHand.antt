@@ -53,7 +53,7 @@ all_inserted P [] news h k = k
 all_inserted P (body ∷ bodies) news h k = inserted P body (insert_bodies bodies news) h.0 (all_inserted P bodies news h.1 k)
 
 -- and one set more.
-set_inserted : (P : Set → Type 0) (set : Set) (sets : List Set) → P set → AllByRecursion P sets → AllByRecursion P (insert_set set sets)
+pub set_inserted : (P : Set → Type 0) (set : Set) (sets : List Set) → P set → AllByRecursion P sets → AllByRecursion P (insert_set set sets)
 set_inserted P set [] it h = (it, tt)
 set_inserted P set (first ∷ rest) it h = by (is_same_field set first) (is_field_before set first) (set_inserted P set rest it h.1)
   where
