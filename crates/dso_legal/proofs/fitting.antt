@@ -12,3 +12,4 @@ pub mod ValuesFit
 pub mod LocksMade
 pub mod LocksThere
 pub mod GuardsHeld
+pub mod RecordsLeased

@@ -25,6 +25,7 @@ pub mod ValuesFine
 pub mod RepliesThere
 pub mod ValuesFit
 pub mod LocksThere
+pub mod RecordsLeased
 pub mod SoundCode
 pub mod WaitsAndLosses
 pub mod Works

@@ -22,6 +22,7 @@ ghost use Rattle.dso_legal.specs.Views.{ActsArePossible, ActsFindMarks};
 ghost use Rattle.dso_legal.specs.Central.{ClientsStand, CentralLaw, CommitsWhatWasMade};
 ghost use Rattle.dso_legal.specs.Store.{StoreIsHeap};
 ghost use Rattle.dso_legal.specs.SoundCode.{SoundCodeIsSoundProgram, SoundCodeGivesKnownTexts, SoundCodeStaysWithinShape};
+ghost use Rattle.dso_legal.specs.RecordsLeased.{RecordsAreLeased};
 
 /// For each client that isn't lost and each lock: each message in flight may come where it stands, and once all are taken the
 /// client and the server say the same of the lock's lease.
@@ -137,6 +138,13 @@ pub fn values_fit()
 /// of the monitor of an id that was given out, from a lost client too.
 pub fn locks_are_there()
     ensures { LocksAreThere }
+{}
+
+/// In a journal of a sound program that stays within its shape, a record that comes of a client that isn't lost is of locks
+/// that are leased to the client: the guard of each field that it sets and the lock of each notification at Write, the lock of
+/// an exit, that of a wait at Write.
+pub fn records_are_leased()
+    ensures { RecordsAreLeased }
 {}
 
 /// In a journal of a sound program that stays within its shape, a client has a reply to the next request of each of its threads

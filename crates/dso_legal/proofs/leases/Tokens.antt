@@ -50,7 +50,7 @@ record KnownAfter (node : Node) (e : Entry) (es : List Entry) : Type 0 where
 
 module _ (p : Settings) (next : ThreadId → List Event → Option Request) where
   -- what a client's entry says of a lock
-  says : (e : Entry) (es : List Entry) (d : ℕ) (l : LockName) → Known es → ClientFollows p next d e es → Says p d l (next_after next es) (next_after next (e ∷ es)) e (entries_of (Client d) es)
+  pub says : (e : Entry) (es : List Entry) (d : ℕ) (l : LockName) → Known es → ClientFollows p next d e es → Says p d l (next_after next es) (next_after next (e ∷ es)) e (entries_of (Client d) es)
   says e es d l known h = client_says p d l (next_after next es) (next_after next (e ∷ es)) e (entries_of (Client d) es) (known.plain d l) h.step
 
   plain_client : (e : Entry) (es : List Entry) → Known es → (b : Bool) (c d : ℕ) (l : LockName) → eqb c d ≡ b → ClientFollows p next d e es → IsPlain (standing l (cond b (e ∷ entries_of (Client c) es) (entries_of (Client c) es)))
@@ -70,7 +70,7 @@ module _ (p : Settings) (next : ThreadId → List Event → Option Request) wher
 
   module _ (c : ℕ) (l : LockName) where
     -- the server's end of a lock
-    at_server : (e : Entry) (es : List Entry) → AllFollow p next es → ServerFollows p next e es → is_of_lost e.input (entries_of Server es) ≡ false → loses c e.input ≡ false
+    pub at_server : (e : Entry) (es : List Entry) → AllFollow p next es → ServerFollows p next e es → is_of_lost e.input (entries_of Server es) ≡ false → loses c e.input ≡ false
         → ServerEnd p next c (MayGoUp l) (standing_up l) (MayGoDown l) (standing_down l) (standing l) (standing_with c l) e (counted (entries_of Server es))
     at_server e es follow h counts stays = elim (server_does p e (entries_of Server es) (known es follow).queues h.step) [
       | inl skip ↦ no_both (is_of_lost e.input (entries_of Server es)) skip.skipped counts
