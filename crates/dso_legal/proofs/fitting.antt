@@ -13,3 +13,4 @@ pub mod LocksMade
 pub mod LocksThere
 pub mod GuardsHeld
 pub mod RecordsLeased
+pub mod NamesInHand
