@@ -11,6 +11,9 @@ pub mod RepliesThere
 pub mod ValuesFit
 pub mod LocksMade
 pub mod LocksThere
+pub mod Acting
 pub mod GuardsHeld
 pub mod RecordsLeased
 pub mod NamesInHand
+pub mod FaultsAsked
+pub mod NamesOut

@@ -26,6 +26,7 @@ pub mod RepliesThere
 pub mod ValuesFit
 pub mod LocksThere
 pub mod RecordsLeased
+pub mod NamesOut
 pub mod SoundCode
 pub mod WaitsAndLosses
 pub mod Works

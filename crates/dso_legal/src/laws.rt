@@ -23,6 +23,7 @@ ghost use Rattle.dso_legal.specs.Central.{ClientsStand, CentralLaw, CommitsWhatW
 ghost use Rattle.dso_legal.specs.Store.{StoreIsHeap};
 ghost use Rattle.dso_legal.specs.SoundCode.{SoundCodeIsSoundProgram, SoundCodeGivesKnownTexts, SoundCodeStaysWithinShape};
 ghost use Rattle.dso_legal.specs.RecordsLeased.{RecordsAreLeased};
+ghost use Rattle.dso_legal.specs.NamesOut.{NamesAreOut};
 
 /// For each client that isn't lost and each lock: each message in flight may come where it stands, and once all are taken the
 /// client and the server say the same of the lock's lease.
@@ -145,6 +146,13 @@ pub fn locks_are_there()
 /// an exit, that of a wait at Write.
 pub fn records_are_leased()
     ensures { RecordsAreLeased }
+{}
+
+/// In a journal of a sound program that stays within its shape, what a message of a client that isn't lost names is in the
+/// server's graph as it comes: the object that a fault asks for; and each object that a record names in what it publishes and
+/// sets, or it is among those that the record publishes. Each object that the graph names is in it.
+pub fn names_are_out()
+    ensures { NamesAreOut }
 {}
 
 /// In a journal of a sound program that stays within its shape, a client has a reply to the next request of each of its threads

@@ -25,7 +25,7 @@ use Rattle.dso_law.specs.Copies.{is_among}
 use Rattle.dso_law.proofs.client.HasBody.{found_among}
 use Rattle.dso_legal.specs.OwnObjects.{count_bodies, count_in_hand}
 use Rattle.dso_legal.proofs.acts.KnownNames.{reached_onward}
-use Rattle.dso_legal.proofs.fitting.InHand.{BodyHas, all_inserted, body_more, each_filtered, each_of_two, each_so, opening_is, set_inserted, valued}
+use Rattle.dso_legal.proofs.fitting.InHand.{BodyHas, all_inserted, body_more, each_filtered, each_so, opening_is, set_inserted, valued}
 use Rattle.dso_legal.proofs.ids.Making.{IsNew}
 use Rattle.dso_legal.proofs.objects.BodyCounts.{count_act, count_either, count_reply, count_there, right_counts}
 use Rattle.dso_legal.proofs.objects.SamePublished.{lists_bodies}
@@ -146,8 +146,11 @@ module _ (x : ℕ) where
   abbrev pub InField : Bool → ℕ → ℕ → Value → Type 0
   InField known o f v = NamesKnown known v
 
+  abbrev pub AnyValue : Value → Type 0
+  AnyValue v = Unit {0}
+
   abbrev pub BodyNames : Bool → Body → Type 0
-  BodyNames known = BodyHas AnyClass (InField known) (NamesKnown known)
+  BodyNames known = BodyHas AnyClass (InField known) AnyValue
 
   abbrev pub SetNames : Bool → Set → Type 0
   SetNames known set = NamesKnown known set.value
@@ -156,7 +159,7 @@ module _ (x : ℕ) where
   names_on a b on v h names = on (h names)
 
   pub body_on : (a b : Bool) → (a ≡ true → b ≡ true) → (body : Body) → BodyNames a body → BodyNames b body
-  body_on a b on = body_more AnyClass AnyClass (InField a) (InField b) (NamesKnown a) (NamesKnown b) (λ o class n h. tt) (λ o f v. names_on a b on v) (names_on a b on)
+  body_on a b on = body_more AnyClass AnyClass (InField a) (InField b) AnyValue AnyValue (λ o class n h. tt) (λ o f v. names_on a b on v) (λ v h. h)
 
   pub bodies_on : (a b : Bool) → (a ≡ true → b ≡ true) → (bodies : List Body) → AllByRecursion (BodyNames a) bodies → AllByRecursion (BodyNames b) bodies
   bodies_on a b on = each_so (BodyNames a) (BodyNames b) (body_on a b on)
@@ -170,9 +173,8 @@ module _ (x : ℕ) where
     pub privates : AllByRecursion (BodyNames (in_hand work || known)) work.privates
     pub news : AllByRecursion (BodyNames (is_among x work.news || known)) work.news
     pub sets : AllByRecursion (SetNames (is_among x work.news || known)) work.sets
-    pub outs : AllByRecursion (NamesKnown (in_hand work || known)) work.outs
 
-  or_on : (a b c d : Bool) → (a ≡ true → c ≡ true) → (b ≡ true → d ≡ true) → (a || b) ≡ true → (c || d) ≡ true
+  pub or_on : (a b c d : Bool) → (a ≡ true → c ≡ true) → (b ≡ true → d ≡ true) → (a || b) ≡ true → (c || d) ≡ true
   or_on a b c d left right = either_so a b (λ is. left_so c d (left is)) (λ is. right_so c d (right is))
 
   -- so where more is known,
@@ -181,7 +183,6 @@ module _ (x : ℕ) where
     privates = bodies_on (in_hand work || a) (in_hand work || b) (or_on (in_hand work) a (in_hand work) b (λ is. is) on) work.privates h.privates;
     news = bodies_on (is_among x work.news || a) (is_among x work.news || b) (or_on (is_among x work.news) a (is_among x work.news) b (λ is. is) on) work.news h.news;
     sets = sets_on (is_among x work.news || a) (is_among x work.news || b) (or_on (is_among x work.news) a (is_among x work.news) b (λ is. is) on) work.sets h.sets;
-    outs = each_so (NamesKnown (in_hand work || a)) (NamesKnown (in_hand work || b)) (names_on (in_hand work || a) (in_hand work || b) (or_on (in_hand work) a (in_hand work) b (λ is. is) on)) work.outs h.outs;
   }
 
   -- and at a block's start, where what was published is known.
@@ -195,7 +196,6 @@ module _ (x : ℕ) where
         (λ is. right_so (is_among x work.privates || false) b (on (right_so (is_among x work.news) a is)))) work.privates h.privates;
     news = tt;
     sets = tt;
-    outs = tt;
   }
 
   -- ---- what a put publishes
@@ -339,10 +339,10 @@ module _ (x : ℕ) where
 
   -- what is published with news and sets that name only what is published then
   published_names : (v : Value) (known : Bool) (work : Work) (news : List Body) (sets : List Set) → ((o : ℕ) → count_bodies o work.privates ≤ 1)
-      → AllByRecursion (BodyNames (hand_before work.privates v news known)) work.privates → AllByRecursion (NamesKnown (hand_before work.privates v news known)) work.outs
+      → AllByRecursion (BodyNames (hand_before work.privates v news known)) work.privates
       → AllByRecursion (BodyNames (news_later work.privates v news known)) news → AllByRecursion (SetNames (news_later work.privates v news known)) sets
       → WorkNames known (publish v (record work { news = news; sets = sets }))
-  published_names v known work news sets once privates_name outs_name news_name sets_name =
+  published_names v known work news sets once privates_name news_name sets_name =
       let before : Bool = hand_before work.privates v news known in
       let later : Bool = hand_later work.privates v news known in
       let shared : Bool = news_later work.privates v news known in
@@ -350,7 +350,6 @@ module _ (x : ℕ) where
         privates = bodies_on before later (hand_on work.privates v news known) (kept work.privates v) (each_filtered (BodyNames before) (λ body. not (is_published work.privates v body.object)) work.privates privates_name);
         news = all_inserted (BodyNames shared) (moved work.privates v) news (moved_each work.privates v news known work.privates privates_name (each_found work.privates once)) news_name;
         sets = sets_name;
-        outs = each_so (NamesKnown before) (NamesKnown later) (names_on before later (hand_on work.privates v news known)) work.outs outs_name;
       }
 
   -- a put of a value that names only what is in hand or known
@@ -363,10 +362,9 @@ module _ (x : ℕ) where
           ap (λ b. (b || is_among x work.news) || known) (sym (among_valued o f v work.privates)) in
           record {
             privates = subst (λ b. AllByRecursion (BodyNames b) (with_value o f v work.privates)) same
-                (valued AnyClass (InField (in_hand work || known)) (NamesKnown (in_hand work || known)) o f v work.privates h.privates it);
+                (valued AnyClass (InField (in_hand work || known)) AnyValue o f v work.privates h.privates it);
             news = h.news;
             sets = h.sets;
-            outs = subst (λ b. AllByRecursion (NamesKnown b) work.outs) same h.outs;
           }
 
       into_news : WorkNames known (publish v (record work { news = with_value o f v work.news }))
@@ -377,8 +375,7 @@ module _ (x : ℕ) where
           let on : (is_among x work.news || known) ≡ true → shared ≡ true = λ is. news_on work.privates v news known (subst (λ b. (b || known) ≡ true) same is) in
           published_names v known work news work.sets once
           (subst (λ b. AllByRecursion (BodyNames ((is_among x work.privates || b) || known)) work.privates) same h.privates)
-          (subst (λ b. AllByRecursion (NamesKnown ((is_among x work.privates || b) || known)) work.outs) same h.outs)
-          (valued AnyClass (InField shared) (NamesKnown shared) o f v work.news (bodies_on (is_among x work.news || known) shared on work.news h.news)
+          (valued AnyClass (InField shared) AnyValue o f v work.news (bodies_on (is_among x work.news || known) shared on work.news h.news)
           (value_on work.privates v news known (subst (λ b. NamesKnown ((is_among x work.privates || b) || known) v) same it)))
           (sets_on (is_among x work.news || known) shared on work.sets h.sets)
 
@@ -386,7 +383,7 @@ module _ (x : ℕ) where
       into_sets =
           let shared : Bool = news_later work.privates v work.news known in
           let on : (is_among x work.news || known) ≡ true → shared ≡ true = news_on work.privates v work.news known in
-          published_names v known work work.news (insert_set (record { object = o; field = f; value = v }) work.sets) once h.privates h.outs
+          published_names v known work work.news (insert_set (record { object = o; field = f; value = v }) work.sets) once h.privates
           (bodies_on (is_among x work.news || known) shared on work.news h.news)
           (set_inserted (SetNames shared) (record { object = o; field = f; value = v }) work.sets (value_on work.privates v work.news known it) (sets_on (is_among x work.news || known) shared on work.sets h.sets))
 
@@ -411,10 +408,9 @@ module _ (x : ℕ) where
     values = λ f v is. subst (NamesKnown known) (sym (opening_is shape class 0 n f v is).1) (opening_silent known (kind_of shape class (0 + f)));
   }
 
-  -- what an act must bring: it puts and prints only what names what is in hand or known
+  -- what an act must bring: it puts only what names what is in hand or known
   abbrev pub GivesKnown : Bool → Request → Reply → Type 0
   GivesKnown known (Put o f v) Done = NamesKnown known v
-  GivesKnown known (Print v) Done = NamesKnown known v
   GivesKnown known request reply = Unit {0}
 
   -- Such an act keeps it so.
@@ -429,15 +425,9 @@ module _ (x : ℕ) where
         privates = (new_names shape class n o later, bodies_on before later on work.privates h.privates);
         news = h.news;
         sets = h.sets;
-        outs = each_so (NamesKnown before) (NamesKnown later) (names_on before later on) work.outs h.outs;
       }
   act_names shape (Put o f v) Done woken known work once h it = put_names o f v known work once h it
-  act_names shape (Print v) Done woken known work once h it = record {
-    privates = h.privates;
-    news = h.news;
-    sets = h.sets;
-    outs = each_of_two (NamesKnown (in_hand work || known)) work.outs (v ∷ []) h.outs (it, tt);
-  }
-  act_names shape (Notify l) Done woken known work once h it = record { privates = h.privates; news = h.news; sets = h.sets; outs = h.outs }
-  act_names shape (NotifyAll l) Done woken known work once h it = record { privates = h.privates; news = h.news; sets = h.sets; outs = h.outs }
+  act_names shape (Print v) Done woken known work once h it = record { privates = h.privates; news = h.news; sets = h.sets }
+  act_names shape (Notify l) Done woken known work once h it = record { privates = h.privates; news = h.news; sets = h.sets }
+  act_names shape (NotifyAll l) Done woken known work once h it = record { privates = h.privates; news = h.news; sets = h.sets }
   act_names shape request reply woken known work once h it = h

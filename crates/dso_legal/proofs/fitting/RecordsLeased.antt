@@ -84,7 +84,7 @@ enough_to_read level None enough = absurd (enough_there level None enough refl)
 enough_to_read level (Some lease) enough = refl
 
 -- two facts of each message where it comes
-each_both : {M S : Type 0} (P Q : M → S → Type 0) (step : M → S → S) (ms : List M) (s : S) → EachMay P step ms s → EachMay Q step ms s → EachMay (λ m s. P m s × Q m s) step ms s
+pub each_both : {M S : Type 0} (P Q : M → S → Type 0) (step : M → S → S) (ms : List M) (s : S) → EachMay P step ms s → EachMay Q step ms s → EachMay (λ m s. P m s × Q m s) step ms s
 each_both P Q step [] s h k = tt
 each_both P Q step (m ∷ ms) s h k = ((h.0, k.0), each_both P Q step ms (step m s) h.1 k.1)
 

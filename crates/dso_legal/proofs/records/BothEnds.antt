@@ -39,7 +39,7 @@ not_lost_before c Server e es h = (neither (loses c e.input) (is_lost c (entries
 not_lost_before c (Client d) e es h = h
 
 -- a message of a lost client isn't of one that isn't
-skipped_way : (c : ℕ) (input : Input) (server : List Entry) → is_of_lost input server ≡ true → is_lost c server ≡ false → takes_up c input ≡ false
+pub skipped_way : (c : ℕ) (input : Input) (server : List Entry) → is_of_lost input server ≡ true → is_lost c server ≡ false → takes_up c input ≡ false
 skipped_way c (input.TookUp d m) server skipped alive = by (eqb c d) refl
   where
     by : (b : Bool) → eqb c d ≡ b → b ≡ false
