@@ -16,4 +16,5 @@ pub mod GuardsHeld
 pub mod RecordsLeased
 pub mod NamesInHand
 pub mod FaultsAsked
+pub mod NamesKept
 pub mod NamesOut

@@ -36,7 +36,7 @@ use Rattle.dso_law.specs.Copies.{class_held, is_among, value_by_sent, value_by_t
 use Rattle.dso_law.specs.Entries.{add_event, by_event, by_taken_down, by_taken_up, entries_of, events_in}
 use Rattle.dso_law.specs.FitsUp.{IsNamed, stored_values}
 use Rattle.dso_law.specs.Laws.{WorkAfter}
-use Rattle.dso_law.specs.Records.{made, records}
+use Rattle.dso_law.specs.Records.{records}
 use Rattle.dso_law.specs.Replies.{reply_of, value_in, value_seen, woken_by}
 use Rattle.dso_law.specs.ServerReadings.{counted, is_lost, is_of_lost}
 use Rattle.dso_law.specs.ServerStep.{sets_for}
@@ -51,7 +51,7 @@ use Rattle.dso_legal.specs.NamesOut.{IsInGraph, NamesAreOut, NamesWhatIsOut}
 use Rattle.dso_legal.specs.OwnObjects.{count_bodies, published_by}
 use Rattle.dso_legal.specs.SoundProgram.{GivesKnownTexts, IsSound, IsToldValue, NamesOnlyTold, event_tells, tells, was_told}
 use Rattle.dso_legal.specs.WithinShape.{StaysWithinShape}
-use Rattle.dso_legal.proofs.acts.ClientActs.{IsNoRecord, IsQuiet, NoRecords}
+use Rattle.dso_legal.proofs.acts.ClientActs.{IsQuiet}
 use Rattle.dso_legal.proofs.blocks.OwnActs.{reply_listed}
 use Rattle.dso_legal.proofs.channels.AfterEntry.{OtherTurn, OwnTurn, ServerTurn, other_turn, own_turn, server_turn}
 use Rattle.dso_legal.proofs.channels.Agreement.{after_append, may_append}
@@ -62,8 +62,9 @@ use Rattle.dso_legal.proofs.fitting.Acting.{Acts, quiet_or_acts}
 use Rattle.dso_legal.proofs.fitting.Carried.{first_of, rest_of}
 use Rattle.dso_legal.proofs.fitting.FaultsAsked.{IsOf, IsOfFault, faults_asked}
 use Rattle.dso_legal.proofs.fitting.InHand.{WorkHas, each_filtered, each_of_two, each_so}
-use Rattle.dso_legal.proofs.fitting.Messages.{ClassHas, DownHas, StoredHas, UpHas, ValueHas, kept_after, stored_taken, value_sent, value_taken}
-use Rattle.dso_legal.proofs.fitting.NamesInHand.{AnyClass, AnyValue, BodyNames, GivesKnown, InField, NamesKnown, SetNames, WorkNames, act_names, bodies_on, body_on, either_so, hand_stays, in_hand, is_reference, left_so, names_on, or_on, right_so, sets_on, start_names, work_on}
+use Rattle.dso_legal.proofs.fitting.Messages.{ClassHas, kept_after, stored_taken, value_sent, value_taken}
+use Rattle.dso_legal.proofs.fitting.NamesInHand.{AnyClass, AnyValue, BodyNames, GivesKnown, InField, NamesKnown, SetNames, WorkNames, act_names, bodies_on, body_on, either_so, hand_stays, in_hand, is_reference, left_so, or_on, right_so, sets_on, start_names, work_on}
+use Rattle.dso_legal.proofs.fitting.NamesKept.{CarriesNames, ClientNames, CommitNames, DownNames, FaultNames, HeldNames, MayName, StoredNames, all_so, carries_on, client_on, client_took, down_on, faults_come, few_there, held_on, none_carry, none_name, out, still_out, still_published, stored_on, told_one_more}
 use Rattle.dso_legal.proofs.fitting.RecordsLeased.{each_both}
 use Rattle.dso_legal.proofs.fitting.Replies.{CopiesHave, seen_has}
 use Rattle.dso_legal.proofs.fitting.Values.{all_fine, what_is_asked}
@@ -71,175 +72,6 @@ use Rattle.dso_legal.proofs.fitting.ValuesFit.{all_flat, all_set, all_values}
 use Rattle.dso_legal.proofs.ids.Making.{IsNew, only_new}
 use Rattle.dso_legal.proofs.objects.OwnObjects.{IsOthers, in_hand_is_own, work_alone, worked_more}
 use Rattle.dso_legal.proofs.records.BothEnds.{not_lost_before, skipped_silent, skipped_way}
-
--- ---- lists
-
--- a fact that holds of all
-all_so : {X : Type 0} (P : X → Type 0) → ((x : X) → P x) → (xs : List X) → AllByRecursion P xs
-all_so P it [] = tt
-all_so P it (x ∷ xs) = (it x, all_so P it xs)
-
--- one more event
-told_more : (x : ℕ) (events : List Event) (event : Event) → list_any (event_tells x) (events ++ event ∷ []) ≡ true → (list_any (event_tells x) events ≡ true) ⊎ (event_tells x event ≡ true)
-told_more x [] event is = elim (either (event_tells x event) is) [
-  | inl now ↦ inr now
-  | inr none ↦ absurd (cc none)
-]
-  where
-    either : (a : Bool) → (a || false) ≡ true → (a ≡ true) ⊎ (false ≡ true)
-    either true is = inl refl
-    either false is = inr is
-told_more x (first ∷ events) event is = by (event_tells x first) is (told_more x events event)
-  where
-    by : (b : Bool) → (b || list_any (event_tells x) (events ++ event ∷ [])) ≡ true
-        → (list_any (event_tells x) (events ++ event ∷ []) ≡ true → (list_any (event_tells x) events ≡ true) ⊎ (event_tells x event ≡ true))
-        → ((b || list_any (event_tells x) events) ≡ true) ⊎ (event_tells x event ≡ true)
-    by true is later = inl refl
-    by false is later = later is
-
--- an object that isn't among bodies counts at most once
-few_there : (o : ℕ) (bodies : List Body) → is_among o bodies ≡ false → count_bodies o bodies ≤ 1
-few_there o [] none = omega arith
-few_there o (body ∷ bodies) none = by (eqb body.object o) none (few_there o bodies)
-  where
-    no_more : (n : ℕ) → n ≤ 1 → 0 + n ≤ 1
-    no_more n le = omega (arith, le)
-
-    by : (b : Bool) → (b || is_among o bodies) ≡ false → (is_among o bodies ≡ false → count_bodies o bodies ≤ 1) → cond b 1 0 + count_bodies o bodies ≤ 1
-    by true none later = absurd (cc none)
-    by false none later = no_more (count_bodies o bodies) (later none)
-
-module _ (x : ℕ) where
-  -- ---- what messages name
-
-  -- a message publishes the object, or it was known
-  published_on : (m : Up) (a b : Bool) → (a ≡ true → b ≡ true) → published_by x m a ≡ true → published_by x m b ≡ true
-  published_on (up.Commit txn) a b on = or_on x (is_among x txn.news) a (is_among x txn.news) b (λ is. is) on
-  published_on m a b on = on
-
-  out_on : (ms : List Up) (a b : Bool) → (a ≡ true → b ≡ true) → after (published_by x) ms a ≡ true → after (published_by x) ms b ≡ true
-  out_on [] a b on = on
-  out_on (m ∷ ms) a b on = out_on ms (published_by x m a) (published_by x m b) (published_on m a b on)
-
-  still_published : (m : Up) (a : Bool) → a ≡ true → published_by x m a ≡ true
-  still_published (up.Commit txn) a is = right_so (is_among x txn.news) a is
-  still_published m a is = is
-
-  still_out : (ms : List Up) (a : Bool) → a ≡ true → after (published_by x) ms a ≡ true
-  still_out [] a is = is
-  still_out (m ∷ ms) a is = still_out ms (published_by x m a) (still_published m a is)
-
-  -- a fault of the object comes where it is known,
-  abbrev FaultNames : Up → Bool → Type 0
-  FaultNames (up.Fault o) known = eqb o x ≡ true → known ≡ true
-  FaultNames m known = Unit {0}
-
-  -- and a record that names it where it is known or among the news
-  abbrev CarriesNames : Bool → Up → Type 0
-  CarriesNames known = UpHas (AnyClass x) (InField x known) (AnyValue x)
-
-  abbrev CommitNames : Up → Bool → Type 0
-  CommitNames m known = CarriesNames (published_by x m known) m
-
-  abbrev MayName : Up → Bool → Type 0
-  MayName m known = FaultNames m known × CommitNames m known
-
-  abbrev DownNames : Bool → Down → Type 0
-  DownNames known = DownHas (AnyClass x) (InField x known) (AnyValue x)
-
-  abbrev HeldNames : Bool → ℕ → ℕ → Option Value → Type 0
-  HeldNames known = ValueHas (AnyClass x) (InField x known) (AnyValue x)
-
-  abbrev StoredNames : Bool → ℕ → Option Body → Type 0
-  StoredNames known = StoredHas (AnyClass x) (InField x known) (AnyValue x)
-
-  -- ---- where more is known
-
-  module _ (a b : Bool) (on : a ≡ true → b ≡ true) where
-    carries_on : (m : Up) → CarriesNames a m → CarriesNames b m
-    carries_on (up.Commit txn) h = (bodies_on x a b on txn.news h.0, sets_on x a b on txn.sets h.1, h.2)
-    carries_on m h = tt
-
-    down_on : (m : Down) → DownNames a m → DownNames b m
-    down_on (down.Object body) h = body_on x a b on body h
-    down_on (down.Changes sets) h = sets_on x a b on sets h
-    down_on m h = tt
-
-    held_on : (o f : ℕ) (v : Option Value) → HeldNames a o f v → HeldNames b o f v
-    held_on o f None h = tt
-    held_on o f (Some v) h = names_on x a b on v h
-
-    stored_on : (o : ℕ) (body : Option Body) → StoredNames a o body → StoredNames b o body
-    stored_on o None h = tt
-    stored_on o (Some body) h = (h.0, body_on x a b on body h.1)
-
-    fault_on : (m : Up) → FaultNames m a → FaultNames m b
-    fault_on (up.Fault o) h = λ same. on (h same)
-    fault_on m h = tt
-
-  may_on : (ms : List Up) (a b : Bool) → (a ≡ true → b ≡ true) → EachMay MayName (published_by x) ms a → EachMay MayName (published_by x) ms b
-  may_on [] a b on h = tt
-  may_on (m ∷ ms) a b on h = (
-    (fault_on a b on m h.0.0, carries_on (published_by x m a) (published_by x m b) (published_on m a b on) m h.0.1),
-    may_on ms (published_by x m a) (published_by x m b) (published_on m a b on) h.1,
-  )
-
-  -- faults of what is known, among messages that publish only more
-  faults_come : (ms : List Up) (a : Bool) → AllByRecursion (λ m. FaultNames m a) ms → EachMay FaultNames (published_by x) ms a
-  faults_come [] a h = tt
-  faults_come (m ∷ ms) a h = (h.0, faults_come ms (published_by x m a) (each_so (λ k. FaultNames k a) (λ k. FaultNames k (published_by x m a)) (fault_on a (published_by x m a) (still_published m a)) ms h.1))
-
-  -- messages that are no records
-  none_name : (ms : List Up) (a : Bool) → NoRecords ms → EachMay CommitNames (published_by x) ms a
-  none_name [] a none = tt
-  none_name (m ∷ ms) a none = (one m none.0, none_name ms (published_by x m a) none.1)
-    where
-      one : (m : Up) → IsNoRecord m → CommitNames m a
-      one (up.Commit txn) none = absurd none
-      one m none = tt
-
-  none_carry : (ms : List Up) (a : Bool) → NoRecords ms → AllByRecursion (CarriesNames a) ms
-  none_carry [] a none = tt
-  none_carry (m ∷ ms) a none = (one m none.0, none_carry ms a none.1)
-    where
-      one : (m : Up) → IsNoRecord m → CarriesNames a m
-      one (up.Commit txn) none = absurd none
-      one m none = tt
-
-  module _ (p : Settings) where
-    -- what is out, where so much is known and these are in flight
-    abbrev out : Bool → List Up → Bool
-    out known ups = after (published_by x) ups known
-
-    -- So of a client: what its threads have in hand and were told names only what they have in hand or is out; copies name what is
-    -- out; messages up what is known or in front of them; messages down what is known.
-    record ClientNames (known : Bool) (own_entries : List Entry) (ups : List Up) (downs : List Down) : Type 0 where
-      pub works : (t : ThreadId) → WorkNames x (out known ups) (work_of p.shape t own_entries)
-      pub told : (t : ThreadId) → list_any (event_tells x) (events_in t own_entries) ≡ true → (in_hand x (work_of p.shape t own_entries) || out known ups) ≡ true
-      pub copies : (o f : ℕ) → HeldNames (out known ups) o f (value_held o f own_entries)
-      pub up : EachMay MayName (published_by x) ups known
-      pub down : AllByRecursion (DownNames known) downs
-
-    client_on : (a b : Bool) → (a ≡ true → b ≡ true) → (own_entries : List Entry) (ups : List Up) (downs : List Down) → ClientNames a own_entries ups downs → ClientNames b own_entries ups downs
-    client_on a b on own_entries ups downs h = record {
-      works = λ t. work_on x (out a ups) (out b ups) (out_on ups a b on) (work_of p.shape t own_entries) (h.works t);
-      told = λ t is. or_on x (in_hand x (work_of p.shape t own_entries)) (out a ups) (in_hand x (work_of p.shape t own_entries)) (out b ups) (λ is. is) (out_on ups a b on) (h.told t is);
-      copies = λ o f. held_on (out a ups) (out b ups) (out_on ups a b on) o f (value_held o f own_entries) (h.copies o f);
-      up = may_on ups a b on h.up;
-      down = each_so (DownNames a) (DownNames b) (down_on a b on) downs h.down;
-    }
-
-    -- the server takes the first
-    client_took : (known : Bool) (own_entries : List Entry) (m : Up) (letters : List (Letter Up)) (downs : List Down) → IsFirst m letters → ClientNames known own_entries (messages letters) downs
-        → ClientNames (published_by x m known) own_entries (drop 1 (messages letters)) downs
-    client_took known own_entries m [] downs first h = absurd first
-    client_took known own_entries m (letter ∷ letters) downs first h = subst (λ k. ClientNames (published_by x k known) own_entries (messages letters) downs) (sym first) (record {
-      works = h.works;
-      told = h.told;
-      copies = h.copies;
-      up = h.up.1;
-      down = each_so (DownNames known) (DownNames (published_by x letter.message known)) (down_on known (published_by x letter.message known) (still_published letter.message known)) downs h.down;
-    })
 
 module _ (p : Settings) (next : ThreadId → List Event → Option Request) (sound : IsSound p.shape next) (texts : GivesKnownTexts p.shape next) (within : StaysWithinShape p.shape next) (x : ℕ) where
   -- the object is in the graph
@@ -437,7 +269,7 @@ module _ (p : Settings) (next : ThreadId → List Event → Option Request) (sou
         seen_later = or_on x (in_hand x work) now_out (in_hand x later) now_out hand_later (λ is. is)
 
         told_later : list_any (event_tells x) (events_in t mine ++ event ∷ []) ≡ true → (in_hand x later || now_out) ≡ true
-        told_later is = elim (told_more x (events_in t mine) event is) [
+        told_later is = elim (told_one_more x (events_in t mine) event is) [
           | inl before ↦ seen_later (have.told t before)
           | inr now ↦ elim (reply_tells acts.act.request acts.act.reply acts.act.answered now) [
             | inl is_seen ↦ seen_later is_seen
