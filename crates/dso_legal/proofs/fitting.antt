@@ -18,3 +18,4 @@ pub mod NamesInHand
 pub mod FaultsAsked
 pub mod NamesKept
 pub mod NamesOut
+pub mod LostClients

@@ -27,6 +27,7 @@ pub mod ValuesFit
 pub mod LocksThere
 pub mod RecordsLeased
 pub mod NamesOut
+pub mod LostClients
 pub mod SoundCode
 pub mod WaitsAndLosses
 pub mod Works

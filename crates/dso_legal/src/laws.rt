@@ -24,6 +24,7 @@ ghost use Rattle.dso_legal.specs.Store.{StoreIsHeap};
 ghost use Rattle.dso_legal.specs.SoundCode.{SoundCodeIsSoundProgram, SoundCodeGivesKnownTexts, SoundCodeStaysWithinShape};
 ghost use Rattle.dso_legal.specs.RecordsLeased.{RecordsAreLeased};
 ghost use Rattle.dso_legal.specs.NamesOut.{NamesAreOut};
+ghost use Rattle.dso_legal.specs.LostClients.{LostAreToldNothing};
 
 /// For each client that isn't lost and each lock: each message in flight may come where it stands, and once all are taken the
 /// client and the server say the same of the lock's lease.
@@ -153,6 +154,12 @@ pub fn records_are_leased()
 /// sets, or it is among those that the record publishes. Each object that the graph names is in it.
 pub fn names_are_out()
     ensures { NamesAreOut }
+{}
+
+/// As the server loses a client, and ever after, none of its messages goes to that client: the client has no lease and no
+/// request there, holds no object, and none of its threads waits there.
+pub fn lost_are_told_nothing()
+    ensures { LostAreToldNothing }
 {}
 
 /// In a journal of a sound program that stays within its shape, a client has a reply to the next request of each of its threads
