@@ -19,3 +19,4 @@ pub mod FaultsAsked
 pub mod NamesKept
 pub mod NamesOut
 pub mod LostClients
+pub mod WaysDown

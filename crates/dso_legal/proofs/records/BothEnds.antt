@@ -144,7 +144,7 @@ module _ {S : Type 0} (p : Settings) (next : ThreadId → List Event → Option 
   first_up m (letter ∷ letters) s f may = subst (λ n. may_up n s) (sym f) may.0
 
   -- and in flight to the client where the client's stands
-  first_down : (m : Down) (letters : List (Letter Down)) (s : S) → IsFirst m letters → EachMay may_down step_down (messages letters) s → may_down m s
+  pub first_down : (m : Down) (letters : List (Letter Down)) (s : S) → IsFirst m letters → EachMay may_down step_down (messages letters) s → may_down m s
   first_down m [] s f may = absurd f
   first_down m (letter ∷ letters) s f may = subst (λ n. may_down n s) (sym f) may.0
 
