@@ -20,3 +20,4 @@ pub mod NamesKept
 pub mod NamesOut
 pub mod LostClients
 pub mod WaysDown
+pub mod WaysDownFit

@@ -28,6 +28,7 @@ pub mod LocksThere
 pub mod RecordsLeased
 pub mod NamesOut
 pub mod LostClients
+pub mod WaysDown
 pub mod SoundCode
 pub mod WaitsAndLosses
 pub mod Works

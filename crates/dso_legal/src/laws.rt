@@ -25,6 +25,7 @@ ghost use Rattle.dso_legal.specs.SoundCode.{SoundCodeIsSoundProgram, SoundCodeGi
 ghost use Rattle.dso_legal.specs.RecordsLeased.{RecordsAreLeased};
 ghost use Rattle.dso_legal.specs.NamesOut.{NamesAreOut};
 ghost use Rattle.dso_legal.specs.LostClients.{LostAreToldNothing};
+ghost use Rattle.dso_legal.specs.WaysDown.{WaysDownFit};
 
 /// For each client that isn't lost and each lock: each message in flight may come where it stands, and once all are taken the
 /// client and the server say the same of the lock's lease.
@@ -160,6 +161,12 @@ pub fn names_are_out()
 /// request there, holds no object, and none of its threads waits there.
 pub fn lost_are_told_nothing()
     ensures { LostAreToldNothing }
+{}
+
+/// What comes to a client, to a lost one too, finds it as it must: a grant was asked for; a batch of ids was asked for, and is
+/// above those that the client has; an acknowledgement is of the first record that isn't acknowledged; an object was asked for.
+pub fn ways_down_fit()
+    ensures { WaysDownFit }
 {}
 
 /// In a journal of a sound program that stays within its shape, a client has a reply to the next request of each of its threads
