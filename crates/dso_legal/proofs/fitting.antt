@@ -11,3 +11,13 @@ pub mod RepliesThere
 pub mod ValuesFit
 pub mod LocksMade
 pub mod LocksThere
+pub mod Acting
+pub mod GuardsHeld
+pub mod RecordsLeased
+pub mod NamesInHand
+pub mod FaultsAsked
+pub mod NamesKept
+pub mod NamesOut
+pub mod LostClients
+pub mod WaysDown
+pub mod WaysDownFit

@@ -25,6 +25,10 @@ pub mod ValuesFine
 pub mod RepliesThere
 pub mod ValuesFit
 pub mod LocksThere
+pub mod RecordsLeased
+pub mod NamesOut
+pub mod LostClients
+pub mod WaysDown
 pub mod SoundCode
 pub mod WaitsAndLosses
 pub mod Works

@@ -22,6 +22,10 @@ ghost use Rattle.dso_legal.specs.Views.{ActsArePossible, ActsFindMarks};
 ghost use Rattle.dso_legal.specs.Central.{ClientsStand, CentralLaw, CommitsWhatWasMade};
 ghost use Rattle.dso_legal.specs.Store.{StoreIsHeap};
 ghost use Rattle.dso_legal.specs.SoundCode.{SoundCodeIsSoundProgram, SoundCodeGivesKnownTexts, SoundCodeStaysWithinShape};
+ghost use Rattle.dso_legal.specs.RecordsLeased.{RecordsAreLeased};
+ghost use Rattle.dso_legal.specs.NamesOut.{NamesAreOut};
+ghost use Rattle.dso_legal.specs.LostClients.{LostAreToldNothing};
+ghost use Rattle.dso_legal.specs.WaysDown.{WaysDownFit};
 
 /// For each client that isn't lost and each lock: each message in flight may come where it stands, and once all are taken the
 /// client and the server say the same of the lock's lease.
@@ -137,6 +141,32 @@ pub fn values_fit()
 /// of the monitor of an id that was given out, from a lost client too.
 pub fn locks_are_there()
     ensures { LocksAreThere }
+{}
+
+/// In a journal of a sound program that stays within its shape, a record that comes of a client that isn't lost is of locks
+/// that are leased to the client: the guard of each field that it sets and the lock of each notification at Write, the lock of
+/// an exit, that of a wait at Write.
+pub fn records_are_leased()
+    ensures { RecordsAreLeased }
+{}
+
+/// In a journal of a sound program that stays within its shape, what a message of a client that isn't lost names is in the
+/// server's graph as it comes: the object that a fault asks for; and each object that a record names in what it publishes and
+/// sets, or it is among those that the record publishes. Each object that the graph names is in it.
+pub fn names_are_out()
+    ensures { NamesAreOut }
+{}
+
+/// As the server loses a client, and ever after, none of its messages goes to that client: the client has no lease and no
+/// request there, holds no object, and none of its threads waits there.
+pub fn lost_are_told_nothing()
+    ensures { LostAreToldNothing }
+{}
+
+/// What comes to a client, to a lost one too, finds it as it must: a grant was asked for; a batch of ids was asked for, and is
+/// above those that the client has; an acknowledgement is of the first record that isn't acknowledged; an object was asked for.
+pub fn ways_down_fit()
+    ensures { WaysDownFit }
 {}
 
 /// In a journal of a sound program that stays within its shape, a client has a reply to the next request of each of its threads

@@ -111,7 +111,7 @@ names_field heap a o f (suc n) lt e = elim (cases_eq f n) [
     or_later false b e = e
 
 -- what an object that is reached names is reached, if it is private
-reached_onward : (mine : ℕ → Bool) (names : ℕ → ℕ → Bool) (v : Value) (a b : ℕ) → Reached mine names v a → names a b ≡ true → mine b ≡ true → Reached mine names v b
+pub reached_onward : (mine : ℕ → Bool) (names : ℕ → ℕ → Bool) (v : Value) (a b : ℕ) → Reached mine names v a → names a b ≡ true → mine b ≡ true → Reached mine names v b
 reached_onward mine names (value.Ref x) a b h e m = onward b h e m
 reached_onward mine names value.Null a b h e m = absurd h
 reached_onward mine names (value.Long n) a b h e m = absurd h

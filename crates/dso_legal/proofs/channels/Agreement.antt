@@ -88,10 +88,10 @@ module _ {U D S : Type 0} (may_up : U → S → Type 0) (step_up : U → S → S
   ]
 
   -- a message up and all in flight to the client
-  record UpPast (m : U) (down : List D) (s : S) : Type 0 where
-    comes : EachMay may_down step_down down (step_up m s)
-    may : may_up m (after step_down down s)
-    same : after step_down down (step_up m s) ≡ step_up m (after step_down down s)
+  pub record UpPast (m : U) (down : List D) (s : S) : Type 0 where
+    pub comes : EachMay may_down step_down down (step_up m s)
+    pub may : may_up m (after step_down down s)
+    pub same : after step_down down (step_up m s) ≡ step_up m (after step_down down s)
 
   -- a message down and all in flight to the server
   record DownPast (d : D) (up : List U) (s : S) : Type 0 where
@@ -100,7 +100,7 @@ module _ {U D S : Type 0} (may_up : U → S → Type 0) (step_up : U → S → S
     same : after step_up up (step_down d s) ≡ step_down d (after step_up up s)
 
   module _ (commutes : Commutes) where
-    up_past : (m : U) (down : List D) (s : S) → may_up m s → EachMay may_down step_down down s → UpPast m down s
+    pub up_past : (m : U) (down : List D) (s : S) → may_up m s → EachMay may_down step_down down s → UpPast m down s
     up_past m [] s may downs = record { comes = tt; may = may; same = refl }
     up_past m (d ∷ down) s may downs =
         let first = commutes m d s may downs.0 in

@@ -48,12 +48,12 @@ inserted P body (first ∷ rest) it h = by (ltb body.object first.object) (inser
     by true later = (it, h)
     by false later = (h.0, later)
 
-all_inserted : (P : Body → Type 0) (bodies news : List Body) → AllByRecursion P bodies → AllByRecursion P news → AllByRecursion P (insert_bodies bodies news)
+pub all_inserted : (P : Body → Type 0) (bodies news : List Body) → AllByRecursion P bodies → AllByRecursion P news → AllByRecursion P (insert_bodies bodies news)
 all_inserted P [] news h k = k
 all_inserted P (body ∷ bodies) news h k = inserted P body (insert_bodies bodies news) h.0 (all_inserted P bodies news h.1 k)
 
 -- and one set more.
-set_inserted : (P : Set → Type 0) (set : Set) (sets : List Set) → P set → AllByRecursion P sets → AllByRecursion P (insert_set set sets)
+pub set_inserted : (P : Set → Type 0) (set : Set) (sets : List Set) → P set → AllByRecursion P sets → AllByRecursion P (insert_set set sets)
 set_inserted P set [] it h = (it, tt)
 set_inserted P set (first ∷ rest) it h = by (is_same_field set first) (is_field_before set first) (set_inserted P set rest it h.1)
   where
@@ -80,7 +80,7 @@ placed_more : (shape : Shape) (class : ClassId) (k n f : ℕ) (v : Value) → (f
 placed_more shape class k n f v h = (omega (arith, h.0), h.1 ∙ ap (λ m. opening_value (kind_of shape class m)) (omega arith))
 
 -- a value of a new object is the opening one of its field
-opening_is : (shape : Shape) (class : ClassId) (k n f : ℕ) (v : Value) → slice_get (opening_from shape class k n) f ≡ Some v → (f < n) × (v ≡ opening_value (kind_of shape class (k + f)))
+pub opening_is : (shape : Shape) (class : ClassId) (k n f : ℕ) (v : Value) → slice_get (opening_from shape class k n) f ≡ Some v → (f < n) × (v ≡ opening_value (kind_of shape class (k + f)))
 opening_is shape class k zero f v is = absurd (cc is)
 opening_is shape class k (suc n) zero v is =
     let first : opening_value (kind_of shape class k) ≡ v = cc is in
@@ -139,7 +139,7 @@ module _ (C : ℕ → ClassId → ℕ → Type 0) (F : ℕ → ℕ → Value →
   }
 
   -- bodies with a value set
-  valued : (o f : ℕ) (v : Value) (bodies : List Body) → AllByRecursion BodyHas bodies → F o f v → AllByRecursion BodyHas (with_value o f v bodies)
+  pub valued : (o f : ℕ) (v : Value) (bodies : List Body) → AllByRecursion BodyHas bodies → F o f v → AllByRecursion BodyHas (with_value o f v bodies)
   valued o f v [] h it = tt
   valued o f v (body ∷ rest) h it = (by (eqb body.object o) refl, valued o f v rest h.1 it)
     where

@@ -51,15 +51,15 @@ use Rattle.dso_legal.proofs.fitting.Values.{same_pair, F, V, roots_stay, made_as
 -- ---- lists of values
 
 -- what holds of the value at each place holds of each value
-all_values : (P : Value → Type 0) (values : List Value) → ((f : ℕ) (v : Value) → slice_get values f ≡ Some v → P v) → AllByRecursion P values
+pub all_values : (P : Value → Type 0) (values : List Value) → ((f : ℕ) (v : Value) → slice_get values f ≡ Some v → P v) → AllByRecursion P values
 all_values P [] h = tt
 all_values P (v ∷ values) h = (h 0 v refl, all_values P values (λ f w is. h (suc f) w is))
 
-all_flat : (P : Value → Type 0) (bodies : List Body) → AllByRecursion (λ body. AllByRecursion P body.values) bodies → AllByRecursion P (flat_map (λ body. body.values) bodies)
+pub all_flat : (P : Value → Type 0) (bodies : List Body) → AllByRecursion (λ body. AllByRecursion P body.values) bodies → AllByRecursion P (flat_map (λ body. body.values) bodies)
 all_flat P [] h = tt
 all_flat P (body ∷ bodies) h = each_of_two P body.values (flat_map (λ body. body.values) bodies) h.0 (all_flat P bodies h.1)
 
-all_set : (P : Value → Type 0) (sets : List Set) → AllByRecursion (λ set. P set.value) sets → AllByRecursion P (map (λ set. set.value) sets)
+pub all_set : (P : Value → Type 0) (sets : List Set) → AllByRecursion (λ set. P set.value) sets → AllByRecursion P (map (λ set. set.value) sets)
 all_set P [] h = tt
 all_set P (set ∷ sets) h = (h.0, all_set P sets h.1)
 

@@ -43,11 +43,11 @@ turn_down : (m : Down) (s : Bool) → MayGiveIds m s → IsDeaf MayGiveIds batch
 turn_down (down.Ids first) s may = inr may
 turn_down m s may = inl (λ s. (tt, refl))
 
-ask_commutes : Commutes MayAskIds batch_asked_by_sent MayGiveIds batch_asked_by_taken
+pub ask_commutes : Commutes MayAskIds batch_asked_by_sent MayGiveIds batch_asked_by_taken
 ask_commutes = turns_commute MayAskIds batch_asked_by_sent MayGiveIds batch_asked_by_taken (λ s. s ≡ false) (λ s. s ≡ true)
     (record { up = turn_up; down = turn_down; never_both = λ s e f. no_both s f e })
 
-above_commutes : Commutes (Always {M = Up}) unchanged IsAbove batches_by_taken
+pub above_commutes : Commutes (Always {M = Up}) unchanged IsAbove batches_by_taken
 above_commutes m d s up down = deaf_up Always unchanged IsAbove batches_by_taken m d s (λ s. (tt, refl)) down
 
 -- messages about locks ask for no ids
@@ -270,7 +270,7 @@ module _ (p : Settings) (next : ThreadId → List Event → Option Request) wher
     heard_unchanged other s = refl
 
     -- both ends of the asks
-    ask_ends : Ends p next c MayAskIds batch_asked_by_sent MayGiveIds batch_asked_by_taken is_batch_asked (λ es. false)
+    pub ask_ends : Ends p next c MayAskIds batch_asked_by_sent MayGiveIds batch_asked_by_taken is_batch_asked (λ es. false)
     ask_ends = record {
       start = refl;
       at_client = λ e es follow h. record {
@@ -283,7 +283,7 @@ module _ (p : Settings) (next : ThreadId → List Event → Option Request) wher
     }
 
     -- both ends of the batches
-    batch_ends : Ends p next c Always unchanged IsAbove batches_by_taken batches (given_to c)
+    pub batch_ends : Ends p next c Always unchanged IsAbove batches_by_taken batches (given_to c)
     batch_ends = record {
       start = refl;
       at_client = λ e es follow h.

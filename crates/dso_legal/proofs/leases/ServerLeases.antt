@@ -45,7 +45,7 @@ not_queued c (waiter ∷ queue) e =
     by false f isnt h = h
 
 -- a choice between a thing and itself
-same_either : {X : Type 0} (b : Bool) (x : X) → cond b x x ≡ x
+pub same_either : {X : Type 0} (b : Bool) (x : X) → cond b x x ≡ x
 same_either true x = refl
 same_either false x = refl
 

@@ -50,7 +50,7 @@ record KnownAfter (node : Node) (e : Entry) (es : List Entry) : Type 0 where
 
 module _ (p : Settings) (next : ThreadId → List Event → Option Request) where
   -- what a client's entry says of a lock
-  says : (e : Entry) (es : List Entry) (d : ℕ) (l : LockName) → Known es → ClientFollows p next d e es → Says p d l (next_after next es) (next_after next (e ∷ es)) e (entries_of (Client d) es)
+  pub says : (e : Entry) (es : List Entry) (d : ℕ) (l : LockName) → Known es → ClientFollows p next d e es → Says p d l (next_after next es) (next_after next (e ∷ es)) e (entries_of (Client d) es)
   says e es d l known h = client_says p d l (next_after next es) (next_after next (e ∷ es)) e (entries_of (Client d) es) (known.plain d l) h.step
 
   plain_client : (e : Entry) (es : List Entry) → Known es → (b : Bool) (c d : ℕ) (l : LockName) → eqb c d ≡ b → ClientFollows p next d e es → IsPlain (standing l (cond b (e ∷ entries_of (Client c) es) (entries_of (Client c) es)))
@@ -70,7 +70,7 @@ module _ (p : Settings) (next : ThreadId → List Event → Option Request) wher
 
   module _ (c : ℕ) (l : LockName) where
     -- the server's end of a lock
-    at_server : (e : Entry) (es : List Entry) → AllFollow p next es → ServerFollows p next e es → is_of_lost e.input (entries_of Server es) ≡ false → loses c e.input ≡ false
+    pub at_server : (e : Entry) (es : List Entry) → AllFollow p next es → ServerFollows p next e es → is_of_lost e.input (entries_of Server es) ≡ false → loses c e.input ≡ false
         → ServerEnd p next c (MayGoUp l) (standing_up l) (MayGoDown l) (standing_down l) (standing l) (standing_with c l) e (counted (entries_of Server es))
     at_server e es follow h counts stays = elim (server_does p e (entries_of Server es) (known es follow).queues h.step) [
       | inl skip ↦ no_both (is_of_lost e.input (entries_of Server es)) skip.skipped counts
@@ -84,7 +84,7 @@ module _ (p : Settings) (next : ThreadId → List Event → Option Request) wher
     ]
 
     -- both ends of a lock
-    lock_ends : Ends p next c (MayGoUp l) (standing_up l) (MayGoDown l) (standing_down l) (standing l) (standing_with c l)
+    pub lock_ends : Ends p next c (MayGoUp l) (standing_up l) (MayGoDown l) (standing_down l) (standing l) (standing_with c l)
     lock_ends = record {
       start = refl;
       at_client = λ e es follow h. record { comes = (says e es c l (known es follow) h).comes; reads = refl };
@@ -108,26 +108,26 @@ none_asks c (waiter ∷ queue) e = by (eqb c waiter.client) (eqb waiter.client c
     by false true f g e later = no_both (eqb c c) (number_self c) (subst (λ n. eqb c n ≡ false) (same_number waiter.client c g) f)
     by false false f g e later = later e
 
-module _ (p : Settings) (next : ThreadId → List Event → Option Request) (es : List Entry) (h : IsLawful p next es) (c : ℕ) (alive : is_lost c (entries_of Server es) ≡ false) where
+module _ (p : Settings) (next : ThreadId → List Event → Option Request) (es : List Entry) (follow : AllFollow p next es) (c : ℕ) (alive : is_lost c (entries_of Server es) ≡ false) where
   -- what the server takes may come
   may_up : (l : LockName) (m : Up) → IsFirst m (up_in_flight c es) → MayGoUp l m (standing_with c l (counted (entries_of Server es)))
-  may_up l m f = first_may_up p next c (MayGoUp l) (standing_up l) (MayGoDown l) (standing_down l) (standing l) (standing_with c l) es (locks_agree p next c l es h.follow alive) m f
+  may_up l m f = first_may_up p next c (MayGoUp l) (standing_up l) (MayGoDown l) (standing_down l) (standing l) (standing_with c l) es (locks_agree p next c l es follow alive) m f
 
   -- and what the client takes
   may_down : (l : LockName) (m : Down) → IsFirst m (down_in_flight c es) → MayGoDown l m (standing l (entries_of (Client c) es))
-  may_down l m f = first_may_down p next c (MayGoUp l) (standing_up l) (MayGoDown l) (standing_down l) (standing l) (standing_with c l) es (locks_agree p next c l es h.follow alive) m f
+  may_down l m f = first_may_down p next c (MayGoUp l) (standing_up l) (MayGoDown l) (standing_down l) (standing l) (standing_with c l) es (locks_agree p next c l es follow alive) m f
 
-  fits_up : (m : Up) → IsFirst m (up_in_flight c es) → LeaseFitsUp c m (counted (entries_of Server es))
-  fits_up (up.Request l level) f =
+  pub lease_fits_up : (m : Up) → IsFirst m (up_in_flight c es) → LeaseFitsUp c m (counted (entries_of Server es))
+  lease_fits_up (up.Request l level) f =
       let free = may_up l (up.Request l level) f (lock_self l) in
-      let q = (known p next es h.follow).queues c l in
+      let q = (known p next es follow).queues c l in
       (ap (λ (s : Standing). s.lease) free, none_asks c (queue_of l (counted (entries_of Server es))) (q.count ∙ ap asks free))
-  fits_up (up.Return l threads) f = (may_up l (up.Return l threads) f (lock_self l)).leased
-  fits_up m f = tt
+  lease_fits_up (up.Return l threads) f = (may_up l (up.Return l threads) f (lock_self l)).leased
+  lease_fits_up m f = tt
 
-  fits_down : (m : Down) → IsFirst m (down_in_flight c es) → LeaseFitsDown m (entries_of (Client c) es)
-  fits_down (down.Grant l level) f = ap (λ (s : Standing). s.is_asked) (may_down l (down.Grant l level) f (lock_self l))
-  fits_down m f = tt
+  pub lease_fits_down : (m : Down) → IsFirst m (down_in_flight c es) → LeaseFitsDown m (entries_of (Client c) es)
+  lease_fits_down (down.Grant l level) f = ap (λ (s : Standing). s.is_asked) (may_down l (down.Grant l level) f (lock_self l))
+  lease_fits_down m f = tt
 
 pub leases_fit : LeasesFit
-leases_fit p next es h c alive = record { ups = fits_up p next es h c alive; downs = fits_down p next es h c alive }
+leases_fit p next es h c alive = record { ups = lease_fits_up p next es h.follow c alive; downs = lease_fits_down p next es h.follow c alive }

@@ -125,7 +125,7 @@ module _ (o : ℕ) where
   left_counts : (a b : ℕ) → 1 ≤ a → 1 ≤ a + b
   left_counts a b le = omega (arith, le)
 
-  right_counts : (a b : ℕ) → 1 ≤ b → 1 ≤ a + b
+  pub right_counts : (a b : ℕ) → 1 ≤ b → 1 ≤ a + b
   right_counts a b le = omega (arith, le)
 
   pub count_either : (privates news : List Body) → (is_among o privates || is_among o news) ≡ true → 1 ≤ count_bodies o privates + count_bodies o news

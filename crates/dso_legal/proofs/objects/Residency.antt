@@ -24,13 +24,14 @@ use Rattle.dso_law.specs.Channels.{up_in_flight, down_in_flight, IsFirst, TakesF
 use Rattle.dso_law.specs.Copies.{is_resident, is_object_asked}
 use Rattle.dso_law.specs.ServerReadings.{loses, is_lost, is_of_lost, counted, Batch, batch_by, batches_given, is_in_batch, is_given_to}
 use Rattle.dso_law.specs.Store.{body_by, stored, holds_object}
-use Rattle.dso_legal.specs.Lawful.{next_after, ClientFollows, ServerFollows, NodeFollows, AllFollow, IsLawful}
+use Rattle.dso_legal.specs.Agreement.{messages, EachMay}
+use Rattle.dso_legal.specs.Lawful.{next_after, ClientFollows, ServerFollows, NodeFollows, AllFollow}
 use Rattle.dso_legal.specs.OwnObjects.{was_published}
 use Rattle.dso_legal.specs.Residency.{Asked, Resident, residency_up, residency_down, IsAway, MayMove, MayCome, is_published_by, residency_at, residency_with, is_own, ResidencyAgrees, ObjectFitsUp, ObjectFitsDown, ObjectsFit}
 use Rattle.dso_legal.proofs.records.ClientWords.{Word, Records, IsWord, client_word}
-use Rattle.dso_legal.proofs.records.BothEnds.{server_with, client_with, AgreeAt, EndsAt, agree_after, not_lost_before, first_may_up, first_may_down}
+use Rattle.dso_legal.proofs.records.BothEnds.{first_down, server_with, client_with, AgreeAt, EndsAt, agree_after, not_lost_before, first_may_up, first_may_down}
 use Rattle.dso_legal.proofs.records.FreshNews.{IsFresh, news_are_fresh, record_sets_resident}
-use Rattle.dso_legal.proofs.ids.GivenOnce.{InTurn, in_turn, gives, within, ids_are_given_once}
+use Rattle.dso_legal.proofs.ids.GivenOnce.{InTurn, in_turn, gives, within, given_once}
 use Rattle.dso_legal.proofs.leases.ClientLeases.{neither}
 use Rattle.dso_legal.proofs.leases.LeaseSteps.{unless_true, if_true, no_both}
 use Rattle.dso_legal.proofs.objects.ResidentClient.{object_commutes, IsClear, stands, ComesPublished, IsNews, ClientTurn, client_turn}
@@ -72,7 +73,7 @@ IsOwner true c o es = IsTheirs c o es
 IsOwner false c o es = is_own c o es ≡ false
 
 -- so it was before
-owner_before : (own : Bool) (c o : ℕ) (e : Entry) (es : List Entry) → IsOwner own c o (e ∷ es) → IsOwner own c o es
+pub owner_before : (own : Bool) (c o : ℕ) (e : Entry) (es : List Entry) → IsOwner own c o (e ∷ es) → IsOwner own c o es
 owner_before true c o e es h = record { isnt_roots = h.isnt_roots; alone = λ d given. h.alone d (given_more d o e es given) }
 owner_before false c o e es h = by (is_own c o es) refl
   where
@@ -85,7 +86,7 @@ asked_published : (u a r : Bool) → stands u a r ≡ Asked → u ≡ false
 asked_published true a r e = absurd (cc e)
 asked_published false a r e = refl
 
-asked_asked : (u a r : Bool) → stands u a r ≡ Asked → a ≡ true
+pub asked_asked : (u a r : Bool) → stands u a r ≡ Asked → a ≡ true
 asked_asked true a r e = absurd (cc e)
 asked_asked false true r e = refl
 asked_asked false false true e = absurd (cc e)
@@ -124,11 +125,13 @@ module _ (p : Settings) (next : ThreadId → List Event → Option Request) (c o
     pub clear : ClearAt (entries_of (Client c) es)
     pub kept : KeptAt (counted (entries_of Server es))
 
-  module _ (e : Entry) (es : List Entry) (follow : AllFollow p next es) (alive : is_lost c (entries_of Server es) ≡ false) (owner : IsOwner own c o es) (k : Known es) where
+  -- at the client, where what is in flight to it may come and what it knows is clear
+  module _ (e : Entry) (es : List Entry) (follow : AllFollow p next es) (owner : IsOwner own c o es)
+      (downs : EachMay (MayCome o) (residency_down o) (messages (down_in_flight c es)) (residency_at own o (entries_of (Client c) es))) (clear : ClearAt (entries_of (Client c) es)) where
     -- an object comes where it is published
     comes_published : (i : Input) → TakesFirst i (Client c) es → ComesPublished o (own && not (was_published o (entries_of (Client c) es))) i
     comes_published (input.TookDown (down.Object body)) first = λ same. asked_published (own && not (was_published o (entries_of (Client c) es))) (is_object_asked o (entries_of (Client c) es)) (is_resident o (entries_of (Client c) es))
-        (first_may_down p next c (MayMove o) (residency_up o) (MayCome o) (residency_down o) (residency_at own o) (residency_with own c o) es k.agree (down.Object body) first same)
+        (first_down p next c (MayMove o) (residency_up o) (MayCome o) (residency_down o) (residency_at own o) (residency_with own c o) (down.Object body) (down_in_flight c es) (residency_at own o (entries_of (Client c) es)) first downs same)
     comes_published i first = tt
 
     -- a fresh object is still to be published
@@ -140,11 +143,12 @@ module _ (p : Settings) (next : ThreadId → List Event → Option Request) (c o
     is_news i (Records txn) is = (λ among. fresh_unpublished own owner (news_are_fresh p next c o e es txn follow is.1 among), λ set. record_sets_resident p next c o e es txn follow is.1 set)
     is_news i word is = tt
 
-    at_client : TakesFirst e.input (Client c) es → ClientFollows p next c e es → ClientTurn o p c own e (entries_of (Client c) es)
+    pub at_client : TakesFirst e.input (Client c) es → ClientFollows p next c e es → ClientTurn o p c own e (entries_of (Client c) es)
     at_client first h =
         let w = client_word p c (next_after next es) (next_after next (e ∷ es)) e (entries_of (Client c) es) h.step in
-        client_turn o p c own e (entries_of (Client c) es) w k.clear (comes_published e.input first) (is_news e.input w.word w.is)
+        client_turn o p c own e (entries_of (Client c) es) w clear (comes_published e.input first) (is_news e.input w.word w.is)
 
+  module _ (e : Entry) (es : List Entry) (follow : AllFollow p next es) (alive : is_lost c (entries_of Server es) ≡ false) (owner : IsOwner own c o es) (k : Known es) where
     -- a fault comes where the object is published and not held
     fault_fits : (i : Input) → e.input ≡ i → TakesFirst i Server es → FitsInput p i (counted (entries_of Server es))
         → FaultFits o c own (is_published_by c o (counted (entries_of Server es))) (holds_object c o (counted (entries_of Server es))) p i (unsent e ∷ counted (entries_of Server es))
@@ -170,13 +174,13 @@ module _ (p : Settings) (next : ThreadId → List Event → Option Request) (c o
 
     ends_at : EndsAt p next c (MayMove o) (residency_up o) (MayCome o) (residency_down o) (residency_at own o) (residency_with own c o) e es
     ends_at = record {
-      at_client = λ first h. let turn = at_client first h in record { comes = turn.comes; reads = turn.reads };
+      at_client = λ first h. let turn = at_client e es follow owner k.agree.downs k.clear first h in record { comes = turn.comes; reads = turn.reads };
       at_server = λ first h counts stays. let turn = at_server first h counts stays in record { comes = turn.comes; reads = turn.reads };
     }
 
     -- what the client knows stays so
     clear_client : (b : Bool) (d : ℕ) → eqb c d ≡ b → TakesFirst e.input (Client d) es → ClientFollows p next d e es → ClearAt (cond b (e ∷ entries_of (Client c) es) (entries_of (Client c) es))
-    clear_client true d mine first h = (at_client (subst (λ n. TakesFirst e.input (Client n) es) (sym (same_number c d mine)) first) (subst (λ n. ClientFollows p next n e es) (sym (same_number c d mine)) h)).clear
+    clear_client true d mine first h = (at_client e es follow owner k.agree.downs k.clear (subst (λ n. TakesFirst e.input (Client n) es) (sym (same_number c d mine)) first) (subst (λ n. ClientFollows p next n e es) (sym (same_number c d mine)) h)).clear
     clear_client false d mine first h = k.clear
 
     clear_after : (node : Node) → TakesFirst e.input node es → NodeFollows p next node e es → ClearAt (client_with c node e es)
@@ -231,43 +235,44 @@ given_above c o (b ∷ given) turn e = by (gives c o b) refl e (given_above c o 
     by true f e rest = above_zero o (length given) (within o b.first (length given) turn.0 (both (eqb b.client c) (is_in_batch o b) f).1).0
     by false f e rest = rest e
 
-module _ (p : Settings) (next : ThreadId → List Event → Option Request) (es : List Entry) (h : IsLawful p next es) (c : ℕ) (alive : is_lost c (entries_of Server es) ≡ false) where
+module _ (p : Settings) (next : ThreadId → List Event → Option Request) (es : List Entry) (follow : AllFollow p next es) (c : ℕ) where
   -- whose an id is
-  owner : (o : ℕ) (b : Bool) → is_own c o es ≡ b → IsOwner b c o es
-  owner o true e = record {
-    isnt_roots = given_above c o (batches_given (counted (entries_of Server es))) (in_turn p next es h.follow) e;
-    alone = λ d given. sym (ids_are_given_once p next es h c d o e given);
+  pub owner_of : (o : ℕ) (b : Bool) → is_own c o es ≡ b → IsOwner b c o es
+  owner_of o true e = record {
+    isnt_roots = given_above c o (batches_given (counted (entries_of Server es))) (in_turn p next es follow) e;
+    alone = λ d given. sym (given_once c d o (batches_given (counted (entries_of Server es))) (in_turn p next es follow) e given);
   }
-  owner o false e = e
+  owner_of o false e = e
 
+module _ (p : Settings) (next : ThreadId → List Event → Option Request) (es : List Entry) (follow : AllFollow p next es) (c : ℕ) (alive : is_lost c (entries_of Server es) ≡ false) where
   all_known : (o : ℕ) → Known p next c o (is_own c o es) es
-  all_known o = known p next c o (is_own c o es) es h.follow alive (owner o (is_own c o es) refl)
+  all_known o = known p next c o (is_own c o es) es follow alive (owner_of p next es follow c o (is_own c o es) refl)
 
-  fits_up : (m : Up) → IsFirst m (up_in_flight c es) → ObjectFitsUp c m (counted (entries_of Server es))
-  fits_up (up.Fault o) f =
+  pub object_fits_up : (m : Up) → IsFirst m (up_in_flight c es) → ObjectFitsUp c m (counted (entries_of Server es))
+  object_fits_up (up.Fault o) f =
       let k = all_known o in
       let may = first_may_up p next c (MayMove o) (residency_up o) (MayCome o) (residency_down o) (residency_at (is_own c o es) o) (residency_with (is_own c o es) c o) es k.agree (up.Fault o) f (number_self o) in
       away_gone (is_own c o es && not (is_published_by c o (counted (entries_of Server es)))) (holds_object c o (counted (entries_of Server es))) may k.kept.gone
-  fits_up (up.Flushed o) f =
+  object_fits_up (up.Flushed o) f =
       let k = all_known o in
       resident_held (is_own c o es && not (is_published_by c o (counted (entries_of Server es)))) (holds_object c o (counted (entries_of Server es)))
       (first_may_up p next c (MayMove o) (residency_up o) (MayCome o) (residency_down o) (residency_at (is_own c o es) o) (residency_with (is_own c o es) c o) es k.agree (up.Flushed o) f (number_self o))
-  fits_up (up.Commit txn) f = λ o set.
+  object_fits_up (up.Commit txn) f = λ o set.
       let k = all_known o in
       resident_held (is_own c o es && not (is_published_by c o (counted (entries_of Server es)))) (holds_object c o (counted (entries_of Server es)))
       ((first_may_up p next c (MayMove o) (residency_up o) (MayCome o) (residency_down o) (residency_at (is_own c o es) o) (residency_with (is_own c o es) c o) es k.agree (up.Commit txn) f).1 set)
-  fits_up m f = tt
+  object_fits_up m f = tt
 
-  fits_down : (m : Down) → IsFirst m (down_in_flight c es) → ObjectFitsDown m (entries_of (Client c) es)
-  fits_down (down.Object body) f =
+  pub object_fits_down : (m : Down) → IsFirst m (down_in_flight c es) → ObjectFitsDown m (entries_of (Client c) es)
+  object_fits_down (down.Object body) f =
       let o : ℕ = body.object in
       let k = all_known o in
       asked_asked (is_own c o es && not (was_published o (entries_of (Client c) es))) (is_object_asked o (entries_of (Client c) es)) (is_resident o (entries_of (Client c) es))
       (first_may_down p next c (MayMove o) (residency_up o) (MayCome o) (residency_down o) (residency_at (is_own c o es) o) (residency_with (is_own c o es) c o) es k.agree (down.Object body) f (number_self o))
-  fits_down m f = tt
+  object_fits_down m f = tt
 
 pub residency_agrees : ResidencyAgrees
-residency_agrees p next es h c o alive = (all_known p next es h c alive o).agree
+residency_agrees p next es h c o alive = (all_known p next es h.follow c alive o).agree
 
 pub objects_fit : ObjectsFit
-objects_fit p next es h c alive = record { ups = fits_up p next es h c alive; downs = fits_down p next es h c alive }
+objects_fit p next es h c alive = record { ups = object_fits_up p next es h.follow c alive; downs = object_fits_down p next es h.follow c alive }

@@ -120,7 +120,7 @@ module _ (mine other : ℕ → Bool) (names others : ℕ → ℕ → Bool) (same
   reached_too (value.Text n) b r = absurd r
 
 -- a list of the bodies' objects has each that is found among them
-lists_bodies : (bodies : List Body) → ListsEach (λ a. is_some (body_in a bodies)) (map (λ body. body.object) bodies)
+pub lists_bodies : (bodies : List Body) → ListsEach (λ a. is_some (body_in a bodies)) (map (λ body. body.object) bodies)
 lists_bodies [] o e = absurd (cc e)
 lists_bodies (body ∷ bodies) o e = by (eqb body.object o) refl e (lists_bodies bodies o)
   where

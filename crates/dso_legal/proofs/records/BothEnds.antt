@@ -39,7 +39,7 @@ not_lost_before c Server e es h = (neither (loses c e.input) (is_lost c (entries
 not_lost_before c (Client d) e es h = h
 
 -- a message of a lost client isn't of one that isn't
-skipped_way : (c : ℕ) (input : Input) (server : List Entry) → is_of_lost input server ≡ true → is_lost c server ≡ false → takes_up c input ≡ false
+pub skipped_way : (c : ℕ) (input : Input) (server : List Entry) → is_of_lost input server ≡ true → is_lost c server ≡ false → takes_up c input ≡ false
 skipped_way c (input.TookUp d m) server skipped alive = by (eqb c d) refl
   where
     by : (b : Bool) → eqb c d ≡ b → b ≡ false
@@ -144,7 +144,7 @@ module _ {S : Type 0} (p : Settings) (next : ThreadId → List Event → Option 
   first_up m (letter ∷ letters) s f may = subst (λ n. may_up n s) (sym f) may.0
 
   -- and in flight to the client where the client's stands
-  first_down : (m : Down) (letters : List (Letter Down)) (s : S) → IsFirst m letters → EachMay may_down step_down (messages letters) s → may_down m s
+  pub first_down : (m : Down) (letters : List (Letter Down)) (s : S) → IsFirst m letters → EachMay may_down step_down (messages letters) s → may_down m s
   first_down m [] s f may = absurd f
   first_down m (letter ∷ letters) s f may = subst (λ n. may_down n s) (sym f) may.0
 

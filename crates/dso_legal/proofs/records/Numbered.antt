@@ -16,12 +16,12 @@ use Rattle.dso_base.specs.declared.request.Request.{Request}
 use Rattle.dso_law.specs.Settings.{Settings}
 use Rattle.dso_law.specs.Entries.{unsent, entries_of, by_taken_down, by_taken_up, if_to}
 use Rattle.dso_law.specs.Records.{records_by_sent, records, unacked_by_taken, unacked_by_sent, unacked}
-use Rattle.dso_law.specs.ServerReadings.{counted, number_by, last_number, next_batch}
+use Rattle.dso_law.specs.ServerReadings.{counted, is_lost, number_by, last_number, next_batch}
 use Rattle.dso_law.specs.Store.{stored}
 use Rattle.dso_law.specs.ServerStep.{object_to}
 use Rattle.dso_legal.specs.Agreement.{after, EachMay}
-use Rattle.dso_legal.specs.Lawful.{next_after}
-use Rattle.dso_legal.specs.Numbered.{Always, unchanged, HasNextNumber, number_sent, IsOfFirst, RecordsStayInOrder, RecordsFit}
+use Rattle.dso_legal.specs.Lawful.{next_after, AllFollow}
+use Rattle.dso_legal.specs.Numbered.{RecordsInOrder, RecordsFirst, Always, unchanged, HasNextNumber, number_sent, IsOfFirst, RecordsStayInOrder, RecordsFit}
 use Rattle.dso_legal.proofs.channels.Agreement.{AllDeaf, IsDeaf, more_deaf, may_append, after_append, Commute, Commutes, deaf_down}
 use Rattle.dso_legal.proofs.records.ClientSends.{AtMostRecord, IsAboutLock, EachAboutLock, IsAskOrFlush, AtMostAsk, ClientSent, client_sent}
 use Rattle.dso_legal.proofs.records.BothEnds.{Ends, ends_agree, first_may_up, first_may_down}
@@ -112,7 +112,7 @@ record_commutes txn (down.Ack seq) [] h = absurd h
 record_commutes txn (down.Ack seq) (first ∷ rest) h = record { down_later = h; up_later = tt; same = refl }
 record_commutes txn d q h = record { down_later = tt; up_later = tt; same = refl }
 
-queue_commutes : Commutes Always unacked_by_sent IsOfFirst unacked_by_taken
+pub queue_commutes : Commutes Always unacked_by_sent IsOfFirst unacked_by_taken
 queue_commutes (up.Commit txn) d q up down = record_commutes txn d q down
 queue_commutes m d q up down = record { down_later = down; up_later = tt; same = refl }
 
@@ -189,7 +189,7 @@ module _ (p : Settings) (next : ThreadId → List Event → Option Request) (c :
   }
 
   -- both ends of the records that aren't acknowledged
-  queue_ends : Ends p next c Always unacked_by_sent IsOfFirst unacked_by_taken unacked (λ es. [])
+  pub queue_ends : Ends p next c Always unacked_by_sent IsOfFirst unacked_by_taken unacked (λ es. [])
   queue_ends = record {
     start = refl;
     at_client = λ e es follow h. record { comes = each_always unacked_by_sent (said_of e.sent) (by_taken_down unacked_by_taken e.input (unacked (entries_of (Client c) es))); reads = refl };
@@ -198,16 +198,23 @@ module _ (p : Settings) (next : ThreadId → List Event → Option Request) (c :
         record { comes = acks.comes; reads = sym (told_status c unacked_by_taken e.sent (by_taken_up (if_to c unacked_by_sent) e.input []) ∙ acks.empty) };
   }
 
-pub records_stay_in_order : RecordsStayInOrder
-records_stay_in_order p next es h c alive = record {
-  numbers = ends_agree p next c HasNextNumber number_sent Always unchanged records (last_number c) numbers_commute (numbers_ends p next c) es h.follow alive;
-  acknowledged = ends_agree p next c Always unacked_by_sent IsOfFirst unacked_by_taken unacked (λ es. []) queue_commutes (queue_ends p next c) es h.follow alive;
+-- over entries that follow one another
+pub records_in_order : (p : Settings) (next : ThreadId → List Event → Option Request) (es : List Entry) → AllFollow p next es → (c : ℕ) → is_lost c (entries_of Server es) ≡ false → RecordsInOrder c es
+records_in_order p next es follow c alive = record {
+  numbers = ends_agree p next c HasNextNumber number_sent Always unchanged records (last_number c) numbers_commute (numbers_ends p next c) es follow alive;
+  acknowledged = ends_agree p next c Always unacked_by_sent IsOfFirst unacked_by_taken unacked (λ es. []) queue_commutes (queue_ends p next c) es follow alive;
 }
 
-pub records_fit : RecordsFit
-records_fit p next es h c alive =
-    let order = records_stay_in_order p next es h c alive in
+pub records_stay_in_order : RecordsStayInOrder
+records_stay_in_order p next es h c alive = records_in_order p next es h.follow c alive
+
+pub records_first : (p : Settings) (next : ThreadId → List Event → Option Request) (es : List Entry) → AllFollow p next es → (c : ℕ) → is_lost c (entries_of Server es) ≡ false → RecordsFirst c es
+records_first p next es follow c alive =
+    let order = records_in_order p next es follow c alive in
     record {
       ups = λ m f. first_may_up p next c HasNextNumber number_sent Always unchanged records (last_number c) es order.numbers m f;
       downs = λ m f. first_may_down p next c Always unacked_by_sent IsOfFirst unacked_by_taken unacked (λ es. []) es order.acknowledged m f;
     }
+
+pub records_fit : RecordsFit
+records_fit p next es h c alive = records_first p next es h.follow c alive

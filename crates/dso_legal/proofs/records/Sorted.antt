@@ -103,6 +103,10 @@ first_sorted m [] n f h few = absurd f
 first_sorted m (letter ∷ letters) n f h few = subst IsSortedRecord (sym f) (sorted_by letter.message n h.0
     (λ o. through (news_of o letter.message (n o)) (after (news_of o) (messages letters) (news_of o letter.message (n o))) 1 (none_less o (messages letters) (news_of o letter.message (n o))) (few o)))
 
+-- over entries that follow one another
+pub first_is_sorted : (p : Settings) (next : ThreadId → List Event → Option Request) (es : List Entry) → AllFollow p next es → (c : ℕ) (m : Up) → IsFirst m (up_in_flight c es) → IsSortedRecord m
+first_is_sorted p next es follow c m f = first_sorted m (up_in_flight c es) (λ o. taken_news o c (counted (entries_of Server es))) f (way_sorted p next c es follow)
+    (λ o. through (after (news_of o) (messages (up_in_flight c es)) (taken_news o c (counted (entries_of Server es)))) (sent_news o (entries_of (Client c) es)) 1 (was_sent o p next c es follow) (sent_once o p next c es follow))
+
 pub records_are_sorted : RecordsAreSorted
-records_are_sorted p next es h c m f = first_sorted m (up_in_flight c es) (λ o. taken_news o c (counted (entries_of Server es))) f (way_sorted p next c es h.follow)
-    (λ o. through (after (news_of o) (messages (up_in_flight c es)) (taken_news o c (counted (entries_of Server es)))) (sent_news o (entries_of (Client c) es)) 1 (was_sent o p next c es h.follow) (sent_once o p next c es h.follow))
+records_are_sorted p next es h c m f = first_is_sorted p next es h.follow c m f
