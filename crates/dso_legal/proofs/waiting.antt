@@ -1,6 +1,7 @@
 -- Waiters as tokens: where a thread stands among the waiters of a lock.
 pub mod PlacesCommute
 pub mod ThreadLists
+pub mod NotedPlaces
 pub mod ServerWakes
 pub mod ServerWaiters
 pub mod ServerEnd
