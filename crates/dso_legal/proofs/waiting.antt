@@ -2,6 +2,7 @@
 pub mod PlacesCommute
 pub mod ThreadLists
 pub mod NotedPlaces
+pub mod ClientView
 pub mod ServerWakes
 pub mod ServerWaiters
 pub mod ServerEnd
