@@ -3,6 +3,7 @@ pub mod PlacesCommute
 pub mod ThreadLists
 pub mod NotedPlaces
 pub mod ClientView
+pub mod HandedIn
 pub mod ServerWakes
 pub mod ServerWaiters
 pub mod ServerEnd

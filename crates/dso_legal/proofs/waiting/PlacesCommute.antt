@@ -49,7 +49,7 @@ module _ (l : LockName) (t : ThreadId) where
       by false e = record { later = λ d. absurd (cc (sym e ∙ d)); gone = ap (λ b. cond b (place_chosen t note.choice Gone) Gone) e; away = ap (λ b. cond b (place_chosen t note.choice Away) Away) e }
 
   -- all of a record's,
-  all_noted : (notes : List Note) → MayNote l t notes Gone → Passes (MayNote l t notes) (places_noted l t notes)
+  pub all_noted : (notes : List Note) → MayNote l t notes Gone → Passes (MayNote l t notes) (places_noted l t notes)
   all_noted [] may = record { later = tt; gone = refl; away = refl }
   all_noted (note ∷ notes) may =
       let one = noted note may.0 in
