@@ -4,6 +4,7 @@ pub mod ThreadLists
 pub mod NotedPlaces
 pub mod ClientView
 pub mod HandedIn
+pub mod ListMoves
 pub mod ServerWakes
 pub mod ServerWaiters
 pub mod ServerEnd

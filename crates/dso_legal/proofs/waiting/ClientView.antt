@@ -78,8 +78,8 @@ module _ (l : LockName) (v : View) where
 -- What leaves a lock's waiters as they are: other notifications, more holds, and marks of threads that don't wait on it.
 pub record IsQuiet (l : LockName) (v r : View) : Type 0 where
   pub place : (t : ThreadId) → r.place l t ≡ v.place l t
-  pub list : r.list l ≡ v.list l
-  pub lease : r.lease l ≡ v.lease l
+  pub list : (t : ThreadId) → is_in l r t ≡ is_in l v t
+  pub lease : (t : ThreadId) → is_in l v t ≡ true → r.lease l ≡ v.lease l
   pub more : ThreadId → List Note
   pub notes : (u : ThreadId) → r.notes u ≡ v.notes u ++ more u
   pub others : (u : ThreadId) → names_lock l (more u) ≡ false
@@ -100,25 +100,25 @@ names_both l (note ∷ xs) ys none names = by (is_lock l note.lock) names (names
 pub quiet_keeps : (l : LockName) (v r : View) → IsQuiet l v r → KeepsWaiters l v → KeepsWaiters l r
 quiet_keeps l v r q k = record {
   kept = λ u t alone. subst (λ s. (s ≡ Kept) ↔ (is_in l r t ≡ true)) (sym (noted u t))
-      (subst (λ ts. (places_noted l t (v.notes u) (v.place l t) ≡ Kept) ↔ (list_any (is_thread t) ts ≡ true)) (sym q.list) (k.kept u t (record { others = λ w other held. alone.others w other (q.holds w held) })));
+      (subst (λ b. (places_noted l t (v.notes u) (v.place l t) ≡ Kept) ↔ (b ≡ true)) (sym (q.list t)) (k.kept u t (record { others = λ w other held. alone.others w other (q.holds w held) })));
   may = λ u t. subst (λ notes. MayNote l t notes (r.place l t)) (sym (q.notes u)) (subst (MayNote l t (v.notes u ++ q.more u)) (sym (q.place t))
       (may_both l t (v.notes u) (q.more u) (v.place l t) (k.may u t) (others_may l t (q.more u) (places_noted l t (v.notes u) (v.place l t)) (q.others u))));
   holder = λ u names. q.holds u (k.holder u (names_both l (v.notes u) (q.more u) (q.others u) (ap (names_lock l) (sym (q.notes u)) ∙ names)));
   listed = λ t there. q.waits t (k.listed t (was_in t there));
-  leased = λ t there. q.lease ∙ k.leased t (was_in t there);
+  leased = λ t there. q.lease t (was_in t there) ∙ k.leased t (was_in t there);
   placed = λ t placed. q.waits t (k.placed t (λ away. placed (q.place t ∙ away)));
-  gone = λ t gone. ap (list_any (is_thread t)) q.list ∙ k.gone t (sym (q.place t) ∙ gone);
+  gone = λ t gone. q.list t ∙ k.gone t (sym (q.place t) ∙ gone);
   marked = λ t waits is.
       let was = k.marked t (q.waited t waits) (sym (q.marked t (q.waited t waits)) ∙ is) in
-      (ap (list_any (is_thread t)) q.list ∙ was.0, λ gone. was.1 (sym (q.place t) ∙ gone));
+      (q.list t ∙ was.0, λ gone. was.1 (sym (q.place t) ∙ gone));
   unmarked = λ t waits isnt. elim (k.unmarked t (q.waited t waits) (sym (q.marked t (q.waited t waits)) ∙ isnt)) [
-    | inl there ↦ inl (ap (list_any (is_thread t)) q.list ∙ there)
+    | inl there ↦ inl (q.list t ∙ there)
     | inr gone ↦ inr (q.place t ∙ gone)
   ];
 }
   where
     was_in : (t : ThreadId) → is_in l r t ≡ true → is_in l v t ≡ true
-    was_in t there = sym (ap (list_any (is_thread t)) q.list) ∙ there
+    was_in t there = sym (q.list t) ∙ there
 
     noted : (u t : ThreadId) → places_noted l t (r.notes u) (r.place l t) ≡ places_noted l t (v.notes u) (v.place l t)
     noted u t = ap (λ notes. places_noted l t notes (r.place l t)) (q.notes u) ∙ ap (places_noted l t (v.notes u ++ q.more u)) (q.place t)
