@@ -5,6 +5,7 @@ pub mod NotedPlaces
 pub mod ClientView
 pub mod HandedIn
 pub mod ListMoves
+pub mod BlockNotes
 pub mod ServerWakes
 pub mod ServerWaiters
 pub mod ServerEnd
