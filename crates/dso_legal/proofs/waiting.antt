@@ -6,6 +6,9 @@ pub mod ClientView
 pub mod HandedIn
 pub mod ListMoves
 pub mod BlockNotes
+pub mod ClientActs
+pub mod WaitingActs
+pub mod EachAct
 pub mod ServerWakes
 pub mod ServerWaiters
 pub mod ServerEnd
