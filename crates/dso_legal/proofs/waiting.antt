@@ -9,6 +9,7 @@ pub mod BlockNotes
 pub mod ClientActs
 pub mod WaitingActs
 pub mod EachAct
+pub mod EntryParts
 pub mod ServerWakes
 pub mod ServerWaiters
 pub mod ServerEnd
