@@ -10,6 +10,7 @@ pub mod ClientActs
 pub mod WaitingActs
 pub mod EachAct
 pub mod EntryParts
+pub mod ClientEnd
 pub mod ServerWakes
 pub mod ServerWaiters
 pub mod ServerEnd
