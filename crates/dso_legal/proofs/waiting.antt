@@ -11,6 +11,7 @@ pub mod WaitingActs
 pub mod EachAct
 pub mod EntryParts
 pub mod ClientEnd
+pub mod ClientRuleKeeps
 pub mod ServerWakes
 pub mod ServerWaiters
 pub mod ServerEnd
