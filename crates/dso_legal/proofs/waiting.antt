@@ -12,6 +12,7 @@ pub mod EachAct
 pub mod EntryParts
 pub mod ClientEnd
 pub mod ClientRuleKeeps
+pub mod Waiters
 pub mod ServerWakes
 pub mod ServerWaiters
 pub mod ServerEnd
