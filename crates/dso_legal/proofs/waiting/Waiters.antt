@@ -1,6 +1,6 @@
 -- Waiters are tokens: over lawful journals without losses, of a sound program, each client and the server agree on where each of the
 -- client's threads stands; at the server who is in a list is who is gone to it; and the waiters stand as they should at each client.
-use Rattle.std.proofs.Common.{ℕ, ◌≡◌, ◌≢◌, refl, sym, ◌∙◌, ap, subst, Bool, true, false, cond, eqb, ◌&&◌, Option, Some, None, List, [], ◌∷◌}
+use Rattle.std.proofs.Common.{ℕ, ◌≡◌, ◌≢◌, refl, sym, ◌∙◌, ap, subst, Bool, true, false, cond, eqb, ◌&&◌, ◌||◌, Option, Some, None, List, [], ◌∷◌}
 use Rattle.dso_base.specs.declared.journal.Entry.{Entry}
 use Rattle.dso_base.specs.declared.journal.Input.{Input}
 use Rattle.dso_base.specs.declared.journal.Input.TheVariants as input
@@ -111,3 +111,102 @@ module _ (p : Settings) (next : ThreadId → List Event → Option Request) (sou
     fair c well_now a request reply its = subst (λ n. HoldsWell p n (e ∷ entries_of (Client n) es) → next_after next es a ≡ Some request → unmet p n (next_after next es) a request (entries_of (Client n) es) ≡ None
         → reply_of p a request (entries_of (Client n) es) ≡ Some reply → e.event ≡ Some (Act a request reply (woken_by request reply (entries_of (Client n) es)))
         → (l : LockName) → IsFair (entries_of (Client n) es) l a request reply (woken_by request reply (entries_of (Client n) es)) p n (next_after next es)) its (fair_at a request reply) well_now
+
+  -- What stands after each entry.
+  pub record WaitersStand (es : List Entry) : Type 0 where
+    pub agree : (l : LockName) (t : ThreadId) → is_lost t.client (entries_of Server es) ≡ false → AgreeOnWaiter t.client l t es
+    pub server : (l : LockName) (t : ThreadId) → is_lost t.client (entries_of Server es) ≡ false → StandsAtServer l t (counted (entries_of Server es))
+    pub client : (c : ℕ) → is_lost c (entries_of Server es) ≡ false → (l : LockName) → KeepsWaiters l (view_of (entries_of (Client c) es))
+
+  -- before the first entry
+  starts : WaitersStand []
+  starts = record {
+    agree = λ l t alive. record { ups = tt; downs = tt; meet = refl };
+    server = λ l t alive. record { gone = ((λ there. absurd (cc there)), λ gone. absurd (cc gone)); once = tt };
+    client = λ c alive l. record {
+      kept = λ u t alone. ((λ kept. absurd (cc kept)), λ there. absurd (cc there));
+      may = λ u t. tt;
+      holder = λ u names. absurd (cc names);
+      listed = λ t there. absurd (cc there);
+      leased = λ t there. absurd (cc there);
+      placed = λ t placed. absurd (placed refl);
+      gone = λ t gone. absurd (cc gone);
+      marked = λ t waits. absurd waits;
+      unmarked = λ t waits. absurd waits;
+    };
+  }
+
+  module _ (e : Entry) (es : List Entry) (follow : AllFollow p next (e ∷ es)) (untold : AllUntold es) (stand : WaitersStand es) where
+    -- who is woken is gone to the server, and what is granted isn't leased
+    is_due : (c : ℕ) (alive : is_lost c (entries_of Server es) ≡ false) → TakesFirst e.input (Client c) es → (m : Down) → e.input ≡ input.TookDown m → FitsDown p c m (entries_of (Client c) es) → IsDue (entries_of (Client c) es) (stand.client c alive) m
+    is_due c alive first (down.Grant j level) is fits = (known p next es follow.0).plain c j fits
+    is_due c alive first (down.Wake j w) is fits =
+        let mine : IsFirst (down.Wake j w) (down_in_flight w.client es) = subst (λ n. IsFirst (down.Wake j w) (down_in_flight n es)) (sym fits.its) (subst (λ i. TakesFirst i (Client c) es) is first) in
+        let agree : AgreeOnWaiter w.client j w es = stand.agree j w (subst (λ n. is_lost n (entries_of Server es) ≡ false) (sym fits.its) alive) in
+        let gone : place_of j w (entries_of (Client w.client) es) ≡ Gone = first_may_down p next w.client (MayPlaceUp j w) (place_up j w) (MayPlaceDown j w) (place_down j w) (place_of j w) (place_with w.client j w) es agree (down.Wake j w) mine
+        (ap (λ b. b && is_thread w w) (lock_self j) ∙ thread_self w) in
+        subst (λ n. place_of j w (entries_of (Client n) es) ≡ Gone) fits.its gone
+    is_due c alive first (down.Ids first_id) is fits = tt
+    is_due c alive first (down.Object body) is fits = tt
+    is_due c alive first (down.Recall j) is fits = tt
+    is_due c alive first (down.Ack seq) is fits = tt
+    is_due c alive first (down.Changes sets) is fits = tt
+
+    -- what a client's entry says
+    client_says : (c : ℕ) → is_lost c (entries_of Server es) ≡ false → TakesFirst e.input (Client c) es → ClientFollows p next c e es → SaysWell (entries_of (Client c) es) e.input e.event (said_of e.sent)
+    client_says c alive first rule =
+        let own : List Entry = entries_of (Client c) es in
+        let before : ThreadId → Option Request = next_after next es in
+        let after_it : ThreadId → Option Request = next_after next (e ∷ es) in
+        let well_now : HoldsWell p c (e ∷ own) = well_after p c before after_it e own (holds_well p next es follow.0 c) (moves p c before after_it e own rule.step) (keeps_leases p c before after_it e own ((known p next es follow.0).plain c) rule.step) in
+        says_well p c before after_it e own well_now (fair e es follow.0 untold c well_now) (stand.client c alive) e.input refl rule.step (is_due c alive first)
+
+    -- what the server's makes of a thread
+    server_does : (l : LockName) (t : ThreadId) → is_lost t.client (entries_of Server es) ≡ false → TakesFirst e.input Server es → ServerFollows p next e es → is_of_lost e.input (entries_of Server es) ≡ false → loses t.client e.input ≡ false
+        → StepsOn l t e (counted (entries_of Server es))
+    server_does l t alive first rule counts stays = server_steps p l t e (entries_of Server es) e.input refl rule.step counts stays
+        (λ m is. first_may_up p next t.client (MayPlaceUp l t) (place_up l t) (MayPlaceDown l t) (place_down l t) (place_of l t) (place_with t.client l t) es (stand.agree l t alive) m (subst (λ i. TakesFirst i Server es) is first))
+        (stand.server l t alive)
+
+    ends_at : (l : LockName) (t : ThreadId) → is_lost t.client (entries_of Server es) ≡ false → EndsAt p next t.client (MayPlaceUp l t) (place_up l t) (MayPlaceDown l t) (place_down l t) (place_of l t) (place_with t.client l t) e es
+    ends_at l t alive = record {
+      at_client = λ first rule. record { comes = (client_says t.client alive first rule).comes l t; reads = refl };
+      at_server = λ first rule counts stays. record { comes = (server_does l t alive first rule counts stays).comes; reads = refl };
+    }
+
+    server_after : (l : LockName) (t : ThreadId) (node : Node) → TakesFirst e.input node es → NodeFollows p next node e es → is_lost t.client (server_with node e es) ≡ false → StandsAtServer l t (counted (server_with node e es))
+    server_after l t Server first rule alive = by (is_of_lost e.input (entries_of Server es)) refl
+      where
+        before : (a b : Bool) → (a || b) ≡ false → (a ≡ false) × (b ≡ false)
+        before true b none = absurd (cc none)
+        before false b none = (refl, none)
+
+        by : (b : Bool) → is_of_lost e.input (entries_of Server es) ≡ b → StandsAtServer l t (cond b (counted (entries_of Server es)) (e ∷ counted (entries_of Server es)))
+        by true skipped = stand.server l t (not_lost_before t.client Server e es alive)
+        by false counts = (server_does l t (not_lost_before t.client Server e es alive) first rule counts (before (loses t.client e.input) (is_lost t.client (entries_of Server es)) alive).0).stand
+    server_after l t (Client d) first rule alive = stand.server l t alive
+
+    client_after : (c : ℕ) (node : Node) → TakesFirst e.input node es → NodeFollows p next node e es → is_lost c (server_with node e es) ≡ false → (l : LockName) → KeepsWaiters l (view_of (client_with c node e es))
+    client_after c Server first rule alive l = stand.client c (not_lost_before c Server e es alive) l
+    client_after c (Client d) first rule alive l = by (eqb c d) refl
+      where
+        by : (b : Bool) → eqb c d ≡ b → KeepsWaiters l (view_of (cond b (e ∷ entries_of (Client c) es) (entries_of (Client c) es)))
+        by true own =
+            let mine : ClientFollows p next c e es = subst (λ n. ClientFollows p next n e es) (sym (same_number c d own)) rule in
+            parts_tell e (entries_of (Client c) es) l ((client_says c alive (subst (λ n. TakesFirst e.input (Client n) es) (sym (same_number c d own)) first) mine).keeps l)
+        by false other = stand.client c alive l
+
+    stands_on : WaitersStand (e ∷ es)
+    stands_on = record {
+      agree = λ l t alive.
+          let before : is_lost t.client (entries_of Server es) ≡ false = not_lost_before t.client e.node e es alive in
+          agree_after p next t.client (MayPlaceUp l t) (place_up l t) (MayPlaceDown l t) (place_down l t) (place_of l t) (place_with t.client l t) (places_commute l t) e es (ends_at l t before)
+          e.node follow.1.channels follow.1.rule alive (stand.agree l t before);
+      server = λ l t alive. server_after l t e.node follow.1.channels follow.1.rule alive;
+      client = λ c alive. client_after c e.node follow.1.channels follow.1.rule alive;
+    }
+
+  -- Waiters are tokens.
+  pub waiters_stand : (es : List Entry) → AllFollow p next es → WithoutLosses es → WaitersStand es
+  waiters_stand [] follow safe = starts
+  waiters_stand (e ∷ es) follow safe = stands_on e es follow (all_holds p next sound es follow.0 safe.1).untold (waiters_stand es follow.0 safe.1)
