@@ -13,6 +13,7 @@ pub mod EntryParts
 pub mod ClientEnd
 pub mod ClientRuleKeeps
 pub mod Waiters
+pub mod MarksAsked
 pub mod ServerWakes
 pub mod ServerWaiters
 pub mod ServerEnd
