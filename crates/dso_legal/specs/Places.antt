@@ -79,17 +79,17 @@ abbrev pub MayNote : LockName → ThreadId → List Note → Place → Type 0
 MayNote l t [] s = Unit {0}
 MayNote l t (note ∷ notes) s = (is_lock l note.lock ≡ true → MayChoose t note.choice s) × MayNote l t notes (place_noted l t note s)
 
--- a thread that waits stood in no list
-abbrev pub MayEnd : LockName → ThreadId → ThreadId → Ending → Place → Type 0
-MayEnd l t u (ending.Wait k) s = (is_lock l k && is_thread t u) ≡ true → s ≡ Away
-MayEnd l t u (ending.Timeout k) s = Unit {0}
-MayEnd l t u (ending.Exit k) s = Unit {0}
-MayEnd l t u (ending.End fault) s = Unit {0}
+-- whose record ends in anything but a timeout stood in no list
+abbrev pub MayEnd : ThreadId → ThreadId → Ending → Place → Type 0
+MayEnd t u (ending.Wait k) s = is_thread t u ≡ true → s ≡ Away
+MayEnd t u (ending.Timeout k) s = Unit {0}
+MayEnd t u (ending.Exit k) s = is_thread t u ≡ true → s ≡ Away
+MayEnd t u (ending.End fault) s = is_thread t u ≡ true → s ≡ Away
 
 -- a return has exactly the threads that are kept
 abbrev pub MayPlaceUp : LockName → ThreadId → Up → Place → Type 0
 MayPlaceUp l t (up.Return k threads) s = is_lock l k ≡ true → (list_any (is_thread t) threads ≡ true) ↔ (s ≡ Kept)
-MayPlaceUp l t (up.Commit txn) s = MayNote l t txn.notes s × MayEnd l t txn.thread txn.ending (places_noted l t txn.notes s)
+MayPlaceUp l t (up.Commit txn) s = MayNote l t txn.notes s × MayEnd t txn.thread txn.ending s
 MayPlaceUp l t m s = Unit {0}
 
 -- a wake comes to a thread that is gone to the server

@@ -49,7 +49,7 @@ module _ (l : LockName) (t : ThreadId) where
       by false e = record { later = λ d. absurd (cc (sym e ∙ d)); gone = ap (λ b. cond b (place_chosen t note.choice Gone) Gone) e; away = ap (λ b. cond b (place_chosen t note.choice Away) Away) e }
 
   -- all of a record's,
-  all_noted : (notes : List Note) → MayNote l t notes Gone → Passes (MayNote l t notes) (places_noted l t notes)
+  pub all_noted : (notes : List Note) → MayNote l t notes Gone → Passes (MayNote l t notes) (places_noted l t notes)
   all_noted [] may = record { later = tt; gone = refl; away = refl }
   all_noted (note ∷ notes) may =
       let one = noted note may.0 in
@@ -60,20 +60,28 @@ module _ (l : LockName) (t : ThreadId) where
         away = ap (places_noted l t notes) one.away ∙ rest.away;
       }
 
-  -- its ending,
-  ended : (u : ThreadId) (ending : Ending) → MayEnd l t u ending Gone → Passes (MayEnd l t u ending) (place_ended l t u ending)
-  ended u (ending.Wait k) may = by (is_lock l k && is_thread t u) refl
+  -- its ending may come,
+  ended_later : (u : ThreadId) (end : Ending) → MayEnd t u end Away
+  ended_later u (ending.Wait k) = λ own. refl
+  ended_later u (ending.Timeout k) = tt
+  ended_later u (ending.Exit k) = λ own. refl
+  ended_later u (ending.End fault) = λ own. refl
+
+  -- and leaves it so,
+  ended : (u : ThreadId) (end : Ending) → MayEnd t u end Gone → Passes (MayEnd t u end) (place_ended l t u end)
+  ended u (ending.Wait k) may = by (is_lock l k) (is_thread t u) refl refl
     where
-      by : (b : Bool) → (is_lock l k && is_thread t u) ≡ b → Passes (λ s. (is_lock l k && is_thread t u) ≡ true → s ≡ Away) (λ s. cond (is_lock l k && is_thread t u) Kept s)
-      by true e = absurd (cc (may e))
-      by false e = record { later = λ d. refl; gone = ap (λ b. cond b Kept Gone) e; away = ap (λ b. cond b Kept Away) e }
+      by : (a b : Bool) → is_lock l k ≡ a → is_thread t u ≡ b → Passes (λ s. is_thread t u ≡ true → s ≡ Away) (λ s. cond (is_lock l k && is_thread t u) Kept s)
+      by a true is own = absurd (cc (may own))
+      by true false is other = record { later = λ d. refl; gone = ap (λ b. cond (is_lock l k && b) Kept Gone) other ∙ ap (λ a. cond (a && false) Kept Gone) is; away = ap (λ b. cond (is_lock l k && b) Kept Away) other ∙ ap (λ a. cond (a && false) Kept Away) is }
+      by false false is other = record { later = λ d. refl; gone = ap (λ a. cond (a && is_thread t u) Kept Gone) is; away = ap (λ a. cond (a && is_thread t u) Kept Away) is }
   ended u (ending.Timeout k) may = by (is_lock l k && is_thread t u) refl
     where
       by : (b : Bool) → (is_lock l k && is_thread t u) ≡ b → Passes (λ s. Unit {0}) (λ s. cond (is_lock l k && is_thread t u) (unkept s) s)
       by true e = record { later = tt; gone = ap (λ b. cond b Gone Gone) e; away = ap (λ b. cond b Away Away) e }
       by false e = record { later = tt; gone = ap (λ b. cond b Gone Gone) e; away = ap (λ b. cond b Away Away) e }
-  ended u (ending.Exit k) may = record { later = tt; gone = refl; away = refl }
-  ended u (ending.End fault) may = record { later = tt; gone = refl; away = refl }
+  ended u (ending.Exit k) may = record { later = λ d. refl; gone = refl; away = refl }
+  ended u (ending.End fault) may = record { later = λ d. refl; gone = refl; away = refl }
 
   -- and each message up
   pub said : (m : Up) → MayPlaceUp l t m Gone → Passes (MayPlaceUp l t m) (place_up l t m)
@@ -93,9 +101,9 @@ module _ (l : LockName) (t : ThreadId) where
       by false b e f = record { later = λ d. absurd (cc (sym e ∙ d)); gone = ap (λ c. cond (c && list_any (is_thread t) threads) Gone Gone) e; away = ap (λ c. cond (c && list_any (is_thread t) threads) Gone Away) e }
   said (up.Commit txn) may =
       let notes = all_noted txn.notes may.0 in
-      let last = ended txn.thread txn.ending (subst (MayEnd l t txn.thread txn.ending) notes.gone may.1) in
+      let last = ended txn.thread txn.ending may.1 in
       record {
-        later = (notes.later, subst (MayEnd l t txn.thread txn.ending) (sym notes.away) last.later);
+        later = (notes.later, ended_later txn.thread txn.ending);
         gone = ap (place_ended l t txn.thread txn.ending) notes.gone ∙ last.gone;
         away = ap (place_ended l t txn.thread txn.ending) notes.away ∙ last.away;
       }
