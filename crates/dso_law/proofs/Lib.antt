@@ -3,4 +3,5 @@ pub mod Lists
 pub mod client
 pub mod server
 pub mod Insert
+pub mod Clients
 pub mod Published
