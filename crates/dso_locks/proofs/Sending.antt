@@ -1,5 +1,5 @@
 -- Messages sent one after the other, and what one of them makes of a lock.
-use Rattle.std.proofs.Common.{ℕ, ◌+◌, ◌<◌, ◌≤◌, ◌≡◌, refl, sym, ◌∙◌, ap, subst, arith, Bool, true, false, cond, eqb, Option, Some, None, List, [], ◌∷◌, ◌++◌, map, take, get_or, suc, length, append_assoc}
+use Rattle.std.proofs.Common.{ℕ, ◌+◌, ◌<◌, ◌≡◌, refl, sym, ◌∙◌, ap, subst, arith, false, cond, eqb, Some, List, [], ◌∷◌, ◌++◌, take, get_or, suc, length, append_assoc}
 use Rattle.std.proofs.Math.Path.{fun_ext}
 use Rattle.std.proofs.Math.Seq.{take-suc}
 use Rattle.std.proofs.lemmas.List.{map-append, append-nil}
@@ -17,7 +17,7 @@ use Rattle.dso_law.specs.Granting.{Waiter, to_each, without_client}
 use Rattle.dso_law.proofs.client.TimedOut.{lock_self}
 use Rattle.dso_locks.specs.declared.lock.Lock.{Lock}
 use Rattle.dso_locks.specs.Locks.{LockState, told_to}
-use Rattle.dso_locks.specs.Serving.{state_in, leases_in, Sends}
+use Rattle.dso_locks.specs.Serving.{state_in, Sends}
 use Rattle.dso_lookup.proofs.Tests.{number_at}
 
 -- nothing is sent

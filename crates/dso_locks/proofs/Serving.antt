@@ -1,5 +1,5 @@
 -- A lock is served request by request: each step keeps what serving under way says, and the last one ends it.
-use Rattle.std.proofs.Common.{ℕ, suc, ◌<◌, ◌≡◌, refl, sym, ◌∙◌, ap, subst, arith, Bool, true, false, cond, not, eqb, ◌&&◌, ◌||◌, is_some, Option, Some, None, List, [], ◌∷◌, ◌++◌, map, filter, flat_map, length, ◌==◌, append_assoc, OnOk, Result, Ok, Err}
+use Rattle.std.proofs.Common.{ℕ, suc, ◌<◌, ◌≡◌, refl, sym, ◌∙◌, ap, subst, arith, Bool, true, false, cond, not, eqb, ◌&&◌, ◌||◌, is_some, Some, None, List, [], ◌∷◌, ◌++◌, filter, flat_map, length, ◌==◌, append_assoc}
 use Rattle.std.proofs.lemmas.Bool.{eq-eqb, eqb-true}
 use Rattle.std.proofs.lemmas.List.{append-nil, nil_from_length}
 use Rattle.std.proofs.lemmas.List.Sums.{fold-append}
@@ -13,12 +13,11 @@ use Rattle.dso_base.specs.declared.lock.LockName.{LockName}
 use Rattle.dso_base.specs.declared.message.Down.TheVariants as down
 use Rattle.dso_law.specs.Entries.{by_sent_down, one_sent_down}
 use Rattle.dso_law.specs.Granting.{LeaseTable, Waiter, is_against, to_each, recalls, serve_queue, with_grant, without_client}
-use Rattle.dso_law.specs.RequestNeeds.{conflicts}
 use Rattle.dso_law.specs.Settings.{Settings, clients_of}
 use Rattle.dso_law.proofs.Clients.{made_of_each}
 use Rattle.dso_law.proofs.client.TimedOut.{lock_self}
-use Rattle.dso_locks.specs.Locks.{LockState, lease_of, waits, with_recall, told_to, IsClient, IsWithin, serves}
-use Rattle.dso_locks.specs.Serving.{against, against_in, Sends, IsServing, IsServed}
+use Rattle.dso_locks.specs.Locks.{LockState, waits, with_recall, told_to, IsClient, IsWithin, serves}
+use Rattle.dso_locks.specs.Serving.{against, against_in, Sends, IsServed}
 use Rattle.dso_plain.specs.KeyTests.{is_lock}
 
 -- what is kept is what each makes of itself
@@ -89,6 +88,18 @@ recalls_apart k l [] s apart = refl
 recalls_apart k l (c ∷ clients) s apart =
     let here : told_to k c (down.Recall l) s ≡ s = ap (λ b. cond b (record s { leases = with_recall c s.leases }) s) apart in
     ap (λ t. by_sent_down (told_to k) (to_each (down.Recall l) clients) t) here ∙ recalls_apart k l clients s apart
+
+-- Serving under way: from a lock as it stood, with what was sent before, to the lock as it stands and all that was sent.
+pub record IsServing (l : LockName) (old now : LockState) (before sent : List Sent) : Type 0 where
+  -- the lock has the same clients still
+  pub within : (p : Settings) → IsWithin p old → IsWithin p now
+  -- what was sent, and what the rule sends for the rest, is what the rule sends for the whole
+  pub sends : (p : Settings) → IsWithin p old → sent ++ serves p l now ≡ before ++ serves p l old
+  -- what was sent makes the one of the other
+  pub leaves : (start : LockState) → by_sent_down (told_to l) before start ≡ old → by_sent_down (told_to l) sent start ≡ now
+  -- and it is nothing to other locks
+  pub others : (k : LockName) → is_lock k l ≡ false → (start : LockState)
+      → by_sent_down (told_to k) sent start ≡ by_sent_down (told_to k) before start
 
 -- serving begins
 pub serving_starts : (l : LockName) (s : LockState) (before : List Sent) → IsServing l s s before before
@@ -165,11 +176,6 @@ no_items cs e = nil_from_length cs (grind (arith, e))
 -- a list of items isn't
 pub some_items : (cs : List ℕ) → (length cs == 0) ≡ false → cs ≡ [] → ⊥
 some_items cs e none = grind (arith, e, none)
-
--- what is said of an answer that isn't an error, by what another says of it
-pub on_ok : {T E A B : Type 0} (r : Result T E) → (A → B) → OnOk r A → OnOk r B
-on_ok (Ok x) f a = f a
-on_ok (Err e) f a = tt
 
 -- a queue without its first request is shorter
 pub shorter : (waiter : Waiter) (queue rest : List Waiter) → queue ≡ waiter ∷ without_client waiter.client queue → rest ≡ without_client waiter.client queue → length rest < length queue

@@ -1,7 +1,8 @@
 -- How the locks stand with the server: what comes of a message of a client, of a loss, and of what is told to a client.
 -- The leases and the requests of a lock are those of the server rule.
 use Rattle.std.specs.List.{list_any}
-use Rattle.std.specs.Prelude.{ℕ, ◌≡◌, Bool, true, false, cond, eqb, is_some, Option, Some, None, List, [], ◌∷◌, ◌++◌, map}
+use Rattle.std.specs.Prelude.{ℕ, ◌≡◌, Bool, true, false, cond, eqb, is_some}
+use Rattle.std.specs.Prelude.{Option, None, List, [], ◌∷◌, ◌++◌, map, flat_map}
 use Rattle.dso_base.specs.declared.journal.Sent.{Sent}
 use Rattle.dso_base.specs.declared.journal.Sent.TheVariants.{ToClient}
 use Rattle.dso_base.specs.declared.lock.Level.{Level}
@@ -72,6 +73,10 @@ messages_of all = map message_of all
 abbrev pub after_told : List Told → (LockName → LockState) → LockName → LockState
 after_told all locks l = by_sent_down (told_to l) (messages_of all) (locks l)
 
+-- the locks once one of them changed
+abbrev pub at_lock : LockName → (LockState → LockState) → (LockName → LockState) → LockName → LockState
+at_lock l change locks k = cond (is_lock l k) (change (locks k)) (locks k)
+
 -- the client is one of the cluster's
 abbrev pub IsClient : Settings → ℕ → Type 0
 IsClient p c = list_any (eqb c) (clients_of p) ≡ true
@@ -84,3 +89,16 @@ pub record IsWithin (p : Settings) (s : LockState) : Type 0 where
 -- what the server rule sends for the lock as it stands
 abbrev pub serves : Settings → LockName → LockState → List Sent
 serves p l s = serve_queue p l s.queue s.leases
+
+-- One lock hears something and is served: what is told is what the rule sends for it, and the other locks stay.
+pub record IsTold (l : LockName) (hears : LockState → LockState) (old new : LockName → LockState)
+    (all : List Told) : Type 0 where
+  pub sends : (p : Settings) → IsWithin p (hears (old l)) → messages_of all ≡ serves p l (hears (old l))
+  pub stands : new ≡ after_told all (at_lock l hears old)
+
+-- All locks hear something, and these are served: what is told is what the rule sends for one after the other.
+pub record AllTold (hears : LockState → LockState) (locks : List LockName) (old new : LockName → LockState)
+    (all : List Told) : Type 0 where
+  pub sends : (p : Settings) → ((l : LockName) → IsWithin p (hears (old l)))
+      → messages_of all ≡ flat_map (λ l. serves p l (hears (old l))) locks
+  pub stands : new ≡ after_told all (λ l. hears (old l))

@@ -11,4 +11,5 @@ waiter_of request = record { client = request.client; level = request.level }
 -- each client has one request at most
 abbrev pub AreDifferent : List Waiter → Type 0
 AreDifferent [] = Unit {0}
-AreDifferent (waiter ∷ queue) = (list_any (λ other. eqb other.client waiter.client) queue ≡ false) × AreDifferent queue
+AreDifferent (waiter ∷ queue) = (list_any (λ other. eqb other.client waiter.client) queue ≡ false)
+    × AreDifferent queue

@@ -1,19 +1,17 @@
 -- How a lock is served: what is sent on the way, and how the lock stands then.
 use Rattle.std.specs.BTreeMap.{BTreeMap}
 use Rattle.std.specs.BTreeSet.{contains}
-use Rattle.std.specs.List.{list_any}
 use Rattle.std.specs.Ordering.{nat_cmp}
-use Rattle.std.specs.Prelude.{ℕ, ◌≡◌, Bool, false, cond, not, eqb, ◌&&◌, Option, Some, List, [], ◌∷◌, ◌++◌, filter, flat_map}
+use Rattle.std.specs.Prelude.{ℕ, ◌≡◌, false, cond, not, eqb, ◌&&◌, Option, Some, List, [], ◌∷◌, ◌++◌, flat_map}
 use Rattle.dso_base.specs.declared.journal.Sent.{Sent}
 use Rattle.dso_base.specs.declared.lock.Level.{Level}
 use Rattle.dso_base.specs.declared.lock.LockName.{LockName}
 use Rattle.dso_law.specs.Entries.{by_sent_down}
-use Rattle.dso_law.specs.Granting.{LeaseTable, Waiter, is_against}
+use Rattle.dso_law.specs.Granting.{LeaseTable, Waiter}
 use Rattle.dso_law.specs.RequestNeeds.{conflicts}
-use Rattle.dso_law.specs.Settings.{Settings, clients_of}
+use Rattle.dso_law.specs.Settings.{Settings}
 use Rattle.dso_locks.specs.declared.lock.Lock.{Lock}
 use Rattle.dso_locks.specs.Locks.{LockState, told_to, IsWithin, serves}
-use Rattle.dso_locks.specs.Requests.{waiter_of}
 use Rattle.dso_lookup.specs.Maps.{look}
 use Rattle.dso_plain.specs.KeyTests.{is_lock}
 
@@ -33,30 +31,16 @@ against waiter c lease = cond (not (eqb c waiter.client) && conflicts waiter.lev
 abbrev pub against_in : Waiter → BTreeMap ℕ Level → List ℕ
 against_in waiter leases = flat_map (λ e. against waiter e.0 (Some e.1)) leases.entries
 
--- Clients in conflict with a request: those of the cluster whose leases are against it, whichever cluster that is.
-pub record AreAgainst (waiter : Waiter) (s : LockState) (clients : List ℕ) : Type 0 where
-  pub all : (p : Settings) → IsWithin p s → clients ≡ filter (is_against waiter s.leases) (clients_of p)
-
 -- Messages sent: they are what was sent behind what was sent before, and make the one lock of the other.
 pub record Sends (l : LockName) (messages : List Sent) (old new : LockState) (before after : List Sent) : Type 0 where
   pub sent : after ≡ before ++ messages
   pub stands : new ≡ by_sent_down (told_to l) messages old
 
--- Serving under way: from a lock as it stood, with what was sent before, to the lock as it stands and all that was sent.
-pub record IsServing (l : LockName) (old now : LockState) (before sent : List Sent) : Type 0 where
-  -- the lock has the same clients still
-  pub within : (p : Settings) → IsWithin p old → IsWithin p now
-  -- what was sent, and what the rule sends for the rest, is what the rule sends for the whole
-  pub sends : (p : Settings) → IsWithin p old → sent ++ serves p l now ≡ before ++ serves p l old
-  -- what was sent makes the one of the other
-  pub leaves : (start : LockState) → by_sent_down (told_to l) before start ≡ old → by_sent_down (told_to l) sent start ≡ now
-  -- and it is nothing to other locks
-  pub others : (k : LockName) → is_lock k l ≡ false → (start : LockState)
-      → by_sent_down (told_to k) sent start ≡ by_sent_down (told_to k) before start
-
--- A lock served: what is sent is what the rule sends.
+-- A lock served, from what was sent before on: what is sent is what the rule sends, it makes the one lock of the other,
+-- and is nothing to other locks.
 pub record IsServed (l : LockName) (old now : LockState) (before sent : List Sent) : Type 0 where
   pub sends : (p : Settings) → IsWithin p old → sent ≡ before ++ serves p l old
-  pub leaves : (start : LockState) → by_sent_down (told_to l) before start ≡ old → by_sent_down (told_to l) sent start ≡ now
+  pub leaves : (start : LockState) → by_sent_down (told_to l) before start ≡ old
+      → by_sent_down (told_to l) sent start ≡ now
   pub others : (k : LockName) → is_lock k l ≡ false → (start : LockState)
       → by_sent_down (told_to k) sent start ≡ by_sent_down (told_to k) before start

@@ -2,7 +2,11 @@
 #![tactic(auto)]
 
 mod lock;
+mod lock_table;
+mod news;
 mod queue;
+mod tables;
 mod told;
 
+pub use lock_table::LockTable;
 pub use told::Told;

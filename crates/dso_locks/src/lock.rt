@@ -101,11 +101,7 @@ fn recall_all(lock: &mut Lock, clients: &[u8], told: &mut Vec<Told>) -> Result<(
 }
 
 /// Recalls those leases of the clients that had no recall since their grant.
-fn recall_once(
-    lock: &mut Lock,
-    mut clients: Vec<u8>,
-    told: &mut Vec<Told>,
-) -> Result<(), NoMemory>
+fn recall_once(lock: &mut Lock, mut clients: Vec<u8>, told: &mut Vec<Told>) -> Result<(), NoMemory>
     ensures name { lock.new.name ≡ lock.old.name }
     ensures sends { OnOk result (Sends lock.old.name (to_each (down.Recall lock.old.name) (filter (λ c. not (contains nat_cmp lock.old.recalled c)) clients.items)) (state_in lock.old) (state_in lock.new) (messages_of told.old.items) (messages_of told.new.items)) }
 {
@@ -115,11 +111,7 @@ fn recall_once(
 
 /// Serves the requests in their order: each is granted until one has another client's lease against it, and then the
 /// leases against that one are recalled, if they weren't since their grant.
-pub(crate) fn serve(
-    alloc: Global,
-    lock: &mut Lock,
-    told: &mut Vec<Told>,
-) -> Result<(), NoMemory>
+pub(crate) fn serve(alloc: Global, lock: &mut Lock, told: &mut Vec<Told>) -> Result<(), NoMemory>
     ensures name { lock.new.name ≡ lock.old.name }
     ensures served { OnOk result (IsServed lock.old.name (state_in lock.old) (state_in lock.new) (messages_of told.old.items) (messages_of told.new.items)) }
 {

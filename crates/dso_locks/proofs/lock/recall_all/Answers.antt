@@ -1,4 +1,4 @@
-use Rattle.std.proofs.Common.{refl, subst, take}
+use Rattle.std.proofs.Common.{refl, subst}
 use Rattle.std.proofs.lemmas.List.{take_all}
 use Rattle.dso_base.specs.declared.message.Down.TheVariants as down
 use Rattle.dso_law.specs.Granting.{to_each}

@@ -1,4 +1,4 @@
-use Rattle.std.proofs.Common.{rules, ◌≡◌, ◌∙◌, ap, not, filter, OnOk, subst}
+use Rattle.std.proofs.Common.{rules, ◌∙◌, not, OnOk, subst}
 use Rattle.std.proofs.lemmas.Fn.{filter_same}
 use Rattle.std.specs.BTreeSet.{contains}
 use Rattle.std.specs.Ordering.{nat_cmp}

@@ -1,6 +1,7 @@
 use Rattle.std.proofs.Common.{◌≡◌, length}
 use Rattle.dso_locks.specs.Locks.{messages_of}
-use Rattle.dso_locks.specs.Serving.{state_in, IsServing}
+use Rattle.dso_locks.specs.Serving.{state_in}
+use Rattle.dso_locks.proofs.Serving.{IsServing}
 use Rattle.dso_locks.proofs.lock.serve.Given as goal
 
 abbrev pub invariant-loop-request : goal.invariant-loop-request

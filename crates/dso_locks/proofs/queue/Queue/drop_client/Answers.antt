@@ -1,4 +1,4 @@
-use Rattle.std.proofs.Common.{rules, ◌≡◌, ◌∙◌, ap, not, eqb, map, filter, subst, sym}
+use Rattle.std.proofs.Common.{rules, ◌∙◌, ap, not, eqb, map, subst, sym}
 use Rattle.std.proofs.lemmas.Fn.{filter_same}
 use Rattle.dso_law.specs.Granting.{without_client}
 use Rattle.dso_locks.specs.Requests.{waiter_of, AreDifferent}

@@ -1,5 +1,4 @@
 use Rattle.std.proofs.Common.{◌≡◌, ◌∷◌, ◌∙◌, IfSome, ap, subst, sym}
-use Rattle.std.specs.Option.{option_copied}
 use Rattle.std.specs.List.{slice_get}
 use Rattle.dso_law.specs.Granting.{without_client}
 use Rattle.dso_locks.specs.Requests.{waiter_of}
