@@ -3,6 +3,7 @@ pub mod Lists
 pub mod client
 pub mod server
 pub mod Insert
+pub mod Clients
 pub mod Published
 pub mod core
 pub mod runs

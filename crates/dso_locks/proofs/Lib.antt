@@ -1,0 +1,7 @@
+pub mod Requests
+pub mod Sending
+pub mod Serving
+pub mod Names
+pub mod Placing
+pub mod Telling
+pub mod Losing

@@ -1,0 +1,4 @@
+pub mod Locks
+pub mod Requests
+pub mod Serving
+pub mod Tables

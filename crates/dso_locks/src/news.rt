@@ -1,0 +1,11 @@
+//! What the server hears of a client about a lock.
+
+use dso_base::Level;
+
+/// A request, a return, or the client's loss.
+#[derive(Clone, Copy, Debug, PartialEq, Eq)]
+pub enum News {
+    Request(Level),
+    Return,
+    Loss,
+}
