@@ -1,3 +1,4 @@
 -- Marks: who of the waiters is marked in the one heap.
 pub mod BlockMarks
+pub mod RecordMarks
 pub mod SameRuns
