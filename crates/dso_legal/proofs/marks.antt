@@ -1,4 +1,5 @@
 -- Marks: who of the waiters is marked in the one heap.
 pub mod BlockMarks
 pub mod RecordMarks
+pub mod RecordTaken
 pub mod SameRuns

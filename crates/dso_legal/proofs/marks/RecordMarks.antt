@@ -100,7 +100,7 @@ lists_one t (NotifyAll l) Done woken locks lists stays = refl
 lists_one t request reply woken locks lists stays = refl
 
 -- the ending that an exit is
-exit_is : (l : LockName) (hold : Option Hold) (end : Ending) → exit_ending l hold ≡ Some end → end ≡ ending.Exit l
+pub exit_is : (l : LockName) (hold : Option Hold) (end : Ending) → exit_ending l hold ≡ Some end → end ≡ ending.Exit l
 exit_is l None end is = cc is
 exit_is l (Some hold) end is = absurd (cc is)
 
@@ -137,7 +137,7 @@ abbrev pub MayAsk : ThreadId → List Event → KeptThreads → WaiterLists → 
 MayAsk a events kept lists = (list_any event_asks_mark events ≡ false) ⊎ ((l : LockName) → IsAway kept lists l a)
 
 -- whose client is d or not
-own_or_other : {P : Type 0} (d : ℕ) (t : ThreadId) → (t.client ≡ d → P) → ((t.client ≡ d → ⊥) → P) → P
+pub own_or_other : {P : Type 0} (d : ℕ) (t : ThreadId) → (t.client ≡ d → P) → ((t.client ≡ d → ⊥) → P) → P
 own_or_other {P = P} d t own other = by (eqb t.client d) refl
   where
     by : (b : Bool) → eqb t.client d ≡ b → P
@@ -399,7 +399,7 @@ module _ (d : ℕ) (a : ThreadId) (its : a.client ≡ d) (was : KeptThreads) (en
       asks_later (inr away) = inr (λ l. act_stays_away d a its was place kept lists can.tracks request reply woken locks stays l (away l))
 
   -- Each block of a does so.
-  walk : (earlier : List Event) (last : Event) (locks : Locks) (place : LockName → ThreadId → Place) (kept : KeptThreads) (lists : WaiterLists) → AreActsOf a (earlier ++ last ∷ []) → StaysOpen a earlier locks
+  pub walk : (earlier : List Event) (last : Event) (locks : Locks) (place : LockName → ThreadId → Place) (kept : KeptThreads) (lists : WaiterLists) → AreActsOf a (earlier ++ last ∷ []) → StaysOpen a earlier locks
       → ending_of last (locks_through a earlier locks) ≡ Some end → CanWalk (earlier ++ last ∷ []) place kept lists → Walks (earlier ++ last ∷ []) place kept lists
   walk [] (Act u request reply woken) locks place kept lists acts stays ends =
       subst (λ x. CanWalk (Act x request reply woken ∷ []) place kept lists → Walks (Act x request reply woken ∷ []) place kept lists) (sym acts.0) (walk_last request reply woken locks place kept lists ends)
@@ -417,7 +417,7 @@ in_time (Act t request reply woken) locks stays late = late
 in_time (Lost client) locks stays late = late
 
 -- A block that ends so is late last.
-late_last : (a : ThreadId) (earlier : List Event) (last : Event) (locks : Locks) → StaysOpen a earlier locks → LateLast (earlier ++ last ∷ [])
+pub late_last : (a : ThreadId) (earlier : List Event) (last : Event) (locks : Locks) → StaysOpen a earlier locks → LateLast (earlier ++ last ∷ [])
 late_last a [] last locks stays = tt
 late_last a (event ∷ []) last locks stays = (in_time event locks stays.0, tt)
 late_last a (event ∷ second ∷ earlier) last locks stays = (in_time event locks stays.0, late_last a (second ∷ earlier) last (locks_after a event locks) stays.1)

@@ -63,7 +63,7 @@ at_write None held = absurd (cc held)
 at_write (Some hold) held = (hold, (refl, cc held))
 
 -- a lease that is enough for Write is at Write
-enough_write : (lease : Option Level) → is_enough Write lease ≡ true → lease ≡ Some Write
+pub enough_write : (lease : Option Level) → is_enough Write lease ≡ true → lease ≡ Some Write
 enough_write None enough = absurd (cc enough)
 enough_write (Some Read) enough = absurd (cc enough)
 enough_write (Some Write) enough = refl
