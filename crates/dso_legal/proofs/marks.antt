@@ -2,4 +2,5 @@
 pub mod BlockMarks
 pub mod RecordMarks
 pub mod RecordTaken
+pub mod MarksHold
 pub mod SameRuns

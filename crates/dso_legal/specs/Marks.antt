@@ -16,14 +16,19 @@ use Rattle.dso_base.specs.Following.{is_thread}
 use Rattle.dso_plain.specs.KeyTests.{is_lock, is_place}
 use Rattle.dso_plain.specs.Possible.{IsUnmarkedWaiter}
 use Rattle.dso_plain.specs.State.{PlainState}
+use Rattle.dso_plain.specs.History.{last_state}
 use Rattle.dso_law.specs.ClientWaiters.{without}
 use Rattle.dso_law.specs.Entries.{entries_of}
 use Rattle.dso_law.specs.FitsUp.{AreDistinct}
 use Rattle.dso_law.specs.ServerReadings.{is_lost, counted}
 use Rattle.dso_law.specs.ServerWaiters.{waiters_of}
-use Rattle.dso_legal.specs.Committed.{lists_after_act}
+use Rattle.dso_law.specs.Settings.{Settings}
+use Rattle.dso_legal.specs.Committed.{lists_after_act, committed}
+use Rattle.dso_legal.specs.Lawful.{IsLawful}
 use Rattle.dso_legal.specs.Places.{Place, Away, Kept, Gone, place_with}
 use Rattle.dso_legal.specs.Resolved.{WaiterLists}
+use Rattle.dso_legal.specs.SoundProgram.{IsSound}
+use Rattle.dso_legal.specs.WaitsAndLosses.{WithoutLosses}
 
 -- who is kept in its client's list of each lock
 abbrev pub KeptThreads : Type 0
@@ -145,3 +150,9 @@ EachMayWake [] kept lists = Unit {0}
 EachMayWake (Act t request reply woken ∷ events) kept lists = MayWake t request reply woken kept lists
     × EachMayWake events (kept_by t request reply woken kept) (lists_timed_out t request reply (lists_after_act request reply woken lists))
 EachMayWake (Lost client ∷ events) kept lists = ⊥
+
+-- The waiters are known: after a lawful journal without losses, of a sound program, the unmarked waiters of a lock in the one heap
+-- are those that their clients keep and those of the server's list.
+abbrev pub WaitersAreKnown : Type 0
+WaitersAreKnown = (p : Settings) (next : ThreadId → List Event → Option Request) → IsSound p.shape next → (es : List Entry)
+    → IsLawful p next es → WithoutLosses es → MarksAreKnown (kept_at es) (lists_at es) (last_state p.shape (committed es))
