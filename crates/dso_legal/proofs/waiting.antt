@@ -14,6 +14,7 @@ pub mod ClientEnd
 pub mod ClientRuleKeeps
 pub mod Waiters
 pub mod MarksAsked
+pub mod KeptLeased
 pub mod ServerWakes
 pub mod ServerWaiters
 pub mod ServerEnd

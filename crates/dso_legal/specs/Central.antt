@@ -56,11 +56,11 @@ pub record CommitsAsMade (p : Settings) (es : List Entry) : Type 0 where
   pub whole : is_finished p es ≡ true → (t : ThreadId) → list_any (is_thread t) p.threads ≡ true → is_lost t.client (entries_of Server es) ≡ false
       → events_of t (committed es) ≡ events_in t (entries_of (Client t.client) es)
 
--- The central law, for journals without waits and losses: where the program is sound, a lawful journal commits so.
+-- The central law, for journals without losses: where the program is sound, a lawful journal commits so.
 abbrev pub CentralLaw : Type 0
-CentralLaw = (p : Settings) (next : ThreadId → List Event → Option Request) → IsSound p.shape next → (es : List Entry) → IsLawful p next es → WithoutWaits es → WithoutLosses es → CommitsLegally p next es
+CentralLaw = (p : Settings) (next : ThreadId → List Event → Option Request) → IsSound p.shape next → (es : List Entry) → IsLawful p next es → WithoutLosses es → CommitsLegally p next es
 
--- And its history has each thread's events just as the thread made them.
+-- And without waits its history has each thread's events just as the thread made them.
 abbrev pub CommitsWhatWasMade : Type 0
 CommitsWhatWasMade = (p : Settings) (next : ThreadId → List Event → Option Request) → IsSound p.shape next → (es : List Entry) → IsLawful p next es → WithoutWaits es → WithoutLosses es → CommitsAsMade p es
 

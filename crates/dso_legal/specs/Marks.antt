@@ -1,6 +1,8 @@
 -- Who of the waiters is marked in the one heap: all but those kept by their clients and those in the server's lists.
 use Rattle.std.specs.List.{list_any}
-use Rattle.std.specs.Prelude.{◌≡◌, ◌⊎◌, ◌↔◌, Bool, true, false, cond, Option, Some, None, List, [], ◌∷◌}
+use Rattle.std.specs.Prelude.{◌≡◌, ◌⊎◌, ◌↔◌, Bool, true, false, cond, not, ◌&&◌, Option, Some, None, List, [], ◌∷◌}
+use Rattle.dso_base.specs.declared.journal.Entry.{Entry}
+use Rattle.dso_base.specs.declared.journal.Node.TheVariants.{Server}
 use Rattle.dso_base.specs.declared.lock.LockName.{LockName}
 use Rattle.dso_base.specs.declared.lock.ThreadId.{ThreadId}
 use Rattle.dso_base.specs.declared.request.Event.{Event}
@@ -14,14 +16,37 @@ use Rattle.dso_base.specs.Following.{is_thread}
 use Rattle.dso_plain.specs.KeyTests.{is_lock, is_place}
 use Rattle.dso_plain.specs.Possible.{IsUnmarkedWaiter}
 use Rattle.dso_plain.specs.State.{PlainState}
+use Rattle.dso_plain.specs.History.{last_state}
 use Rattle.dso_law.specs.ClientWaiters.{without}
+use Rattle.dso_law.specs.Entries.{entries_of}
 use Rattle.dso_law.specs.FitsUp.{AreDistinct}
-use Rattle.dso_legal.specs.Committed.{lists_after_act}
+use Rattle.dso_law.specs.ServerReadings.{is_lost, counted}
+use Rattle.dso_law.specs.ServerWaiters.{waiters_of}
+use Rattle.dso_law.specs.Settings.{Settings}
+use Rattle.dso_legal.specs.Committed.{lists_after_act, committed}
+use Rattle.dso_legal.specs.Lawful.{IsLawful}
+use Rattle.dso_legal.specs.Places.{Place, Away, Kept, Gone, place_with}
 use Rattle.dso_legal.specs.Resolved.{WaiterLists}
+use Rattle.dso_legal.specs.SoundProgram.{IsSound}
+use Rattle.dso_legal.specs.WaitsAndLosses.{WithoutLosses}
 
 -- who is kept in its client's list of each lock
 abbrev pub KeptThreads : Type 0
 KeptThreads = LockName → ThreadId → Bool
+
+-- the client keeps the thread
+abbrev pub is_kept : Place → Bool
+is_kept Away = false
+is_kept Kept = true
+is_kept Gone = false
+
+-- who is kept by a client that isn't lost, as the server tells it
+abbrev pub kept_at : List Entry → KeptThreads
+kept_at es l t = not (is_lost t.client (entries_of Server es)) && is_kept (place_with t.client l t (counted (entries_of Server es)))
+
+-- the server's list of each lock
+abbrev pub lists_at : List Entry → WaiterLists
+lists_at es l = waiters_of l (counted (entries_of Server es))
 
 -- The unmarked waiters of a lock are those kept at their clients and those of the server's list, each in one of them and once.
 pub record MarksAreKnown (kept : KeptThreads) (lists : WaiterLists) (s : PlainState) : Type 0 where
@@ -125,3 +150,9 @@ EachMayWake [] kept lists = Unit {0}
 EachMayWake (Act t request reply woken ∷ events) kept lists = MayWake t request reply woken kept lists
     × EachMayWake events (kept_by t request reply woken kept) (lists_timed_out t request reply (lists_after_act request reply woken lists))
 EachMayWake (Lost client ∷ events) kept lists = ⊥
+
+-- The waiters are known: after a lawful journal without losses, of a sound program, the unmarked waiters of a lock in the one heap
+-- are those that their clients keep and those of the server's list.
+abbrev pub WaitersAreKnown : Type 0
+WaitersAreKnown = (p : Settings) (next : ThreadId → List Event → Option Request) → IsSound p.shape next → (es : List Entry)
+    → IsLawful p next es → WithoutLosses es → MarksAreKnown (kept_at es) (lists_at es) (last_state p.shape (committed es))

@@ -13,7 +13,7 @@ ghost use Rattle.dso_legal.specs.examples.CrossedTimeout.{CrossedTimeoutJournal}
 ghost use Rattle.dso_legal.specs.examples.Settling.{SettlingJournal};
 ghost use Rattle.dso_legal.specs.examples.Broken.{BrokenJournal};
 ghost use Rattle.dso_legal.specs.examples.LostClient.{LostClientJournal};
-ghost use Rattle.dso_legal.specs.examples.Premises.{CounterMeets, RecallMeets, FlushMeets, SettlingMeets};
+ghost use Rattle.dso_legal.specs.examples.Premises.{CounterMeets, RecallMeets, FlushMeets, SettlingMeets, TimedOutHereMeets, TimedOutThereMeets, CrossedTimeoutMeets};
 
 /// One thread makes a counter, shares it, and adds to it under its monitor.
 pub fn counter()
@@ -81,11 +81,15 @@ pub fn misfits()
     ensures { Misfits }
 {}
 
-/// What the central law asks of a journal is met by the first three journals above and by that of a thread that settles,
-/// each with a program that asks what the journal's scripts do, goes by the replies, and is sound.
+/// What the central law asks of a journal is met by the first three journals above, by that of a thread that settles, and by
+/// the three in which a thread times out, one of them with a notification that crosses; each with a program that asks what the
+/// journal's scripts do, goes by the replies, and is sound.
 pub fn law_applies()
     ensures counter { CounterMeets }
     ensures recall { RecallMeets }
     ensures flush { FlushMeets }
     ensures settling { SettlingMeets }
+    ensures timed_out_here { TimedOutHereMeets }
+    ensures timed_out_there { TimedOutThereMeets }
+    ensures crossed_timeout { CrossedTimeoutMeets }
 {}

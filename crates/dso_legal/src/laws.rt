@@ -20,6 +20,8 @@ ghost use Rattle.dso_legal.specs.Works.{WorksTell};
 ghost use Rattle.dso_legal.specs.Names.{NamesStayKnown, ObjectsAreMade};
 ghost use Rattle.dso_legal.specs.Views.{ActsArePossible, ActsFindMarks};
 ghost use Rattle.dso_legal.specs.Central.{ClientsStand, CentralLaw, CommitsWhatWasMade};
+ghost use Rattle.dso_legal.specs.Places.{WaitersAreTokens};
+ghost use Rattle.dso_legal.specs.Marks.{WaitersAreKnown};
 ghost use Rattle.dso_legal.specs.Store.{StoreIsHeap};
 ghost use Rattle.dso_legal.specs.SoundCode.{SoundCodeIsSoundProgram, SoundCodeGivesKnownTexts, SoundCodeStaysWithinShape};
 ghost use Rattle.dso_legal.specs.RecordsLeased.{RecordsAreLeased};
@@ -239,6 +241,19 @@ pub fn clients_stand()
     ensures { ClientsStand }
 {}
 
+/// After such a journal, for each thread and each lock: each message in flight between its client and the server may come where
+/// the thread stands among the waiters of the lock, and once all are taken both ends say the same: it is kept in its client's
+/// list, gone to the server, or away.
+pub fn waiters_are_tokens()
+    ensures { WaitersAreTokens }
+{}
+
+/// After such a journal the unmarked waiters of a lock in the one heap are those that their clients keep in their lists and those
+/// of the server's list, each in one of them and once.
+pub fn waiters_are_known()
+    ensures { WaitersAreKnown }
+{}
+
 /// After such a journal the server has a body of exactly the shared objects, with the values that they have in the one heap.
 pub fn store_is_heap()
     ensures { StoreIsHeap }
@@ -255,9 +270,9 @@ pub fn sound_code_is_sound_program()
     ensures within { SoundCodeStaysWithinShape }
 {}
 
-/// **The central law.** A lawful journal without waits and losses, of a sound program, commits a legal history, in which each
-/// thread follows the program; the history has of each thread a prefix of its events, each once and in order, and all of them
-/// where the journal is finished, but for whom the server chose to wake. Clause `as_made`: just as the threads made them.
+/// **The central law.** A lawful journal without losses, of a sound program, commits a legal history, in which each thread
+/// follows the program; the history has of each thread a prefix of its events, each once and in order, and all of them where the
+/// journal is finished, but for whom the server chose to wake. Clause `as_made`: without waits, just as the threads made them.
 pub fn central_law()
     ensures legal { CentralLaw }
     ensures as_made { CommitsWhatWasMade }

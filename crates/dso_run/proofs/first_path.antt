@@ -6,7 +6,6 @@ pub mod ByLaw
 pub mod CallAgain
 pub mod CallLists
 pub mod Calls
-pub mod CalmRuns
 pub mod CounterAsks
 pub mod CounterCode
 pub mod CounterForms
@@ -29,6 +28,7 @@ pub mod Quiet
 pub mod Releasing
 pub mod Room
 pub mod Running
+pub mod RunsWithoutLosses
 pub mod SameSettings
 pub mod Storing
 pub mod Sums

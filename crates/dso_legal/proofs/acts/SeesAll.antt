@@ -9,8 +9,7 @@ use Rattle.dso_base.specs.declared.request.Event.TheVariants.{Act}
 use Rattle.dso_base.specs.declared.request.Reply.{Reply}
 use Rattle.dso_base.specs.declared.request.Request.{Request}
 use Rattle.dso_plain.specs.History.{end_of}
-use Rattle.dso_plain.specs.Possible.{MayButMarks, FitsMarks}
-use Rattle.dso_plain.specs.State.{PlainState}
+use Rattle.dso_plain.specs.Possible.{MayButMarks}
 use Rattle.dso_law.specs.Channels.{down_in_flight}
 use Rattle.dso_law.specs.Entries.{entries_of, events_in}
 use Rattle.dso_law.specs.RequestNeeds.{unmet}
@@ -18,14 +17,14 @@ use Rattle.dso_law.specs.Replies.{reply_of, woken_by}
 use Rattle.dso_law.specs.Settings.{Settings}
 use Rattle.dso_law.specs.Threads.{open_block, ends_thread}
 use Rattle.dso_legal.specs.Agreement.{messages}
-use Rattle.dso_legal.specs.WaitsAndLosses.{WithoutWaits, WithoutLosses, HasNoWait}
+use Rattle.dso_legal.specs.WaitsAndLosses.{WithoutLosses}
 use Rattle.dso_legal.specs.CopiesStand.{state_at, CopiesStand}
 use Rattle.dso_legal.specs.Lawful.{next_after, AllFollow}
 use Rattle.dso_legal.specs.SoundProgram.{tells, event_tells, IsSound, KeepsTo}
 use Rattle.dso_legal.specs.Views.{Sees}
 use Rattle.dso_legal.proofs.acts.NoRoots.{NoRoots, tells_none}
-use Rattle.dso_legal.proofs.acts.Acts.{acts_are_possible, acts_find_marks}
-use Rattle.dso_legal.proofs.blocks.Orderly.{nobody_waits, is_orderly}
+use Rattle.dso_legal.proofs.acts.Acts.{acts_are_possible}
+use Rattle.dso_legal.proofs.blocks.Orderly.{is_orderly}
 use Rattle.dso_legal.proofs.blocks.OwnActs.{IsNextAct, threads_follow, threads_wait, own_acts}
 use Rattle.dso_legal.proofs.copies.SeesCopies.{sees_copy}
 use Rattle.dso_legal.proofs.line.StandsOn.{AllStand, ActsCan, runs_on, holds_seen, acts_from}
@@ -82,9 +81,3 @@ module _ (p : Settings) (next : ThreadId → List Event → Option Request) (es 
       roots : (c : ℕ) → it.thread.client ≡ c → NoRoots (end_of p.shape (open_block it.thread (entries_of (Client c) es)) (state_at p c es))
       roots c its = subst (λ n. NoRoots (end_of p.shape (open_block it.thread (entries_of (Client n) es)) (state_at p n es))) its
           (names_no_root p next es follow safe it.thread (runs_on p next es follow safe stand it.thread).history (runs_on p next es follow safe stand it.thread).pending (runs_on p next es follow safe stand it.thread).opened sound untold)
-
-  -- Where nobody waits or notifies, it asks for no mark.
-  pub acts_ask_no_mark : WithoutWaits es → (e : Entry) → HasNoWait e.event → (c : ℕ) → (it : IsNextAct p c (next_after next es) e (entries_of (Client c) es))
-      → (s : PlainState) → FitsMarks (Act it.thread it.request it.reply (woken_by it.request it.reply (entries_of (Client c) es))) s
-  acts_ask_no_mark calm e still c it s = subst (λ n. FitsMarks (Act it.thread it.request it.reply (woken_by it.request it.reply (entries_of (Client n) es))) s) it.its
-      (acts_find_marks p it.thread it.request it.reply (entries_of (Client it.thread.client) es) s (nobody_waits es calm (Client it.thread.client) it.thread) (keeps_at it.thread it.request it.asked) (subst HasNoWait it.event still))

@@ -1,5 +1,4 @@
--- A client's entries are orderly: only threads of the cluster act, none of them holds the lock that it waits on, and none waits
--- where no event is a wait.
+-- A client's entries are orderly: only threads of the cluster act, and none of them holds the lock that it waits on.
 use Rattle.std.specs.List.{list_any}
 use Rattle.std.proofs.Common.{ℕ, ◌≡◌, ◌⊎◌, inl, inr, refl, sym, ◌∙◌, ap, subst, Bool, true, false, cond, eqb, Option, Some, None, List, [], ◌∷◌}
 use Rattle.std.proofs.lemmas.Bool.{eq-eqb}
@@ -23,7 +22,6 @@ use Rattle.dso_law.specs.ClientStep.{DoesOrAsks, ActsOn, ClientStepOn, ClientSte
 use Rattle.dso_law.specs.RequestNeeds.{Need, unmet}
 use Rattle.dso_law.specs.Replies.{woken_by}
 use Rattle.dso_law.specs.Threads.{Locks, locks_by, locks_after, locks_of, hold_in, resumed}
-use Rattle.dso_legal.specs.WaitsAndLosses.{waits_or_notifies, HasNoWait, WithoutWaits}
 use Rattle.dso_legal.specs.Lawful.{next_after, NodeFollows, AllFollow}
 use Rattle.dso_legal.specs.PendingBlocks.{no_locks}
 use Rattle.dso_legal.specs.SoundProgram.{event_tells, IsSound}
@@ -101,33 +99,6 @@ module _ (p : Settings) (next : ThreadId → List Event → Option Request) (c :
 -- Only threads of the cluster hold locks, in every lawful journal.
 pub only_listed_hold : (p : Settings) (next : ThreadId → List Event → Option Request) (es : List Entry) → AllFollow p next es → (c : ℕ) → OnlyListedHold p (entries_of (Client c) es)
 only_listed_hold p next es h c u l unlisted = ap (λ (locks : Locks). hold_in l locks.holds) (has_no_locks p next c u (inl unlisted) es h)
-
--- an act that is no wait leaves a thread awake
-awake_by : (request : Request) (reply : Reply) (locks : Locks) → waits_or_notifies request ≡ false → locks.waiting ≡ None → (locks_by request reply locks).waiting ≡ None
-awake_by (Enter l level) Done locks calm awake = awake
-awake_by (Exit l) Done locks calm awake = awake
-awake_by (Wait l) Done locks calm awake = absurd (cc calm)
-awake_by (Resume l) Done locks calm awake = subst (λ waiting. (resumed l waiting locks).waiting ≡ None) (sym awake) awake
-awake_by request reply locks calm awake = awake
-
--- so does an event that is none
-awake_after : (t : ThreadId) (event : Option Event) (locks : Locks) → HasNoWait event → locks.waiting ≡ None → (by_event (locks_after t) event locks).waiting ≡ None
-awake_after t None locks calm awake = awake
-awake_after t (Some (Lost client)) locks calm awake = awake
-awake_after t (Some (Act thread request reply woken)) locks calm awake = by (is_thread t thread)
-  where
-    by : (b : Bool) → (cond b (locks_by request reply locks) locks).waiting ≡ None
-    by true = awake_by request reply locks calm awake
-    by false = awake
-
--- Nobody waits in a journal without waits.
-pub nobody_waits : (es : List Entry) → WithoutWaits es → (node : Node) (t : ThreadId) → (locks_of t (entries_of node es)).waiting ≡ None
-nobody_waits [] calm node t = refl
-nobody_waits (e ∷ es) calm node t = by (is_node node e.node) (nobody_waits es calm.1 node t)
-  where
-    by : (b : Bool) → (locks_of t (entries_of node es)).waiting ≡ None → (locks_of t (cond b (e ∷ entries_of node es) (entries_of node es))).waiting ≡ None
-    by true was = awake_after t e.event (locks_of t (entries_of node es)) calm.0 was
-    by false was = was
 
 -- A client's entries are orderly, where a sound program's thread was told of no object 0.
 pub is_orderly : (p : Settings) (next : ThreadId → List Event → Option Request) → IsSound p.shape next → (es : List Entry) → AllFollow p next es

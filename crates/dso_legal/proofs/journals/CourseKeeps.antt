@@ -12,7 +12,7 @@ use Rattle.dso_plain.proofs.keys.SameKeys.{number_self}
 use Rattle.dso_law.specs.FitsDown.{IsWaitingOn}
 use Rattle.dso_law.specs.Threads.{Locks, ends_thread}
 use Rattle.dso_legal.specs.PendingBlocks.{no_locks, locks_through}
-use Rattle.dso_legal.specs.SoundProgram.{NamesOnlyTold, KeepsLocks, MakesOnly, latest_ending, TimesOutOnce, KeepsTo}
+use Rattle.dso_legal.specs.SoundProgram.{NamesOnlyTold, KeepsLocks, MakesOnly, IsOfWaiter, latest_ending, TimesOutOnce, KeepsTo}
 
 -- what is so of a step, and of all behind it
 abbrev pub step : {Now Later : Type 0} → Now → Later → Now × Later
@@ -27,6 +27,11 @@ never_times_out request locks latest awake keeps = tt
 pub keeps : {shape : Shape} {t : ThreadId} {events : List Event} {request : Request} → list_any ends_thread events ≡ false → (locks_through t events no_locks).waiting ≡ None → NamesOnlyTold request events
     → KeepsLocks request (locks_through t events no_locks) → MakesOnly shape request → KeepsTo shape t events request
 keeps {t = t} {events = events} {request = request} goes awake names locks makes = record { goes = goes; names = names; locks = locks; makes = makes; waits = λ waits. absurd (waits awake); times_out_once = never_times_out request (locks_through t events no_locks) (latest_ending t events no_locks None) awake locks }
+
+-- a thread that waits keeps to it where it does what a waiting thread does, and times out once
+pub keeps_waiting : {shape : Shape} {t : ThreadId} {events : List Event} {request : Request} → list_any ends_thread events ≡ false → IsOfWaiter request → NamesOnlyTold request events
+    → KeepsLocks request (locks_through t events no_locks) → MakesOnly shape request → TimesOutOnce request (latest_ending t events no_locks None) → KeepsTo shape t events request
+keeps_waiting goes waiter names locks makes once = record { goes = goes; names = names; locks = locks; makes = makes; waits = λ waits. waiter; times_out_once = once }
 
 -- what was told later was told
 told_later : (earlier later : Bool) → later ≡ true → (earlier || later) ≡ true

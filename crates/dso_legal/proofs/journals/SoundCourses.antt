@@ -8,15 +8,16 @@ use Rattle.dso_base.specs.declared.request.Event.TheVariants.{Act, Lost}
 use Rattle.dso_base.specs.declared.request.Reply.{Reply}
 use Rattle.dso_base.specs.declared.request.Reply.TheVariants.{Done, Made, Seen, Val}
 use Rattle.dso_base.specs.declared.request.Request.{Request}
-use Rattle.dso_base.specs.declared.request.Request.TheVariants.{New, Look, Get}
+use Rattle.dso_base.specs.declared.request.Request.TheVariants.{New, Look, Get, Tick, Timeout}
 use Rattle.dso_base.specs.declared.shape.Shape.{Shape}
 use Rattle.dso_base.specs.declared.value.ClassId.{ClassId}
 use Rattle.dso_base.specs.declared.value.Value.{Value}
+use Rattle.dso_base.specs.declared.value.Value.TheVariants as value
 use Rattle.dso_base.specs.Following.{is_thread, FollowsFrom, Listed}
 use Rattle.dso_plain.proofs.keys.SameKeys.{same_thread, thread_self}
 use Rattle.dso_plain.specs.Rechoice.{AreSameActs}
 use Rattle.dso_legal.specs.SoundProgram.{KeepsTo, IsSound}
-use Rattle.dso_legal.specs.examples.Courses.{Course, Stops, Makes, Looks, Reads, Does, asked_first, after_reply, asks_after, course_of, program_of}
+use Rattle.dso_legal.specs.examples.Courses.{Course, Stops, Makes, Looks, Reads, Ticks, TimesOut, Does, asked_first, after_reply, asks_after, course_of, program_of}
 
 -- what is asked is the same
 same_request : (asked request : Request) → Some asked ≡ Some request → asked ≡ request
@@ -38,6 +39,9 @@ module _ (shape : Shape) where
   StaysSound t before (Makes class n rest) = KeepsTo shape t before (New class n) × ((o : ℕ) (woken : Option ThreadId) → StaysSound t (before ++ Act t (New class n) (Made (suc o)) woken ∷ []) (rest (suc o)))
   StaysSound t before (Looks o rest) = KeepsTo shape t before (Look o) × ((class : ClassId) (n : ℕ) (woken : Option ThreadId) → StaysSound t (before ++ Act t (Look o) (Seen class n) woken ∷ []) rest)
   StaysSound t before (Reads o f rest) = KeepsTo shape t before (Get o f) × ((v : Value) (woken : Option ThreadId) → StaysSound t (before ++ Act t (Get o f) (Val v) woken ∷ []) rest)
+  StaysSound t before (Ticks l rest) = KeepsTo shape t before (Tick l) × ((told : Bool) (woken : Option ThreadId) → StaysSound t (before ++ Act t (Tick l) (Val (value.Bool told)) woken ∷ []) (rest told))
+  StaysSound t before (TimesOut l rest) = KeepsTo shape t before (Timeout l) × (((woken : Option ThreadId) → StaysSound t (before ++ Act t (Timeout l) Done woken ∷ []) rest)
+      × ((woken : Option ThreadId) → StaysSound t (before ++ Act t (Timeout l) (Val (value.Bool true)) woken ∷ []) rest))
   StaysSound t before (Does request rest) = KeepsTo shape t before request × ((woken : Option ThreadId) → StaysSound t (before ++ Act t request Done woken ∷ []) rest)
 
   -- what it asks first keeps to it
@@ -46,6 +50,8 @@ module _ (shape : Shape) where
   keeps_first t before (Makes class n rest) request s e = subst (λ asked. KeepsTo shape t before asked) (same_request (New class n) request e) s.0
   keeps_first t before (Looks o rest) request s e = subst (λ asked. KeepsTo shape t before asked) (same_request (Look o) request e) s.0
   keeps_first t before (Reads o f rest) request s e = subst (λ asked. KeepsTo shape t before asked) (same_request (Get o f) request e) s.0
+  keeps_first t before (Ticks l rest) request s e = subst (λ asked. KeepsTo shape t before asked) (same_request (Tick l) request e) s.0
+  keeps_first t before (TimesOut l rest) request s e = subst (λ asked. KeepsTo shape t before asked) (same_request (Timeout l) request e) s.0
   keeps_first t before (Does asked rest) request s e = subst (λ asked. KeepsTo shape t before asked) (same_request asked request e) s.0
 
   -- after the first event it stays sound
@@ -54,6 +60,9 @@ module _ (shape : Shape) where
   stays_sound t before (Makes class n rest) request (Made (suc o)) woken s e = subst (λ asked. StaysSound t (before ++ Act t asked (Made (suc o)) woken ∷ []) (rest (suc o))) (same_request (New class n) request e) (s.1 o woken)
   stays_sound t before (Looks o rest) request (Seen class n) woken s e = subst (λ asked. StaysSound t (before ++ Act t asked (Seen class n) woken ∷ []) rest) (same_request (Look o) request e) (s.1 class n woken)
   stays_sound t before (Reads o f rest) request (Val v) woken s e = subst (λ asked. StaysSound t (before ++ Act t asked (Val v) woken ∷ []) rest) (same_request (Get o f) request e) (s.1 v woken)
+  stays_sound t before (Ticks l rest) request (Val (value.Bool told)) woken s e = subst (λ asked. StaysSound t (before ++ Act t asked (Val (value.Bool told)) woken ∷ []) (rest told)) (same_request (Tick l) request e) (s.1 told woken)
+  stays_sound t before (TimesOut l rest) request Done woken s e = subst (λ asked. StaysSound t (before ++ Act t asked Done woken ∷ []) rest) (same_request (Timeout l) request e) (s.1.0 woken)
+  stays_sound t before (TimesOut l rest) request (Val (value.Bool true)) woken s e = subst (λ asked. StaysSound t (before ++ Act t asked (Val (value.Bool true)) woken ∷ []) rest) (same_request (Timeout l) request e) (s.1.1 woken)
   stays_sound t before (Does asked rest) request Done woken s e = subst (λ asked. StaysSound t (before ++ Act t asked Done woken ∷ []) rest) (same_request asked request e) (s.1 woken)
   stays_sound t before course request reply woken s e = tt
 

@@ -61,7 +61,7 @@ use Rattle.dso_legal.proofs.waiting.EntryParts.{after_parts, SaysWell, parts_tel
 use Rattle.dso_legal.proofs.waiting.ListMoves.{fails, IsWokenNow, woken_keeps}
 
 -- An act that ends a block makes no notification,
-ending_silent : (request : Request) (reply : Reply) (woken : Option ThreadId) (locks : Locks) (end : Ending) → ending_by request reply locks ≡ Some end → note_by request reply woken ≡ []
+pub ending_silent : (request : Request) (reply : Reply) (woken : Option ThreadId) (locks : Locks) (end : Ending) → ending_by request reply locks ≡ Some end → note_by request reply woken ≡ []
 ending_silent (Notify l) Done woken locks end ends = absurd (cc ends)
 ending_silent (NotifyAll l) Done woken locks end ends = absurd (cc ends)
 ending_silent request reply woken locks end ends = refl

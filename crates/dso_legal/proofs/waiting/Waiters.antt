@@ -63,7 +63,7 @@ at_write None held = absurd (cc held)
 at_write (Some hold) held = (hold, (refl, cc held))
 
 -- a lease that is enough for Write is at Write
-enough_write : (lease : Option Level) → is_enough Write lease ≡ true → lease ≡ Some Write
+pub enough_write : (lease : Option Level) → is_enough Write lease ≡ true → lease ≡ Some Write
 enough_write None enough = absurd (cc enough)
 enough_write (Some Read) enough = absurd (cc enough)
 enough_write (Some Write) enough = refl
@@ -162,7 +162,7 @@ module _ (p : Settings) (next : ThreadId → List Event → Option Request) (sou
         says_well p c before after_it e own well_now (fair e es follow.0 untold c well_now) (stand.client c alive) e.input refl rule.step (is_due c alive first)
 
     -- what the server's makes of a thread
-    server_does : (l : LockName) (t : ThreadId) → is_lost t.client (entries_of Server es) ≡ false → TakesFirst e.input Server es → ServerFollows p next e es → is_of_lost e.input (entries_of Server es) ≡ false → loses t.client e.input ≡ false
+    pub server_does : (l : LockName) (t : ThreadId) → is_lost t.client (entries_of Server es) ≡ false → TakesFirst e.input Server es → ServerFollows p next e es → is_of_lost e.input (entries_of Server es) ≡ false → loses t.client e.input ≡ false
         → StepsOn l t e (counted (entries_of Server es))
     server_does l t alive first rule counts stays = server_steps p l t e (entries_of Server es) e.input refl rule.step counts stays
         (λ m is. first_may_up p next t.client (MayPlaceUp l t) (place_up l t) (MayPlaceDown l t) (place_down l t) (place_of l t) (place_with t.client l t) es (stand.agree l t alive) m (subst (λ i. TakesFirst i Server es) is first))

@@ -1,6 +1,6 @@
 -- What the central law asks of a journal is met by journals of finished runs, each with a program that asks what the run's
 -- scripts do, goes by the replies, and is sound.
-use Rattle.std.specs.Prelude.{pos, Option, None, List, [], ◌∷◌}
+use Rattle.std.specs.Prelude.{pos, cond, Option, None, List, [], ◌∷◌}
 use Rattle.dso_base.specs.declared.journal.Entry.{Entry}
 use Rattle.dso_base.specs.declared.lock.Level.TheVariants.{Read, Write}
 use Rattle.dso_base.specs.declared.lock.LockName.TheVariants.{Mon, Name}
@@ -14,19 +14,26 @@ use Rattle.dso_law.specs.Settings.{Settings}
 use Rattle.dso_legal.specs.WaitsAndLosses.{WithoutWaits, WithoutLosses}
 use Rattle.dso_legal.specs.Lawful.{IsLawful}
 use Rattle.dso_legal.specs.SoundProgram.{IsSound}
-use Rattle.dso_legal.specs.examples.Courses.{Course, Stops, Makes, Looks, Reads, Does, program_of}
+use Rattle.dso_legal.specs.examples.Courses.{Course, Stops, Makes, Looks, Reads, Ticks, TimesOut, Does, program_of}
 use Rattle.dso_legal.specs.examples.Words.{thread}
 use Rattle.dso_legal.specs.examples.Counter as counter
 use Rattle.dso_legal.specs.examples.Recall as recall
 use Rattle.dso_legal.specs.examples.Flush as flush
+use Rattle.dso_legal.specs.examples.CrossedTimeout as crossed
 use Rattle.dso_legal.specs.examples.Settling as settling
+use Rattle.dso_legal.specs.examples.TimedOutHere as here
+use Rattle.dso_legal.specs.examples.TimedOutThere as there
 
 -- all that the central law asks of a cluster's settings, its program and its journal
 pub record MeetsPremises (p : Settings) (next : ThreadId → List Event → Option Request) (es : List Entry) : Type 0 where
   pub sound : IsSound p.shape next
   pub lawful : IsLawful p next es
-  pub calm : WithoutWaits es
   pub whole : WithoutLosses es
+
+-- and what its clause on journals without waits asks besides
+pub record MeetsCalmly (p : Settings) (next : ThreadId → List Event → Option Request) (es : List Entry) : Type 0 where
+  pub premises : MeetsPremises p next es
+  pub calm : WithoutWaits es
 
 -- a thread makes an object, puts it into the root, and adds to its counter under its monitor
 abbrev pub counter_courses : List (ThreadId × Course)
@@ -106,18 +113,78 @@ settling_courses = (
       Does (request.End None) Stops))),
 ) ∷ []
 
+-- a thread that waited goes on and leaves the lock
+abbrev pub goes_on : Course
+goes_on = Does (request.Resume (Name 0)) (
+    Does (request.Exit (Name 0)) (
+    Does (request.End None) Stops))
+
+-- it goes on where its tick told that it was woken, else does the rest
+abbrev pub ticks_then : Course → Course
+ticks_then rest = Ticks (Name 0) (λ woken. cond woken goes_on rest)
+
+-- a thread waits for two ticks, and then times out
+abbrev pub two_ticks_courses : List (ThreadId × Course)
+two_ticks_courses = (
+  thread 1 1,
+  Does (request.Enter (Name 0) Write) (
+      Does (request.Wait (Name 0)) (
+      ticks_then (
+      ticks_then (
+      TimesOut (Name 0) goes_on)))),
+) ∷ []
+
+-- a thread waits for a tick, and then times out
+abbrev pub one_tick : Course
+one_tick =
+    Does (request.Enter (Name 0) Write) (
+    Does (request.Wait (Name 0)) (
+    ticks_then (
+    TimesOut (Name 0) goes_on)))
+
+-- and a thread of another client enters the lock and leaves it
+abbrev pub passing_courses : List (ThreadId × Course)
+passing_courses = (thread 1 1, one_tick) ∷ (
+  thread 2 1,
+  Does (request.Enter (Name 0) Write) (
+      Does (request.Exit (Name 0)) (
+      Does (request.End None) Stops)),
+) ∷ []
+
+-- or notifies in between
+abbrev pub notifying_courses : List (ThreadId × Course)
+notifying_courses = (thread 1 1, one_tick) ∷ (
+  thread 2 1,
+  Does (request.Enter (Name 0) Write) (
+      Does (request.Notify (Name 0)) (
+      Does (request.Exit (Name 0)) (
+      Does (request.End None) Stops))),
+) ∷ []
+
 -- the counter's journal meets them
 abbrev pub CounterMeets : Type 0
-CounterMeets = MeetsPremises counter.settings (program_of counter_courses) counter.entries
+CounterMeets = MeetsCalmly counter.settings (program_of counter_courses) counter.entries
 
 -- so does that of two clients that pass a lock on
 abbrev pub RecallMeets : Type 0
-RecallMeets = MeetsPremises recall.settings (program_of recall_courses) recall.entries
+RecallMeets = MeetsCalmly recall.settings (program_of recall_courses) recall.entries
 
 -- so does that of a client that flushes
 abbrev pub FlushMeets : Type 0
-FlushMeets = MeetsPremises flush.settings (program_of flush_courses) flush.entries
+FlushMeets = MeetsCalmly flush.settings (program_of flush_courses) flush.entries
 
 -- so does that of a thread that settles
 abbrev pub SettlingMeets : Type 0
-SettlingMeets = MeetsPremises settling.settings (program_of settling_courses) settling.entries
+SettlingMeets = MeetsCalmly settling.settings (program_of settling_courses) settling.entries
+
+-- so does that of a thread that times out in its client's list
+abbrev pub TimedOutHereMeets : Type 0
+TimedOutHereMeets = MeetsPremises here.settings (program_of two_ticks_courses) here.entries
+
+-- so does that of one that times out in the server's list
+abbrev pub TimedOutThereMeets : Type 0
+TimedOutThereMeets = MeetsPremises there.settings (program_of passing_courses) there.entries
+
+-- so does that of one whose timeout crosses a notification
+abbrev pub CrossedTimeoutMeets : Type 0
+CrossedTimeoutMeets = MeetsPremises crossed.settings (program_of notifying_courses) crossed.entries

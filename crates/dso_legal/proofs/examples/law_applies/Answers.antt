@@ -1,5 +1,5 @@
 use Rattle.dso_legal.proofs.examples.law_applies.Goals as goal
-use Rattle.dso_legal.proofs.journals.Meets.{counter_meets, recall_meets, flush_meets, settling_meets}
+use Rattle.dso_legal.proofs.journals.Meets.{counter_meets, recall_meets, flush_meets, settling_meets, timed_out_here_meets, timed_out_there_meets, crossed_timeout_meets}
 
 pub returns-clause-counter : goal.returns-clause-counter
 returns-clause-counter c = counter_meets
@@ -12,3 +12,12 @@ returns-clause-flush c = flush_meets
 
 pub returns-clause-settling : goal.returns-clause-settling
 returns-clause-settling c = settling_meets
+
+pub returns-clause-timed_out_here : goal.returns-clause-timed_out_here
+returns-clause-timed_out_here c = timed_out_here_meets
+
+pub returns-clause-timed_out_there : goal.returns-clause-timed_out_there
+returns-clause-timed_out_there c = timed_out_there_meets
+
+pub returns-clause-crossed_timeout : goal.returns-clause-crossed_timeout
+returns-clause-crossed_timeout c = crossed_timeout_meets
