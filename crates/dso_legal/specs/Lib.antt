@@ -29,6 +29,7 @@ pub mod RecordsLeased
 pub mod NamesOut
 pub mod LostClients
 pub mod WaysDown
+pub mod RecordsOwn
 pub mod SoundCode
 pub mod WaitsAndLosses
 pub mod Works

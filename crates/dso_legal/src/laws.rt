@@ -26,6 +26,7 @@ ghost use Rattle.dso_legal.specs.RecordsLeased.{RecordsAreLeased};
 ghost use Rattle.dso_legal.specs.NamesOut.{NamesAreOut};
 ghost use Rattle.dso_legal.specs.LostClients.{LostAreToldNothing};
 ghost use Rattle.dso_legal.specs.WaysDown.{WaysDownFit};
+ghost use Rattle.dso_legal.specs.RecordsOwn.{RecordsAreOwn, HeldAreStored};
 
 /// For each client that isn't lost and each lock: each message in flight may come where it stands, and once all are taken the
 /// client and the server say the same of the lock's lease.
@@ -148,6 +149,17 @@ pub fn locks_are_there()
 /// an exit, that of a wait at Write.
 pub fn records_are_leased()
     ensures { RecordsAreLeased }
+{}
+
+/// In a journal of a sound program that stays within its shape, a record that comes of a client that isn't lost is of one of
+/// the client's threads, which no record taken before ended, and whom its notifications woke there are threads of the client.
+pub fn records_are_own()
+    ensures { RecordsAreOwn }
+{}
+
+/// Each object that a client holds, as the server sees it, is in the server's graph.
+pub fn held_are_stored()
+    ensures { HeldAreStored }
 {}
 
 /// In a journal of a sound program that stays within its shape, what a message of a client that isn't lost names is in the
