@@ -23,3 +23,4 @@ pub mod WaysDown
 pub mod WaysDownFit
 pub mod ThreadsOwn
 pub mod RecordsOwn
+pub mod Room

@@ -30,6 +30,7 @@ pub mod NamesOut
 pub mod LostClients
 pub mod WaysDown
 pub mod RecordsOwn
+pub mod Room
 pub mod SoundCode
 pub mod WaitsAndLosses
 pub mod Works

@@ -27,6 +27,7 @@ ghost use Rattle.dso_legal.specs.NamesOut.{NamesAreOut};
 ghost use Rattle.dso_legal.specs.LostClients.{LostAreToldNothing};
 ghost use Rattle.dso_legal.specs.WaysDown.{WaysDownFit};
 ghost use Rattle.dso_legal.specs.RecordsOwn.{RecordsAreOwn, HeldAreStored};
+ghost use Rattle.dso_legal.specs.Room.{BatchesHaveRoom};
 
 /// For each client that isn't lost and each lock: each message in flight may come where it stands, and once all are taken the
 /// client and the server say the same of the lock's lease.
@@ -67,6 +68,12 @@ pub fn batches_stay_in_order()
 /// For each client that isn't lost: a batch that comes was asked for, and is above those that the client has.
 pub fn batches_fit()
     ensures { BatchesFit }
+{}
+
+/// A batch of ids that comes to a client, to a lost one too, ends within 64 bits where the journal has fewer than 2^54 entries:
+/// no more batches are given than it has entries.
+pub fn batches_have_room()
+    ensures { BatchesHaveRoom }
 {}
 
 /// The server gives no id to two clients.
