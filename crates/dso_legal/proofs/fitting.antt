@@ -24,3 +24,4 @@ pub mod WaysDownFit
 pub mod ThreadsOwn
 pub mod RecordsOwn
 pub mod Room
+pub mod MessagesFit

@@ -31,6 +31,7 @@ pub mod LostClients
 pub mod WaysDown
 pub mod RecordsOwn
 pub mod Room
+pub mod MessagesFit
 pub mod SoundCode
 pub mod WaitsAndLosses
 pub mod Works

@@ -28,6 +28,7 @@ ghost use Rattle.dso_legal.specs.LostClients.{LostAreToldNothing};
 ghost use Rattle.dso_legal.specs.WaysDown.{WaysDownFit};
 ghost use Rattle.dso_legal.specs.RecordsOwn.{RecordsAreOwn, HeldAreStored};
 ghost use Rattle.dso_legal.specs.Room.{BatchesHaveRoom};
+ghost use Rattle.dso_legal.specs.MessagesFit.{MessagesFit};
 
 /// For each client that isn't lost and each lock: each message in flight may come where it stands, and once all are taken the
 /// client and the server say the same of the lock's lease.
@@ -162,6 +163,13 @@ pub fn records_are_leased()
 /// the client's threads, which no record taken before ended, and whom its notifications woke there are threads of the client.
 pub fn records_are_own()
     ensures { RecordsAreOwn }
+{}
+
+/// In a journal of a sound program that stays within its shape, of fewer than 2^54 entries: the first message in flight from
+/// each client that isn't lost fits at the server, and the first to each client, a lost one too, fits there, as far as the
+/// waiters that a return brings, a timeout ends and a waking marks fit.
+pub fn messages_fit()
+    ensures { MessagesFit }
 {}
 
 /// Each object that a client holds, as the server sees it, is in the server's graph.
