@@ -25,9 +25,10 @@ use Rattle.dso_legal.specs.Lawful.{AllFollow}
 use Rattle.dso_legal.specs.SoundProgram.{GivesKnownTexts, IsSound}
 use Rattle.dso_legal.specs.WithinShape.{StaysWithinShape}
 
--- What of this the waiters say, of a return: its threads are the client's, each once, none in the server's list; and there are none
--- where the lease is at Read.
-pub record BringsWaiters (p : Settings) (c : ℕ) (l : LockName) (threads : List ThreadId) (server : List Entry) : Type 0 where
+-- What of this the waiters say, of a return: its threads are the client's, each once, none in the server's list;
+-- and there are none where the lease is at Read.
+pub record BringsWaiters (p : Settings) (c : ℕ) (l : LockName) (threads : List ThreadId)
+    (server : List Entry) : Type 0 where
   pub new : AllByRecursion (IsNewWaiter p c l server) threads
   pub once : AreDistinct threads
   pub none_at_read : leased_to c l server ≡ Some Read → threads ≡ []
@@ -61,9 +62,9 @@ pub record FirstsFit (p : Settings) (c : ℕ) (es : List Entry) : Type 0 where
       → FitsUp p c m (counted (entries_of Server es))
   pub downs : (m : Down) → IsFirst m (down_in_flight c es) → FitsDown p c m (entries_of (Client c) es)
 
--- Messages fit: after fewer than 2 ^ 54 entries, each of which follows those before it, of a sound program that gives only known
--- texts and stays within its shape, what comes from a client that isn't lost and what comes to any client fits, where the waiters
--- that it brings and wakes do.
+-- Messages fit: after fewer than 2 ^ 54 entries, each of which follows those before it, of a sound program that
+-- gives only known texts and stays within its shape, what comes from a client that isn't lost and what comes to any
+-- client fits, where the waiters that it brings and wakes do.
 abbrev pub MessagesFit : Type 0
 MessagesFit = (p : Settings) (next : ThreadId → List Event → Option Request)
     → IsSound p.shape next → GivesKnownTexts p.shape next → StaysWithinShape p.shape next

@@ -9,8 +9,9 @@ use Rattle.dso_law.specs.Channels.{IsFirst, down_in_flight}
 use Rattle.dso_law.specs.Settings.{Settings, batch_size}
 use Rattle.dso_legal.specs.Lawful.{AllFollow}
 
--- Batches have room: after fewer than 2 ^ 54 entries, each of which follows those before it, a batch that comes to a client, to a
--- lost one too, ends below 2 ^ 64.
+-- Batches have room: after fewer than 2 ^ 54 entries, each of which follows those before it, a batch that comes to
+-- a client, to a lost one too, ends below 2 ^ 64.
 abbrev pub BatchesHaveRoom : Type 0
-BatchesHaveRoom = (p : Settings) (next : ThreadId → List Event → Option Request) (es : List Entry) → AllFollow p next es → length es < 2 ^ 54
+BatchesHaveRoom = (p : Settings) (next : ThreadId → List Event → Option Request) (es : List Entry)
+    → AllFollow p next es → length es < 2 ^ 54
     → (c first : ℕ) → IsFirst (Ids first) (down_in_flight c es) → first + batch_size < 2 ^ 64

@@ -203,8 +203,11 @@ module _ (x : ℕ) where
   -- each body is the one that is found of its object
   each_found : (bodies : List Body) → ((o : ℕ) → count_bodies o bodies ≤ 1) → AllByRecursion (λ body. body_in body.object bodies ≡ Some body) bodies
   each_found [] once = tt
-  each_found (body ∷ bodies) once = (first, each_so (λ other. body_in other.object bodies ≡ Some other) (λ other. body_in other.object (body ∷ bodies) ≡ Some other) behind bodies
-      (each_found bodies (λ o. fewer (cond (eqb body.object o) 1 0) (count_bodies o bodies) (once o))))
+  each_found (body ∷ bodies) once = (
+    first,
+    each_so (λ other. body_in other.object bodies ≡ Some other) (λ other. body_in other.object (body ∷ bodies) ≡ Some other) behind bodies
+        (each_found bodies (λ o. fewer (cond (eqb body.object o) 1 0) (count_bodies o bodies) (once o))),
+  )
     where
       fewer : (n m : ℕ) → n + m ≤ 1 → m ≤ 1
       fewer n m le = omega (arith, le)
@@ -420,7 +423,7 @@ module _ (x : ℕ) where
       let before : Bool = in_hand work || known in
       let later : Bool = ((eqb o x || is_among x work.privates) || is_among x work.news) || known in
       let on : before ≡ true → later ≡ true = or_on (in_hand work) known ((eqb o x || is_among x work.privates) || is_among x work.news) known
-          (or_on (is_among x work.privates) (is_among x work.news) (eqb o x || is_among x work.privates) (is_among x work.news) (right_so (eqb o x) (is_among x work.privates)) (λ is. is)) (λ is. is) in
+      (or_on (is_among x work.privates) (is_among x work.news) (eqb o x || is_among x work.privates) (is_among x work.news) (right_so (eqb o x) (is_among x work.privates)) (λ is. is)) (λ is. is) in
       record {
         privates = (new_names shape class n o later, bodies_on before later on work.privates h.privates);
         news = h.news;

@@ -243,14 +243,16 @@ module _ (p : Settings) (next : ThreadId → List Event → Option Request) wher
             let work : Work = work_after p.shape event (work_of p.shape act.thread mine) in
             let held : IsWorkHeld p.shape es (locks_of act.thread mine) work = later_held p next sound texts within e es follow c (all_held p next sound texts within es follow.0 c) act in
             let whole : IsWorkHeld p.shape es (locks_of act.thread mine) (worked p.shape (open_block act.thread mine ++ event ∷ []) (start (privates_before p.shape act.thread mine))) =
-            subst (IsWorkHeld p.shape es (locks_of act.thread mine)) (sym (worked_more p.shape (open_block act.thread mine) event (start (privates_before p.shape act.thread mine)))) held in
-            (record {
-              sets = each_so (IsSetHeld p.shape es (locks_of act.thread mine)) (IsSetLeased made p.shape l (standing l mine)) set_leased
-                  (worked p.shape (open_block act.thread mine ++ event ∷ []) (start (privates_before p.shape act.thread mine))).sets whole.sets;
-              notes = each_so (IsNoteHeld p.shape (locks_of act.thread mine)) (IsNoteOfLease made p.shape l (standing l mine)) (λ note it. held_leased act.thread note.lock it)
-                  (worked p.shape (open_block act.thread mine ++ event ∷ []) (start (privates_before p.shape act.thread mine))).notes whole.notes;
-              ending = ending_leased act.request act.reply ending act.answered keeps_locks is;
-            }, tt)
+            subst (IsWorkHeld p.shape es (locks_of act.thread mine)) (sym (worked_more p.shape (open_block act.thread mine) event (start (privates_before p.shape act.thread mine)))) held in (
+              record {
+                sets = each_so (IsSetHeld p.shape es (locks_of act.thread mine)) (IsSetLeased made p.shape l (standing l mine)) set_leased
+                    (worked p.shape (open_block act.thread mine ++ event ∷ []) (start (privates_before p.shape act.thread mine))).sets whole.sets;
+                notes = each_so (IsNoteHeld p.shape (locks_of act.thread mine)) (IsNoteOfLease made p.shape l (standing l mine)) (λ note it. held_leased act.thread note.lock it)
+                    (worked p.shape (open_block act.thread mine ++ event ∷ []) (start (privates_before p.shape act.thread mine))).notes whole.notes;
+                ending = ending_leased act.request act.reply ending act.answered keeps_locks is;
+              },
+              tt,
+            )
 
       -- what the client's entry says
       said_leased : ClientFollows p next c e es → EachMay (MayCommit made p.shape l) (standing_up l) (said_of e.sent) (by_taken_down (standing_down l) e.input (standing l mine))
