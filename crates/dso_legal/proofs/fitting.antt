@@ -21,3 +21,7 @@ pub mod NamesOut
 pub mod LostClients
 pub mod WaysDown
 pub mod WaysDownFit
+pub mod ThreadsOwn
+pub mod RecordsOwn
+pub mod Room
+pub mod MessagesFit

@@ -57,7 +57,8 @@ abbrev pub class_by : ℕ → Event → Option (ClassId × ℕ) → Option (Clas
 class_by o (Act t request reply woken) before = class_by_reply o request reply before
 class_by o (Lost client) before = before
 
--- the class and the size with which the object was made, by any thread of the journal; object 0 has the roots from the start
+-- the class and the size with which the object was made, by any thread of the journal; object 0 has the roots from
+-- the start
 abbrev pub class_made : Shape → ℕ → List Entry → Option (ClassId × ℕ)
 class_made shape o [] = cond (eqb o 0) (Some (Roots, shape.roots)) None
 class_made shape o (e ∷ es) = by_event (class_by o) e.event (class_made shape o es)
@@ -84,17 +85,22 @@ abbrev pub LooksAsMade : Shape → List Entry → Event → Type 0
 LooksAsMade shape es (Act t request reply woken) = SawAsMade shape es request reply
 LooksAsMade shape es (Lost client) = Unit {0}
 
--- Of each object, those with which it was made are told by all that threads have in hand and that they saw, by the copies, by
--- what is in flight, and by the server's graph.
+-- Of each object, those with which it was made are told by all that threads have in hand and that they saw, by the
+-- copies, by what is in flight, and by the server's graph.
 pub record KeepsClasses (shape : Shape) (es : List Entry) : Type 0 where
-  pub privates : (t : ThreadId) → AllByRecursion (IsAsMade shape es) (work_of shape t (entries_of (Client t.client) es)).privates
-  pub news : (t : ThreadId) → AllByRecursion (IsAsMade shape es) (work_of shape t (entries_of (Client t.client) es)).news
+  pub privates : (t : ThreadId)
+      → AllByRecursion (IsAsMade shape es) (work_of shape t (entries_of (Client t.client) es)).privates
+  pub news : (t : ThreadId)
+      → AllByRecursion (IsAsMade shape es) (work_of shape t (entries_of (Client t.client) es)).news
   pub seen : (t : ThreadId) → AllByRecursion (LooksAsMade shape es) (events_in t (entries_of (Client t.client) es))
-  pub copies : (c o : ℕ) (class : ClassId) (size : ℕ) → class_held o (entries_of (Client c) es) ≡ Some (class, size) → class_made shape o es ≡ Some (class, size)
+  pub copies : (c o : ℕ) (class : ClassId) (size : ℕ) → class_held o (entries_of (Client c) es) ≡ Some (class, size)
+      → class_made shape o es ≡ Some (class, size)
   pub ups : (c : ℕ) → AllByRecursion (CarriesUpAsMade shape es) (messages (up_in_flight c es))
   pub downs : (c : ℕ) → AllByRecursion (CarriesDownAsMade shape es) (messages (down_in_flight c es))
-  pub graph : (o : ℕ) (body : Body) → stored shape o (counted (entries_of Server es)) ≡ Some body → IsAsMade shape es body
+  pub graph : (o : ℕ) (body : Body) → stored shape o (counted (entries_of Server es)) ≡ Some body
+      → IsAsMade shape es body
 
 -- Classes are kept, after entries each of which follows those before it, for lost clients too.
 abbrev pub ClassesAreKept : Type 0
-ClassesAreKept = (p : Settings) (next : ThreadId → List Event → Option Request) (es : List Entry) → AllFollow p next es → KeepsClasses p.shape es
+ClassesAreKept = (p : Settings) (next : ThreadId → List Event → Option Request) (es : List Entry)
+    → AllFollow p next es → KeepsClasses p.shape es

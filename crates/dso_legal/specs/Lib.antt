@@ -29,6 +29,9 @@ pub mod RecordsLeased
 pub mod NamesOut
 pub mod LostClients
 pub mod WaysDown
+pub mod RecordsOwn
+pub mod Room
+pub mod MessagesFit
 pub mod SoundCode
 pub mod WaitsAndLosses
 pub mod Works

@@ -18,8 +18,9 @@ abbrev pub IsNotTo : ℕ → Sent → Type 0
 IsNotTo c (ToServer m) = Unit {0}
 IsNotTo c (ToClient d m) = d ≢ c
 
--- Lost clients are told nothing: of entries each of which follows those before it, none that the server makes as it loses a
--- client, or later, sends a message to the client.
+-- Lost clients are told nothing: of entries each of which follows those before it, none that the server makes as it
+-- loses a client, or later, sends a message to the client.
 abbrev pub LostAreToldNothing : Type 0
-LostAreToldNothing = (p : Settings) (next : ThreadId → List Event → Option Request) (e : Entry) (es : List Entry) → AllFollow p next (e ∷ es)
+LostAreToldNothing = (p : Settings) (next : ThreadId → List Event → Option Request) (e : Entry) (es : List Entry)
+    → AllFollow p next (e ∷ es)
     → e.node ≡ Server → (c : ℕ) → is_lost c (entries_of Server (e ∷ es)) ≡ true → AllByRecursion (IsNotTo c) e.sent

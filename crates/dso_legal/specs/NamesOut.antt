@@ -21,8 +21,8 @@ use Rattle.dso_legal.specs.Lawful.{AllFollow}
 use Rattle.dso_legal.specs.SoundProgram.{GivesKnownTexts, IsSound}
 use Rattle.dso_legal.specs.WithinShape.{StaysWithinShape}
 
--- the object that a fault asks for is in the graph; each object that a record names in what it publishes and sets is in the
--- graph or among the news
+-- the object that a fault asks for is in the graph; each object that a record names in what it publishes and sets
+-- is in the graph or among the news
 abbrev pub NamesWhatIsOut : Settings → List Entry → Up → Type 0
 NamesWhatIsOut p server (up.Fault o) = stored p.shape o server ≢ None
 NamesWhatIsOut p server (up.Commit txn) = AllByRecursion (IsNamed p txn.news server) (stored_values txn)
@@ -40,8 +40,8 @@ pub record KeepsNamesOut (p : Settings) (es : List Entry) : Type 0 where
   pub graph : (o : ℕ) (body : Body) → stored p.shape o (counted (entries_of Server es)) ≡ Some body
       → AllByRecursion (IsInGraph p (counted (entries_of Server es))) body.values
 
--- Names are out: after entries each of which follows those before it, of a sound program that gives only known texts and stays
--- within its shape.
+-- Names are out: after entries each of which follows those before it, of a sound program that gives only known
+-- texts and stays within its shape.
 abbrev pub NamesAreOut : Type 0
 NamesAreOut = (p : Settings) (next : ThreadId → List Event → Option Request)
     → IsSound p.shape next → GivesKnownTexts p.shape next → StaysWithinShape p.shape next

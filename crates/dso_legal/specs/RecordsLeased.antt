@@ -1,5 +1,5 @@
--- A record that comes is of locks that are leased to its client: the guards of what it sets, the locks of its notifications, and
--- the lock of its ending.
+-- A record that comes is of locks that are leased to its client: the guards of what it sets, the locks of its
+-- notifications, and the lock of its ending.
 use Rattle.std.specs.List.{AllByRecursion}
 use Rattle.std.specs.Prelude.{List, None, Option, Some, false, ℕ, ◌≡◌, ◌≢◌}
 use Rattle.dso_base.specs.Shape.{guard_of}
@@ -48,8 +48,8 @@ pub record IsRecordLeased (p : Settings) (c : ℕ) (server : List Entry) (txn : 
   pub notes : AllByRecursion (IsNoteLeased c server) txn.notes
   pub ending : IsEndingLeased c server txn.ending
 
--- Records are leased: after entries each of which follows those before it, of a sound program that gives only known texts and
--- stays within its shape, a record that comes of a client that isn't lost is.
+-- Records are leased: after entries each of which follows those before it, of a sound program that gives only known
+-- texts and stays within its shape, a record that comes of a client that isn't lost is.
 abbrev pub RecordsAreLeased : Type 0
 RecordsAreLeased = (p : Settings) (next : ThreadId → List Event → Option Request)
     → IsSound p.shape next → GivesKnownTexts p.shape next → StaysWithinShape p.shape next

@@ -5,7 +5,8 @@ use Rattle.dso_machine.specs.Sound as machine
 use Rattle.dso_legal.specs.SoundProgram.{IsSound, GivesKnownTexts}
 use Rattle.dso_legal.specs.WithinShape.{StaysWithinShape}
 
--- Whatever code is sound: what its threads ask next is a sound program, so all that the laws ask of a program it keeps to.
+-- Whatever code is sound: what its threads ask next is a sound program, so all that the laws ask of a program it
+-- keeps to.
 abbrev pub SoundCodeIsSoundProgram : Type 0
 SoundCodeIsSoundProgram = (code : Code) → machine.IsSound code → IsSound code.shape (next_request code)
 

@@ -1,4 +1,5 @@
--- Values are fine: each fits the field that it stands in, what it names was made, and its text is one of the program's.
+-- Values are fine: each fits the field that it stands in, what it names was made, and its text is one of the
+-- program's.
 use Rattle.std.specs.List.{AllByRecursion}
 use Rattle.std.specs.Prelude.{ℕ, ◌<◌, ◌≡◌, ◌≢◌, Option, Some, None, List, slice_get}
 use Rattle.dso_base.specs.declared.journal.Entry.{Entry}
@@ -43,7 +44,8 @@ IsFine shape es (value.Ref o) = (o ≢ 0) × (class_made shape o es ≢ None)
 IsFine shape es (value.Text t) = t < shape.texts
 IsFine shape es v = Unit {0}
 
--- the value may stand in the field: the object was made so that it has the field, and the value is fine and fits the field
+-- the value may stand in the field: the object was made so that it has the field, and the value is fine and fits
+-- the field
 pub record FitsField (shape : Shape) (es : List Entry) (o f : ℕ) (v : Value) : Type 0 where
   pub class : ClassId
   pub size : ℕ
@@ -91,19 +93,22 @@ abbrev pub EventTellsFine : Shape → List Entry → Event → Type 0
 EventTellsFine shape es (Act t request reply woken) = TellsFine shape es reply
 EventTellsFine shape es (Lost client) = Unit {0}
 
--- So is all that threads have in hand and were told, all copies, all that is in flight, and the server's graph; and each object
--- was made as the shape allows.
+-- So is all that threads have in hand and were told, all copies, all that is in flight, and the server's graph; and
+-- each object was made as the shape allows.
 pub record KeepsValues (shape : Shape) (es : List Entry) : Type 0 where
-  pub sizes : (o : ℕ) (class : ClassId) (size : ℕ) → class_made shape o es ≡ Some (class, size) → HasSize shape class size
+  pub sizes : (o : ℕ) (class : ClassId) (size : ℕ) → class_made shape o es ≡ Some (class, size)
+      → HasSize shape class size
   pub works : (t : ThreadId) → IsFineWork shape es (work_of shape t (entries_of (Client t.client) es))
   pub told : (t : ThreadId) → AllByRecursion (EventTellsFine shape es) (events_in t (entries_of (Client t.client) es))
   pub copies : (c o f : ℕ) (v : Value) → value_held o f (entries_of (Client c) es) ≡ Some v → FitsField shape es o f v
   pub ups : (c : ℕ) → AllByRecursion (CarriesUpFine shape es) (messages (up_in_flight c es))
   pub downs : (c : ℕ) → AllByRecursion (CarriesDownFine shape es) (messages (down_in_flight c es))
-  pub graph : (o : ℕ) (body : Body) → stored shape o (counted (entries_of Server es)) ≡ Some body → IsFineBody shape es body
+  pub graph : (o : ℕ) (body : Body) → stored shape o (counted (entries_of Server es)) ≡ Some body
+      → IsFineBody shape es body
 
--- Values are fine: after entries each of which follows those before it, of a sound program that gives only known texts and stays
--- within its shape, for lost clients too.
+-- Values are fine: after entries each of which follows those before it, of a sound program that gives only known
+-- texts and stays within its shape, for lost clients too.
 abbrev pub ValuesAreFine : Type 0
-ValuesAreFine = (p : Settings) (next : ThreadId → List Event → Option Request) → IsSound p.shape next → GivesKnownTexts p.shape next → StaysWithinShape p.shape next
+ValuesAreFine = (p : Settings) (next : ThreadId → List Event → Option Request) → IsSound p.shape next
+    → GivesKnownTexts p.shape next → StaysWithinShape p.shape next
     → (es : List Entry) → AllFollow p next es → KeepsValues p.shape es

@@ -48,7 +48,8 @@ abbrev pub ValuesFitUp : Settings → List Entry → Up → Type 0
 ValuesFitUp p server (up.Commit txn) = FitsValues p server txn
 ValuesFitUp p server m = Unit {0}
 
--- an object is of the roots exactly where it is object 0, and fits the shape; each change of a resident object fits its field
+-- an object is of the roots exactly where it is object 0, and fits the shape; each change of a resident object fits
+-- its field
 abbrev pub ValuesFitDown : Settings → List Entry → Down → Type 0
 ValuesFitDown p client (down.Object body) = ((body.class ≡ Roots) ↔ (body.object ≡ 0)) × FitsShape p.shape body
 ValuesFitDown p client (down.Changes sets) = AllByRecursion (FitsChange p.shape client) sets
@@ -59,8 +60,9 @@ pub record ValuesFirst (p : Settings) (c : ℕ) (es : List Entry) : Type 0 where
   pub ups : (m : Up) → IsFirst m (up_in_flight c es) → ValuesFitUp p (counted (entries_of Server es)) m
   pub downs : (m : Down) → IsFirst m (down_in_flight c es) → ValuesFitDown p (entries_of (Client c) es) m
 
--- Values fit: after entries each of which follows those before it, of a sound program that gives only known texts and stays within
--- its shape, what comes fits the shape, of each client and to each, a lost one too.
+-- Values fit: after entries each of which follows those before it, of a sound program that gives only known texts
+-- and stays within its shape, what comes fits the shape, of each client and to each, a lost one too.
 abbrev pub ValuesFit : Type 0
-ValuesFit = (p : Settings) (next : ThreadId → List Event → Option Request) → IsSound p.shape next → GivesKnownTexts p.shape next → StaysWithinShape p.shape next
+ValuesFit = (p : Settings) (next : ThreadId → List Event → Option Request) → IsSound p.shape next
+    → GivesKnownTexts p.shape next → StaysWithinShape p.shape next
     → (es : List Entry) → AllFollow p next es → (c : ℕ) → ValuesFirst p c es

@@ -16,15 +16,16 @@ use Rattle.dso_legal.specs.Numbered.{IsOfFirst}
 use Rattle.dso_legal.specs.Residency.{ObjectFitsDown}
 use Rattle.dso_legal.specs.Tokens.{LeaseFitsDown}
 
--- By the client's entries a grant was asked for, a batch of ids was asked for and is above those before it, an acknowledgement
--- is of the first record that isn't acknowledged, and an object was asked for.
+-- By the client's entries a grant was asked for, a batch of ids was asked for and is above those before it, an
+-- acknowledgement is of the first record that isn't acknowledged, and an object was asked for.
 pub record FindsClient (c : ℕ) (m : Down) (es : List Entry) : Type 0 where
   pub lease : LeaseFitsDown m (entries_of (Client c) es)
   pub batch : BatchFits c m es
   pub acknowledged : IsOfFirst m (unacked (entries_of (Client c) es))
   pub object : ObjectFitsDown m (entries_of (Client c) es)
 
--- So the first message in flight to each client, after entries each of which follows those before it, to a lost client too.
+-- So the first message in flight to each client, after entries each of which follows those before it, to a lost
+-- client too.
 abbrev pub WaysDownFit : Type 0
 WaysDownFit = (p : Settings) (next : ThreadId → List Event → Option Request) (es : List Entry) → AllFollow p next es
     → (c : ℕ) (m : Down) → IsFirst m (down_in_flight c es) → FindsClient c m es

@@ -1,4 +1,5 @@
--- What messages that fit ask of a program, beside its being sound: it uses only places, locks and objects that are there.
+-- What messages that fit ask of a program, beside its being sound: it uses only places, locks and objects that are
+-- there.
 use Rattle.std.specs.List.{list_any, Any}
 use Rattle.std.specs.Prelude.{ℕ, ◌<◌, ◌≡◌, ◌⊎◌, false, Option, Some, List}
 use Rattle.dso_base.specs.declared.lock.LockName.{LockName}
@@ -30,7 +31,8 @@ abbrev pub IsLookAt : ℕ → ClassId → ℕ → Event → Type 0
 IsLookAt o class size (Act thread (Look looked) (Seen seen n) woken) = (looked ≡ o) × (seen ≡ class) × (n ≡ size)
 IsLookAt o class size event = ⊥
 
--- The thread knows the object's class and size: it is object 0, which has the roots, or one of the events looked at it.
+-- The thread knows the object's class and size: it is object 0, which has the roots, or one of the events looked at
+-- it.
 abbrev pub KnowsClass : ℕ → ClassId → ℕ → List Event → Type 0
 KnowsClass o class size events = ((o ≡ 0) × (class ≡ Roots)) ⊎ Any (IsLookAt o class size) events
 
@@ -46,8 +48,8 @@ abbrev pub IsLockThere : Shape → LockName → Type 0
 IsLockThere shape (Mon o) = Unit {0}
 IsLockThere shape (Name n) = n < shape.names
 
--- A thread reads and writes only places that it knows, and writes only what fits them; by name it enters only locks that are
--- there; and it prints no object but those that it was told of.
+-- A thread reads and writes only places that it knows, and writes only what fits them; by name it enters only locks
+-- that are there; and it prints no object but those that it was told of.
 abbrev pub UsesWhatIsThere : Shape → Request → List Event → Type 0
 UsesWhatIsThere shape (New class n) events = Unit {0}
 UsesWhatIsThere shape (Look o) events = Unit {0}
@@ -66,9 +68,10 @@ UsesWhatIsThere shape (End fault) events = Unit {0}
 UsesWhatIsThere shape Pause events = Unit {0}
 UsesWhatIsThere shape Settle events = Unit {0}
 
--- Within its shape: wherever events of a thread follow the program, none told it of object 0, and it waited only on locks that
--- it held at Write, its next request uses only what is there.
+-- Within its shape: wherever events of a thread follow the program, none told it of object 0, and it waited only on
+-- locks that it held at Write, its next request uses only what is there.
 abbrev pub StaysWithinShape : Shape → (ThreadId → List Event → Option Request) → Type 0
 StaysWithinShape shape next = (t : ThreadId) (events : List Event) (request : Request) → AreActsOf t events
-    → list_any (event_tells 0) events ≡ false → WaitsAreHeld t events no_locks → FollowsProgram next (Listed next) t events
+    → list_any (event_tells 0) events ≡ false → WaitsAreHeld t events no_locks
+    → FollowsProgram next (Listed next) t events
     → next t events ≡ Some request → UsesWhatIsThere shape request events

@@ -28,6 +28,9 @@ ghost use Rattle.dso_legal.specs.RecordsLeased.{RecordsAreLeased};
 ghost use Rattle.dso_legal.specs.NamesOut.{NamesAreOut};
 ghost use Rattle.dso_legal.specs.LostClients.{LostAreToldNothing};
 ghost use Rattle.dso_legal.specs.WaysDown.{WaysDownFit};
+ghost use Rattle.dso_legal.specs.RecordsOwn.{RecordsAreOwn, HeldAreStored};
+ghost use Rattle.dso_legal.specs.Room.{BatchesHaveRoom};
+ghost use Rattle.dso_legal.specs.MessagesFit.{MessagesFit};
 
 /// For each client that isn't lost and each lock: each message in flight may come where it stands, and once all are taken the
 /// client and the server say the same of the lock's lease.
@@ -68,6 +71,12 @@ pub fn batches_stay_in_order()
 /// For each client that isn't lost: a batch that comes was asked for, and is above those that the client has.
 pub fn batches_fit()
     ensures { BatchesFit }
+{}
+
+/// A batch of ids that comes to a client, to a lost one too, ends within 64 bits where the journal has fewer than 2^54 entries:
+/// no more batches are given than it has entries.
+pub fn batches_have_room()
+    ensures { BatchesHaveRoom }
 {}
 
 /// The server gives no id to two clients.
@@ -150,6 +159,24 @@ pub fn locks_are_there()
 /// an exit, that of a wait at Write.
 pub fn records_are_leased()
     ensures { RecordsAreLeased }
+{}
+
+/// In a journal of a sound program that stays within its shape, a record that comes of a client that isn't lost is of one of
+/// the client's threads, which no record taken before ended, and whom its notifications woke there are threads of the client.
+pub fn records_are_own()
+    ensures { RecordsAreOwn }
+{}
+
+/// In a journal of a sound program that stays within its shape, of fewer than 2^54 entries: the first message in flight from
+/// each client that isn't lost fits at the server, and the first to each client, a lost one too, fits there, as far as the
+/// waiters that a return brings, a timeout ends and a waking marks fit.
+pub fn messages_fit()
+    ensures { MessagesFit }
+{}
+
+/// Each object that a client holds, as the server sees it, is in the server's graph.
+pub fn held_are_stored()
+    ensures { HeldAreStored }
 {}
 
 /// In a journal of a sound program that stays within its shape, what a message of a client that isn't lost names is in the

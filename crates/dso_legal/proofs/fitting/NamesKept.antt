@@ -1,6 +1,6 @@
 -- Which objects a client's messages, copies and threads name, and how that is kept where more is known.
 use Rattle.std.specs.List.{AllByRecursion, list_any}
-use Rattle.std.proofs.Common.{Bool, List, None, Option, Some, [], arith, cond, drop, eqb, false, inl, inr, refl, subst, sym, true, ℕ, ◌++◌, ◌+◌, ◌||◌, ◌∷◌, ◌≡◌, ◌≤◌, ◌⊎◌}
+use Rattle.std.proofs.Common.{Bool, List, None, Option, Some, [], arith, cond, drop, eqb, false, inl, inr, is_some, refl, subst, sym, true, ℕ, ◌++◌, ◌+◌, ◌||◌, ◌∙◌, ◌∷◌, ◌≡◌, ◌≤◌, ◌⊎◌}
 use Rattle.dso_base.specs.declared.journal.Entry.{Entry}
 use Rattle.dso_base.specs.declared.lock.ThreadId.{ThreadId}
 use Rattle.dso_base.specs.declared.message.Down.{Down}
@@ -8,12 +8,14 @@ use Rattle.dso_base.specs.declared.message.Down.TheVariants as down
 use Rattle.dso_base.specs.declared.message.Up.{Up}
 use Rattle.dso_base.specs.declared.message.Up.TheVariants as up
 use Rattle.dso_base.specs.declared.record.Body.{Body}
+use Rattle.dso_base.specs.declared.record.Set.{Set}
 use Rattle.dso_base.specs.declared.request.Event.{Event}
 use Rattle.dso_base.specs.declared.value.Value.{Value}
 use Rattle.dso_law.specs.Channels.{IsFirst, Letter}
 use Rattle.dso_law.specs.Copies.{is_among, value_held}
 use Rattle.dso_law.specs.Entries.{events_in}
 use Rattle.dso_law.specs.Settings.{Settings}
+use Rattle.dso_law.specs.Store.{body_by, body_by_news, body_by_sets, body_with}
 use Rattle.dso_law.specs.Threads.{work_of}
 use Rattle.dso_legal.specs.Agreement.{EachMay, after, messages}
 use Rattle.dso_legal.specs.OwnObjects.{count_bodies, published_by}
@@ -156,6 +158,42 @@ module _ (x : ℕ) where
       one : (m : Up) → IsNoRecord m → CarriesNames a m
       one (up.Commit txn) none = absurd none
       one m none = tt
+
+  -- ---- the graph
+
+  -- what a record makes of whether the object is in the graph
+  pub stored_by_sets : (o : ℕ) (sets : List Set) (body : Option Body) → is_some (body_by_sets o sets body) ≡ is_some body
+  stored_by_sets o [] body = refl
+  stored_by_sets o (set ∷ sets) body = stored_by_sets o sets (cond (eqb set.object o) (body_with set body) body) ∙ by (eqb set.object o) body
+    where
+      by : (b : Bool) (body : Option Body) → is_some (cond b (body_with set body) body) ≡ is_some body
+      by true None = refl
+      by true (Some body) = refl
+      by false body = refl
+
+  pub stored_by_news : (o : ℕ) (news : List Body) (body : Option Body) → is_some (body_by_news o news body) ≡ (is_among o news || is_some body)
+  stored_by_news o [] body = refl
+  stored_by_news o (new ∷ news) body = stored_by_news o news (cond (eqb new.object o) (Some new) body) ∙ by (eqb new.object o)
+    where
+      swap : (a b : Bool) → (a || b) ≡ (b || a)
+      swap true true = refl
+      swap true false = refl
+      swap false true = refl
+      swap false false = refl
+
+      by : (b : Bool) → (is_among o news || is_some (cond b (Some new) body)) ≡ ((b || is_among o news) || is_some body)
+      by true = swap (is_among o news) true
+      by false = refl
+
+  pub stored_by_message : (d : ℕ) (m : Up) (body : Option Body) → is_some (body_by x d m body) ≡ published_by x m (is_some body)
+  stored_by_message d (up.Commit txn) body = stored_by_sets x txn.sets (body_by_news x txn.news body) ∙ stored_by_news x txn.news body
+  stored_by_message d up.IdAsk body = refl
+  stored_by_message d (up.Fault o) body = refl
+  stored_by_message d (up.Flushed o) body = refl
+  stored_by_message d (up.Request l level) body = refl
+  stored_by_message d (up.Return l threads) body = refl
+
+  -- ---- a client
 
   module _ (p : Settings) where
     -- what is out, where so much is known and these are in flight

@@ -41,7 +41,7 @@ use Rattle.dso_law.specs.Replies.{reply_of, value_in, value_seen, woken_by}
 use Rattle.dso_law.specs.ServerReadings.{counted, is_lost, is_of_lost}
 use Rattle.dso_law.specs.ServerStep.{sets_for}
 use Rattle.dso_law.specs.Settings.{Settings}
-use Rattle.dso_law.specs.Store.{body_by, body_by_news, body_by_sets, body_with, opening_roots, stored}
+use Rattle.dso_law.specs.Store.{body_by, opening_roots, stored}
 use Rattle.dso_law.specs.Threads.{ending_of, locks_of, open_block, or_else, own, privates_before, work_of}
 use Rattle.dso_law.proofs.client.HasBody.{found_among}
 use Rattle.dso_law.proofs.client.WorkByEntry.{work_goes_on}
@@ -64,7 +64,7 @@ use Rattle.dso_legal.proofs.fitting.FaultsAsked.{IsOf, IsOfFault, faults_asked}
 use Rattle.dso_legal.proofs.fitting.InHand.{WorkHas, each_filtered, each_of_two, each_so}
 use Rattle.dso_legal.proofs.fitting.Messages.{ClassHas, kept_after, stored_taken, value_sent, value_taken}
 use Rattle.dso_legal.proofs.fitting.NamesInHand.{AnyClass, AnyValue, BodyNames, GivesKnown, InField, NamesKnown, SetNames, WorkNames, act_names, bodies_on, body_on, either_so, hand_stays, in_hand, is_reference, left_so, or_on, right_so, sets_on, start_names, work_on}
-use Rattle.dso_legal.proofs.fitting.NamesKept.{CarriesNames, ClientNames, CommitNames, DownNames, FaultNames, HeldNames, MayName, StoredNames, all_so, carries_on, client_on, client_took, down_on, faults_come, few_there, held_on, none_carry, none_name, out, still_out, still_published, stored_on, told_one_more}
+use Rattle.dso_legal.proofs.fitting.NamesKept.{CarriesNames, ClientNames, CommitNames, DownNames, FaultNames, HeldNames, MayName, StoredNames, all_so, carries_on, client_on, client_took, down_on, faults_come, few_there, held_on, none_carry, none_name, out, still_out, still_published, stored_by_message, stored_on, told_one_more}
 use Rattle.dso_legal.proofs.fitting.RecordsLeased.{each_both}
 use Rattle.dso_legal.proofs.fitting.Replies.{CopiesHave, seen_has}
 use Rattle.dso_legal.proofs.fitting.Values.{all_fine, what_is_asked}
@@ -414,38 +414,6 @@ module _ (p : Settings) (next : ThreadId → List Event → Option Request) (sou
 
     -- ---- the server's entry
 
-    -- what a record makes of whether the object is in the graph
-    stored_by_sets : (o : ℕ) (sets : List Set) (body : Option Body) → is_some (body_by_sets o sets body) ≡ is_some body
-    stored_by_sets o [] body = refl
-    stored_by_sets o (set ∷ sets) body = stored_by_sets o sets (cond (eqb set.object o) (body_with set body) body) ∙ by (eqb set.object o) body
-      where
-        by : (b : Bool) (body : Option Body) → is_some (cond b (body_with set body) body) ≡ is_some body
-        by true None = refl
-        by true (Some body) = refl
-        by false body = refl
-
-    stored_by_news : (o : ℕ) (news : List Body) (body : Option Body) → is_some (body_by_news o news body) ≡ (is_among o news || is_some body)
-    stored_by_news o [] body = refl
-    stored_by_news o (new ∷ news) body = stored_by_news o news (cond (eqb new.object o) (Some new) body) ∙ by (eqb new.object o)
-      where
-        swap : (a b : Bool) → (a || b) ≡ (b || a)
-        swap true true = refl
-        swap true false = refl
-        swap false true = refl
-        swap false false = refl
-
-        by : (b : Bool) → (is_among o news || is_some (cond b (Some new) body)) ≡ ((b || is_among o news) || is_some body)
-        by true = swap (is_among o news) true
-        by false = refl
-
-    stored_by_message : (d : ℕ) (m : Up) (body : Option Body) → is_some (body_by x d m body) ≡ published_by x m (is_some body)
-    stored_by_message d (up.Commit txn) body = stored_by_sets x txn.sets (body_by_news x txn.news body) ∙ stored_by_news x txn.news body
-    stored_by_message d up.IdAsk body = refl
-    stored_by_message d (up.Fault o) body = refl
-    stored_by_message d (up.Flushed o) body = refl
-    stored_by_message d (up.Request l level) body = refl
-    stored_by_message d (up.Return l threads) body = refl
-
     module _ (node : e.node ≡ Server) where
       abbrev server : List Entry
       server = counted (entries_of Server es)
@@ -548,7 +516,7 @@ module _ (p : Settings) (next : ThreadId → List Event → Option Request) (sou
       later_known lost = is_some (stored_with lost x)
 
       stored_later : (i : Input) → known ≡ true → is_some (by_taken_up (body_by x) i (stored p.shape x server)) ≡ true
-      stored_later (input.TookUp d m) is = stored_by_message d m (stored p.shape x server) ∙ still_published x m known is
+      stored_later (input.TookUp d m) is = stored_by_message x d m (stored p.shape x server) ∙ still_published x m known is
       stored_later i is = is
 
       later_on : (lost : Bool) → known ≡ true → later_known lost ≡ true
@@ -556,7 +524,7 @@ module _ (p : Settings) (next : ThreadId → List Event → Option Request) (sou
       later_on false is = stored_later e.input is
 
       took_now : is_of_lost e.input (entries_of Server es) ≡ false → (d : ℕ) (m : Up) → e.input ≡ input.TookUp d m → published_by x m known ≡ later_known false
-      took_now counts d m is = sym (stored_by_message d m (stored p.shape x server)) ∙ ap (λ i. is_some (by_taken_up (body_by x) i (stored p.shape x server))) (sym is)
+      took_now counts d m is = sym (stored_by_message x d m (stored p.shape x server)) ∙ ap (λ i. is_some (by_taken_up (body_by x) i (stored p.shape x server))) (sym is)
 
       carries_now : is_of_lost e.input (entries_of Server es) ≡ false → (d : ℕ) (m : Up) → e.input ≡ input.TookUp d m → CarriesNames x (later_known false) m
       carries_now counts d m is = subst (λ b. CarriesNames x b m) (took_now counts d m is) (taken_carries d m is (subst (λ i. is_of_lost i (entries_of Server es) ≡ false) is counts))

@@ -24,7 +24,7 @@ use Rattle.dso_legal.specs.Lawful.{AllFollow, ClientFollows, NodeFollows}
 use Rattle.dso_legal.specs.Numbered.{Always, IsOfFirst, unchanged}
 use Rattle.dso_legal.specs.OwnObjects.{was_published}
 use Rattle.dso_legal.specs.Residency.{MayCome, MayMove, ObjectFitsDown, is_own, residency_at, residency_down, residency_up, residency_with}
-use Rattle.dso_legal.specs.Tokens.{LeaseFitsDown, MayGoDown, MayGoUp, asked}
+use Rattle.dso_legal.specs.Tokens.{LeaseFitsDown, MayGoDown, MayGoUp}
 use Rattle.dso_legal.specs.WaysDown.{WaysDownFit}
 use Rattle.dso_legal.proofs.fitting.WaysDown.{downs_after, downs_come}
 use Rattle.dso_legal.proofs.ids.Batches.{above_commutes, ask_commutes, ask_ends, batch_ends}

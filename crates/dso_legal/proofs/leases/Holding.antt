@@ -74,7 +74,7 @@ isnt_so true e = absurd (cc e)
 isnt_so false e = refl
 
 -- what is in a list and kept is in the part that is kept
-in_part : (t : ThreadId) (keep : ThreadId → Bool) (threads : List ThreadId) → keep t ≡ true → list_any (is_thread t) threads ≡ true → list_any (is_thread t) (filter keep threads) ≡ true
+pub in_part : (t : ThreadId) (keep : ThreadId → Bool) (threads : List ThreadId) → keep t ≡ true → list_any (is_thread t) threads ≡ true → list_any (is_thread t) (filter keep threads) ≡ true
 in_part t keep [] kept e = absurd (cc e)
 in_part t keep (u ∷ threads) kept e = by (is_thread t u) (keep u) refl refl e (in_part t keep threads kept)
   where

@@ -23,7 +23,7 @@ use Rattle.dso_law.specs.Leases.{idle, standing_up, standing_down, standing}
 use Rattle.dso_law.specs.ServerReadings.{loses, is_lost, is_of_lost, counted}
 use Rattle.dso_law.specs.Granting.{Waiter, standing_by, standing_with, queue_of}
 use Rattle.dso_legal.specs.Agreement.{EachMay}
-use Rattle.dso_legal.specs.Lawful.{next_after, ClientFollows, ServerFollows, NodeFollows, AllFollow, IsLawful}
+use Rattle.dso_legal.specs.Lawful.{next_after, ClientFollows, ServerFollows, NodeFollows, AllFollow}
 use Rattle.dso_legal.specs.Tokens.{MayGoUp, MayGoDown, AgreeOnLock, LeasesAreTokens, LeaseFitsUp, LeaseFitsDown, LeasesFit}
 use Rattle.dso_legal.proofs.leases.LeaseSteps.{lock_commutes, unless_true, no_both, IsPlain}
 use Rattle.dso_legal.proofs.leases.ClientLeases.{Says, client_says}
