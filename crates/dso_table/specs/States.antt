@@ -1,7 +1,6 @@
 -- How objects stand with a client, which notes there are of them, and in which order they were used.
 use Rattle.std.specs.Prelude.{ℕ, ◌+◌, ◌-◌, ◌≡◌, Bool, true, false, cond, not, eqb, ltb, max, is_some, take, filter, List, [], ◌∷◌, Option, Some, None}
 use Rattle.std.specs.BTreeMap.{is_at}
-use Rattle.std.specs.List.{list_any}
 use Rattle.std.specs.Option.{option_map, option_map_or}
 use Rattle.std.specs.Ordering.{nat_cmp}
 use Rattle.dso_base.specs.declared.lock.ThreadId.{ThreadId}
@@ -51,10 +50,6 @@ is_absent standing = not (is_some standing)
 abbrev pub is_asked : Option Standing → Bool
 is_asked (Some Asked) = true
 is_asked standing = false
-
--- the object is in the list
-abbrev pub is_listed : ℕ → List ℕ → Bool
-is_listed o objects = list_any (λ p. eqb p o) objects
 
 -- the list without the object
 abbrev pub without : ℕ → List ℕ → List ℕ

@@ -1,7 +1,7 @@
 -- What the tables of a client's objects tell, and what each change of them keeps.
 use Rattle.std.specs.Prelude.{ℕ, ◌+◌, ◌≡◌, ◌<◌, ◌≤◌, Bool, true, false, cond, not, ◌&&◌, ◌||◌, is_some, length, List, [], ◌∷◌, Option, Some, None}
 use Rattle.std.specs.BTreeMap.{BTreeMap}
-use Rattle.std.specs.BTreeSet.{contains}
+use Rattle.std.specs.BTreeSet.{BTreeSet, contains}
 use Rattle.std.specs.Map.{keys_of}
 use Rattle.std.specs.Option.{option_map, option_map_or}
 use Rattle.std.specs.Ordering.{nat_cmp}
@@ -10,12 +10,13 @@ use Rattle.dso_base.specs.declared.lock.ThreadId.{ThreadId}
 use Rattle.dso_lookup.specs.Maps.{look}
 use Rattle.dso_lookup.specs.Orders.{thread_order}
 use Rattle.dso_lookup.specs.Rows.{look_in}
+use Rattle.dso_lookup.specs.Search.{is_listed}
 use Rattle.dso_table.specs.declared.order.Order.{Order}
 use Rattle.dso_table.specs.declared.places.Places.{Places}
 use Rattle.dso_table.specs.declared.slot.Slot.{Slot}
 use Rattle.dso_table.specs.declared.slot.Standing.{Standing}
 use Rattle.dso_table.specs.declared.tables.Tables.{Tables}
-use Rattle.dso_table.specs.States.{State, is_resident, is_listed, with_at, later_than}
+use Rattle.dso_table.specs.States.{State, is_resident, with_at, later_than}
 
 -- what stands at a place, if there is one
 abbrev pub at_place : Places → Option ℕ → Option Slot
@@ -54,6 +55,11 @@ is_ordered order o = is_listed o (used_in order) || contains nat_cmp order.other
 -- how many objects are in the order
 abbrev pub number_in : Order → ℕ
 number_in order = length order.others.keys + length (used_in order)
+
+-- these objects, which weren't in the set, joined it
+pub record JoinedBy (objects : List ℕ) (old new : BTreeSet ℕ) : Type 0 where
+  pub has : (o : ℕ) → contains nat_cmp new o ≡ (contains nat_cmp old o || is_listed o objects)
+  pub number : length new.keys ≡ length old.keys + length objects
 
 -- no object stands in the list twice
 abbrev pub IsEachOnce : List ℕ → Type 0

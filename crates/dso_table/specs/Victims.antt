@@ -1,11 +1,12 @@
 -- Which objects may be flushed, and which is flushed first.
-use Rattle.std.specs.Prelude.{ℕ, ◌≡◌, ◌<◌, ◌≤◌, ◌++◌, ◌∷◌, Bool, true, false, Contains, List, Option, Some, None}
+use Rattle.std.specs.Prelude.{ℕ, ◌≡◌, ◌⊎◌, ◌<◌, ◌≤◌, ◌++◌, ◌∷◌, true, false, List, None}
 use Rattle.std.specs.Ordering.{is_lt}
 use Rattle.dso_base.specs.declared.lock.ThreadId.{ThreadId}
 use Rattle.dso_lookup.specs.Orders.{thread_order}
+use Rattle.dso_lookup.specs.Search.{is_listed}
 use Rattle.dso_table.specs.declared.not_flushable.NotFlushable.{NotFlushable}
 use Rattle.dso_table.specs.declared.not_flushable.NotFlushable.TheVariants.{Absent, Changed, InBlock, Wanted}
-use Rattle.dso_table.specs.States.{State, is_resident, is_listed}
+use Rattle.dso_table.specs.States.{State, is_resident}
 
 -- no thread has a note of the object
 abbrev pub NoNote : ℕ → (ThreadId × ℕ → Bool) → Type 0

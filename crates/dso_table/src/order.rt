@@ -1,11 +1,12 @@
 //! The order in which a client's objects were used.
-ghost use Rattle.std.specs.Prelude.{◌≡◌, ◌+◌, ◌-◌, ◌<◌, ◌∷◌, [], None, length, take, true, false, nat_eq, IfOk, IfSome, OnOk, OnErr};
-ghost use Rattle.std.specs.Map.{lookup};
+ghost use Rattle.std.specs.Prelude.{ℕ, ◌≡◌, ◌+◌, ◌-◌, ◌<◌, ◌∷◌, [], length, take, drop, true, false, IfOk, OnOk, OnErr};
+ghost use Rattle.std.specs.Map.{keys_of};
 ghost use Rattle.std.specs.Ordering.{nat_cmp};
 ghost use Rattle.std.specs.BTreeSet.{contains};
-ghost use Rattle.lru.specs.LruCache.{lru_cache, last_entry};
-ghost use Rattle.dso_table.specs.States.{is_listed, without, with_at};
-ghost use Rattle.dso_table.specs.Tables.{used_in, limit_in, is_ordered, number_in, OrderAgrees};
+ghost use Rattle.lru.specs.LruCache.{lru_cache};
+ghost use Rattle.dso_lookup.specs.Search.{is_listed};
+ghost use Rattle.dso_table.specs.States.{without, with_at};
+ghost use Rattle.dso_table.specs.Tables.{used_in, limit_in, is_ordered, number_in, JoinedBy, OrderAgrees};
 
 use dso_base::NoMemory;
 use lru::LruCache;
@@ -93,19 +94,21 @@ pub(crate) fn take_out(order: &mut Order, object: u64)
     }
 }
 
-/// Puts an object that wasn't among those used last before them, and lets go of the one that was used longest ago, which is
-/// among the others then. It answers `NoMemory` where an allocation was refused, and both are then as before.
+/// Puts a new object before those used last, where there are as many as are kept, and lets go of the one that was used
+/// longest ago: it joins the others. It answers `NoMemory` where an allocation was refused, and both are then as before.
 fn push_full(
     recent: &mut LruCache<u64, ()>,
     others: &mut BTreeSet<u64>,
     object: u64,
 ) -> Result<(), NoMemory>
-    requires full { 0 < length recent.old.entries }
-    requires new { lookup (nat_eq object) recent.old.entries ≡ None }
+    requires full { length recent.old.entries ≡ recent.old.cap }
+    requires some { 0 < recent.old.cap }
+    requires new { is_listed object (keys_of recent.old.entries) ≡ false }
+    requires apart { (p : ℕ) → is_listed p (keys_of recent.old.entries) ≡ true → contains nat_cmp others.old p ≡ false }
     ensures pushed { OnOk result (recent.new ≡ lru_cache ((object, tt) ∷ take (recent.old.cap - 1) recent.old.entries) recent.old.cap) }
-    ensures let_go { OnOk result (IfSome (last_entry recent.old.entries) (λ last. contains nat_cmp others.new ≡ with_at last.0 true (contains nat_cmp others.old))) }
+    ensures joined { OnOk result (JoinedBy (drop (recent.old.cap - 1) (keys_of recent.old.entries)) others.old others.new) }
     ensures same { OnErr result (recent.new ≡ recent.old) }
-    ensures same_others { OnErr result (contains nat_cmp others.new ≡ contains nat_cmp others.old) }
+    ensures same_others { OnErr result (JoinedBy [] others.old others.new) }
 {
     let Some((last, _)) = recent.peek_lru() else {
         return Ok(());
@@ -119,6 +122,28 @@ fn push_full(
             Err(NoMemory)
         }
     }
+}
+
+/// Puts a new object before those used last. One that there is no room for then joins the others. It answers `NoMemory`
+/// where an allocation was refused, and both are then as before.
+fn push(
+    recent: &mut LruCache<u64, ()>,
+    others: &mut BTreeSet<u64>,
+    object: u64,
+) -> Result<(), NoMemory>
+    requires new { is_listed object (keys_of recent.old.entries) ≡ false }
+    requires apart { (p : ℕ) → is_listed p (keys_of recent.old.entries) ≡ true → contains nat_cmp others.old p ≡ false }
+    ensures some { 0 < recent.old.cap }
+    ensures pushed { OnOk result (recent.new ≡ lru_cache ((object, tt) ∷ take (recent.old.cap - 1) recent.old.entries) recent.old.cap) }
+    ensures joined { OnOk result (JoinedBy (drop (recent.old.cap - 1) (keys_of recent.old.entries)) others.old others.new) }
+    ensures same { OnErr result (recent.new ≡ recent.old) }
+    ensures same_others { OnErr result (JoinedBy [] others.old others.new) }
+{
+    if recent.len() < recent.cap().get() {
+        recent.push(object, ())?;
+        return Ok(());
+    }
+    push_full(recent, others, object)
 }
 
 /// Puts an object that is in the order before all others: it is the one used last. It answers `NoMemory` where an
@@ -136,14 +161,11 @@ pub(crate) fn touch(order: &mut Order, object: u64) -> Result<(), NoMemory>
     let Some(recent) = &mut order.recent else {
         return Ok(());
     };
-    if recent.promote(&object) {
+    if recent.contains(&object) {
+        recent.promote(&object);
         return Ok(());
     }
-    if recent.len() < recent.cap().get() {
-        recent.push(object, ())?;
-    } else {
-        push_full(recent, &mut order.others, object)?;
-    }
+    push(recent, &mut order.others, object)?;
     order.others.remove(&object);
     Ok(())
 }

@@ -1,6 +1,6 @@
 //! The object that is flushed next.
 ghost use Rattle.std.specs.Prelude.{ℕ, ◌≡◌, true, IfNone, IfSome};
-ghost use Rattle.dso_table.specs.States.{is_listed};
+ghost use Rattle.dso_lookup.specs.Search.{is_listed};
 ghost use Rattle.dso_table.specs.Tables.{state_in, TablesAgree};
 ghost use Rattle.dso_table.specs.Victims.{IsFlushable, IsLeastUnused, IsLeastRecent, IsVictim, NoVictim};
 
