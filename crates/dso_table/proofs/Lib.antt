@@ -4,3 +4,7 @@ pub mod AtPlaces
 pub mod Orders
 pub mod OrderCalls
 pub mod Joining
+pub mod StateChanges
+pub mod TableChanges
+pub mod FirstNotes
+pub mod LookedAt

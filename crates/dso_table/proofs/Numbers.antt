@@ -57,3 +57,7 @@ with_at_map {V} g o v f = fun_ext (λ p. by (is_at (nat_cmp o) p) (f p))
     by : (b : Bool) (x : V) → g (or_old (cond b (Some v) None) x) ≡ or_old (cond b (Some (g v)) None) (g x)
     by true x = refl
     by false x = refl
+
+-- at the number stands what is written there
+pub with_at_here : {V : Type 0} (o : ℕ) (v : V) (f : ℕ → V) → with_at o v f o ≡ v
+with_at_here o v f = ap (λ b. or_old (cond b (Some v) None) (f o)) (is_at_itself o)

@@ -1,5 +1,5 @@
 -- Which objects may be flushed, and which is flushed first.
-use Rattle.std.specs.Prelude.{ℕ, ◌≡◌, ◌⊎◌, ◌<◌, ◌≤◌, ◌++◌, ◌∷◌, true, false, List, None}
+use Rattle.std.specs.Prelude.{ℕ, ◌≡◌, ◌⊎◌, ◌<◌, ◌≤◌, ◌++◌, ◌∷◌, Bool, true, false, List, Some, None}
 use Rattle.std.specs.Ordering.{is_lt}
 use Rattle.dso_base.specs.declared.lock.ThreadId.{ThreadId}
 use Rattle.dso_lookup.specs.Orders.{thread_order}

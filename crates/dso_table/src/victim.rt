@@ -28,7 +28,9 @@ fn least_recent(tables: &Tables) -> Option<u64>
     ensures none { IfNone result ((o : ℕ) → IsFlushable (state_in tables.now) o → ⊥) }
     ensures least { IfSome result (IsLeastRecent (state_in tables.now)) }
 {
-    let recent = tables.order.recent.as_ref()?;
+    let Some(recent) = &tables.order.recent else {
+        return None;
+    };
     for (object, _) in recent.iter().rev() {
         if is_flushable(tables, *object) {
             return Some(*object);
