@@ -10,6 +10,8 @@ mod leases;
 mod parts;
 mod plain_holds;
 mod plain_leases;
+mod plain_table;
+mod table_rows;
 mod waits;
 mod words;
 

@@ -8,13 +8,16 @@
 //! | `hold random 7 500` | 500 calls drawn from a number, beside a plain list of holds (`plain_holds.rt`) |
 //! | `lease want m5 read outer` | the leases (`leases.rt`) |
 //! | `lease random 7 500` | 500 calls drawn from a number, beside a plain list of locks (`plain_leases.rt`) |
+//! | `table new 2` | the table of objects (`table_rows.rt`) |
+//! | `table random 7 500` | 500 calls drawn from a number, beside a plain list of objects (`plain_table.rt`) |
 
 use crate::words::{first_of, shown};
-use crate::{holds, ids, leases, waits};
+use crate::{holds, ids, leases, table_rows, waits};
 use dso_base::NoMemory;
 use dso_hold::Hold;
 use dso_ids::{IdPool, IdSource};
 use dso_lease::Leases;
+use dso_table::Table;
 use dso_wait::WaitList;
 use std::alloc::{AllocError, Global};
 
@@ -26,6 +29,7 @@ pub struct Parts {
     waiters: WaitList,
     holds: Hold,
     leases: Leases,
+    table: Option<Table>,
 }
 
 impl Parts {
@@ -37,6 +41,7 @@ impl Parts {
             waiters: WaitList::new(alloc),
             holds: Hold::new(alloc),
             leases: Leases::new(alloc),
+            table: None,
         }
     }
 
@@ -60,6 +65,7 @@ impl Parts {
             "wait" => waits::told(alloc, &mut self.waiters, rest),
             "hold" => holds::told(alloc, &mut self.holds, rest),
             "lease" => leases::told(alloc, &mut self.leases, rest),
+            "table" => table_rows::told(alloc, &mut self.table, rest),
             _ => shown(alloc, "no such command"),
         }
     }
