@@ -10,14 +10,17 @@
 //! | `lease random 7 500` | 500 calls drawn from a number, beside a plain list of locks (`plain_leases.rt`) |
 //! | `block put 0 0 r5` | what a thread has in hand, and the record of it (`block_rows.rt`) |
 //! | `unacked add 1` | the records that are not acknowledged (`unacked_rows.rt`) |
+//! | `table new 2` | the table of objects (`table_rows.rt`) |
+//! | `table random 7 500` | 500 calls drawn from a number, beside a plain list of objects (`plain_table.rt`) |
 
 use crate::block_rows::Hand;
 use crate::words::{first_of, shown};
-use crate::{holds, ids, leases, unacked_rows, waits};
+use crate::{holds, ids, leases, table_rows, unacked_rows, waits};
 use dso_base::NoMemory;
 use dso_hold::Hold;
 use dso_ids::{IdPool, IdSource};
 use dso_lease::Leases;
+use dso_table::Table;
 use dso_txn::Unacked;
 use dso_wait::WaitList;
 use std::alloc::{AllocError, Global};
@@ -32,6 +35,7 @@ pub struct Parts {
     leases: Leases,
     hand: Hand,
     unacked: Unacked,
+    table: Option<Table>,
 }
 
 impl Parts {
@@ -45,6 +49,7 @@ impl Parts {
             leases: Leases::new(alloc),
             hand: Hand::new(alloc),
             unacked: Unacked::new(alloc),
+            table: None,
         }
     }
 
@@ -70,6 +75,7 @@ impl Parts {
             "lease" => leases::told(alloc, &mut self.leases, rest),
             "block" => self.hand.told(alloc, rest),
             "unacked" => unacked_rows::told(alloc, &mut self.unacked, rest),
+            "table" => table_rows::told(alloc, &mut self.table, rest),
             _ => shown(alloc, "no such command"),
         }
     }

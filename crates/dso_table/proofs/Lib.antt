@@ -1,0 +1,10 @@
+pub mod Numbers
+pub mod Lists
+pub mod AtPlaces
+pub mod Orders
+pub mod OrderCalls
+pub mod Joining
+pub mod StateChanges
+pub mod TableChanges
+pub mod FirstNotes
+pub mod LookedAt

@@ -1,0 +1,157 @@
+//! The table of a client's objects: `new 2`, `put 5 7`, `put 5 7 1`, `set 5 0 9`, `set 5 0 9 1`, `get 5`, `asked 5`,
+//! `ask 5 1.1`, `opened 5 1.1`, `used 5`, `flush 5`, `acted 1.1`, `closed 1.1`, `acked 1`, `victim`, `random 7 500`.
+//!
+//! An object has one field, a long. A number behind a `put` or a `set` is that of the own record that changed it.
+
+use crate::plain_table;
+use crate::words::{count, debugged, first_of, number, shown, thread};
+use dso_base::{Body, ClassId, Items, NoMemory, Set, Value};
+use dso_table::Table;
+use std::alloc::Global;
+
+/// The answer to the call.
+pub fn told(alloc: Global, table: &mut Option<Table>, text: &str) -> Result<String, NoMemory> {
+    let (word, rest) = first_of(text);
+    match (word, table) {
+        ("random", _) => plain_table::compared(alloc, rest),
+        ("new", table) => made(alloc, table, rest),
+        (_, Some(table)) => called(alloc, table, word, rest),
+        _ => shown(alloc, "no table"),
+    }
+}
+
+/// An empty table of a client that is to keep so many resident objects.
+fn made(alloc: Global, table: &mut Option<Table>, text: &str) -> Result<String, NoMemory> {
+    match count(text) {
+        Some(resident) => {
+            *table = Some(Table::new(alloc, resident)?);
+            shown(alloc, "empty")
+        }
+        None => shown(alloc, "no such number"),
+    }
+}
+
+/// The answer to a call on a table.
+fn called(alloc: Global, table: &mut Table, word: &str, text: &str) -> Result<String, NoMemory> {
+    let (first, rest) = first_of(text);
+    match (word, number(first), thread(first)) {
+        ("victim", _, _) => debugged(alloc, table.victim()),
+        ("acked", Some(seq), _) => {
+            table.acked(seq);
+            shown(alloc, "acknowledged")
+        }
+        ("acted", _, Some(thread)) => {
+            table.acted(thread);
+            shown(alloc, "acted")
+        }
+        ("closed", _, Some(thread)) => {
+            table.closed(thread);
+            shown(alloc, "closed")
+        }
+        (_, Some(object), _) => of_object(alloc, table, word, object, rest),
+        _ => shown(alloc, "no such call"),
+    }
+}
+
+/// The answer to a call on an object.
+fn of_object(
+    alloc: Global,
+    table: &mut Table,
+    word: &str,
+    object: u64,
+    text: &str,
+) -> Result<String, NoMemory> {
+    match word {
+        "get" => debugged(alloc, first_value(table, object)),
+        "asked" => shown(alloc, table.is_asked(object)),
+        "flush" => debugged(alloc, table.flush(object)),
+        "used" => {
+            table.used(object)?;
+            shown(alloc, "used")
+        }
+        "put" => put(alloc, table, object, text),
+        "set" => set(alloc, table, object, text),
+        _ => of_thread(alloc, table, word, object, text),
+    }
+}
+
+/// The value of the copy's field, None where there is no copy.
+pub fn first_value(table: &Table, object: u64) -> Option<Value> {
+    match table.get(object) {
+        Some(body) => body.values.get(0).copied(),
+        None => None,
+    }
+}
+
+/// Puts an object with this value in its field.
+pub fn put_value(
+    alloc: Global,
+    table: &mut Table,
+    object: u64,
+    value: i64,
+    changed: Option<u64>,
+) -> Result<(), NoMemory> {
+    let mut values = Items::new(alloc);
+    values.push(Value::Long(value))?;
+    let body = Body {
+        object,
+        class: ClassId::Plain(0),
+        values,
+    };
+    table.put_object(&body, changed)
+}
+
+/// The answer to a copy that comes.
+fn put(alloc: Global, table: &mut Table, object: u64, text: &str) -> Result<String, NoMemory> {
+    let (first, second) = first_of(text);
+    match long(first) {
+        Some(value) => {
+            put_value(alloc, table, object, value, number(second))?;
+            shown(alloc, "put")
+        }
+        None => shown(alloc, "no such value"),
+    }
+}
+
+/// The answer to a write.
+fn set(alloc: Global, table: &mut Table, object: u64, text: &str) -> Result<String, NoMemory> {
+    let (first, rest) = first_of(text);
+    let (second, third) = first_of(rest);
+    match (count(first), long(second)) {
+        (Some(field), Some(value)) => {
+            let change = Set {
+                object,
+                field,
+                value: Value::Long(value),
+            };
+            shown(alloc, table.set(alloc, change, number(third)))
+        }
+        _ => shown(alloc, "no such field"),
+    }
+}
+
+/// The answer to a call on an object and a thread.
+fn of_thread(
+    alloc: Global,
+    table: &mut Table,
+    word: &str,
+    object: u64,
+    text: &str,
+) -> Result<String, NoMemory> {
+    match (word, thread(text)) {
+        ("ask", Some(thread)) => {
+            let was_absent = table.ask(alloc, object, thread)?;
+            shown(alloc, was_absent)
+        }
+        ("opened", Some(thread)) => {
+            table.opened(alloc, object, thread)?;
+            shown(alloc, "opened")
+        }
+        _ => shown(alloc, "no such call"),
+    }
+}
+
+/// The value of a field.
+fn long(word: &str) -> Option<i64> {
+    word.parse().ok()
+}
