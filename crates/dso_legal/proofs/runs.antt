@@ -2,3 +2,4 @@
 pub mod ClientsRun
 pub mod ChangesResident
 pub mod IdsInRuns
+pub mod HandsInRuns

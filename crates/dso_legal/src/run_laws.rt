@@ -1,5 +1,5 @@
 //! Laws of runs of one client beside those of dso_law. Each is the contract of a function that does nothing.
-ghost use Rattle.dso_legal.specs.Runs.{ClientsRun, ChangesStayResident, IdsRiseInRuns};
+ghost use Rattle.dso_legal.specs.Runs.{ClientsRun, ChangesStayResident, IdsRiseInRuns, HandsAreOnce};
 
 /// In a lawful journal the entries of each client are a run of it, of a lost one too.
 pub fn clients_run()
@@ -14,4 +14,9 @@ pub fn changes()
 /// The ids of the objects made rise, and the next one is above them.
 pub fn ids()
     ensures { IdsRiseInRuns }
+{}
+
+/// What a thread has in hand it has once, the published objects by rising id, and no record that was sent publishes it.
+pub fn hands()
+    ensures { HandsAreOnce }
 {}
