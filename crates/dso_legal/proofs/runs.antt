@@ -3,3 +3,5 @@ pub mod ClientsRun
 pub mod ChangesResident
 pub mod IdsInRuns
 pub mod HandsInRuns
+pub mod InHandAbsent
+pub mod FlushWords

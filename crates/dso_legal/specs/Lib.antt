@@ -35,6 +35,7 @@ pub mod CopiesStand
 pub mod Central
 pub mod Store
 pub mod Runs
+pub mod FlushWords
 pub mod JournalPass
 pub mod JournalPassTables
 pub mod examples
