@@ -11,3 +11,4 @@ pub mod Said
 pub mod Numbers
 pub mod Apart
 pub mod IdsTaken
+pub mod IdsGoOn

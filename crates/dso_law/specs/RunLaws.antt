@@ -1,11 +1,12 @@
 -- Laws of runs of one client.
 use Rattle.std.specs.List.{list_any}
-use Rattle.std.specs.Prelude.{ℕ, suc, ◌+◌, ◌*◌, ◌≤◌, ◌≡◌, true, false, eqb, Option, Some, List, [], ◌∷◌, length}
+use Rattle.std.specs.Prelude.{ℕ, suc, ◌+◌, ◌*◌, ◌≤◌, ◌≡◌, true, false, cond, eqb, ltb, Option, Some, None, List, [], ◌∷◌, length}
 use Rattle.dso_base.specs.declared.journal.Entry.{Entry}
 use Rattle.dso_base.specs.declared.journal.Input.TheVariants as input
 use Rattle.dso_base.specs.declared.lock.Level.TheVariants.{Read}
 use Rattle.dso_base.specs.declared.lock.LockName.{LockName}
 use Rattle.dso_base.specs.declared.lock.ThreadId.{ThreadId}
+use Rattle.dso_base.specs.declared.message.Down.TheVariants as down
 use Rattle.dso_base.specs.declared.record.Txn.{Txn}
 use Rattle.dso_base.specs.declared.request.Event.{Event}
 use Rattle.dso_base.specs.declared.request.Request.{Request}
@@ -14,8 +15,9 @@ use Rattle.dso_law.specs.Settings.{Settings, batch_size, threads_of}
 use Rattle.dso_law.specs.Entries.{unsent, by_taken_down, by_event}
 use Rattle.dso_law.specs.Copies.{is_resident, is_object_asked}
 use Rattle.dso_law.specs.Leases.{leased}
-use Rattle.dso_law.specs.Records.{batches, made, is_batch_asked, records, unacked}
+use Rattle.dso_law.specs.Records.{batches, made, made_by, is_batch_asked, records, unacked}
 use Rattle.dso_law.specs.ChangeMarks.{AcksInOrder}
+use Rattle.dso_law.specs.IdsAhead.{ids_from}
 use Rattle.dso_law.specs.Closing.{due}
 use Rattle.dso_law.specs.ClientStep.{ClientStep}
 use Rattle.dso_law.specs.LeaseHeld.{Lease, awaits_lease, kept_lease, lease_by_taken, lease_by_event, lease_by_wants, lease_by_return}
@@ -92,3 +94,22 @@ pub record IdsAreTaken (es : List Entry) : Type 0 where
 abbrev pub IdsRunOut : Type 0
 IdsRunOut = (p : Settings) (c : ℕ) (next : ThreadId → List Event → Option Request) (es : List Entry)
     → ClientRun p c next es → IdsAreTaken es
+
+-- an entry whose event made an object
+abbrev pub IsMaking : Option Event → Type 0
+IsMaking None = ⊥
+IsMaking (Some event) = made_by event 0 ≡ 1
+
+-- the ids ahead, entry by entry: an object made takes the first of them; a batch that comes has found none left, and is all
+-- that is ahead; any other entry leaves them
+pub record IdsGoOn (e : Entry) (es : List Entry) : Type 0 where
+  pub made_one : IsMaking e.event → (k : ℕ) → ids_from k (e ∷ es) ≡ ids_from (suc k) es
+  pub batch : (first : ℕ) → e.input ≡ input.TookDown (down.Ids first) → (k : ℕ)
+      → ids_from k (e ∷ es) ≡ cond (ltb k batch_size) (Some (first + k)) None
+  pub otherwise : (IsMaking e.event → ⊥) → ((first : ℕ) → e.input ≡ input.TookDown (down.Ids first) → ⊥) → (k : ℕ)
+      → ids_from k (e ∷ es) ≡ ids_from k es
+
+-- Ids ahead: so at each entry of a run.
+abbrev pub IdsAheadGoOn : Type 0
+IdsAheadGoOn = (p : Settings) (c : ℕ) (next : ThreadId → List Event → Option Request) (e : Entry) (es : List Entry)
+    → ClientRun p c next (e ∷ es) → IdsGoOn e es

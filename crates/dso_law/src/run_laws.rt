@@ -1,7 +1,7 @@
 //! Laws of runs of one client, whose entries each follow those before it by the client rule. Each is the contract of a
 //! function that does nothing.
 ghost use Rattle.dso_law.specs.RunLaws.{OwnRequestsCount, NothingIsDue, WhoAwaitsStays, WhoAwaitsGoesOn, LeasesAreKept};
-ghost use Rattle.dso_law.specs.RunLaws.{RecordsAreNumbered, RecordsAreAckedInOrder, AskedIsAbsent, IdsRunOut};
+ghost use Rattle.dso_law.specs.RunLaws.{RecordsAreNumbered, RecordsAreAckedInOrder, AskedIsAbsent, IdsRunOut, IdsAheadGoOn};
 
 /// The client rule looks at the next requests of the client's own threads alone.
 pub fn own_requests()
@@ -37,7 +37,9 @@ pub fn apart()
     ensures { AskedIsAbsent }
 {}
 
-/// The client made no more objects than it took ids, and while a batch is asked for it made as many: no id is left.
+/// The client made no more objects than it took ids, and while a batch is asked for it made as many: no id is left. So an
+/// object made takes the first of the ids ahead, and a batch that comes is all that is ahead.
 pub fn ids()
-    ensures { IdsRunOut }
+    ensures taken { IdsRunOut }
+    ensures ahead { IdsAheadGoOn }
 {}

@@ -42,6 +42,7 @@ pub mod CopiesStand
 pub mod Central
 pub mod Store
 pub mod Runs
+pub mod FlushWords
 pub mod JournalPass
 pub mod JournalPassTables
 pub mod examples

@@ -1,6 +1,6 @@
 -- Runs of one client: a client's entries of a lawful journal are one, and what else holds of them.
 use Rattle.std.specs.List.{list_any}
-use Rattle.std.specs.Prelude.{ℕ, ◌≡◌, true, Option, List}
+use Rattle.std.specs.Prelude.{ℕ, ◌≤◌, ◌≡◌, true, false, ltb, Option, List}
 use Rattle.dso_base.specs.declared.journal.Entry.{Entry}
 use Rattle.dso_base.specs.declared.journal.Node.TheVariants.{Client}
 use Rattle.dso_base.specs.declared.lock.ThreadId.{ThreadId}
@@ -13,8 +13,10 @@ use Rattle.dso_law.specs.Copies.{is_resident}
 use Rattle.dso_law.specs.Records.{unacked}
 use Rattle.dso_law.specs.ClientStep.{changes_object}
 use Rattle.dso_law.specs.ClientRun.{ClientRun}
+use Rattle.dso_law.specs.FitsUp.{Rises}
 use Rattle.dso_legal.specs.Lawful.{IsLawful}
 use Rattle.dso_legal.specs.MadeOnce.{IdsRise}
+use Rattle.dso_legal.specs.OwnObjects.{count_in_hand, was_published}
 use Rattle.dso_legal.specs.Residency.{is_set}
 
 -- Runs: in a lawful journal the entries of each client are a run of it, of a lost one too.
@@ -37,3 +39,15 @@ ChangesStayResident = (p : Settings) (c : ℕ) (next : ThreadId → List Event �
 abbrev pub IdsRiseInRuns : Type 0
 IdsRiseInRuns = (p : Settings) (c : ℕ) (next : ThreadId → List Event → Option Request) (es : List Entry)
     → ClientRun p c next es → IdsRise es
+
+-- what a thread has in hand, by its client's entries: each object once, the published ones by rising id, and none in a record
+-- that was sent
+pub record HandIsOnce (p : Settings) (t : ThreadId) (es : List Entry) : Type 0 where
+  pub once : (o : ℕ) → count_in_hand o (work_of p.shape t es) ≤ 1
+  pub news : Rises (λ a b. ltb a.object b.object) (work_of p.shape t es).news
+  pub unpublished : (o : ℕ) → 1 ≤ count_in_hand o (work_of p.shape t es) → was_published o es ≡ false
+
+-- Hands: so of each thread in a run.
+abbrev pub HandsAreOnce : Type 0
+HandsAreOnce = (p : Settings) (c : ℕ) (next : ThreadId → List Event → Option Request) (es : List Entry)
+    → ClientRun p c next es → (t : ThreadId) → HandIsOnce p t es

@@ -38,7 +38,7 @@ one_batch : (k n : ℕ) → batch_size * suc k + n ≡ 256 + (batch_size * k + n
 one_batch k n = omega arith
 
 -- the new batch stands behind them
-more : (bs : List ℕ) (first n : ℕ) → id_at (bs ++ first ∷ []) (batch_size * length bs + n) ≡ cond (ltb n batch_size) (Some (first + n)) None
+pub more : (bs : List ℕ) (first n : ℕ) → id_at (bs ++ first ∷ []) (batch_size * length bs + n) ≡ cond (ltb n batch_size) (Some (first + n)) None
 more [] first n = let at : batch_size * 0 + n ≡ n = omega arith in ap (id_at (first ∷ [])) at
 more (b ∷ bs) first n = ap (id_at (b ∷ bs ++ first ∷ [])) (one_batch (length bs) n) ∙ next_batch b (batch_size * length bs + n) (bs ++ first ∷ []) ∙ more bs first n
 

@@ -31,7 +31,7 @@ use Rattle.dso_law.specs.ClientRun.{AreSameFor}
 use Rattle.dso_law.specs.RunLaws.{OwnRequestsCount}
 
 -- tests that are the same for the client's threads are passed by the same of them
-same_any : (c : ℕ) (test other : ThreadId → Bool) → ((t : ThreadId) → eqb t.client c ≡ true → test t ≡ other t) → (threads : List ThreadId)
+pub same_any : (c : ℕ) (test other : ThreadId → Bool) → ((t : ThreadId) → eqb t.client c ≡ true → test t ≡ other t) → (threads : List ThreadId)
     → list_any test (filter (λ t. eqb t.client c) threads) ≡ list_any other (filter (λ t. eqb t.client c) threads)
 same_any c test other same [] = refl
 same_any c test other same (t ∷ threads) = by (eqb t.client c) (same t) (same_any c test other same threads)

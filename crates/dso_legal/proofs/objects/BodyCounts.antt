@@ -90,7 +90,7 @@ module _ (o : ℕ) where
       by true = ap (λ n. count_bodies o work.privates + n) (count_valued x f v work.news)
       by false = refl
 
-  count_put : (x f : ℕ) (v : Value) (work : Work) → count_in_hand o (put x f v work) ≡ count_in_hand o work
+  pub count_put : (x f : ℕ) (v : Value) (work : Work) → count_in_hand o (put x f v work) ≡ count_in_hand o work
   count_put x f v work = by (is_some (body_in x work.privates))
     where
       by : (b : Bool) → count_in_hand o (cond b (record work { privates = with_value x f v work.privates }) (publish v (put_shared x f v work))) ≡ count_in_hand o work

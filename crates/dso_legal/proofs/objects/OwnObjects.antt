@@ -185,7 +185,7 @@ module _ (o : ℕ) where
             by true is = subst (λ u. Balanced u (e ∷ es)) (same_thread t it.thread is) (at_own_by (ending_of event (locks_of it.thread es)) refl (subst (λ u. Balanced u es) (sym (same_thread t it.thread is)) h))
             by false is = at_other t is h
 
-      at_either : (t : ThreadId) → IsQuiet e ⊎ HasEvent p e es → Balanced t es → Balanced t (e ∷ es)
+      pub at_either : (t : ThreadId) → IsQuiet e ⊎ HasEvent p e es → Balanced t es → Balanced t (e ∷ es)
       at_either t (inl quiet) h = at_quiet t quiet h
       at_either t (inr it) h = at_event it t h
 
@@ -233,12 +233,12 @@ module _ (o : ℕ) where
   published_sent (ToServer m ∷ out) b n h e = published_sent out (published_by o m b) (λ u. published_said u m (n u)) (published_one m b n h) e
   published_sent (ToClient d m ∷ out) b n h e = published_sent out b n h e
 
-  some_published : (es : List Entry) → was_published o es ≡ true → SomePublished (λ u. published u es)
+  pub some_published : (es : List Entry) → was_published o es ≡ true → SomePublished (λ u. published u es)
   some_published [] e = absurd (cc e)
   some_published (e ∷ es) f = published_sent e.sent (was_published o es) (λ u. published u es) (some_published es) f
 
 -- sums of which too much would be
-hand_made : (h p m : ℕ) → h + p ≡ m → 1 ≤ h → 1 ≤ m
+pub hand_made : (h p m : ℕ) → h + p ≡ m → 1 ≤ h → 1 ≤ m
 hand_made h p m e le = omega (arith, e, le)
 
 pub published_made : (h p m : ℕ) → h + p ≡ m → 1 ≤ p → 1 ≤ m
@@ -247,7 +247,7 @@ published_made h p m e le = omega (arith, e, le)
 just_one_in_hand : (h p m n : ℕ) → h + p ≡ m → m ≤ n → n ≤ 1 → 1 ≤ h → h ≡ 1
 just_one_in_hand h p m n e le few some = omega (arith, e, le, few, some)
 
-not_both_ways : (h p m n : ℕ) → h + p ≡ m → m ≤ n → n ≤ 1 → 1 ≤ h → 1 ≤ p → ⊥
+pub not_both_ways : (h p m n : ℕ) → h + p ≡ m → m ≤ n → n ≤ 1 → 1 ≤ h → 1 ≤ p → ⊥
 not_both_ways h p m n e le few some more = omega (arith, e, le, few, some, more)
 
 module _ (p : Settings) (next : ThreadId → List Event → Option Request) (es : List Entry) (follow : AllFollow p next es) (o : ℕ) where
