@@ -7,16 +7,17 @@ use Rattle.dso_base.specs.declared.lock.LockName.{LockName}
 use Rattle.dso_base.specs.declared.lock.ThreadId.{ThreadId}
 use Rattle.dso_base.specs.declared.record.Body.{Body}
 use Rattle.dso_base.specs.declared.request.Request.{Request}
-use Rattle.dso_law.specs.Settings.{Settings, batch_size}
+use Rattle.dso_law.specs.Settings.{Settings, batch_size, threads_of}
 use Rattle.dso_law.specs.Copies.{is_resident, class_held, copy_of, residents}
 use Rattle.dso_law.specs.Records.{id_at, next_id, unacked}
 use Rattle.dso_law.specs.Replies.{class_of_body}
 use Rattle.dso_law.specs.Leases.{leased}
-use Rattle.dso_law.specs.Closing.{admits, is_free, is_due}
+use Rattle.dso_law.specs.Threads.{is_local}
+use Rattle.dso_law.specs.Closing.{is_read, awaits_write, is_closing, admits, is_free, is_due}
 use Rattle.dso_law.specs.ClientStep.{changes_object}
 use Rattle.dso_law.specs.HeldBody.{held_body}
 use Rattle.dso_law.specs.ChangeMarks.{change_mark, last_change, AcksInOrder}
-use Rattle.dso_law.specs.LeaseHeld.{Lease, lease_of}
+use Rattle.dso_law.specs.LeaseHeld.{Lease, lease_of, stays_closing}
 use Rattle.dso_law.specs.IdsAhead.{ids_from}
 use Rattle.dso_law.specs.ResidentCount.{presence, resident_count}
 
@@ -55,6 +56,13 @@ pub record TellsLease (p : Settings) (c : ℕ) (next : ThreadId → Option Reque
 abbrev pub LeasesTell : Type 0
 LeasesTell = (p : Settings) (c : ℕ) (next : ThreadId → Option Request) (l : LockName) (es : List Entry)
     → TellsLease p c next l es
+
+-- Closing: a lease is closing where it stays so, or where it is of level Read and a thread awaits the lock at Write to whom
+-- its monitor is private: which needs no lease, and may go on.
+abbrev pub ClosingIsKept : Type 0
+ClosingIsKept = (p : Settings) (c : ℕ) (next : ThreadId → Option Request) (l : LockName) (es : List Entry)
+    → is_closing p c next l es ≡ (stays_closing p c next l es || (is_read (leased l es)
+    && list_any (λ t. is_local p.shape t l es && awaits_write p c next l es t) (threads_of p c)))
 
 -- Ids: the next object gets the first of the ids ahead. With one more batch the ids of those before it stay, and behind
 -- them come those of the batch.

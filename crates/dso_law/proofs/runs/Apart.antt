@@ -17,13 +17,13 @@ use Rattle.dso_plain.proofs.keys.SameKeys.{same_number}
 use Rattle.dso_law.specs.Settings.{Settings}
 use Rattle.dso_law.specs.Entries.{by_taken_down, by_sent_up}
 use Rattle.dso_law.specs.Threads.{locks_of, ending_of}
-use Rattle.dso_law.specs.Copies.{is_among, resident_by_taken, resident_by_sent, unless_flushed, is_resident, asked_by_taken, asked_by_sent, is_object_asked}
+use Rattle.dso_law.specs.Copies.{resident_by_taken, resident_by_sent, unless_flushed, is_resident, asked_by_taken, asked_by_sent, is_object_asked}
 use Rattle.dso_law.specs.Leases.{leased, is_asked_for}
 use Rattle.dso_law.specs.Records.{is_batch_asked}
 use Rattle.dso_law.specs.RequestNeeds.{Need, NeedsId, NeedsObject, NeedsClass, NeedsMark, NeedsLease, NeedsOthersOut, NeedsAck, unless_asked, unmet, ask_for}
 use Rattle.dso_law.specs.Replies.{woken_by}
 use Rattle.dso_law.specs.ClientStep.{record_of, DoesOrAsks, ActsOn, ClientStepOn}
-use Rattle.dso_law.specs.ClientRun.{ClientRun, next_in}
+use Rattle.dso_law.specs.ClientRun.{next_in}
 use Rattle.dso_law.specs.RunLaws.{AskedIsAbsent}
 use Rattle.dso_law.proofs.runs.AsksForAbsent.{IsLacking, lacking}
 use Rattle.dso_law.proofs.runs.Said.{LeavesLocks, said_does, said_asks, said_taken}

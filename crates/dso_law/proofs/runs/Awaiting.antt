@@ -1,18 +1,17 @@
 -- A thread that wants at Write a lease of level Read makes no act entry, and wants it after each other entry.
 use Rattle.std.specs.List.{list_any}
-use Rattle.std.proofs.Common.{ℕ, ◌≡◌, inl, inr, refl, sym, ◌∙◌, ap, subst, Bool, true, false, cond, not, eqb, ◌&&◌, ◌||◌, is_some, Option, Some, None, List, [], ◌∷◌}
+use Rattle.std.proofs.Common.{ℕ, ◌≡◌, refl, sym, ◌∙◌, ap, subst, Bool, true, false, cond, not, eqb, ◌&&◌, ◌||◌, is_some, Option, Some, None, List, ◌∷◌}
 use Rattle.std.specs.Prelude.{is_none}
 use Rattle.dso_base.specs.declared.journal.Entry.{Entry}
 use Rattle.dso_base.specs.declared.journal.Input.{Input}
 use Rattle.dso_base.specs.declared.journal.Input.TheVariants as input
-use Rattle.dso_base.specs.declared.lock.Level.{Level}
 use Rattle.dso_base.specs.declared.lock.Level.TheVariants.{Read, Write}
 use Rattle.dso_base.specs.declared.lock.LockName.{LockName}
 use Rattle.dso_base.specs.declared.lock.ThreadId.{ThreadId}
 use Rattle.dso_base.specs.declared.message.Up.TheVariants as up
 use Rattle.dso_base.specs.declared.request.Event.{Event}
 use Rattle.dso_base.specs.declared.request.Request.{Request}
-use Rattle.dso_base.specs.declared.request.Request.TheVariants.{New, Look, Get, Put, Enter, Exit, Wait, Tick, Timeout, Resume, Notify, NotifyAll, Print, End, Pause, Settle}
+use Rattle.dso_base.specs.declared.request.Request.TheVariants.{Enter, Resume}
 use Rattle.dso_base.specs.Following.{is_thread}
 use Rattle.dso_plain.specs.KeyTests.{is_lock}
 use Rattle.dso_plain.specs.State.{Hold}
@@ -24,9 +23,9 @@ use Rattle.dso_law.specs.Leases.{leased, is_asked_for}
 use Rattle.dso_law.specs.ClientWaiters.{is_marked}
 use Rattle.dso_law.specs.Closing.{wants_write, admits}
 use Rattle.dso_law.specs.RequestNeeds.{Need, NeedsMark, NeedsLease, NeedsOthersOut, is_enough, is_in_conflict, unless, unless_asked, first_unmet, entry_need, unmet}
-use Rattle.dso_law.specs.ClientStep.{DoesOrAsks, ActsOn, ClientStepOn, ClientStep}
+use Rattle.dso_law.specs.ClientStep.{DoesOrAsks, ActsOn, ClientStepOn}
 use Rattle.dso_law.specs.LeaseHeld.{awaits_lease}
-use Rattle.dso_law.specs.ClientRun.{ClientRun, next_in}
+use Rattle.dso_law.specs.ClientRun.{next_in}
 use Rattle.dso_law.specs.RunLaws.{WhoAwaitsStays, WhoAwaitsGoesOn}
 use Rattle.dso_law.proofs.runs.Others.{IsOthers, same_events, same_hold, same_local, mark_stays}
 

@@ -1,10 +1,9 @@
 -- The ids ahead, entry by entry.
-use Rattle.std.proofs.Common.{ℕ, suc, ◌+◌, ◌*◌, ◌≡◌, refl, sym, ◌∙◌, ap, subst, Bool, true, false, cond, ltb, Option, Some, None, List, [], ◌∷◌, ◌++◌, length, arith}
+use Rattle.std.proofs.Common.{ℕ, suc, ◌+◌, ◌*◌, ◌≡◌, refl, ◌∙◌, ap, subst, cond, ltb, Option, Some, None, List, [], ◌∷◌, ◌++◌, length, arith}
 use Rattle.dso_base.specs.declared.journal.Entry.{Entry}
 use Rattle.dso_base.specs.declared.journal.Input.{Input}
 use Rattle.dso_base.specs.declared.journal.Input.TheVariants as input
 use Rattle.dso_base.specs.declared.lock.ThreadId.{ThreadId}
-use Rattle.dso_base.specs.declared.message.Down.{Down}
 use Rattle.dso_base.specs.declared.message.Down.TheVariants as down
 use Rattle.dso_base.specs.declared.request.Event.{Event}
 use Rattle.dso_base.specs.declared.request.Event.TheVariants.{Act, Lost}
@@ -13,12 +12,11 @@ use Rattle.dso_base.specs.declared.request.Reply.TheVariants.{Made}
 use Rattle.dso_base.specs.declared.request.Request.{Request}
 use Rattle.dso_law.specs.Settings.{Settings, batch_size}
 use Rattle.dso_law.specs.Entries.{by_event, by_taken_down}
-use Rattle.dso_law.specs.Records.{batches, batches_by_taken, made, made_by, made_by_reply, id_at, is_batch_asked}
+use Rattle.dso_law.specs.Records.{batches, batches_by_taken, made, made_by, made_by_reply, id_at}
 use Rattle.dso_law.specs.IdsAhead.{ids_from}
-use Rattle.dso_law.specs.RequestNeeds.{Need, unmet}
-use Rattle.dso_law.specs.ClientStep.{DoesOrAsks, ActsOn, ClientStepOn}
+use Rattle.dso_law.specs.ClientStep.{ClientStepOn}
 use Rattle.dso_law.specs.ClientRun.{ClientRun, next_in}
-use Rattle.dso_law.specs.RunLaws.{IsMaking, IdsGoOn, IdsAreTaken, IdsAheadGoOn}
+use Rattle.dso_law.specs.RunLaws.{IsMaking, IdsAheadGoOn}
 use Rattle.dso_law.proofs.core.Ids.{more}
 use Rattle.dso_law.proofs.runs.IdsTaken.{ids_run_out}
 

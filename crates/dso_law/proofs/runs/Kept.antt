@@ -11,13 +11,11 @@ use Rattle.dso_base.specs.declared.lock.Level.{Level}
 use Rattle.dso_base.specs.declared.lock.Level.TheVariants.{Read, Write}
 use Rattle.dso_base.specs.declared.lock.LockName.{LockName}
 use Rattle.dso_base.specs.declared.lock.ThreadId.{ThreadId}
-use Rattle.dso_base.specs.declared.message.Down.{Down}
 use Rattle.dso_base.specs.declared.message.Down.TheVariants as down
 use Rattle.dso_base.specs.declared.message.Up.TheVariants as up
 use Rattle.dso_base.specs.declared.request.Event.{Event}
 use Rattle.dso_base.specs.declared.request.Request.{Request}
 use Rattle.dso_plain.specs.KeyTests.{is_lock}
-use Rattle.dso_law.specs.declared.readings.Standing.{Standing}
 use Rattle.dso_law.specs.Settings.{Settings, threads_of}
 use Rattle.dso_law.specs.Entries.{unsent, by_event, by_taken_down}
 use Rattle.dso_law.specs.Leases.{standing_down, standing, leased, since_grant, entered_by, is_entered, recalled_by, is_recalled}
@@ -25,7 +23,7 @@ use Rattle.dso_law.specs.Closing.{is_read, due}
 use Rattle.dso_law.specs.ClientStep.{ClientStepOn}
 use Rattle.dso_law.specs.LeaseHeld.{Lease, awaits_lease, stays_closing, kept_lease, lease_by_taken, lease_by_event, lease_by_wants, lease_by_return}
 use Rattle.dso_law.specs.ClientRun.{ClientRun, next_in}
-use Rattle.dso_law.specs.RunLaws.{lease_after, LeasesAreKept}
+use Rattle.dso_law.specs.RunLaws.{LeasesAreKept}
 use Rattle.dso_law.proofs.runs.Returned.{ReturnsDue, acts_return, taken_return}
 use Rattle.dso_law.proofs.runs.Quiet.{nothing_is_due}
 use Rattle.dso_law.proofs.runs.Awaiting.{who_awaits_goes_on}

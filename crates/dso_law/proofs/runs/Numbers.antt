@@ -23,9 +23,9 @@ use Rattle.dso_law.specs.Records.{is_batch_asked, records, records_by_sent, unac
 use Rattle.dso_law.specs.RequestNeeds.{Need, NeedsId, NeedsObject, NeedsClass, NeedsMark, NeedsLease, NeedsOthersOut, NeedsAck, unless_asked, unmet, ask_for}
 use Rattle.dso_law.specs.Replies.{woken_by}
 use Rattle.dso_law.specs.FitsDown.{FitsAck, FitsDown}
-use Rattle.dso_law.specs.ChangeMarks.{RiseAbove, AcksFirst, AcksInOrder}
-use Rattle.dso_law.specs.ClientStep.{record_of, Does, Asks, DoesOrAsks, ActsOn, ClientStepOn}
-use Rattle.dso_law.specs.ClientRun.{ClientRun, next_in}
+use Rattle.dso_law.specs.ChangeMarks.{RiseAbove, AcksFirst}
+use Rattle.dso_law.specs.ClientStep.{record_of, DoesOrAsks, ActsOn, ClientStepOn}
+use Rattle.dso_law.specs.ClientRun.{next_in}
 use Rattle.dso_law.specs.RunLaws.{NumberedFrom, AreNumbered, RecordsAreNumbered, RecordsAreAckedInOrder}
 use Rattle.dso_law.proofs.runs.Said.{LeavesLocks, said_does, said_asks, said_taken}
 

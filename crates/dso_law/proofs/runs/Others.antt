@@ -1,19 +1,18 @@
 -- What an event of another thread leaves alone, of what a client's entries tell of a thread.
-use Rattle.std.proofs.Common.{ℕ, ◌≡◌, refl, ◌∙◌, ap, Bool, true, false, cond, ◌&&◌, ◌||◌, is_some, Option, Some, None, List, [], ◌∷◌}
+use Rattle.std.proofs.Common.{◌≡◌, refl, ◌∙◌, ap, Bool, true, false, cond, ◌&&◌, ◌||◌, is_some, Option, Some, None, List, ◌∷◌}
 use Rattle.dso_base.specs.declared.journal.Entry.{Entry}
 use Rattle.dso_base.specs.declared.journal.Input.{Input}
 use Rattle.dso_base.specs.declared.journal.Input.TheVariants as input
 use Rattle.dso_base.specs.declared.lock.LockName.{LockName}
 use Rattle.dso_base.specs.declared.lock.LockName.TheVariants.{Mon, Name}
 use Rattle.dso_base.specs.declared.lock.ThreadId.{ThreadId}
-use Rattle.dso_base.specs.declared.message.Down.{Down}
 use Rattle.dso_base.specs.declared.message.Down.TheVariants as down
 use Rattle.dso_base.specs.declared.request.Event.{Event}
 use Rattle.dso_base.specs.declared.request.Event.TheVariants.{Act, Lost}
 use Rattle.dso_base.specs.declared.request.Reply.{Reply}
 use Rattle.dso_base.specs.declared.request.Reply.TheVariants.{Done}
 use Rattle.dso_base.specs.declared.request.Request.{Request}
-use Rattle.dso_base.specs.declared.request.Request.TheVariants.{New, Look, Get, Put, Enter, Exit, Wait, Tick, Timeout, Resume, Notify, NotifyAll, Print, End, Pause, Settle}
+use Rattle.dso_base.specs.declared.request.Request.TheVariants.{Wait, Timeout, Notify, NotifyAll}
 use Rattle.dso_base.specs.declared.shape.Shape.{Shape}
 use Rattle.dso_base.specs.Block.{start, body_in, worked}
 use Rattle.dso_base.specs.Following.{is_thread}

@@ -1,6 +1,6 @@
 -- The client rule looks at the next requests of the client's own threads alone.
 use Rattle.std.specs.List.{list_any}
-use Rattle.std.proofs.Common.{ℕ, ◌≡◌, refl, sym, ◌∙◌, ap, subst, Bool, true, false, cond, not, eqb, ◌&&◌, ◌||◌, is_some, Option, Some, None, List, [], ◌∷◌, ◌++◌, map, filter}
+use Rattle.std.proofs.Common.{ℕ, ◌≡◌, refl, ◌∙◌, ap, subst, Bool, true, false, cond, not, eqb, ◌&&◌, ◌||◌, is_some, Option, Some, None, List, [], ◌∷◌, ◌++◌, map, filter}
 use Rattle.std.specs.Prelude.{is_none}
 use Rattle.dso_base.specs.declared.journal.Entry.{Entry}
 use Rattle.dso_base.specs.declared.journal.Input.{Input}
@@ -12,10 +12,9 @@ use Rattle.dso_base.specs.declared.lock.LockName.{LockName}
 use Rattle.dso_base.specs.declared.lock.ThreadId.{ThreadId}
 use Rattle.dso_base.specs.declared.message.Up.{Up}
 use Rattle.dso_base.specs.declared.message.Up.TheVariants as up
-use Rattle.dso_base.specs.declared.request.Event.{Event}
 use Rattle.dso_base.specs.declared.request.Event.TheVariants.{Act}
 use Rattle.dso_base.specs.declared.request.Request.{Request}
-use Rattle.dso_base.specs.declared.request.Request.TheVariants.{New, Look, Get, Put, Enter, Exit, Wait, Tick, Timeout, Resume, Notify, NotifyAll, Print, End, Pause, Settle}
+use Rattle.dso_base.specs.declared.request.Request.TheVariants.{Enter, Resume}
 use Rattle.dso_plain.specs.KeyTests.{is_lock}
 use Rattle.dso_plain.proofs.keys.SameKeys.{number_self}
 use Rattle.dso_law.specs.Settings.{Settings, threads_of}
@@ -23,10 +22,10 @@ use Rattle.dso_law.specs.Entries.{unsent}
 use Rattle.dso_law.specs.Threads.{hold_of, is_local}
 use Rattle.dso_law.specs.Leases.{leased, is_entered, is_recalled, leased_locks}
 use Rattle.dso_law.specs.ClientWaiters.{client_list, is_marked}
-use Rattle.dso_law.specs.Closing.{wants_write, is_read, awaits_write, is_closing, admits, is_free, is_due, due}
+use Rattle.dso_law.specs.Closing.{wants_write, is_read, awaits_write, is_closing, is_free, due}
 use Rattle.dso_law.specs.RequestNeeds.{Need, NeedsMark, NeedsLease, NeedsOthersOut, is_enough, is_in_conflict, unless, first_unmet, entry_need, unmet}
 use Rattle.dso_law.specs.Replies.{woken_by}
-use Rattle.dso_law.specs.ClientStep.{commits, returns, asks_again, Does, Asks, DoesOrAsks, ActsOn, ActStep, TakenStep, ClientStepOn, ClientStep}
+use Rattle.dso_law.specs.ClientStep.{commits, returns, asks_again, Does, Asks, DoesOrAsks, ActsOn, ClientStepOn}
 use Rattle.dso_law.specs.ClientRun.{AreSameFor}
 use Rattle.dso_law.specs.RunLaws.{OwnRequestsCount}
 

@@ -1,6 +1,6 @@
 -- In a run no lease is to be given back between two entries.
 use Rattle.std.specs.List.{list_any}
-use Rattle.std.proofs.Common.{ℕ, ◌≡◌, refl, sym, ◌∙◌, ap, subst, Bool, true, false, cond, not, ◌&&◌, ◌||◌, is_some, Option, Some, None, List, [], ◌∷◌, filter}
+use Rattle.std.proofs.Common.{ℕ, ◌≡◌, refl, sym, ◌∙◌, ap, Bool, true, false, cond, ◌&&◌, ◌||◌, is_some, Option, None, List, [], ◌∷◌, filter}
 use Rattle.dso_base.specs.declared.journal.Entry.{Entry}
 use Rattle.dso_base.specs.declared.journal.Input.{Input}
 use Rattle.dso_base.specs.declared.journal.Input.TheVariants as input
@@ -20,7 +20,7 @@ use Rattle.dso_law.specs.Entries.{unsent}
 use Rattle.dso_law.specs.Leases.{leased, is_entered, is_recalled, granted, leased_locks}
 use Rattle.dso_law.specs.Closing.{is_read, awaits_write, is_free, is_due, due}
 use Rattle.dso_law.specs.ClientStep.{ClientStepOn}
-use Rattle.dso_law.specs.ClientRun.{ClientRun, next_in}
+use Rattle.dso_law.specs.ClientRun.{next_in}
 use Rattle.dso_law.specs.RunLaws.{NothingIsDue}
 use Rattle.dso_law.proofs.runs.Returned.{ReturnsDue, acts_return, taken_return}
 

@@ -3,10 +3,7 @@ use Rattle.std.specs.List.{list_any}
 use Rattle.std.proofs.Common.{ℕ, ◌≡◌, refl, sym, ◌∙◌, ap, Bool, true, false, cond, not, ◌&&◌, ◌||◌, is_some, Option, Some, None, List, [], ◌∷◌, ◌++◌, map}
 use Rattle.std.proofs.lemmas.List.Folds.{list_any-append}
 use Rattle.dso_base.specs.declared.journal.Entry.{Entry}
-use Rattle.dso_base.specs.declared.journal.Input.{Input}
-use Rattle.dso_base.specs.declared.journal.Input.TheVariants as input
-use Rattle.dso_base.specs.declared.journal.Sent.{Sent}
-use Rattle.dso_base.specs.declared.journal.Sent.TheVariants.{ToServer, ToClient}
+use Rattle.dso_base.specs.declared.journal.Sent.TheVariants.{ToServer}
 use Rattle.dso_base.specs.declared.lock.Level.TheVariants.{Write}
 use Rattle.dso_base.specs.declared.lock.LockName.{LockName}
 use Rattle.dso_base.specs.declared.lock.ThreadId.{ThreadId}
@@ -29,7 +26,7 @@ use Rattle.dso_law.specs.Leases.{standing_up, standing, leased, is_asked_for}
 use Rattle.dso_law.specs.Closing.{is_closing, due}
 use Rattle.dso_law.specs.RequestNeeds.{Need, NeedsId, NeedsObject, NeedsClass, NeedsMark, NeedsLease, NeedsOthersOut, NeedsAck, unless_asked, unmet, ask_for}
 use Rattle.dso_law.specs.Replies.{woken_by}
-use Rattle.dso_law.specs.ClientStep.{record_of, commits, returns, asks_again, Does, Asks, DoesOrAsks, ActsOn, ClientStepOn}
+use Rattle.dso_law.specs.ClientStep.{record_of, commits, returns, asks_again, Does, Asks, DoesOrAsks, ActsOn}
 
 -- the message returns the lock
 abbrev pub returns_lock : LockName → Up → Bool

@@ -1,35 +1,26 @@
 -- A client's new objects have ids that rise: its batches rise, and it makes an object only with its next id.
 use Rattle.std.specs.List.{AllByRecursion}
 use Rattle.std.proofs.Common.{ℕ, suc, ◌+◌, ◌-◌, ◌<◌, ◌≤◌, ◌≡◌, refl, sym, ap, subst, Bool, true, false, cond, eqb, ltb, Option, Some, None, List, [], ◌∷◌, ◌++◌, length, arith}
-use Rattle.std.specs.Prelude.{option_map}
 use Rattle.std.proofs.lemmas.Bool.Decides.{nat_tests}
 use Rattle.dso_base.specs.declared.journal.Entry.{Entry}
 use Rattle.dso_base.specs.declared.journal.Input.{Input}
 use Rattle.dso_base.specs.declared.journal.Input.TheVariants as input
 use Rattle.dso_base.specs.declared.journal.Node.{Node}
 use Rattle.dso_base.specs.declared.journal.Node.TheVariants.{Server, Client}
-use Rattle.dso_base.specs.declared.lock.Level.{Level}
-use Rattle.dso_base.specs.declared.lock.Level.TheVariants.{Read, Write}
 use Rattle.dso_base.specs.declared.lock.ThreadId.{ThreadId}
 use Rattle.dso_base.specs.declared.message.Down.{Down}
 use Rattle.dso_base.specs.declared.message.Down.TheVariants as down
 use Rattle.dso_base.specs.declared.request.Event.{Event}
 use Rattle.dso_base.specs.declared.request.Event.TheVariants.{Act, Lost}
 use Rattle.dso_base.specs.declared.request.Reply.{Reply}
-use Rattle.dso_base.specs.declared.request.Reply.TheVariants.{Done, Made, Seen, Val, Local}
+use Rattle.dso_base.specs.declared.request.Reply.TheVariants.{Made}
 use Rattle.dso_base.specs.declared.request.Request.{Request}
-use Rattle.dso_base.specs.declared.request.Request.TheVariants.{New, Look, Get, Put, Enter, Wait, Timeout, Notify, NotifyAll}
-use Rattle.dso_base.specs.declared.value.ClassId.{ClassId}
-use Rattle.dso_base.specs.declared.value.Value.{Value}
-use Rattle.dso_base.specs.Shape.{guard_of}
 use Rattle.dso_plain.proofs.keys.SameKeys.{same_number}
 use Rattle.dso_law.specs.Settings.{Settings, batch_size}
 use Rattle.dso_law.specs.Entries.{entries_of, by_taken_down, by_event}
-use Rattle.dso_law.specs.Threads.{Held, own, is_private, is_local, locks_of, hold_of}
-use Rattle.dso_law.specs.Records.{batches_by_taken, batches, made_by_reply, made_by, made, id_at, next_id}
-use Rattle.dso_law.specs.RequestNeeds.{Need, unmet, hold_level}
-use Rattle.dso_law.specs.ClientWaiters.{is_marked}
-use Rattle.dso_law.specs.Replies.{put_reply, enter_reply, monitor_reply, timeout_reply, class_known, value_seen, value_in, put_answer, answer_put, reply_of}
+use Rattle.dso_law.specs.Records.{batches_by_taken, batches, made_by_reply, made_by, made, id_at}
+use Rattle.dso_law.specs.RequestNeeds.{Need, unmet}
+use Rattle.dso_law.specs.Replies.{reply_of}
 use Rattle.dso_law.specs.FitsDown.{FitsDown}
 use Rattle.dso_law.specs.ClientStep.{DoesOrAsks, ActsOn, ClientStepOn}
 pub use Rattle.dso_law.proofs.runs.MakesNext.{IsNew, only_new, makes_next}

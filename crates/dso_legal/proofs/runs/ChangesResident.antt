@@ -1,6 +1,6 @@
 -- In a run what is changed is resident, until the change is acknowledged.
 use Rattle.std.specs.List.{list_any}
-use Rattle.std.proofs.Common.{ℕ, ◌≡◌, ◌⊎◌, inl, inr, refl, sym, ◌∙◌, ap, subst, suc, Bool, true, false, cond, not, eqb, ◌&&◌, ◌||◌, is_some, Option, Some, None, List, [], ◌∷◌, ◌++◌, map, drop}
+use Rattle.std.proofs.Common.{ℕ, ◌≡◌, ◌⊎◌, inl, inr, refl, sym, ◌∙◌, ap, subst, suc, Bool, true, false, cond, not, eqb, ◌||◌, is_some, Option, Some, None, List, [], ◌∷◌, ◌++◌, map, drop}
 use Rattle.std.proofs.lemmas.List.Folds.{list_any-append}
 use Rattle.dso_base.specs.declared.journal.Entry.{Entry}
 use Rattle.dso_base.specs.declared.journal.Input.{Input}
@@ -17,7 +17,7 @@ use Rattle.dso_base.specs.declared.request.Event.{Event}
 use Rattle.dso_base.specs.declared.request.Event.TheVariants.{Act}
 use Rattle.dso_base.specs.declared.request.Reply.{Reply}
 use Rattle.dso_base.specs.declared.request.Request.{Request}
-use Rattle.dso_base.specs.Block.{start, txn_of, work_by}
+use Rattle.dso_base.specs.Block.{start, txn_of}
 use Rattle.dso_plain.proofs.keys.SameKeys.{same_number}
 use Rattle.dso_lookup.proofs.Tests.{both}
 use Rattle.dso_law.specs.Settings.{Settings}
@@ -32,7 +32,7 @@ use Rattle.dso_law.specs.ClientStep.{record_of, changes_object, is_flushable, Do
 use Rattle.dso_law.specs.ClientRun.{ClientRun, next_in}
 use Rattle.dso_law.proofs.runs.Said.{LeavesLocks, said_does, said_asks, said_taken}
 use Rattle.dso_legal.specs.Residency.{is_set}
-use Rattle.dso_legal.specs.Runs.{ChangesAreHere, ChangesStayResident}
+use Rattle.dso_legal.specs.Runs.{ChangesStayResident}
 use Rattle.dso_legal.proofs.leases.LeaseSteps.{no_both}
 use Rattle.dso_legal.proofs.objects.OwnObjects.{worked_more}
 use Rattle.dso_legal.proofs.objects.SetsResident.{IsOtherInput, AllHeld, held_step, start_held, stays, not_true}

@@ -1,6 +1,6 @@
 -- In a lawful journal an open block puts to a resident object where it sets a field of it.
 use Rattle.std.specs.List.{list_any}
-use Rattle.std.proofs.Common.{ℕ, ◌+◌, ◌≤◌, ◌≡◌, ◌⊎◌, inl, inr, refl, sym, ◌∙◌, ap, subst, Bool, true, false, cond, not, eqb, ◌&&◌, ◌||◌, is_some, Option, Some, None, List, [], ◌∷◌, arith}
+use Rattle.std.proofs.Common.{ℕ, ◌+◌, ◌≤◌, ◌≡◌, ◌⊎◌, inl, inr, refl, sym, ◌∙◌, ap, subst, Bool, true, false, cond, not, eqb, ◌&&◌, ◌||◌, is_some, Option, List, [], ◌∷◌, arith}
 use Rattle.dso_base.specs.declared.journal.Entry.{Entry}
 use Rattle.dso_base.specs.declared.journal.Node.TheVariants.{Client}
 use Rattle.dso_base.specs.declared.lock.ThreadId.{ThreadId}
@@ -25,12 +25,12 @@ use Rattle.dso_law.specs.Records.{unacked}
 use Rattle.dso_law.specs.ClientStep.{changes_object, puts_to, event_puts_to, wants_object, is_flushable, is_full}
 use Rattle.dso_law.proofs.client.HasBody.{found_among}
 use Rattle.dso_law.proofs.runs.OwnRequests.{same_any}
-use Rattle.dso_legal.specs.FlushWords.{is_free_to_flush, TellsFlush, FlushWordsAgree}
-use Rattle.dso_legal.specs.Lawful.{IsLawful, AllFollow}
-use Rattle.dso_legal.specs.OwnObjects.{count_bodies, count_in_hand, has_in_hand}
+use Rattle.dso_legal.specs.FlushWords.{is_free_to_flush, FlushWordsAgree}
+use Rattle.dso_legal.specs.Lawful.{IsLawful}
+use Rattle.dso_legal.specs.OwnObjects.{count_bodies, count_in_hand}
 use Rattle.dso_legal.specs.Residency.{is_set}
 use Rattle.dso_legal.proofs.leases.ClientLeases.{neither}
-use Rattle.dso_legal.proofs.leases.LeaseSteps.{if_true, unless_true}
+use Rattle.dso_legal.proofs.leases.LeaseSteps.{unless_true}
 use Rattle.dso_legal.proofs.objects.BodyCounts.{count_put, count_there}
 use Rattle.dso_legal.proofs.objects.SetsResident.{all_held}
 use Rattle.dso_legal.proofs.runs.InHandAbsent.{in_hand_is_absent}
