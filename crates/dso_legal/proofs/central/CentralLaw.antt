@@ -1,18 +1,14 @@
 -- The central law: all stands after each entry, so the history runs, marks and all, and what runs commits legally.
-use Rattle.std.proofs.Common.{ℕ, ◌≡◌, sym, subst, Bool, Option, List}
-use Rattle.dso_base.specs.declared.journal.Entry.{Entry}
+use Rattle.std.proofs.Common.{ℕ, sym, subst, Bool, Option}
 use Rattle.dso_base.specs.declared.journal.Node.TheVariants.{Server}
 use Rattle.dso_base.specs.declared.lock.LockName.{LockName}
 use Rattle.dso_base.specs.declared.lock.ThreadId.{ThreadId}
 use Rattle.dso_base.specs.declared.record.Body.{Body}
-use Rattle.dso_base.specs.declared.request.Event.{Event}
-use Rattle.dso_base.specs.declared.request.Request.{Request}
 use Rattle.dso_plain.specs.State.{PlainState, opening}
 use Rattle.dso_plain.specs.History.{last_state}
 use Rattle.dso_plain.specs.Rechoice.{with_marks}
 use Rattle.dso_law.specs.Entries.{entries_of}
 use Rattle.dso_law.specs.ServerReadings.{counted}
-use Rattle.dso_law.specs.Settings.{Settings}
 use Rattle.dso_law.specs.Store.{stored}
 use Rattle.dso_legal.specs.AsMade.{as_made}
 use Rattle.dso_legal.specs.Central.{CentralLaw, CommitsWhatWasMade, ClientsStand}
