@@ -358,9 +358,12 @@ module _ (d : ℕ) (a : ThreadId) (its : a.client ≡ d) (was : KeptThreads) (en
   walk_last request reply woken locks place kept lists ends can =
       let none : note_by request reply woken ≡ [] = ending_silent request reply woken locks end ends in
       record {
-        may = (act_wakes_so d a its was place kept lists can.tracks request reply woken can.wakes.0
-            (each_first (FitsHere d was) (note_by request reply woken) [] can.fits) (λ l t own. may_first l t (note_by request reply woken) [] (place l t) (can.may l t own))
-            (first_asks (asks_mark request reply) false kept lists can.asks), tt);
+        may = (
+          act_wakes_so d a its was place kept lists can.tracks request reply woken can.wakes.0
+              (each_first (FitsHere d was) (note_by request reply woken) [] can.fits) (λ l t own. may_first l t (note_by request reply woken) [] (place l t) (can.may l t own))
+              (first_asks (asks_mark request reply) false kept lists can.asks),
+          tt,
+        );
         tracks = subst (λ notes. Tracks d was (λ l t. place_ended l t a end (places_noted l t (notes ++ []) (place l t))) (kept_by a request reply woken kept)) (sym none)
             (act_ends d a its was place kept lists can.tracks request reply woken locks end ends);
         leaves = lists_last a request reply woken locks end lists ends ∙ ap (λ notes. lists_ended a end (lists_noted (notes ++ []) lists)) (sym none);
@@ -385,8 +388,11 @@ module _ (d : ℕ) (a : ThreadId) (its : a.client ≡ d) (was : KeptThreads) (en
         asks = asks_later can.asks;
       }) in
       record {
-        may = (act_wakes_so d a its was place kept lists can.tracks request reply woken can.wakes.0 fits (λ l t own. may_first l t notes (notes_of events) (place l t) (can.may l t own))
-            (first_asks (asks_mark request reply) (list_any event_asks_mark events) kept lists can.asks), rest.may);
+        may = (
+          act_wakes_so d a its was place kept lists can.tracks request reply woken can.wakes.0 fits (λ l t own. may_first l t notes (notes_of events) (place l t) (can.may l t own))
+              (first_asks (asks_mark request reply) (list_any event_asks_mark events) kept lists can.asks),
+          rest.may,
+        );
         tracks = record {
           own = λ l t own. rest.tracks.own l t own ∙ ap (λ s. is_kept (place_ended l t a end s)) (sym (noted_both l t notes (notes_of events) (place l t)));
           others = rest.tracks.others;
