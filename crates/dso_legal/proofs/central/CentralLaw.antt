@@ -20,7 +20,7 @@ use Rattle.dso_legal.proofs.blocks.BlockSteps.{none_is_lost}
 use Rattle.dso_legal.proofs.blocks.ResolvedBlocks.{history_resolved}
 use Rattle.dso_legal.proofs.central.AllHold.{AllHolds, all_holds, untold_along}
 use Rattle.dso_legal.proofs.central.Finished.{commits_as_made, commits_where_it_runs}
-use Rattle.dso_legal.proofs.marks.MarksHold.{marks_hold, marks_are_known}
+use Rattle.dso_legal.proofs.marks.MarksHold.{marks_hold, marks_are_known, kept_at_write}
 use Rattle.dso_legal.proofs.marks.SameRuns.{RunsResolved, runs_resolved}
 use Rattle.dso_legal.proofs.objects.StoreIsHeap.{store_is_heap}
 use Rattle.dso_legal.proofs.objects.WorksTell.{works_tell}
@@ -48,9 +48,12 @@ clients_stand p next sound es lawful safe =
 pub waiters_are_tokens : WaitersAreTokens
 waiters_are_tokens p next sound es lawful safe l t = (waiters_stand p next sound es lawful.follow safe).agree l t (none_is_lost t.client es safe)
 
--- and the unmarked ones are those that their clients keep and those of the server's list.
+-- and the unmarked ones are those that the client with the lock keeps and those of the server's list.
 pub waiters_are_known : WaitersAreKnown
-waiters_are_known p next sound es lawful safe = marks_are_known p next sound es lawful.follow safe
+waiters_are_known p next sound es lawful safe = record {
+  marks = marks_are_known p next sound es lawful.follow safe;
+  leased = λ l t kept. kept_at_write p next sound es lawful.follow safe l t kept;
+}
 
 -- And the store is the heap, whatever is marked.
 heap_but_marks : (o : ℕ) (at : Option Body) (marks : LockName × ThreadId → Bool) (s : PlainState) → IsHeapOf o at s → IsHeapOf o at (with_marks marks s)

@@ -1,7 +1,7 @@
 -- The committed history runs, marks and all, and the unmarked waiters of a lock are those that their clients keep and those of the
 -- server's list: over lawful journals without losses, of a sound program.
 use Rattle.std.specs.List.{list_any}
-use Rattle.std.proofs.Common.{ℕ, ◌≡◌, ◌⊎◌, ◌↔◌, inl, inr, refl, sym, ◌∙◌, ap, subst, Bool, true, false, cond, not, eqb, ◌&&◌, Option, List, [], ◌∷◌, ◌++◌}
+use Rattle.std.proofs.Common.{ℕ, ◌≡◌, ◌⊎◌, ◌↔◌, inl, inr, refl, sym, ◌∙◌, ap, subst, Bool, true, false, cond, not, eqb, ◌&&◌, Option, Some, List, [], ◌∷◌, ◌++◌}
 use Rattle.dso_base.specs.declared.journal.Entry.{Entry}
 use Rattle.dso_base.specs.declared.journal.Input.{Input}
 use Rattle.dso_base.specs.declared.journal.Input.TheVariants as input
@@ -9,6 +9,7 @@ use Rattle.dso_base.specs.declared.journal.Node.{Node}
 use Rattle.dso_base.specs.declared.journal.Node.TheVariants.{Server, Client}
 use Rattle.dso_base.specs.declared.journal.Sent.{Sent}
 use Rattle.dso_base.specs.declared.journal.Sent.TheVariants.{ToServer, ToClient}
+use Rattle.dso_base.specs.declared.lock.Level.TheVariants.{Write}
 use Rattle.dso_base.specs.declared.lock.LockName.{LockName}
 use Rattle.dso_base.specs.declared.lock.ThreadId.{ThreadId}
 use Rattle.dso_base.specs.declared.message.Down.{Down}
@@ -40,9 +41,10 @@ use Rattle.dso_legal.proofs.channels.AfterEntry.{server_turn}
 use Rattle.dso_legal.proofs.leases.LeaseSteps.{unless_true}
 use Rattle.dso_legal.proofs.records.BothEnds.{first_may_up}
 use Rattle.dso_legal.proofs.waiting.ListMoves.{fails}
-use Rattle.dso_legal.proofs.waiting.Waiters.{WaitersStand, waiters_stand}
+use Rattle.dso_legal.proofs.waiting.Waiters.{WaitersStand, waiters_stand, enough_write}
+use Rattle.dso_legal.proofs.waiting.KeptLeased.{kept_leased}
 use Rattle.std.proofs.lemmas.List.{append-nil}
-use Rattle.dso_law.specs.Granting.{queue_of, leases_so_far, serves}
+use Rattle.dso_law.specs.Granting.{leased_to, queue_of, leases_so_far, serves}
 use Rattle.dso_law.specs.Store.{stored}
 use Rattle.dso_legal.specs.WaitsAndLosses.{is_loss}
 use Rattle.dso_legal.proofs.copies.ServerMessages.{IsOfLease, serve_each}
@@ -221,3 +223,18 @@ module _ (p : Settings) (next : ThreadId → List Event → Option Request) (sou
   -- And the marks are known.
   pub marks_are_known : (es : List Entry) → AllFollow p next es → WithoutLosses es → MarksAreKnown (kept_at es) (lists_at es) (last_state p.shape (committed es))
   marks_are_known es follow safe = marks_known es (λ c. none_is_lost c es safe) (waiters_stand p next sound es follow safe) (marks_hold es follow safe)
+
+  -- Who is kept has a client with the lock at Write.
+  pub kept_at_write : (es : List Entry) → AllFollow p next es → WithoutLosses es → (l : LockName) (t : ThreadId) → kept_at es l t ≡ true → leased_to t.client l (counted (entries_of Server es)) ≡ Some Write
+  kept_at_write es follow safe l t kept = by (place_at es l t) refl
+    where
+      alive_then : is_lost t.client (entries_of Server es) ≡ false
+      alive_then = none_is_lost t.client es safe
+
+      stands : is_kept (place_at es l t) ≡ true
+      stands = sym (ap (λ b. not b && is_kept (place_at es l t)) alive_then) ∙ kept
+
+      by : (s : Place) → place_at es l t ≡ s → leased_to t.client l (counted (entries_of Server es)) ≡ Some Write
+      by Away is = absurd (cc (sym (ap is_kept is) ∙ stands))
+      by Gone is = absurd (cc (sym (ap is_kept is) ∙ stands))
+      by Kept is = enough_write (leased_to t.client l (counted (entries_of Server es))) (kept_leased p next sound es follow safe l t alive_then is)

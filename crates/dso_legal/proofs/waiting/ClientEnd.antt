@@ -38,7 +38,7 @@ use Rattle.dso_legal.specs.SoundProgram.{IsOfWaiter}
 use Rattle.dso_legal.proofs.blocks.WaitsApart.{does_wait}
 use Rattle.dso_legal.proofs.leases.LeaseSteps.{no_both}
 use Rattle.dso_legal.proofs.waiting.BlockNotes.{note_by, notes_of, notes_both, block_notes}
-use Rattle.dso_legal.proofs.waiting.ClientActs.{view_of, place_handed, acted, waits_on_one, IsFair}
+use Rattle.dso_legal.proofs.waiting.ActedView.{view_of, place_handed, acted, waits_on_one, IsFair}
 use Rattle.dso_legal.proofs.waiting.ClientView.{View, Waits, is_in, KeepsWaiters, quiet_keeps}
 use Rattle.dso_legal.proofs.waiting.EachAct.{acts_keep}
 use Rattle.dso_legal.proofs.waiting.EndingsInTime.{IsInTime}

@@ -40,7 +40,7 @@ use Rattle.dso_legal.proofs.leases.Holds.{HoldsWell}
 use Rattle.dso_legal.proofs.leases.KeptLeases.{found}
 use Rattle.dso_legal.proofs.leases.LeaseSteps.{no_both}
 use Rattle.dso_legal.proofs.leases.Locks.{Distinct, rising_distinct, granted_rises, distinct_filter, each_passes}
-use Rattle.dso_legal.proofs.waiting.ClientActs.{view_of, IsFair}
+use Rattle.dso_legal.proofs.waiting.ActedView.{view_of, IsFair}
 use Rattle.dso_legal.proofs.waiting.ClientView.{KeepsWaiters}
 use Rattle.dso_legal.proofs.waiting.EntryParts.{after_parts, SaysWell, IsAsking, each_return, gives_back_well}
 use Rattle.dso_legal.proofs.waiting.ClientEnd.{act_well, IsDue, taken_well}

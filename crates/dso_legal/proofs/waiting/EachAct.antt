@@ -36,7 +36,7 @@ use Rattle.dso_legal.proofs.waiting.BlockNotes.{notes_of, notes_both}
 use Rattle.dso_legal.proofs.waiting.ClientView.{View, level_of, Waits, is_in, OneHolds, KeepsWaiters, quiet_keeps}
 use Rattle.dso_legal.proofs.waiting.HandedIn.{handed_keeps}
 use Rattle.dso_legal.proofs.waiting.ListMoves.{notified_keeps, resumed_keeps}
-use Rattle.dso_legal.proofs.waiting.ClientActs.{view_of, acted, waits_on_one, not_waiting, holds_again, others_locks, Leaves, leaves_quiet, Ends, ends_hands, IsFair}
+use Rattle.dso_legal.proofs.waiting.ActedView.{view_of, acted, waits_on_one, not_waiting, holds_again, others_locks, Leaves, leaves_quiet, Ends, ends_hands, IsFair}
 use Rattle.dso_legal.proofs.waiting.WaitingActs.{enter_keeps, exit_keeps, wait_keeps, timeout_acts}
 
 module _ (p : Settings) (c : ℕ) (next : ThreadId → Option Request) (own : List Entry) (a : ThreadId) (l : LockName) (k : (j : LockName) → KeepsWaiters j (view_of own)) where

@@ -27,7 +27,7 @@ use Rattle.dso_legal.proofs.leases.ClientLeases.{neither}
 use Rattle.dso_legal.proofs.leases.LeaseSteps.{no_both}
 use Rattle.dso_legal.proofs.leases.Locks.{Distinct}
 use Rattle.dso_legal.proofs.waiting.BlockNotes.{notes_of}
-use Rattle.dso_legal.proofs.waiting.ClientActs.{view_of}
+use Rattle.dso_legal.proofs.waiting.ActedView.{view_of}
 use Rattle.dso_legal.proofs.waiting.ClientView.{View, level_of, KeepsWaiters, kept_free, quiet_keeps}
 use Rattle.dso_legal.proofs.waiting.ListMoves.{returned_keeps}
 use Rattle.std.proofs.lemmas.List.{append-nil}

@@ -43,7 +43,7 @@ use Rattle.dso_legal.proofs.leases.Queues.{lock_self}
 use Rattle.dso_legal.proofs.leases.Tokens.{known}
 use Rattle.dso_legal.proofs.records.BothEnds.{server_with, client_with, not_lost_before, EndsAt, agree_after, first_may_up, first_may_down}
 use Rattle.dso_legal.proofs.channels.InFlight.{said_of}
-use Rattle.dso_legal.proofs.waiting.ClientActs.{view_of, acted, IsFair}
+use Rattle.dso_legal.proofs.waiting.ActedView.{view_of, acted, IsFair}
 use Rattle.dso_legal.proofs.waiting.ClientEnd.{IsDue}
 use Rattle.dso_legal.proofs.waiting.ClientRuleKeeps.{AreFair, says_well}
 use Rattle.dso_legal.proofs.waiting.ClientView.{KeepsWaiters}

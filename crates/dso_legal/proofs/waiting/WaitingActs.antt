@@ -33,7 +33,7 @@ use Rattle.dso_legal.proofs.marks.BlockMarks.{neither_way}
 use Rattle.dso_legal.proofs.waiting.BlockNotes.{notes_of}
 use Rattle.dso_legal.proofs.waiting.ClientView.{View, level_of, Waits, OneHolds, KeepsWaiters, quiet_keeps}
 use Rattle.dso_legal.proofs.waiting.HandedIn.{handed_keeps, ComesToWait, waiting_keeps, TimesOutNow, timeout_keeps}
-use Rattle.dso_legal.proofs.waiting.ClientActs.{view_of, acted, waits_on_one, none_waiting, Leaves, leaves_quiet, Ends, ends_hands, IsFair}
+use Rattle.dso_legal.proofs.waiting.ActedView.{view_of, acted, waits_on_one, none_waiting, Leaves, leaves_quiet, Ends, ends_hands, IsFair}
 
 module _ (p : Settings) (c : ℕ) (next : ThreadId → Option Request) (own : List Entry) (a : ThreadId) (l : LockName) (k : (j : LockName) → KeepsWaiters j (view_of own)) where
   abbrev v : View
