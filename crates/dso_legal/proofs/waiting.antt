@@ -6,7 +6,7 @@ pub mod ClientView
 pub mod HandedIn
 pub mod ListMoves
 pub mod BlockNotes
-pub mod ClientActs
+pub mod ActedView
 pub mod WaitingActs
 pub mod EachAct
 pub mod EntryParts

@@ -58,7 +58,8 @@ pub record CommitsAsMade (p : Settings) (es : List Entry) : Type 0 where
 
 -- The central law, for journals without losses: where the program is sound, a lawful journal commits so.
 abbrev pub CentralLaw : Type 0
-CentralLaw = (p : Settings) (next : ThreadId → List Event → Option Request) → IsSound p.shape next → (es : List Entry) → IsLawful p next es → WithoutLosses es → CommitsLegally p next es
+CentralLaw = (p : Settings) (next : ThreadId → List Event → Option Request) → IsSound p.shape next
+    → (es : List Entry) → IsLawful p next es → WithoutLosses es → CommitsLegally p next es
 
 -- And without waits its history has each thread's events just as the thread made them.
 abbrev pub CommitsWhatWasMade : Type 0

@@ -3,6 +3,7 @@ use Rattle.std.specs.List.{list_any}
 use Rattle.std.specs.Prelude.{◌≡◌, ◌⊎◌, ◌↔◌, Bool, true, false, cond, not, ◌&&◌, Option, Some, None, List, [], ◌∷◌}
 use Rattle.dso_base.specs.declared.journal.Entry.{Entry}
 use Rattle.dso_base.specs.declared.journal.Node.TheVariants.{Server}
+use Rattle.dso_base.specs.declared.lock.Level.TheVariants.{Write}
 use Rattle.dso_base.specs.declared.lock.LockName.{LockName}
 use Rattle.dso_base.specs.declared.lock.ThreadId.{ThreadId}
 use Rattle.dso_base.specs.declared.request.Event.{Event}
@@ -20,6 +21,7 @@ use Rattle.dso_plain.specs.History.{last_state}
 use Rattle.dso_law.specs.ClientWaiters.{without}
 use Rattle.dso_law.specs.Entries.{entries_of}
 use Rattle.dso_law.specs.FitsUp.{AreDistinct}
+use Rattle.dso_law.specs.Granting.{leased_to}
 use Rattle.dso_law.specs.ServerReadings.{is_lost, counted}
 use Rattle.dso_law.specs.ServerWaiters.{waiters_of}
 use Rattle.dso_law.specs.Settings.{Settings}
@@ -42,7 +44,8 @@ is_kept Gone = false
 
 -- who is kept by a client that isn't lost, as the server tells it
 abbrev pub kept_at : List Entry → KeptThreads
-kept_at es l t = not (is_lost t.client (entries_of Server es)) && is_kept (place_with t.client l t (counted (entries_of Server es)))
+kept_at es l t = not (is_lost t.client (entries_of Server es))
+    && is_kept (place_with t.client l t (counted (entries_of Server es)))
 
 -- the server's list of each lock
 abbrev pub lists_at : List Entry → WaiterLists
@@ -151,8 +154,14 @@ EachMayWake (Act t request reply woken ∷ events) kept lists = MayWake t reques
     × EachMayWake events (kept_by t request reply woken kept) (lists_timed_out t request reply (lists_after_act request reply woken lists))
 EachMayWake (Lost client ∷ events) kept lists = ⊥
 
--- The waiters are known: after a lawful journal without losses, of a sound program, the unmarked waiters of a lock in the one heap
--- are those that their clients keep and those of the server's list.
+-- After the journal the marks are known in the one heap; and who is kept has a client with the lock at Write.
+pub record KnowsWaiters (p : Settings) (es : List Entry) : Type 0 where
+  pub marks : MarksAreKnown (kept_at es) (lists_at es) (last_state p.shape (committed es))
+  pub leased : (l : LockName) (t : ThreadId) → kept_at es l t ≡ true
+      → leased_to t.client l (counted (entries_of Server es)) ≡ Some Write
+
+-- The waiters are known: so it is after a lawful journal without losses, of a sound program. The unmarked waiters of a
+-- lock are those that the client with the lock at Write keeps, and those of the server's list.
 abbrev pub WaitersAreKnown : Type 0
-WaitersAreKnown = (p : Settings) (next : ThreadId → List Event → Option Request) → IsSound p.shape next → (es : List Entry)
-    → IsLawful p next es → WithoutLosses es → MarksAreKnown (kept_at es) (lists_at es) (last_state p.shape (committed es))
+WaitersAreKnown = (p : Settings) (next : ThreadId → List Event → Option Request) → IsSound p.shape next
+    → (es : List Entry) → IsLawful p next es → WithoutLosses es → KnowsWaiters p es

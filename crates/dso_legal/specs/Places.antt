@@ -119,8 +119,9 @@ abbrev pub AgreeOnWaiter : ℕ → LockName → ThreadId → List Entry → Type
 AgreeOnWaiter c l t es = Agree (MayPlaceUp l t) (place_up l t) (MayPlaceDown l t) (place_down l t) (messages (up_in_flight c es)) (messages (down_in_flight c es))
     (place_with c l t (counted (entries_of Server es))) (place_of l t (entries_of (Client c) es))
 
--- Waiters are tokens: in a lawful journal without losses, of a sound program, each client and the server agree on each of its
--- threads, for each lock.
+-- Waiters are tokens: in a lawful journal without losses, of a sound program, each client and the server agree on each
+-- of its threads, for each lock.
 abbrev pub WaitersAreTokens : Type 0
-WaitersAreTokens = (p : Settings) (next : ThreadId → List Event → Option Request) → IsSound p.shape next → (es : List Entry)
-    → IsLawful p next es → WithoutLosses es → (l : LockName) (t : ThreadId) → AgreeOnWaiter t.client l t es
+WaitersAreTokens = (p : Settings) (next : ThreadId → List Event → Option Request) → IsSound p.shape next
+    → (es : List Entry) → IsLawful p next es → WithoutLosses es
+    → (l : LockName) (t : ThreadId) → AgreeOnWaiter t.client l t es

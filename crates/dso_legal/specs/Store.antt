@@ -32,5 +32,6 @@ pub record IsHeapOf (o : ℕ) (at : Option Body) (s : PlainState) : Type 0 where
 -- The store is the heap: in a lawful journal without losses, of a sound program, the server has a body of exactly the
 -- objects that are shared after the history, with the values that they have there.
 abbrev pub StoreIsHeap : Type 0
-StoreIsHeap = (p : Settings) (next : ThreadId → List Event → Option Request) → IsSound p.shape next → (es : List Entry) → IsLawful p next es → WithoutLosses es
+StoreIsHeap = (p : Settings) (next : ThreadId → List Event → Option Request) → IsSound p.shape next
+    → (es : List Entry) → IsLawful p next es → WithoutLosses es
     → (o : ℕ) → IsHeapOf o (stored p.shape o (counted (entries_of Server es))) (last_state p.shape (committed es))

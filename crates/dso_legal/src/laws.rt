@@ -275,8 +275,8 @@ pub fn waiters_are_tokens()
     ensures { WaitersAreTokens }
 {}
 
-/// After such a journal the unmarked waiters of a lock in the one heap are those that their clients keep in their lists and those
-/// of the server's list, each in one of them and once.
+/// After such a journal the unmarked waiters of a lock in the one heap are those that the client with the lock at Write keeps in
+/// its list and those of the server's list, each in one of them and once.
 pub fn waiters_are_known()
     ensures { WaitersAreKnown }
 {}

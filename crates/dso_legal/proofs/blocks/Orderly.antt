@@ -9,11 +9,9 @@ use Rattle.dso_base.specs.declared.journal.Node.{Node}
 use Rattle.dso_base.specs.declared.journal.Node.TheVariants.{Server, Client}
 use Rattle.dso_base.specs.declared.lock.ThreadId.{ThreadId}
 use Rattle.dso_base.specs.declared.request.Event.{Event}
-use Rattle.dso_base.specs.declared.request.Event.TheVariants.{Act, Lost}
+use Rattle.dso_base.specs.declared.request.Event.TheVariants.{Act}
 use Rattle.dso_base.specs.declared.request.Reply.{Reply}
-use Rattle.dso_base.specs.declared.request.Reply.TheVariants.{Done}
 use Rattle.dso_base.specs.declared.request.Request.{Request}
-use Rattle.dso_base.specs.declared.request.Request.TheVariants.{Enter, Exit, Wait, Resume}
 use Rattle.dso_base.specs.Following.{is_thread}
 use Rattle.dso_plain.proofs.keys.SameKeys.{same_number, same_thread}
 use Rattle.dso_law.specs.Settings.{Settings}
@@ -21,7 +19,7 @@ use Rattle.dso_law.specs.Entries.{is_node, entries_of, by_event, events_in}
 use Rattle.dso_law.specs.ClientStep.{DoesOrAsks, ActsOn, ClientStepOn, ClientStep}
 use Rattle.dso_law.specs.RequestNeeds.{Need, unmet}
 use Rattle.dso_law.specs.Replies.{woken_by}
-use Rattle.dso_law.specs.Threads.{Locks, locks_by, locks_after, locks_of, hold_in, resumed}
+use Rattle.dso_law.specs.Threads.{Locks, locks_by, locks_after, locks_of, hold_in}
 use Rattle.dso_legal.specs.Lawful.{next_after, NodeFollows, AllFollow}
 use Rattle.dso_legal.specs.PendingBlocks.{no_locks}
 use Rattle.dso_legal.specs.SoundProgram.{event_tells, IsSound}

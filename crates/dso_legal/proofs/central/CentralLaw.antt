@@ -1,18 +1,14 @@
 -- The central law: all stands after each entry, so the history runs, marks and all, and what runs commits legally.
-use Rattle.std.proofs.Common.{ℕ, ◌≡◌, sym, subst, Bool, Option, List}
-use Rattle.dso_base.specs.declared.journal.Entry.{Entry}
+use Rattle.std.proofs.Common.{ℕ, sym, subst, Bool, Option}
 use Rattle.dso_base.specs.declared.journal.Node.TheVariants.{Server}
 use Rattle.dso_base.specs.declared.lock.LockName.{LockName}
 use Rattle.dso_base.specs.declared.lock.ThreadId.{ThreadId}
 use Rattle.dso_base.specs.declared.record.Body.{Body}
-use Rattle.dso_base.specs.declared.request.Event.{Event}
-use Rattle.dso_base.specs.declared.request.Request.{Request}
 use Rattle.dso_plain.specs.State.{PlainState, opening}
 use Rattle.dso_plain.specs.History.{last_state}
 use Rattle.dso_plain.specs.Rechoice.{with_marks}
 use Rattle.dso_law.specs.Entries.{entries_of}
 use Rattle.dso_law.specs.ServerReadings.{counted}
-use Rattle.dso_law.specs.Settings.{Settings}
 use Rattle.dso_law.specs.Store.{stored}
 use Rattle.dso_legal.specs.AsMade.{as_made}
 use Rattle.dso_legal.specs.Central.{CentralLaw, CommitsWhatWasMade, ClientsStand}
@@ -24,7 +20,7 @@ use Rattle.dso_legal.proofs.blocks.BlockSteps.{none_is_lost}
 use Rattle.dso_legal.proofs.blocks.ResolvedBlocks.{history_resolved}
 use Rattle.dso_legal.proofs.central.AllHold.{AllHolds, all_holds, untold_along}
 use Rattle.dso_legal.proofs.central.Finished.{commits_as_made, commits_where_it_runs}
-use Rattle.dso_legal.proofs.marks.MarksHold.{marks_hold, marks_are_known}
+use Rattle.dso_legal.proofs.marks.MarksHold.{marks_hold, marks_are_known, kept_at_write}
 use Rattle.dso_legal.proofs.marks.SameRuns.{RunsResolved, runs_resolved}
 use Rattle.dso_legal.proofs.objects.StoreIsHeap.{store_is_heap}
 use Rattle.dso_legal.proofs.objects.WorksTell.{works_tell}
@@ -52,9 +48,12 @@ clients_stand p next sound es lawful safe =
 pub waiters_are_tokens : WaitersAreTokens
 waiters_are_tokens p next sound es lawful safe l t = (waiters_stand p next sound es lawful.follow safe).agree l t (none_is_lost t.client es safe)
 
--- and the unmarked ones are those that their clients keep and those of the server's list.
+-- and the unmarked ones are those that the client with the lock keeps and those of the server's list.
 pub waiters_are_known : WaitersAreKnown
-waiters_are_known p next sound es lawful safe = marks_are_known p next sound es lawful.follow safe
+waiters_are_known p next sound es lawful safe = record {
+  marks = marks_are_known p next sound es lawful.follow safe;
+  leased = λ l t kept. kept_at_write p next sound es lawful.follow safe l t kept;
+}
 
 -- And the store is the heap, whatever is marked.
 heap_but_marks : (o : ℕ) (at : Option Body) (marks : LockName × ThreadId → Bool) (s : PlainState) → IsHeapOf o at s → IsHeapOf o at (with_marks marks s)

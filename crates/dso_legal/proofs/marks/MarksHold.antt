@@ -1,8 +1,7 @@
 -- The committed history runs, marks and all, and the unmarked waiters of a lock are those that their clients keep and those of the
 -- server's list: over lawful journals without losses, of a sound program.
-use Rattle.std.specs.List.{list_any, AllByRecursion}
-use Rattle.std.proofs.Common.{ℕ, zero, suc, ◌≡◌, ◌≢◌, ◌⊎◌, ◌↔◌, inl, inr, refl, sym, ◌∙◌, ap, subst, Bool, true, false, cond, not, eqb, ◌&&◌, ◌||◌, Option, Some, None, List, [], ◌∷◌, ◌++◌}
-use Rattle.std.specs.Prelude.{slice_get}
+use Rattle.std.specs.List.{list_any}
+use Rattle.std.proofs.Common.{ℕ, ◌≡◌, ◌⊎◌, ◌↔◌, inl, inr, refl, sym, ◌∙◌, ap, subst, Bool, true, false, cond, not, eqb, ◌&&◌, Option, Some, List, [], ◌∷◌, ◌++◌}
 use Rattle.dso_base.specs.declared.journal.Entry.{Entry}
 use Rattle.dso_base.specs.declared.journal.Input.{Input}
 use Rattle.dso_base.specs.declared.journal.Input.TheVariants as input
@@ -10,80 +9,42 @@ use Rattle.dso_base.specs.declared.journal.Node.{Node}
 use Rattle.dso_base.specs.declared.journal.Node.TheVariants.{Server, Client}
 use Rattle.dso_base.specs.declared.journal.Sent.{Sent}
 use Rattle.dso_base.specs.declared.journal.Sent.TheVariants.{ToServer, ToClient}
-use Rattle.dso_base.specs.declared.lock.Level.{Level}
-use Rattle.dso_base.specs.declared.lock.Level.TheVariants.{Read, Write}
+use Rattle.dso_base.specs.declared.lock.Level.TheVariants.{Write}
 use Rattle.dso_base.specs.declared.lock.LockName.{LockName}
 use Rattle.dso_base.specs.declared.lock.ThreadId.{ThreadId}
 use Rattle.dso_base.specs.declared.message.Down.{Down}
 use Rattle.dso_base.specs.declared.message.Down.TheVariants as down
 use Rattle.dso_base.specs.declared.message.Up.{Up}
 use Rattle.dso_base.specs.declared.message.Up.TheVariants as up
-use Rattle.dso_base.specs.declared.record.Choice.{Choice}
-use Rattle.dso_base.specs.declared.record.Choice.TheVariants.{Here, There, All}
-use Rattle.dso_base.specs.declared.record.Ending.{Ending}
-use Rattle.dso_base.specs.declared.record.Ending.TheVariants as ending
-use Rattle.dso_base.specs.declared.record.Note.{Note}
 use Rattle.dso_base.specs.declared.record.Txn.{Txn}
 use Rattle.dso_base.specs.declared.request.Event.{Event}
-use Rattle.dso_base.specs.declared.request.Event.TheVariants.{Act, Lost}
-use Rattle.dso_base.specs.declared.request.Reply.{Reply}
-use Rattle.dso_base.specs.declared.request.Reply.TheVariants.{Done}
 use Rattle.dso_base.specs.declared.request.Request.{Request}
-use Rattle.dso_base.specs.declared.request.Request.TheVariants.{Exit, Wait, Timeout, End}
 use Rattle.dso_base.specs.Following.{is_thread}
 use Rattle.dso_plain.specs.KeyTests.{is_lock}
-use Rattle.dso_plain.specs.State.{PlainState, opening}
+use Rattle.dso_plain.specs.State.{opening}
 use Rattle.dso_plain.specs.Possible.{IsUnmarkedWaiter}
-use Rattle.dso_plain.specs.History.{Runs, RunsButMarks, end_of, last_state}
-use Rattle.dso_plain.specs.Touches.{AreActsOf}
-use Rattle.dso_plain.proofs.keys.SameKeys.{same_number, number_self, thread_self}
-use Rattle.dso_plain.proofs.independence.RunsSwap.{runs_in_parts, runs_but_marks_in_parts, ends_in_parts}
-use Rattle.dso_lookup.proofs.Tests.{both}
+use Rattle.dso_plain.specs.History.{Runs, last_state}
+use Rattle.dso_plain.proofs.keys.SameKeys.{same_number}
 use Rattle.dso_law.specs.Channels.{IsFirst, TakesFirst, up_in_flight}
 use Rattle.dso_law.specs.Entries.{unsent, entries_of, by_taken_up, by_sent_down, if_to}
-use Rattle.dso_law.specs.FitsUp.{AreDistinct, FitsNote, FitsChoice, FitsRecord}
-use Rattle.dso_law.specs.Granting.{standing_with, leased_to}
-use Rattle.dso_law.specs.RequestNeeds.{is_enough, conflicts}
-use Rattle.dso_law.specs.ServerReadings.{loses, is_lost, is_of_lost, counted}
-use Rattle.dso_law.specs.ServerStep.{changes_of, HeardStep, HeardOrLost, ServerStepOn}
-use Rattle.dso_law.specs.ServerWaiters.{waiters_by, waiters_by_sent, waiters_of, wakes_of, lists_noted}
-use Rattle.dso_law.specs.Settings.{Settings, threads_of}
-use Rattle.dso_law.specs.Threads.{Locks, ending_of, ending_by}
-use Rattle.dso_legal.specs.Agreement.{after, EachMay}
-use Rattle.dso_legal.specs.AsMade.{as_made}
-use Rattle.dso_legal.specs.Committed.{or_empty, block_numbered, block_taken, resolved, committed_by, committed_at, committed, ended_blocks}
-use Rattle.dso_legal.specs.Lawful.{next_after, ClientFollows, ServerFollows, NodeFollows, AllFollow}
-use Rattle.dso_legal.specs.Marks.{KeptThreads, MarksAreKnown, is_kept, kept_at, lists_at, kept_through, lists_through, IsAway, EachMayWake}
-use Rattle.dso_legal.specs.PendingBlocks.{no_locks, joined, taken_in, locks_through, IsRecordOf, EndsWith}
-use Rattle.dso_legal.specs.Places.{Place, Away, Kept, Gone, places_noted, place_ended, place_up, place_down, MayNote, MayEnd, MayPlaceUp, MayPlaceDown, place_of, place_with}
-use Rattle.dso_legal.specs.Resolved.{WaiterLists, AreResolved}
+use Rattle.dso_law.specs.ServerReadings.{is_lost, is_of_lost, counted}
+use Rattle.dso_law.specs.ServerStep.{HeardStep, HeardOrLost, ServerStepOn}
+use Rattle.dso_law.specs.Settings.{Settings}
+use Rattle.dso_legal.specs.Committed.{committed_by, committed_at, committed}
+use Rattle.dso_legal.specs.Lawful.{ServerFollows, NodeFollows, AllFollow}
+use Rattle.dso_legal.specs.Marks.{MarksAreKnown, is_kept, kept_at, lists_at}
+use Rattle.dso_legal.specs.Places.{Place, Away, Kept, Gone, place_up, place_down, MayPlaceUp, MayPlaceDown, place_of, place_with}
 use Rattle.dso_legal.specs.SoundProgram.{IsSound}
 use Rattle.dso_legal.specs.WaitsAndLosses.{WithoutLosses}
 use Rattle.dso_legal.proofs.blocks.BlockSteps.{none_is_lost}
-use Rattle.dso_legal.proofs.blocks.EachEvent.{AtClient, IfEvent, EachEvent, each_follows, each_taken}
-use Rattle.dso_legal.proofs.blocks.Histories.{client_of_thread, taken_of_client, history_takes}
-use Rattle.dso_legal.proofs.blocks.OwnActs.{IsNextAct, next_act}
-use Rattle.dso_legal.proofs.blocks.ResolvedBlocks.{history_resolved}
 use Rattle.dso_legal.proofs.channels.AfterEntry.{server_turn}
-use Rattle.dso_legal.proofs.channels.InFlight.{told_to, told_status}
-use Rattle.dso_legal.proofs.central.AllHold.{AllHolds, all_holds}
-use Rattle.dso_legal.proofs.leases.LeaseSteps.{no_both, if_true, unless_true}
-use Rattle.dso_legal.proofs.leases.LeasesCompatible.{all_lent}
-use Rattle.dso_legal.proofs.marks.BlockMarks.{KnowsMarks, LateLast, block_knows}
-use Rattle.dso_legal.proofs.marks.RecordMarks.{EventWakes, wakes_only, IsOf, own_or_other, FitsHere, Tracks, MayAsk, Walks, CanWalk, walk, late_last, exit_is}
-use Rattle.dso_legal.proofs.marks.SameRuns.{RunsResolved, runs_resolved}
+use Rattle.dso_legal.proofs.leases.LeaseSteps.{unless_true}
 use Rattle.dso_legal.proofs.records.BothEnds.{first_may_up}
-use Rattle.dso_legal.proofs.records.HandedIn.{TakesBlock, takes_its_block}
-use Rattle.dso_legal.proofs.waiting.BlockNotes.{notes_of, block_notes}
-use Rattle.dso_legal.proofs.waiting.KeptLeased.{kept_leased}
 use Rattle.dso_legal.proofs.waiting.ListMoves.{fails}
-use Rattle.dso_legal.proofs.waiting.MarksAsked.{event_times_out, event_asks_mark, IsUnasked, AsksFairly, asks_fairly}
-use Rattle.dso_legal.proofs.waiting.ServerEnd.{StandsAtServer, StepsOn}
-use Rattle.dso_legal.proofs.waiting.ServerWaiters.{any_append, none_woken, changes_wake_none}
-use Rattle.dso_legal.proofs.waiting.ServerWakes.{lists_ended, woken_both, record_wakes}
-use Rattle.dso_legal.proofs.waiting.Waiters.{WaitersStand, waiters_stand, server_does, enough_write}
+use Rattle.dso_legal.proofs.waiting.Waiters.{WaitersStand, waiters_stand, enough_write}
+use Rattle.dso_legal.proofs.waiting.KeptLeased.{kept_leased}
 use Rattle.std.proofs.lemmas.List.{append-nil}
-use Rattle.dso_law.specs.Granting.{queue_of, leases_so_far, serves}
+use Rattle.dso_law.specs.Granting.{leased_to, queue_of, leases_so_far, serves}
 use Rattle.dso_law.specs.Store.{stored}
 use Rattle.dso_legal.specs.WaitsAndLosses.{is_loss}
 use Rattle.dso_legal.proofs.copies.ServerMessages.{IsOfLease, serve_each}
@@ -262,3 +223,18 @@ module _ (p : Settings) (next : ThreadId → List Event → Option Request) (sou
   -- And the marks are known.
   pub marks_are_known : (es : List Entry) → AllFollow p next es → WithoutLosses es → MarksAreKnown (kept_at es) (lists_at es) (last_state p.shape (committed es))
   marks_are_known es follow safe = marks_known es (λ c. none_is_lost c es safe) (waiters_stand p next sound es follow safe) (marks_hold es follow safe)
+
+  -- Who is kept has a client with the lock at Write.
+  pub kept_at_write : (es : List Entry) → AllFollow p next es → WithoutLosses es → (l : LockName) (t : ThreadId) → kept_at es l t ≡ true → leased_to t.client l (counted (entries_of Server es)) ≡ Some Write
+  kept_at_write es follow safe l t kept = by (place_at es l t) refl
+    where
+      alive_then : is_lost t.client (entries_of Server es) ≡ false
+      alive_then = none_is_lost t.client es safe
+
+      stands : is_kept (place_at es l t) ≡ true
+      stands = sym (ap (λ b. not b && is_kept (place_at es l t)) alive_then) ∙ kept
+
+      by : (s : Place) → place_at es l t ≡ s → leased_to t.client l (counted (entries_of Server es)) ≡ Some Write
+      by Away is = absurd (cc (sym (ap is_kept is) ∙ stands))
+      by Gone is = absurd (cc (sym (ap is_kept is) ∙ stands))
+      by Kept is = enough_write (leased_to t.client l (counted (entries_of Server es))) (kept_leased p next sound es follow safe l t alive_then is)

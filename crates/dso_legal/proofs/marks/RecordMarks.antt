@@ -19,7 +19,7 @@ use Rattle.dso_base.specs.declared.request.Request.{Request}
 use Rattle.dso_base.specs.declared.request.Request.TheVariants.{New, Look, Get, Put, Enter, Exit, Wait, Tick, Timeout, Resume, Notify, NotifyAll, Print, End, Pause, Settle}
 use Rattle.dso_base.specs.declared.value.Value.TheVariants as value
 use Rattle.dso_base.specs.Following.{is_thread}
-use Rattle.dso_plain.specs.KeyTests.{is_lock, is_place}
+use Rattle.dso_plain.specs.KeyTests.{is_lock}
 use Rattle.dso_plain.specs.State.{Hold}
 use Rattle.dso_plain.specs.Touches.{AreActsOf, TimesOut}
 use Rattle.dso_plain.proofs.keys.SameKeys.{same_number, number_self, same_thread, thread_self, same_lock}
@@ -27,15 +27,15 @@ use Rattle.dso_law.specs.Replies.{woken_by}
 use Rattle.dso_law.specs.ServerWaiters.{lists_after, lists_noted}
 use Rattle.dso_law.specs.Threads.{Locks, exit_ending, ending_by, ending_of, locks_after}
 use Rattle.dso_legal.specs.Committed.{lists_after_act}
-use Rattle.dso_legal.specs.Marks.{KeptThreads, is_kept, kept_by, kept_through, lists_without, lists_timed_out, lists_through, IsAway, MayWake, EachMayWake}
-use Rattle.dso_legal.specs.PendingBlocks.{locks_through, StaysOpen, EndsWith}
-use Rattle.dso_legal.specs.Places.{Place, Away, Kept, Gone, unkept, place_chosen, place_noted, places_noted, place_ended, MayNote}
+use Rattle.dso_legal.specs.Marks.{KeptThreads, is_kept, kept_by, kept_through, lists_timed_out, lists_through, IsAway, MayWake, EachMayWake}
+use Rattle.dso_legal.specs.PendingBlocks.{locks_through, StaysOpen}
+use Rattle.dso_legal.specs.Places.{Place, Away, Kept, Gone, unkept, place_noted, places_noted, place_ended, MayNote}
 use Rattle.dso_legal.specs.Resolved.{WaiterLists}
 use Rattle.dso_legal.proofs.blocks.LocksOfEvents.{lock_either_way}
 use Rattle.dso_legal.proofs.leases.LeaseSteps.{no_both}
 use Rattle.dso_legal.proofs.leases.Queues.{lock_self}
-use Rattle.dso_legal.proofs.marks.BlockMarks.{neither_way, LateLast}
-use Rattle.dso_legal.proofs.waiting.BlockNotes.{note_by, notes_of, notes_both}
+use Rattle.dso_legal.proofs.marks.BlockMarks.{LateLast}
+use Rattle.dso_legal.proofs.waiting.BlockNotes.{note_by, notes_of}
 use Rattle.dso_legal.proofs.waiting.ClientEnd.{ending_silent}
 use Rattle.dso_legal.proofs.waiting.MarksAsked.{asks_mark, event_asks_mark}
 use Rattle.dso_legal.proofs.waiting.NotedPlaces.{noted_both}

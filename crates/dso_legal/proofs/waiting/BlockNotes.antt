@@ -1,5 +1,5 @@
 -- The notifications of a record are those of its block's acts, in their order.
-use Rattle.std.proofs.Common.{ℕ, ◌≡◌, refl, sym, ◌∙◌, ap, Bool, true, false, cond, is_some, Option, Some, None, List, [], ◌∷◌, ◌++◌}
+use Rattle.std.proofs.Common.{ℕ, ◌≡◌, refl, sym, ◌∙◌, ap, Bool, true, false, cond, is_some, Option, List, [], ◌∷◌, ◌++◌}
 use Rattle.std.proofs.lemmas.List.{append_assoc, append-nil}
 use Rattle.dso_base.specs.declared.lock.ThreadId.{ThreadId}
 use Rattle.dso_base.specs.declared.record.Body.{Body}
@@ -13,7 +13,7 @@ use Rattle.dso_base.specs.declared.request.Request.{Request}
 use Rattle.dso_base.specs.declared.request.Request.TheVariants.{New, Look, Get, Put, Enter, Exit, Wait, Tick, Timeout, Resume, Notify, NotifyAll, Print, End, Pause, Settle}
 use Rattle.dso_base.specs.declared.shape.Shape.{Shape}
 use Rattle.dso_base.specs.declared.value.Value.{Value}
-use Rattle.dso_base.specs.Block.{Work, start, body_in, with_value, insert_set, publish, put, put_shared, choice_of, work_by, work_after, worked}
+use Rattle.dso_base.specs.Block.{Work, start, body_in, with_value, insert_set, publish, put, put_shared, choice_of, work_by, worked}
 
 -- the notification that an act makes, as a list
 abbrev pub note_by : Request → Reply → Option ThreadId → List Note

@@ -1,64 +1,48 @@
 -- The client's end of a waiter, by the client rule: what its entry says may come where each thread stands, and the waiters of each lock
 -- stand as they should behind it.
 use Rattle.std.specs.List.{list_any, AllByRecursion}
-use Rattle.std.proofs.Common.{ℕ, ◌≡◌, ◌≢◌, ◌⊎◌, ◌↔◌, inl, inr, refl, sym, ◌∙◌, ap, subst, Bool, true, false, cond, not, ◌&&◌, ◌||◌, is_some, Option, Some, None, List, [], ◌∷◌, ◌++◌, map}
+use Rattle.std.proofs.Common.{ℕ, ◌≡◌, ◌≢◌, refl, sym, ◌∙◌, ap, subst, Bool, true, false, cond, not, ◌&&◌, is_some, Option, Some, None, List, [], ◌∷◌, ◌++◌}
 use Rattle.std.specs.Prelude.{is_none}
 use Rattle.std.proofs.lemmas.List.{append_assoc, append-nil}
 use Rattle.std.proofs.Math.Path.{fun_ext}
 use Rattle.dso_base.specs.declared.journal.Entry.{Entry}
 use Rattle.dso_base.specs.declared.journal.Input.{Input}
 use Rattle.dso_base.specs.declared.journal.Input.TheVariants as input
-use Rattle.dso_base.specs.declared.journal.Sent.TheVariants.{ToServer}
-use Rattle.dso_base.specs.declared.lock.Level.{Level}
-use Rattle.dso_base.specs.declared.lock.Level.TheVariants.{Read, Write}
+use Rattle.dso_base.specs.declared.lock.Level.TheVariants.{Write}
 use Rattle.dso_base.specs.declared.lock.LockName.{LockName}
 use Rattle.dso_base.specs.declared.lock.ThreadId.{ThreadId}
 use Rattle.dso_base.specs.declared.message.Down.{Down}
-use Rattle.dso_base.specs.declared.message.Down.TheVariants as down
 use Rattle.dso_base.specs.declared.message.Up.{Up}
 use Rattle.dso_base.specs.declared.message.Up.TheVariants as up
 use Rattle.dso_base.specs.declared.record.Ending.{Ending}
-use Rattle.dso_base.specs.declared.record.Ending.TheVariants as ending
 use Rattle.dso_base.specs.declared.request.Event.{Event}
 use Rattle.dso_base.specs.declared.request.Event.TheVariants.{Act}
 use Rattle.dso_base.specs.declared.request.Reply.{Reply}
-use Rattle.dso_base.specs.declared.request.Reply.TheVariants.{Done}
 use Rattle.dso_base.specs.declared.request.Request.{Request}
-use Rattle.dso_base.specs.declared.request.Request.TheVariants.{Enter, Exit, Wait, Timeout, Notify, NotifyAll, End}
-use Rattle.dso_base.specs.Block.{worked, start}
-use Rattle.dso_base.specs.Following.{is_thread}
+use Rattle.dso_base.specs.declared.request.Request.TheVariants.{Enter}
 use Rattle.dso_plain.specs.KeyTests.{is_lock}
 use Rattle.dso_plain.specs.State.{Hold}
-use Rattle.dso_plain.proofs.keys.SameKeys.{same_lock, same_thread}
-use Rattle.dso_law.specs.declared.readings.Standing.{Standing}
-use Rattle.dso_law.specs.ClientStep.{record_of, commits, returns, asks_again, Does, Asks, DoesOrAsks, ActsOn, ClientStepOn, ClientStep}
-use Rattle.dso_law.specs.ClientWaiters.{list_by_taken, list_by_sent, list_by_event, client_list, is_marked}
+use Rattle.dso_law.specs.ClientStep.{record_of, commits, returns, asks_again, Does, Asks, DoesOrAsks, ActsOn, ClientStepOn}
+use Rattle.dso_law.specs.ClientWaiters.{list_by_taken, list_by_sent, list_by_event, client_list}
 use Rattle.dso_law.specs.Closing.{is_closing, is_free, is_due, due}
 use Rattle.dso_law.specs.Entries.{unsent, by_taken_down, by_event}
-use Rattle.dso_law.specs.FitsDown.{IsWaitingOn, FitsDown}
-use Rattle.dso_law.specs.Leases.{standing_up, standing_down, standing, leased, is_asked_for, is_entered, granted, leased_locks}
+use Rattle.dso_law.specs.FitsDown.{FitsDown}
+use Rattle.dso_law.specs.Leases.{leased, is_entered, granted, leased_locks}
 use Rattle.dso_law.specs.Replies.{woken_by, reply_of}
-use Rattle.dso_law.specs.RequestNeeds.{Need, NeedsId, NeedsObject, NeedsClass, NeedsMark, NeedsLease, NeedsOthersOut, NeedsAck, hold_level, conflicts, unmet, unless_asked, ask_for}
+use Rattle.dso_law.specs.RequestNeeds.{Need, NeedsId, NeedsObject, NeedsClass, NeedsMark, NeedsLease, NeedsOthersOut, NeedsAck, hold_level, unmet, ask_for}
 use Rattle.dso_law.specs.Settings.{Settings, threads_of}
-use Rattle.dso_law.specs.Threads.{Locks, hold_in, locks_after, locks_of, hold_of, exit_ending, ending_by, ending_of, open_block, privates_before}
-use Rattle.dso_legal.specs.Agreement.{after, EachMay}
-use Rattle.dso_legal.specs.Places.{Place, Away, Kept, Gone, places_noted, place_ended, place_up, place_down, MayNote, MayEnd, MayPlaceUp, place_of}
-use Rattle.dso_legal.specs.SoundProgram.{IsOfWaiter}
-use Rattle.dso_legal.proofs.blocks.WaitsApart.{does_wait}
+use Rattle.dso_law.specs.Threads.{locks_of, hold_of, ending_of}
+use Rattle.dso_legal.specs.Agreement.{after}
 use Rattle.dso_legal.proofs.channels.InFlight.{said_of, said_all}
 use Rattle.dso_lookup.proofs.Tests.{both}
 use Rattle.dso_legal.proofs.leases.ClientLeases.{has_is, ask_is}
 use Rattle.dso_legal.proofs.leases.Holds.{HoldsWell}
 use Rattle.dso_legal.proofs.leases.KeptLeases.{found}
-use Rattle.dso_legal.proofs.leases.LeaseSteps.{no_both, IsPlain}
+use Rattle.dso_legal.proofs.leases.LeaseSteps.{no_both}
 use Rattle.dso_legal.proofs.leases.Locks.{Distinct, rising_distinct, granted_rises, distinct_filter, each_passes}
-use Rattle.dso_legal.proofs.waiting.BlockNotes.{note_by, notes_of, notes_both, block_notes}
-use Rattle.dso_legal.proofs.waiting.ClientActs.{view_of, place_handed, acted, waits_on_one, IsFair}
-use Rattle.dso_legal.proofs.waiting.ClientView.{View, level_of, Waits, is_in, IsAlone, OneHolds, KeepsWaiters, IsQuiet, quiet_keeps}
-use Rattle.dso_legal.proofs.waiting.EachAct.{acts_keep}
-use Rattle.dso_legal.proofs.waiting.EndingsInTime.{IsInTime}
-use Rattle.dso_legal.proofs.waiting.EntryParts.{after_parts, SaysWell, parts_tell, IsAsking, each_return, gives_back_well}
-use Rattle.dso_legal.proofs.waiting.ListMoves.{fails, IsWokenNow, woken_keeps}
+use Rattle.dso_legal.proofs.waiting.ActedView.{view_of, IsFair}
+use Rattle.dso_legal.proofs.waiting.ClientView.{KeepsWaiters}
+use Rattle.dso_legal.proofs.waiting.EntryParts.{after_parts, SaysWell, IsAsking, each_return, gives_back_well}
 use Rattle.dso_legal.proofs.waiting.ClientEnd.{act_well, IsDue, taken_well}
 
 -- what is asked for is no record and no return

@@ -1,9 +1,9 @@
 -- How the waiters of the locks stand at a client, as its entries tell: what the server has of it by the client's messages, and what
 -- its threads did since.
 use Rattle.std.specs.List.{list_any}
-use Rattle.std.proofs.Common.{◌≡◌, ◌≢◌, ◌⊎◌, ◌↔◌, inl, inr, refl, sym, ◌∙◌, ap, subst, Bool, true, false, cond, ◌||◌, Option, Some, None, List, [], ◌∷◌, ◌++◌}
+use Rattle.std.proofs.Common.{◌≡◌, ◌≢◌, ◌⊎◌, ◌↔◌, inl, inr, refl, sym, ◌∙◌, ap, subst, Bool, true, false, ◌||◌, Option, Some, List, [], ◌∷◌, ◌++◌}
 use Rattle.dso_base.specs.declared.lock.Level.{Level}
-use Rattle.dso_base.specs.declared.lock.Level.TheVariants.{Read, Write}
+use Rattle.dso_base.specs.declared.lock.Level.TheVariants.{Write}
 use Rattle.dso_base.specs.declared.lock.LockName.{LockName}
 use Rattle.dso_base.specs.declared.lock.ThreadId.{ThreadId}
 use Rattle.dso_base.specs.declared.record.Note.{Note}

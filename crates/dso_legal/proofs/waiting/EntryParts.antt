@@ -4,7 +4,6 @@ use Rattle.std.specs.List.{list_any, AllByRecursion}
 use Rattle.std.proofs.Common.{◌≡◌, ◌≢◌, ◌↔◌, refl, sym, ◌∙◌, ap, subst, Bool, true, false, cond, ◌&&◌, ◌||◌, Option, Some, None, List, [], ◌∷◌, ◌++◌, map}
 use Rattle.dso_base.specs.declared.journal.Entry.{Entry}
 use Rattle.dso_base.specs.declared.journal.Input.{Input}
-use Rattle.dso_base.specs.declared.lock.Level.{Level}
 use Rattle.dso_base.specs.declared.lock.Level.TheVariants.{Write}
 use Rattle.dso_base.specs.declared.lock.LockName.{LockName}
 use Rattle.dso_base.specs.declared.lock.ThreadId.{ThreadId}
@@ -28,9 +27,9 @@ use Rattle.dso_legal.proofs.leases.ClientLeases.{neither}
 use Rattle.dso_legal.proofs.leases.LeaseSteps.{no_both}
 use Rattle.dso_legal.proofs.leases.Locks.{Distinct}
 use Rattle.dso_legal.proofs.waiting.BlockNotes.{notes_of}
-use Rattle.dso_legal.proofs.waiting.ClientActs.{view_of}
-use Rattle.dso_legal.proofs.waiting.ClientView.{View, level_of, is_in, KeepsWaiters, kept_free, IsQuiet, quiet_keeps}
-use Rattle.dso_legal.proofs.waiting.ListMoves.{GivesBack, returned_keeps}
+use Rattle.dso_legal.proofs.waiting.ActedView.{view_of}
+use Rattle.dso_legal.proofs.waiting.ClientView.{View, level_of, KeepsWaiters, kept_free, quiet_keeps}
+use Rattle.dso_legal.proofs.waiting.ListMoves.{returned_keeps}
 use Rattle.std.proofs.lemmas.List.{append-nil}
 
 -- how the waiters stand after an entry with these parts

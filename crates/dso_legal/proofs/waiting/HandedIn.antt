@@ -1,11 +1,10 @@
 -- A thread that hands its block in, or comes to wait, keeps the waiters of a lock as they should stand at its client.
 use Rattle.std.specs.List.{list_any}
-use Rattle.std.proofs.Common.{◌≡◌, ◌≢◌, ◌⊎◌, ◌↔◌, inl, inr, refl, sym, ◌∙◌, ap, subst, Bool, true, false, cond, ◌||◌, Option, Some, None, List, [], ◌∷◌, ◌++◌}
+use Rattle.std.proofs.Common.{◌≡◌, ◌≢◌, ◌⊎◌, ◌↔◌, inl, inr, refl, sym, ◌∙◌, ap, subst, Bool, true, false, cond, ◌||◌, Option, Some, None, [], ◌∷◌, ◌++◌}
 use Rattle.dso_base.specs.declared.lock.Level.{Level}
 use Rattle.dso_base.specs.declared.lock.Level.TheVariants.{Read, Write}
 use Rattle.dso_base.specs.declared.lock.LockName.{LockName}
 use Rattle.dso_base.specs.declared.lock.ThreadId.{ThreadId}
-use Rattle.dso_base.specs.declared.record.Note.{Note}
 use Rattle.dso_base.specs.Following.{is_thread}
 use Rattle.dso_plain.proofs.keys.SameKeys.{same_thread, thread_self}
 use Rattle.dso_law.specs.ClientWaiters.{without}

@@ -1,22 +1,20 @@
 -- What a notification, a resumption, a return and a wake make of the waiters of a lock at a client: they stand as they should.
 use Rattle.std.specs.List.{list_any}
-use Rattle.std.proofs.Common.{◌≡◌, ◌≢◌, ◌⊎◌, ◌↔◌, inl, inr, refl, sym, ◌∙◌, ap, subst, Bool, true, false, cond, ◌||◌, Option, Some, None, List, [], ◌∷◌, ◌++◌}
-use Rattle.dso_base.specs.declared.lock.Level.{Level}
-use Rattle.dso_base.specs.declared.lock.Level.TheVariants.{Read, Write}
+use Rattle.std.proofs.Common.{◌≡◌, ◌≢◌, ◌⊎◌, ◌↔◌, inl, inr, refl, sym, ◌∙◌, ap, subst, Bool, true, false, cond, ◌||◌, Some, [], ◌∷◌, ◌++◌}
+use Rattle.dso_base.specs.declared.lock.Level.TheVariants.{Write}
 use Rattle.dso_base.specs.declared.lock.LockName.{LockName}
 use Rattle.dso_base.specs.declared.lock.ThreadId.{ThreadId}
 use Rattle.dso_base.specs.declared.record.Choice.{Choice}
 use Rattle.dso_base.specs.declared.record.Note.{Note}
 use Rattle.dso_base.specs.Following.{is_thread}
-use Rattle.dso_plain.specs.KeyTests.{is_lock}
 use Rattle.dso_plain.proofs.keys.SameKeys.{same_thread, thread_self}
 use Rattle.dso_law.specs.FitsDown.{IsWaitingOn}
 use Rattle.dso_law.specs.RequestNeeds.{hold_level}
 use Rattle.dso_law.specs.Threads.{Locks, hold_in}
-use Rattle.dso_legal.specs.Places.{Place, Away, Kept, Gone, place_chosen, place_noted, places_noted, MayChoose, MayNote}
+use Rattle.dso_legal.specs.Places.{Place, Away, Kept, Gone, place_chosen, places_noted, MayChoose, MayNote}
 use Rattle.dso_legal.proofs.leases.LeaseSteps.{no_both}
 use Rattle.dso_legal.proofs.leases.Queues.{lock_self}
-use Rattle.dso_legal.proofs.waiting.ClientView.{View, level_of, Waits, is_in, IsAlone, OneHolds, KeepsWaiters, silent, kept_free}
+use Rattle.dso_legal.proofs.waiting.ClientView.{View, level_of, Waits, is_in, IsAlone, KeepsWaiters, silent, kept_free}
 use Rattle.dso_legal.proofs.waiting.NotedPlaces.{names_lock, others_leave, others_may, away_stays, noted_both, may_both}
 use Rattle.dso_legal.proofs.waiting.PlacesCommute.{all_noted}
 

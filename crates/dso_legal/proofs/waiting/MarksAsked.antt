@@ -1,6 +1,6 @@
 -- A block that ends in a timeout asks for no mark: its thread waited, unmarked, from the block's beginning on.
 use Rattle.std.specs.List.{list_any, AllByRecursion}
-use Rattle.std.proofs.Common.{ℕ, ◌≡◌, ◌≢◌, ◌⊎◌, inl, inr, refl, sym, ◌∙◌, ap, subst, Bool, true, false, cond, eqb, ◌&&◌, ◌||◌, is_some, Option, Some, None, List, [], ◌∷◌, ◌++◌}
+use Rattle.std.proofs.Common.{ℕ, ◌≡◌, ◌⊎◌, inl, inr, refl, sym, ◌∙◌, ap, subst, Bool, true, false, cond, eqb, ◌&&◌, ◌||◌, is_some, Option, Some, None, List, [], ◌∷◌, ◌++◌}
 use Rattle.dso_base.specs.declared.journal.Entry.{Entry}
 use Rattle.dso_base.specs.declared.journal.Input.{Input}
 use Rattle.dso_base.specs.declared.journal.Input.TheVariants as input
@@ -8,7 +8,6 @@ use Rattle.dso_base.specs.declared.journal.Node.{Node}
 use Rattle.dso_base.specs.declared.journal.Node.TheVariants.{Server, Client}
 use Rattle.dso_base.specs.declared.lock.LockName.{LockName}
 use Rattle.dso_base.specs.declared.lock.ThreadId.{ThreadId}
-use Rattle.dso_base.specs.declared.message.Down.{Down}
 use Rattle.dso_base.specs.declared.message.Down.TheVariants as down
 use Rattle.dso_base.specs.declared.record.Ending.{Ending}
 use Rattle.dso_base.specs.declared.request.Event.{Event}
@@ -23,7 +22,6 @@ use Rattle.dso_plain.specs.History.{is_act_of}
 use Rattle.dso_plain.proofs.keys.SameKeys.{same_number, same_thread, thread_self}
 use Rattle.dso_law.specs.ClientWaiters.{marked_by_taken, marked_by_act, marked_by_event, is_marked, is_listed, is_woken}
 use Rattle.dso_law.specs.Entries.{entries_of, by_taken_down, by_event, events_in}
-use Rattle.dso_law.specs.FitsDown.{IsWaitingOn}
 use Rattle.dso_law.specs.Replies.{timeout_reply, woken_by, reply_of}
 use Rattle.dso_law.specs.Settings.{Settings}
 use Rattle.dso_law.specs.Threads.{Locks, Waiting, resumed, locks_by, locks_after, locks_of, ending_by, block_after, open_block}
@@ -33,7 +31,7 @@ use Rattle.dso_legal.specs.SoundProgram.{IsSound, KeepsLocks, KeepsTo}
 use Rattle.dso_legal.specs.WaitsAndLosses.{WithoutLosses}
 use Rattle.dso_legal.proofs.acts.SeesAll.{AllUntold}
 use Rattle.dso_legal.proofs.blocks.EachEvent.{each_both}
-use Rattle.dso_legal.proofs.blocks.OwnActs.{IsNextAct, next_act, threads_follow, threads_wait, own_acts}
+use Rattle.dso_legal.proofs.blocks.OwnActs.{next_act, threads_follow, threads_wait, own_acts}
 use Rattle.dso_legal.proofs.blocks.SameLocks.{same_locks}
 use Rattle.dso_legal.proofs.blocks.WaitsApart.{does_wait}
 use Rattle.dso_legal.proofs.central.AllHold.{all_holds}

@@ -8,7 +8,7 @@ use Rattle.dso_base.specs.declared.record.Choice.TheVariants.{Here, There, All}
 use Rattle.dso_base.specs.declared.record.Note.{Note}
 use Rattle.dso_base.specs.Following.{is_thread}
 use Rattle.dso_plain.specs.KeyTests.{is_lock}
-use Rattle.dso_legal.specs.Places.{Place, Away, Kept, Gone, unkept, place_chosen, place_noted, places_noted, MayChoose, MayNote}
+use Rattle.dso_legal.specs.Places.{Place, Away, Kept, Gone, place_chosen, place_noted, places_noted, MayChoose, MayNote}
 use Rattle.dso_legal.proofs.leases.ClientLeases.{neither}
 use Rattle.dso_legal.proofs.leases.LeaseSteps.{no_both}
 

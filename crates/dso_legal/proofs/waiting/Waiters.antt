@@ -2,7 +2,6 @@
 -- client's threads stands; at the server who is in a list is who is gone to it; and the waiters stand as they should at each client.
 use Rattle.std.proofs.Common.{ℕ, ◌≡◌, ◌≢◌, refl, sym, ◌∙◌, ap, subst, Bool, true, false, cond, eqb, ◌&&◌, ◌||◌, Option, Some, None, List, [], ◌∷◌}
 use Rattle.dso_base.specs.declared.journal.Entry.{Entry}
-use Rattle.dso_base.specs.declared.journal.Input.{Input}
 use Rattle.dso_base.specs.declared.journal.Input.TheVariants as input
 use Rattle.dso_base.specs.declared.journal.Node.{Node}
 use Rattle.dso_base.specs.declared.journal.Node.TheVariants.{Server, Client}
@@ -12,47 +11,42 @@ use Rattle.dso_base.specs.declared.lock.LockName.{LockName}
 use Rattle.dso_base.specs.declared.lock.ThreadId.{ThreadId}
 use Rattle.dso_base.specs.declared.message.Down.{Down}
 use Rattle.dso_base.specs.declared.message.Down.TheVariants as down
-use Rattle.dso_base.specs.declared.message.Up.{Up}
 use Rattle.dso_base.specs.declared.request.Event.{Event}
 use Rattle.dso_base.specs.declared.request.Event.TheVariants.{Act}
 use Rattle.dso_base.specs.declared.request.Reply.{Reply}
 use Rattle.dso_base.specs.declared.request.Request.{Request}
 use Rattle.dso_base.specs.Following.{is_thread}
-use Rattle.dso_plain.specs.KeyTests.{is_lock}
 use Rattle.dso_plain.specs.State.{Hold}
 use Rattle.dso_plain.proofs.keys.SameKeys.{same_number, thread_self}
-use Rattle.dso_law.specs.Channels.{IsFirst, TakesFirst, up_in_flight, down_in_flight}
-use Rattle.dso_law.specs.Entries.{entries_of, by_event, events_in, by_taken_up, by_taken_down, if_to}
+use Rattle.dso_law.specs.Channels.{IsFirst, TakesFirst, down_in_flight}
+use Rattle.dso_law.specs.Entries.{entries_of, by_event, events_in}
 use Rattle.dso_law.specs.FitsDown.{FitsDown}
-use Rattle.dso_law.specs.Leases.{leased, standing}
+use Rattle.dso_law.specs.Leases.{leased}
 use Rattle.dso_law.specs.Replies.{woken_by, reply_of}
 use Rattle.dso_law.specs.RequestNeeds.{is_enough, conflicts, hold_level, unmet}
 use Rattle.dso_law.specs.ServerReadings.{loses, is_lost, is_of_lost, counted}
 use Rattle.dso_law.specs.Settings.{Settings}
 use Rattle.dso_law.specs.Threads.{hold_in, locks_after, locks_of, hold_of}
-use Rattle.dso_legal.specs.Agreement.{EachMay}
 use Rattle.dso_legal.specs.Lawful.{next_after, ClientFollows, ServerFollows, NodeFollows, AllFollow}
-use Rattle.dso_legal.specs.PendingBlocks.{no_locks, locks_through}
-use Rattle.dso_legal.specs.Places.{Place, Away, Gone, place_up, place_down, MayPlaceUp, MayPlaceDown, place_of, place_with, AgreeOnWaiter}
+use Rattle.dso_legal.specs.Places.{Gone, place_up, place_down, MayPlaceUp, MayPlaceDown, place_of, place_with, AgreeOnWaiter}
 use Rattle.dso_legal.specs.SoundProgram.{IsSound, KeepsLocks, KeepsTo}
 use Rattle.dso_legal.specs.WaitsAndLosses.{WithoutLosses}
 use Rattle.dso_legal.proofs.acts.SeesAll.{AllUntold}
 use Rattle.dso_legal.proofs.blocks.OwnActs.{threads_follow, threads_wait, own_acts}
 use Rattle.dso_legal.proofs.blocks.SameLocks.{same_locks}
 use Rattle.dso_legal.proofs.blocks.WaitsApart.{waits_apart}
-use Rattle.dso_legal.proofs.central.AllHold.{AllHolds, all_holds}
+use Rattle.dso_legal.proofs.central.AllHold.{all_holds}
 use Rattle.dso_legal.proofs.leases.Holding.{moves}
 use Rattle.dso_legal.proofs.leases.Holds.{HoldsWell, holds_well, well_after}
 use Rattle.dso_legal.proofs.leases.KeptLeases.{keeps_leases}
-use Rattle.dso_legal.proofs.leases.LeaseSteps.{no_both, unless_true, if_true}
 use Rattle.dso_legal.proofs.leases.Queues.{lock_self}
 use Rattle.dso_legal.proofs.leases.Tokens.{known}
-use Rattle.dso_legal.proofs.records.BothEnds.{server_with, client_with, not_lost_before, ClientEnd, ServerEnd, EndsAt, agree_after, first_may_up, first_may_down}
+use Rattle.dso_legal.proofs.records.BothEnds.{server_with, client_with, not_lost_before, EndsAt, agree_after, first_may_up, first_may_down}
 use Rattle.dso_legal.proofs.channels.InFlight.{said_of}
-use Rattle.dso_legal.proofs.waiting.ClientActs.{view_of, acted, IsFair}
+use Rattle.dso_legal.proofs.waiting.ActedView.{view_of, acted, IsFair}
 use Rattle.dso_legal.proofs.waiting.ClientEnd.{IsDue}
 use Rattle.dso_legal.proofs.waiting.ClientRuleKeeps.{AreFair, says_well}
-use Rattle.dso_legal.proofs.waiting.ClientView.{level_of, IsAlone, OneHolds, KeepsWaiters}
+use Rattle.dso_legal.proofs.waiting.ClientView.{KeepsWaiters}
 use Rattle.dso_legal.proofs.waiting.EntryParts.{SaysWell, parts_tell}
 use Rattle.dso_legal.proofs.waiting.PlacesCommute.{places_commute}
 use Rattle.dso_legal.proofs.waiting.ServerEnd.{StandsAtServer, StepsOn, server_steps}

@@ -1,49 +1,39 @@
 -- An act that enters or leaves a lock, waits or times out keeps the waiters of a lock as they should stand at its client.
-use Rattle.std.specs.List.{list_any}
-use Rattle.std.proofs.Common.{ℕ, ◌-◌, ◌≡◌, ◌≢◌, ◌⊎◌, ◌↔◌, inl, inr, refl, sym, ◌∙◌, ap, subst, Bool, true, false, cond, eqb, ◌&&◌, ◌||◌, is_some, Option, Some, None, List, [], ◌∷◌, ◌++◌}
-use Rattle.std.proofs.lemmas.List.{append-nil}
+use Rattle.std.proofs.Common.{ℕ, ◌-◌, ◌≡◌, ◌≢◌, refl, sym, ◌∙◌, ap, subst, Bool, true, false, cond, eqb, ◌&&◌, ◌||◌, Option, Some, None, List, [], ◌∷◌, ◌++◌}
 use Rattle.dso_base.specs.declared.journal.Entry.{Entry}
 use Rattle.dso_base.specs.declared.lock.Level.{Level}
 use Rattle.dso_base.specs.declared.lock.Level.TheVariants.{Read, Write}
 use Rattle.dso_base.specs.declared.lock.LockName.{LockName}
 use Rattle.dso_base.specs.declared.lock.ThreadId.{ThreadId}
-use Rattle.dso_base.specs.declared.record.Choice.TheVariants.{Here, There, All}
 use Rattle.dso_base.specs.declared.record.Ending.{Ending}
 use Rattle.dso_base.specs.declared.record.Ending.TheVariants as ending
-use Rattle.dso_base.specs.declared.record.Note.{Note}
-use Rattle.dso_base.specs.declared.request.Event.{Event}
 use Rattle.dso_base.specs.declared.request.Event.TheVariants.{Act}
 use Rattle.dso_base.specs.declared.request.Reply.{Reply}
 use Rattle.dso_base.specs.declared.request.Reply.TheVariants.{Done}
 use Rattle.dso_base.specs.declared.request.Request.{Request}
-use Rattle.dso_base.specs.declared.request.Request.TheVariants.{Enter, Exit, Wait, Tick, Timeout, Resume, Notify, NotifyAll, End}
+use Rattle.dso_base.specs.declared.request.Request.TheVariants.{Enter, Exit, Wait, Timeout}
 use Rattle.dso_base.specs.Following.{is_thread}
 use Rattle.dso_plain.specs.KeyTests.{is_lock}
 use Rattle.dso_plain.specs.State.{Hold}
-use Rattle.dso_plain.specs.After.{entered, exited, count_of}
+use Rattle.dso_plain.specs.After.{entered, exited}
 use Rattle.dso_plain.proofs.keys.SameKeys.{same_lock, same_thread, thread_self}
-use Rattle.dso_law.specs.ClientWaiters.{without, without_woken, list_by_act, client_list, is_woken, marked_by_act, is_marked, is_listed}
+use Rattle.dso_law.specs.ClientWaiters.{without, client_list, is_marked, is_listed}
 use Rattle.dso_law.specs.FitsDown.{IsWaitingOn}
 use Rattle.dso_law.specs.Leases.{leased}
-use Rattle.dso_law.specs.Replies.{monitor_reply, timeout_reply, first_of_list, woken_by, reply_of}
-use Rattle.dso_law.specs.RequestNeeds.{Need, NeedsMark, hold_level, unless, first_unmet, entry_need, unmet}
+use Rattle.dso_law.specs.Replies.{monitor_reply, timeout_reply}
+use Rattle.dso_law.specs.RequestNeeds.{hold_level}
 use Rattle.dso_law.specs.Settings.{Settings}
-use Rattle.dso_law.specs.Threads.{Locks, Waiting, hold_in, with_hold, resumed, locks_by, locks_of, hold_of, exit_ending, ending_by, block_after, open_block}
+use Rattle.dso_law.specs.Threads.{Locks, hold_in, with_hold, locks_by, locks_of, hold_of, exit_ending, block_after, open_block}
 use Rattle.dso_law.proofs.client.ClientLaws.{holds_after}
-use Rattle.dso_legal.specs.Places.{Place, Away, Kept, Gone, unkept, places_noted, place_ended, place_of}
-use Rattle.dso_legal.specs.SoundProgram.{IsOfWaiter, KeepsLocks}
+use Rattle.dso_legal.specs.Places.{Kept, unkept, places_noted, place_of}
 use Rattle.dso_legal.proofs.blocks.OpenLocks.{set_there}
-use Rattle.dso_legal.proofs.blocks.WaitsApart.{HoldsApart, does_wait}
 use Rattle.dso_legal.proofs.leases.LeaseSteps.{no_both}
 use Rattle.dso_legal.proofs.leases.Queues.{lock_self}
-use Rattle.dso_legal.proofs.marks.BlockMarks.{left_out, left_in, neither_way}
-use Rattle.dso_legal.proofs.waiting.BlockNotes.{note_by, notes_of, notes_both}
-use Rattle.dso_legal.proofs.waiting.ClientView.{View, level_of, Waits, is_in, IsAlone, OneHolds, KeepsWaiters, IsQuiet, quiet_keeps}
-use Rattle.dso_legal.proofs.waiting.HandedIn.{HandsIn, handed_keeps, ComesToWait, waiting_keeps, TimesOutNow, timeout_keeps}
-use Rattle.dso_legal.proofs.waiting.ListMoves.{Notifies, notified_keeps, GoesOn, resumed_keeps}
-use Rattle.dso_legal.proofs.waiting.NotedPlaces.{names_lock}
-use Rattle.dso_legal.proofs.waiting.ClientActs.{view_of, place_handed, acted, waits_on_one, not_waiting, holds_again, none_waiting, others_locks, others_notes, at_each, Leaves, leaves_quiet, Ends, ends_hands, own_notes, IsFair}
-use Rattle.dso_legal.proofs.waiting.ListMoves.{fails}
+use Rattle.dso_legal.proofs.marks.BlockMarks.{neither_way}
+use Rattle.dso_legal.proofs.waiting.BlockNotes.{notes_of}
+use Rattle.dso_legal.proofs.waiting.ClientView.{View, level_of, Waits, OneHolds, KeepsWaiters, quiet_keeps}
+use Rattle.dso_legal.proofs.waiting.HandedIn.{handed_keeps, ComesToWait, waiting_keeps, TimesOutNow, timeout_keeps}
+use Rattle.dso_legal.proofs.waiting.ActedView.{view_of, acted, waits_on_one, none_waiting, Leaves, leaves_quiet, Ends, ends_hands, IsFair}
 
 module _ (p : Settings) (c : ℕ) (next : ThreadId → Option Request) (own : List Entry) (a : ThreadId) (l : LockName) (k : (j : LockName) → KeepsWaiters j (view_of own)) where
   abbrev v : View

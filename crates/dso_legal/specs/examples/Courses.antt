@@ -12,8 +12,8 @@ use Rattle.dso_base.specs.declared.value.ClassId.{ClassId}
 use Rattle.dso_base.specs.declared.value.Value.TheVariants as value
 use Rattle.dso_base.specs.Following.{is_thread}
 
--- what a thread does: it asks no more, or it makes an object and goes on with it, looks at an object, reads a field, ticks and goes
--- on by whether it was woken, times out in time or too late, or asks what is to be done, and goes on
+-- what a thread does: it asks no more, or it makes an object and goes on with it, looks at an object, reads a field,
+-- ticks and goes on by whether it was woken, times out in time or too late, or asks what is to be done, and goes on
 pub data Course : Type 0 where
   Stops : Course
   Makes : ClassId → ℕ → (ℕ → Course) → Course
