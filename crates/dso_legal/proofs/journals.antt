@@ -9,3 +9,4 @@ pub mod SoundCourses
 pub mod Meets
 pub mod Refused
 pub mod Misfits
+pub mod Unfitting

@@ -12,5 +12,6 @@ pub mod CrossedTimeout
 pub mod Settling
 pub mod Refusals
 pub mod Misfits
+pub mod Unfitting
 pub mod Courses
 pub mod Premises

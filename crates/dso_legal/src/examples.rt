@@ -3,6 +3,7 @@
 //! nothing.
 ghost use Rattle.dso_legal.specs.examples.Counter.{CounterJournal};
 ghost use Rattle.dso_legal.specs.examples.Misfits.{Misfits};
+ghost use Rattle.dso_legal.specs.examples.Unfitting.{Unfitting};
 ghost use Rattle.dso_legal.specs.examples.Refusals.{Refusals, WrongSendings};
 ghost use Rattle.dso_legal.specs.examples.Recall.{RecallJournal};
 ghost use Rattle.dso_legal.specs.examples.Flush.{FlushJournal};
@@ -79,6 +80,12 @@ pub fn wrong_sendings()
 /// And for each row that says how a message fits, messages that break it.
 pub fn misfits()
     ensures { Misfits }
+{}
+
+/// A program that puts a number into a root doesn't stay within its shape: in a lawful journal of it a record comes that
+/// doesn't fit. So `laws::messages_fit` asks that of a program.
+pub fn unfitting()
+    ensures { Unfitting }
 {}
 
 /// What the central law asks of a journal is met by the first three journals above, by that of a thread that settles, and by
