@@ -112,12 +112,7 @@ pub(crate) fn put(places: &mut Places, slot: Slot) -> Result<(), NoMemory>
 
 /// Writes a field of an object's copy in place. False, with nothing changed, exactly where there is no copy or it has no
 /// such field. It takes no memory.
-pub(crate) fn write(
-    alloc: Global,
-    places: &mut Places,
-    set: Set,
-    changed: Option<u64>,
-) -> bool
+pub(crate) fn write(alloc: Global, places: &mut Places, set: Set, changed: Option<u64>) -> bool
     requires agree { PlacesAgree places.old }
     ensures found { result ≡ has_slot_value set.field (slot_in places.old set.object) }
     ensures written { OnTrue result (slot_in places.new ≡ with_at set.object (option_map (wrote set changed) (slot_in places.old set.object)) (slot_in places.old)) }

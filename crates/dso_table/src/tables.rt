@@ -101,11 +101,7 @@ fn put_new(tables: &mut Tables, slot: Slot) -> Result<(), NoMemory>
 
 /// Puts the copy of an object, which the own record of this number changed, if there is one. It answers `NoMemory` where an
 /// allocation was refused, and nothing is changed then.
-pub(crate) fn put(
-    tables: &mut Tables,
-    body: Body,
-    changed: Option<u64>,
-) -> Result<(), NoMemory>
+pub(crate) fn put(tables: &mut Tables, body: Body, changed: Option<u64>) -> Result<(), NoMemory>
     requires agree { TablesAgree tables.old }
     ensures ok { OnOk result (state_in tables.new ≡ put body changed (state_in tables.old)) }
     ensures err { OnErr result (state_in tables.new ≡ state_in tables.old) }
