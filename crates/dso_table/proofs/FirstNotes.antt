@@ -1,7 +1,7 @@
 -- The first thread that has a note of an object, found in the rows of all threads.
 use Rattle.std.proofs.Common.{ℕ, ◌≡◌, refl, sym, ◌∙◌, ap, subst, Bool, true, false, cond, is_some, List, [], ◌∷◌, Option, Some, None}
-use Rattle.std.specs.BTreeMap.{BTreeMap, get, is_at, IsOrdered}
-use Rattle.std.specs.Cmp.{IsTotalOrder, tied_itself}
+use Rattle.std.specs.BTreeMap.{BTreeMap, get, is_at}
+use Rattle.std.specs.Cmp.{tied_itself}
 use Rattle.std.specs.List.{AllByRecursion}
 use Rattle.std.specs.List.Sorted.{IsStrictlySortedBy}
 use Rattle.std.specs.Map.{keys_of, lookup}
@@ -12,8 +12,6 @@ use Rattle.dso_base.specs.contracts.lock.ThreadIdOrd.TheImpl.Laws.{total-law}
 use Rattle.dso_base.specs.declared.lock.ThreadId.{ThreadId}
 use Rattle.dso_lookup.specs.Orders.{thread_order}
 use Rattle.dso_lookup.specs.Rows.{in_row}
-use Rattle.dso_table.specs.Tables.{notes_in}
-use Rattle.dso_table.specs.Victims.{NoNote, IsFirstNote}
 
 -- an answer that is told to be `Equal`
 equal_is : (r : Ordering) → is_eq r ≡ true → r ≡ Equal

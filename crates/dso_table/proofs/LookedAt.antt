@@ -1,5 +1,5 @@
 -- A search for the object that is flushed next: what was looked at is not flushable.
-use Rattle.std.proofs.Common.{ℕ, ◌≡◌, ◌≢◌, ◌<◌, ◌≤◌, refl, sym, ◌∙◌, ap, subst, arith, Bool, true, false, ◌||◌, eqb, List, [], ◌∷◌, ◌++◌, append_assoc, append-nil}
+use Rattle.std.proofs.Common.{ℕ, ◌≡◌, ◌≢◌, ◌≤◌, refl, sym, ◌∙◌, ap, subst, arith, Bool, true, false, ◌||◌, eqb, List, [], ◌∷◌, ◌++◌, append_assoc, append-nil}
 use Rattle.std.proofs.lemmas.Bool.{eqb-true}
 use Rattle.std.proofs.lemmas.Cmp.{nat_cmp_total}
 use Rattle.std.proofs.lemmas.Map.Keys.{ge_from_not_lt}
@@ -9,11 +9,10 @@ use Rattle.std.specs.List.{list_any, AllByRecursion}
 use Rattle.std.specs.List.Sorted.{IsStrictlySortedBy}
 use Rattle.std.specs.Map.{keys_of}
 use Rattle.std.specs.Ordering.{is_lt, nat_cmp, ordering_reverse}
-use Rattle.std.specs.declared.cmp.Ordering.TheVariants.{Less, Equal, Greater}
+use Rattle.std.specs.declared.cmp.Ordering.TheVariants.{Less}
 use Rattle.dso_lookup.specs.Search.{is_listed}
 use Rattle.dso_table.specs.declared.tables.Tables.{Tables}
-use Rattle.dso_table.specs.States.{is_resident}
-use Rattle.dso_table.specs.Tables.{slot_in, standing_of, used_in, is_ordered, state_in, TablesAgree}
+use Rattle.dso_table.specs.Tables.{used_in, state_in, TablesAgree}
 use Rattle.dso_table.specs.Victims.{IsFlushable, IsLeastUnused, IsLeastRecent}
 use Rattle.dso_table.proofs.Numbers.{at_it, is_at_itself}
 

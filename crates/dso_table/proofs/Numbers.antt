@@ -5,7 +5,7 @@ use Rattle.std.proofs.lemmas.Bool.{eqb-true, eq-eqb}
 use Rattle.std.specs.BTreeMap.{is_at}
 use Rattle.std.specs.Cmp.{unsigned_tied}
 use Rattle.std.specs.Ordering.{nat_cmp}
-use Rattle.dso_lookup.specs.Maps.{writes, or_old, written}
+use Rattle.dso_lookup.specs.Maps.{or_old}
 use Rattle.dso_lookup.proofs.Tests.{same_tests}
 use Rattle.dso_table.specs.States.{with_at}
 

@@ -1,5 +1,5 @@
 -- The order of use after calls on its two parts.
-use Rattle.std.proofs.Common.{ℕ, suc, ◌+◌, ◌-◌, ◌≡◌, ◌<◌, ◌≤◌, refl, sym, ◌∙◌, ap, subst, arith, Bool, true, false, cond, not, eqb, nat_eq, ◌&&◌, ◌||◌, List, [], ◌∷◌, length, take, drop, is_some, Option, Some, None}
+use Rattle.std.proofs.Common.{ℕ, ◌+◌, ◌-◌, ◌≡◌, ◌<◌, refl, sym, ◌∙◌, ap, subst, arith, Bool, true, false, cond, not, eqb, nat_eq, ◌&&◌, ◌||◌, [], ◌∷◌, length, take, drop, is_some, Some}
 use Rattle.std.specs.BTreeMap.{is_at}
 use Rattle.std.specs.BTreeSet.{BTreeSet, contains}
 use Rattle.std.specs.Map.{keys_of, remove_entry, lookup}

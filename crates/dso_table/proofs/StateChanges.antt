@@ -1,20 +1,17 @@
 -- The state after a change of what is kept of one object.
-use Rattle.std.proofs.Common.{ℕ, ◌+◌, ◌≡◌, refl, sym, ◌∙◌, ap, subst, Bool, true, false, cond, is_some, Option, Some, None}
+use Rattle.std.proofs.Common.{ℕ, ◌+◌, ◌≡◌, refl, sym, ◌∙◌, ap, Bool, true, false, cond, is_some, Option, Some, None}
 use Rattle.std.proofs.Math.Path.{fun_ext}
 use Rattle.std.specs.Option.{option_map}
-use Rattle.dso_base.specs.declared.lock.ThreadId.{ThreadId}
 use Rattle.dso_base.specs.declared.record.Body.{Body}
 use Rattle.dso_base.specs.declared.record.Set.{Set}
 use Rattle.dso_change.specs.Hands.{has_field}
 use Rattle.dso_lookup.specs.Maps.{writes, or_old, written}
 use Rattle.dso_table.specs.declared.slot.Slot.{Slot}
-use Rattle.dso_table.specs.declared.slot.Standing.{Standing}
 use Rattle.dso_table.specs.declared.slot.Standing.TheVariants as standing
 use Rattle.dso_table.specs.declared.tables.Tables.{Tables}
 use Rattle.dso_table.specs.Slots.{wrote, changed_last, changed_before, has_slot_value}
 use Rattle.dso_table.specs.States.{State, is_resident, body_of, later_than, with_at, with_value, marked, put}
-use Rattle.dso_table.specs.States as states
-use Rattle.dso_table.specs.Tables.{slot_in, standing_of, mark_of, is_ordered, state_in, put_slot, PlacesAgree, OrderAgrees, TablesAgree}
+use Rattle.dso_table.specs.Tables.{slot_in, standing_of, mark_of, is_ordered, state_in, put_slot, TablesAgree}
 use Rattle.dso_table.proofs.Numbers.{with_at_map, with_at_same}
 
 -- states of which each part is the same

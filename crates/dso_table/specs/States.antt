@@ -1,13 +1,13 @@
 -- How objects stand with a client, which notes there are of them, and in which order they were used.
-use Rattle.std.specs.Prelude.{ℕ, ◌+◌, ◌-◌, ◌≡◌, Bool, true, false, cond, not, eqb, ltb, max, is_some, take, filter, List, [], ◌∷◌, Option, Some, None}
+use Rattle.std.specs.Prelude.{ℕ, ◌+◌, ◌-◌, Bool, true, false, cond, not, eqb, ltb, max, is_some, take, filter, List, [], ◌∷◌, Option, Some, None}
 use Rattle.std.specs.BTreeMap.{is_at}
-use Rattle.std.specs.Option.{option_map, option_map_or}
+use Rattle.std.specs.Option.{option_map}
 use Rattle.std.specs.Ordering.{nat_cmp}
 use Rattle.dso_base.specs.declared.lock.ThreadId.{ThreadId}
 use Rattle.dso_base.specs.declared.record.Body.{Body}
 use Rattle.dso_base.specs.declared.record.Set.{Set}
 use Rattle.dso_base.specs.declared.value.Value.{Value}
-use Rattle.dso_change.specs.Hands.{has_field, with_field}
+use Rattle.dso_change.specs.Hands.{with_field}
 use Rattle.dso_lookup.specs.Maps.{writes, written}
 use Rattle.dso_lookup.specs.Orders.{thread_order}
 use Rattle.dso_lookup.specs.Rows.{is_at_pair}

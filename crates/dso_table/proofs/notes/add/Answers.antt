@@ -1,4 +1,4 @@
-use Rattle.std.proofs.Common.{◌≡◌, ap, is_some, Ok, Err, Result, OnOk, OnErr}
+use Rattle.std.proofs.Common.{ap, is_some, Ok, Err, Result, OnOk, OnErr}
 use Rattle.std.specs.Ordering.{nat_cmp}
 use Rattle.dso_base.specs.declared.no_memory.NoMemory.{NoMemory}
 use Rattle.dso_lookup.specs.Orders.{thread_order}

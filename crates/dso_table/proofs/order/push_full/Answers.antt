@@ -1,4 +1,4 @@
-use Rattle.std.proofs.Common.{◌≡◌, ◌-◌, ◌<◌, ◌∷◌, [], ℕ, List, sym, ◌∙◌, ap, subst, drop, length, arith}
+use Rattle.std.proofs.Common.{◌-◌, ◌<◌, ℕ, List, sym, ◌∙◌, ap, subst, drop, length, arith}
 use Rattle.std.specs.Map.{keys_of}
 use Rattle.lru.specs.LruCache.{lru_cache}
 use Rattle.dso_table.specs.Tables.{JoinedBy}

@@ -1,4 +1,4 @@
-use Rattle.std.proofs.Common.{refl, sym, ◌≡◌, ◌∙◌, ap, None, Some, Option, is_some, true, false}
+use Rattle.std.proofs.Common.{refl, sym, ◌≡◌, None, Some, Option, is_some, false}
 use Rattle.dso_lookup.proofs.RowsInPlace.{on_err}
 use Rattle.dso_table.specs.declared.slot.Slot.{Slot}
 use Rattle.dso_table.specs.Tables.{slot_in}

@@ -1,10 +1,10 @@
-use Rattle.std.proofs.Common.{ℕ, ◌≡◌, refl, sym, ◌∙◌, Bool, true, false, Option}
+use Rattle.std.proofs.Common.{ℕ, ◌≡◌, refl, sym, Bool, true, false, Option}
 use Rattle.std.specs.Bool.{OnTrue, OnFalse}
 use Rattle.std.specs.Option.{option_map}
 use Rattle.dso_base.specs.declared.record.Set.{Set}
 use Rattle.dso_table.specs.Slots.{wrote, has_slot_value}
 use Rattle.dso_table.specs.States.{with_at, set}
-use Rattle.dso_table.specs.Tables.{slot_in, standing_of, state_in, PlacesAgree, TablesAgree}
+use Rattle.dso_table.specs.Tables.{slot_in, state_in, PlacesAgree, TablesAgree}
 use Rattle.dso_table.specs.declared.places.Places.{Places}
 use Rattle.dso_table.specs.declared.tables.Tables.{Tables}
 use Rattle.dso_table.proofs.TableChanges.{same_order, told_same, agree_same, told_written, agree_over, written_resident}

@@ -1,4 +1,4 @@
-use Rattle.std.proofs.Common.{◌≡◌, sym, ◌∙◌, ap, subst, List, ℕ, false, true}
+use Rattle.std.proofs.Common.{sym, ◌∙◌, subst, List, ℕ}
 use Rattle.dso_table.proofs.LookedAt.{AreLeft, all_left, fewer_left, found_left, none_left}
 use Rattle.dso_table.proofs.victim.least_unused.Goals as goal
 
