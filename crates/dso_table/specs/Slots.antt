@@ -17,7 +17,10 @@ changed_last (Some seq) before = Some seq
 
 -- the object after a field of its copy was set
 abbrev pub wrote : Set → Option ℕ → Slot → Slot
-wrote change changed slot = record slot { standing = with_value change.field change.value slot.standing; changed = changed_last changed slot.changed }
+wrote change changed slot = record slot {
+  standing = with_value change.field change.value slot.standing;
+  changed = changed_last changed slot.changed;
+}
 
 -- so for an object that may be absent
 abbrev pub has_slot_value : ℕ → Option Slot → Bool

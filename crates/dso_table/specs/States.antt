@@ -1,5 +1,6 @@
 -- How objects stand with a client, which notes there are of them, and in which order they were used.
-use Rattle.std.specs.Prelude.{ℕ, ◌+◌, ◌-◌, Bool, true, false, cond, not, eqb, ltb, max, is_some, take, filter, List, [], ◌∷◌, Option, Some, None}
+use Rattle.std.specs.Prelude.{ℕ, ◌+◌, ◌-◌, Bool, true, false, cond, not, eqb, ltb, max, is_some, Option, Some, None}
+use Rattle.std.specs.Prelude.{take, filter, List, [], ◌∷◌}
 use Rattle.std.specs.BTreeMap.{is_at}
 use Rattle.std.specs.Option.{option_map}
 use Rattle.std.specs.Ordering.{nat_cmp}
@@ -14,10 +15,10 @@ use Rattle.dso_lookup.specs.Rows.{is_at_pair}
 use Rattle.dso_table.specs.declared.slot.Standing.{Standing}
 use Rattle.dso_table.specs.declared.slot.Standing.TheVariants.{Asked, Resident}
 
--- What a client keeps of objects. By object: how it stands, None where it is absent, and the number of the last own record
--- that changed it and is not acknowledged. By thread and object: whether the thread's open block puts to it, and whether
--- the thread wants it. The objects used last, the last one first, no more than the limit. How many objects are resident.
--- The greatest number acknowledged.
+-- What a client keeps of objects. By object: how it stands, None where it is absent, and the number of the last own
+-- record that changed it and is not acknowledged. By thread and object: whether the thread's open block puts to it, and
+-- whether the thread wants it. The objects used last, the last one first, no more than the limit. How many objects are
+-- resident. The greatest number acknowledged.
 pub record State : Type 0 where
   pub standing : ℕ → Option Standing
   pub marks : ℕ → Option ℕ
@@ -110,7 +111,9 @@ put body changed s = record s {
 -- a field of the object's copy was set
 abbrev pub set : Set → Option ℕ → State → State
 set change changed s = record s {
-  standing = with_at change.object (option_map (with_value change.field change.value) (s.standing change.object)) s.standing;
+  standing =
+      let o = change.object in
+      with_at o (option_map (with_value change.field change.value) (s.standing o)) s.standing;
   marks = marked change.object changed s;
 }
 
@@ -130,7 +133,7 @@ opened o t s = record s { opened = with_note t o s.opened }
 abbrev pub closed : ThreadId → State → State
 closed t s = record s { opened = without_thread t s.opened }
 
--- The object was used, if it is resident: it is the first of those used last, of which no more than the limit are kept.
+-- The object was used, if it is resident: it is the first of those used last, of which no more than the limit stay.
 abbrev pub used : ℕ → State → State
 used o s = cond (is_resident (s.standing o)) (record s { used = take s.limit (o ∷ without o s.used) }) s
 

@@ -1,5 +1,6 @@
 -- What the tables of a client's objects tell, and what each change of them keeps.
-use Rattle.std.specs.Prelude.{ℕ, ◌+◌, ◌≡◌, ◌≤◌, Bool, true, false, ◌||◌, is_some, length, List, [], ◌∷◌, Option, Some, None}
+use Rattle.std.specs.Prelude.{ℕ, ◌+◌, ◌≡◌, ◌≤◌, Bool, true, false, ◌||◌, is_some, Option, Some, None}
+use Rattle.std.specs.Prelude.{length, List, [], ◌∷◌}
 use Rattle.std.specs.BTreeMap.{BTreeMap}
 use Rattle.std.specs.BTreeSet.{BTreeSet, contains}
 use Rattle.std.specs.Map.{keys_of}
@@ -29,7 +30,8 @@ slot_in places o = at_place places (look nat_cmp places.index o)
 
 -- Each object that has a place stands there.
 pub record PlacesAgree (places : Places) : Type 0 where
-  pub stands : (o p : ℕ) → look nat_cmp places.index o ≡ Some p → option_map (λ slot. slot.object) (get places.slots p) ≡ Some o
+  pub stands : (o p : ℕ) → look nat_cmp places.index o ≡ Some p
+      → option_map (λ slot. slot.object) (get places.slots p) ≡ Some o
 
 -- how the object stands
 abbrev pub standing_of : Option Slot → Option Standing

@@ -24,13 +24,14 @@ pub record IsFlushable (s : State) (o : ℕ) : Type 0 where
   pub unopened : NoNote o s.opened
   pub unwanted : NoNote o s.wanted
 
--- Why an object may not be flushed, the first reason that holds: it isn't resident; that record changed it; the block of
--- that thread puts to it; that thread wants it.
+-- Why an object may not be flushed, the first reason that holds: it isn't resident; that record changed it; the block
+-- of that thread puts to it; that thread wants it.
 abbrev pub IsReason : State → ℕ → NotFlushable → Type 0
 IsReason s o Absent = is_resident (s.standing o) ≡ false
 IsReason s o (Changed n) = (is_resident (s.standing o) ≡ true) × (s.marks o ≡ Some n)
 IsReason s o (InBlock t) = (is_resident (s.standing o) ≡ true) × (s.marks o ≡ None) × IsFirstNote o s.opened t
-IsReason s o (Wanted t) = (is_resident (s.standing o) ≡ true) × (s.marks o ≡ None) × NoNote o s.opened × IsFirstNote o s.wanted t
+IsReason s o (Wanted t) =
+    (is_resident (s.standing o) ≡ true) × (s.marks o ≡ None) × NoNote o s.opened × IsFirstNote o s.wanted t
 
 -- more objects are resident than the client is to keep
 abbrev pub IsFull : State → Type 0
@@ -51,8 +52,8 @@ pub record IsLeastRecent (s : State) (o : ℕ) : Type 0 where
   pub stands : s.used ≡ later ++ o ∷ earlier
   pub longest : (p : ℕ) → IsFlushable s p → is_listed p earlier ≡ false
 
--- Which object is flushed next, where more are resident than the client is to keep: one that isn't among those used last
--- before one that is.
+-- Which object is flushed next, where more are resident than the client is to keep: one that isn't among those used
+-- last before one that is.
 pub record IsVictim (s : State) (o : ℕ) : Type 0 where
   pub full : IsFull s
   pub chosen : IsLeastUnused s o ⊎ IsLeastRecent s o

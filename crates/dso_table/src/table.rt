@@ -19,8 +19,11 @@ use std::marker::Model;
 /// flushed, and which objects were used last.
 ///
 /// An object is absent, asked for, or resident with a copy. It may be flushed where it is resident, no own record that
-/// isn't acknowledged changed it, no open block puts to it and no thread wants it. Each call but [`Table::victim`] costs
-/// the logarithm of what the table holds, and [`Table::flush`] that for each thread with notes.
+/// isn't acknowledged changed it, no open block puts to it and no thread wants it.
+///
+/// Each call costs the logarithm of what the table holds: [`Table::put_object`] besides the copy that it makes,
+/// [`Table::acted`] and [`Table::closed`] the notes that they drop, [`Table::flush`] that for each thread with notes, and
+/// [`Table::victim`] that for each resident object that may not be flushed.
 #[derive(Drop)]
 pub struct Table {
     tables: Tables,

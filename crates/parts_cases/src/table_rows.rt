@@ -5,18 +5,22 @@
 
 use crate::plain_table;
 use crate::words::{count, debugged, first_of, number, shown, thread};
-use dso_base::{Body, ClassId, Items, NoMemory, Set, Value};
+use dso_base::{Body, ClassId, Items, NoMemory, Set, ThreadId, Value};
 use dso_table::Table;
 use std::alloc::Global;
 
 /// The answer to the call.
 pub fn told(alloc: Global, table: &mut Option<Table>, text: &str) -> Result<String, NoMemory> {
     let (word, rest) = first_of(text);
-    match (word, table) {
-        ("random", _) => plain_table::compared(alloc, rest),
-        ("new", table) => made(alloc, table, rest),
-        (_, Some(table)) => called(alloc, table, word, rest),
-        _ => shown(alloc, "no table"),
+    if word == "random" {
+        return plain_table::compared(alloc, rest);
+    }
+    if word == "new" {
+        return made(alloc, table, rest);
+    }
+    match table {
+        Some(table) => called(alloc, table, word, rest),
+        None => shown(alloc, "no table"),
     }
 }
 
@@ -34,21 +38,38 @@ fn made(alloc: Global, table: &mut Option<Table>, text: &str) -> Result<String, 
 /// The answer to a call on a table.
 fn called(alloc: Global, table: &mut Table, word: &str, text: &str) -> Result<String, NoMemory> {
     let (first, rest) = first_of(text);
-    match (word, number(first), thread(first)) {
-        ("victim", _, _) => debugged(alloc, table.victim()),
-        ("acked", Some(seq), _) => {
+    if word == "victim" {
+        return debugged(alloc, table.victim());
+    }
+    if let Some(thread) = thread(first) {
+        return ended(alloc, table, word, thread);
+    }
+    match number(first) {
+        Some(seq) if word == "acked" => {
             table.acked(seq);
             shown(alloc, "acknowledged")
         }
-        ("acted", _, Some(thread)) => {
+        Some(object) => of_object(alloc, table, word, object, rest),
+        None => shown(alloc, "no such call"),
+    }
+}
+
+/// The answer to the end of what a thread wants, or puts to.
+fn ended(
+    alloc: Global,
+    table: &mut Table,
+    word: &str,
+    thread: ThreadId,
+) -> Result<String, NoMemory> {
+    match word {
+        "acted" => {
             table.acted(thread);
             shown(alloc, "acted")
         }
-        ("closed", _, Some(thread)) => {
+        "closed" => {
             table.closed(thread);
             shown(alloc, "closed")
         }
-        (_, Some(object), _) => of_object(alloc, table, word, object, rest),
         _ => shown(alloc, "no such call"),
     }
 }
@@ -117,17 +138,15 @@ fn put(alloc: Global, table: &mut Table, object: u64, text: &str) -> Result<Stri
 fn set(alloc: Global, table: &mut Table, object: u64, text: &str) -> Result<String, NoMemory> {
     let (first, rest) = first_of(text);
     let (second, third) = first_of(rest);
-    match (count(first), long(second)) {
-        (Some(field), Some(value)) => {
-            let change = Set {
-                object,
-                field,
-                value: Value::Long(value),
-            };
-            shown(alloc, table.set(alloc, change, number(third)))
-        }
-        _ => shown(alloc, "no such field"),
-    }
+    let (Some(field), Some(value)) = (count(first), long(second)) else {
+        return shown(alloc, "no such field");
+    };
+    let change = Set {
+        object,
+        field,
+        value: Value::Long(value),
+    };
+    shown(alloc, table.set(alloc, change, number(third)))
 }
 
 /// The answer to a call on an object and a thread.
