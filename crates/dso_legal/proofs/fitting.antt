@@ -25,3 +25,4 @@ pub mod ThreadsOwn
 pub mod RecordsOwn
 pub mod Room
 pub mod MessagesFit
+pub mod CalmClient
