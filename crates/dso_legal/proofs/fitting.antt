@@ -26,3 +26,4 @@ pub mod RecordsOwn
 pub mod Room
 pub mod MessagesFit
 pub mod CalmClient
+pub mod CalmWaiters

@@ -46,7 +46,7 @@ use Rattle.dso_legal.proofs.fitting.InHand.{each_of_two}
 use Rattle.dso_legal.proofs.leases.ClientLeases.{ask_is}
 
 -- nothing, whatever a test says
-none_either : {X : Type 0} (b : Bool) → cond {A = List X} b [] [] ≡ []
+pub none_either : {X : Type 0} (b : Bool) → cond {A = List X} b [] [] ≡ []
 none_either true = refl
 none_either false = refl
 
