@@ -37,13 +37,15 @@ abbrev pub scripted : List (ThreadId × List Request) → ThreadId → List Even
 scripted scripts t events = slice_get (script_of t scripts) (length events)
 
 -- the journal is lawful, and in it the message comes from client 1 and fits
-pub record ComesUp (p : Settings) (scripts : List (ThreadId × List Request)) (entries : List Entry) (m : Up) : Type 0 where
+pub record ComesUp (p : Settings) (scripts : List (ThreadId × List Request)) (entries : List Entry)
+    (m : Up) : Type 0 where
   pub lawful : IsLawful p (scripted scripts) entries
   pub comes : IsFirst m (up_in_flight 1 entries)
   pub fits : FitsUp p 1 m (counted (entries_of Server entries))
 
 -- the journal is lawful, and in it the message comes to client 1, which is lost, and fits
-pub record ComesToLost (p : Settings) (scripts : List (ThreadId × List Request)) (entries : List Entry) (m : Down) : Type 0 where
+pub record ComesToLost (p : Settings) (scripts : List (ThreadId × List Request)) (entries : List Entry)
+    (m : Down) : Type 0 where
   pub lawful : IsLawful p (scripted scripts) entries
   pub lost : is_lost 1 (entries_of Server entries) ≡ true
   pub comes : IsFirst m (down_in_flight 1 entries)
@@ -52,14 +54,16 @@ pub record ComesToLost (p : Settings) (scripts : List (ThreadId × List Request)
 -- ---- a request that crosses a recall: its lease was given back before, and is recalled all the same
 
 abbrev pub crossing_scripts : List (ThreadId × List Request)
-crossing_scripts = (thread 1 1, (request.Enter (Name 0) Read) ∷ (request.Exit (Name 0)) ∷ (request.Enter (Name 0) Write) ∷ [])
+crossing_scripts =
+    (thread 1 1, (request.Enter (Name 0) Read) ∷ (request.Exit (Name 0)) ∷ (request.Enter (Name 0) Write) ∷ [])
     ∷ (thread 2 1, (request.Enter (Name 0) Write) ∷ []) ∷ []
 
 abbrev pub crossing_record : Up
 crossing_record = up.Commit (txn 1 (thread 1 1) [] [] [] [] (ending.Exit (Name 0)))
 
 abbrev pub crossing_entries : List Entry
-crossing_entries = entry 7 Server (input.TookUp 1 (up.Return (Name 0) [])) ((ToClient 2 (down.Grant (Name 0) Write)) ∷ []) None
+crossing_entries = entry 7 Server (input.TookUp 1 (up.Return (Name 0) []))
+    ((ToClient 2 (down.Grant (Name 0) Write)) ∷ []) None
     ∷ entry 6 Server (input.TookUp 1 crossing_record) ((ToClient 1 (down.Ack 1)) ∷ []) None
     ∷ entry 5 (Client 1) (input.Act 1)
     ((ToServer crossing_record) ∷ (ToServer (up.Return (Name 0) [])) ∷ (ToServer (up.Request (Name 0) Write)) ∷ [])
@@ -75,7 +79,8 @@ crossing_entries = entry 7 Server (input.TookUp 1 (up.Return (Name 0) [])) ((ToC
 -- ---- a return that carries a waiter whose timeout is behind it
 
 abbrev pub carrying_scripts : List (ThreadId × List Request)
-carrying_scripts = (thread 1 1, (request.Enter (Name 0) Write) ∷ (request.Wait (Name 0)) ∷ (request.Timeout (Name 0)) ∷ [])
+carrying_scripts =
+    (thread 1 1, (request.Enter (Name 0) Write) ∷ (request.Wait (Name 0)) ∷ (request.Timeout (Name 0)) ∷ [])
     ∷ (thread 2 1, (request.Enter (Name 0) Write) ∷ []) ∷ []
 
 abbrev pub waiting_record : Up
