@@ -25,3 +25,5 @@ pub mod ThreadsOwn
 pub mod RecordsOwn
 pub mod Room
 pub mod MessagesFit
+pub mod CalmClient
+pub mod CalmWaiters

@@ -10,3 +10,4 @@ pub mod Meets
 pub mod Refused
 pub mod Misfits
 pub mod Unfitting
+pub mod NearMisses

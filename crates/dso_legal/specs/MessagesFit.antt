@@ -23,6 +23,7 @@ use Rattle.dso_law.specs.ServerReadings.{counted, is_lost, last_ending}
 use Rattle.dso_law.specs.Settings.{Settings}
 use Rattle.dso_legal.specs.Lawful.{AllFollow}
 use Rattle.dso_legal.specs.SoundProgram.{GivesKnownTexts, IsSound}
+use Rattle.dso_legal.specs.WaitsAndLosses.{WithoutWaits}
 use Rattle.dso_legal.specs.WithinShape.{StaysWithinShape}
 
 -- What of this the waiters say, of a return: its threads are the client's, each once, none in the server's list;
@@ -69,3 +70,9 @@ abbrev pub MessagesFit : Type 0
 MessagesFit = (p : Settings) (next : ThreadId → List Event → Option Request)
     → IsSound p.shape next → GivesKnownTexts p.shape next → StaysWithinShape p.shape next
     → (es : List Entry) → AllFollow p next es → length es < 2 ^ 54 → (c : ℕ) → WaitersFit p c es → FirstsFit p c es
+
+-- So they fit wholly in a journal in which no thread waits.
+abbrev pub MessagesFitWithoutWaits : Type 0
+MessagesFitWithoutWaits = (p : Settings) (next : ThreadId → List Event → Option Request)
+    → IsSound p.shape next → GivesKnownTexts p.shape next → StaysWithinShape p.shape next
+    → (es : List Entry) → AllFollow p next es → WithoutWaits es → length es < 2 ^ 54 → (c : ℕ) → FirstsFit p c es

@@ -13,5 +13,6 @@ pub mod Settling
 pub mod Refusals
 pub mod Misfits
 pub mod Unfitting
+pub mod NearMisses
 pub mod Courses
 pub mod Premises

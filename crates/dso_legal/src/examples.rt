@@ -4,6 +4,7 @@
 ghost use Rattle.dso_legal.specs.examples.Counter.{CounterJournal};
 ghost use Rattle.dso_legal.specs.examples.Misfits.{Misfits};
 ghost use Rattle.dso_legal.specs.examples.Unfitting.{Unfitting};
+ghost use Rattle.dso_legal.specs.examples.NearMisses.{NearMisses};
 ghost use Rattle.dso_legal.specs.examples.Refusals.{Refusals, WrongSendings};
 ghost use Rattle.dso_legal.specs.examples.Recall.{RecallJournal};
 ghost use Rattle.dso_legal.specs.examples.Flush.{FlushJournal};
@@ -86,6 +87,13 @@ pub fn misfits()
 /// doesn't fit. So `laws::messages_fit` asks that of a program.
 pub fn unfitting()
     ensures { Unfitting }
+{}
+
+/// Messages that are near to not fitting, each in a lawful journal in which it comes and fits: a request that crosses a recall of
+/// the lease that was given back before it, a return that carries a waiter whose timeout is behind it, an object to a client
+/// that was lost since it asked for it.
+pub fn near_misses()
+    ensures { NearMisses }
 {}
 
 /// What the central law asks of a journal is met by the first three journals above, by that of a thread that settles, and by

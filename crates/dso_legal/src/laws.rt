@@ -30,7 +30,7 @@ ghost use Rattle.dso_legal.specs.LostClients.{LostAreToldNothing};
 ghost use Rattle.dso_legal.specs.WaysDown.{WaysDownFit};
 ghost use Rattle.dso_legal.specs.RecordsOwn.{RecordsAreOwn, HeldAreStored};
 ghost use Rattle.dso_legal.specs.Room.{BatchesHaveRoom};
-ghost use Rattle.dso_legal.specs.MessagesFit.{MessagesFit};
+ghost use Rattle.dso_legal.specs.MessagesFit.{MessagesFit, MessagesFitWithoutWaits};
 
 /// For each client that isn't lost and each lock: each message in flight may come where it stands, and once all are taken the
 /// client and the server say the same of the lock's lease.
@@ -172,6 +172,12 @@ pub fn records_are_own()
 /// waiters that a return brings, a timeout ends and a waking marks fit.
 pub fn messages_fit()
     ensures { MessagesFit }
+{}
+
+/// So in a journal in which no thread waits all of them fit: no return brings a waiter, no record ends by a timeout, and nobody
+/// is woken.
+pub fn messages_fit_without_waits()
+    ensures { MessagesFitWithoutWaits }
 {}
 
 /// Each object that a client holds, as the server sees it, is in the server's graph.

@@ -52,11 +52,12 @@ use Rattle.dso_legal.specs.RecordsLeased.{IsEndingLeased, IsGuardLeased, IsNoteL
 use Rattle.dso_legal.specs.SoundProgram.{GivesKnownTexts, IsSound, KeepsLocks}
 use Rattle.dso_legal.specs.Tokens.{MayGoDown, MayGoUp}
 use Rattle.dso_legal.specs.WithinShape.{StaysWithinShape}
-use Rattle.dso_legal.proofs.acts.ClientActs.{HasEvent, IsNoRecord, IsQuiet, NoRecords, client_acted}
-use Rattle.dso_legal.proofs.blocks.OwnActs.{IsNextAct, next_act}
+use Rattle.dso_legal.proofs.acts.ClientActs.{IsNoRecord, IsQuiet, NoRecords}
+use Rattle.dso_legal.proofs.blocks.OwnActs.{IsNextAct}
 use Rattle.dso_legal.proofs.blocks.SameLocks.{same_locks}
 use Rattle.dso_legal.proofs.channels.Agreement.{Commutes, may_append}
 use Rattle.dso_legal.proofs.channels.InFlight.{said_of}
+use Rattle.dso_legal.proofs.fitting.Acting.{Acts, quiet_or_acts}
 use Rattle.dso_legal.proofs.fitting.Carried.{C}
 use Rattle.dso_legal.proofs.fitting.ClassesMade.{class_stays}
 use Rattle.dso_legal.proofs.fitting.GuardsHeld.{IsHeldToWrite, IsNoteHeld, IsSetHeld, IsWorkHeld, all_held, done_at_write, later_held}
@@ -256,33 +257,16 @@ module _ (p : Settings) (next : ThreadId → List Event → Option Request) wher
 
       -- what the client's entry says
       said_leased : ClientFollows p next c e es → EachMay (MayCommit made p.shape l) (standing_up l) (said_of e.sent) (by_taken_down (standing_down l) e.input (standing l mine))
-      said_leased rule = by (client_acted p c (next_after next es) (next_after next (e ∷ es)) e mine rule.step) (next_act p c (next_after next es) (next_after next (e ∷ es)) e mine rule.step)
+      said_leased rule = by (quiet_or_acts p c (next_after next es) (next_after next (e ∷ es)) e mine rule.step)
         where
-          no_event : {event : Event} → e.event ≡ None → e.event ≡ Some event → ⊥
-          no_event none some = cc (sym none ∙ some)
-
-          RecordLeased : ThreadId → Request → Reply → Type 0
-          RecordLeased t request reply = EachMay (MayCommit made p.shape l) (standing_up l) (commits p t (Act t request reply (woken_by request reply mine)) mine) (standing l mine)
-
-          of_event : (act : IsNextAct p c (next_after next es) e mine) (t : ThreadId) (request : Request) (reply : Reply) (woken : Option ThreadId) → e.event ≡ Some (Act t request reply woken) → RecordLeased t request reply
-          of_event act t request reply woken is =
-              let same : Some (Act act.thread act.request act.reply (woken_by act.request act.reply mine)) ≡ Some (Act t request reply woken) = sym act.event ∙ is in
-              let thread : act.thread ≡ t = cc same in
-              let asks : act.request ≡ request = cc same in
-              let answer : act.reply ≡ reply = cc same in
-              subst (λ u. RecordLeased u request reply) thread (subst (λ q. RecordLeased act.thread q reply) asks (subst (λ r. RecordLeased act.thread act.request r) answer
-              (record_leased act (ending_of (event act) (locks_of act.thread mine)) refl)))
-
-          by : IsQuiet e ⊎ HasEvent p e mine → (e.event ≡ None) ⊎ IsNextAct p c (next_after next es) e mine
-              → EachMay (MayCommit made p.shape l) (standing_up l) (said_of e.sent) (by_taken_down (standing_down l) e.input (standing l mine))
-          by (inl quiet) acts = none_commit made p.shape l (said_of e.sent) (by_taken_down (standing_down l) e.input (standing l mine)) quiet.no_records
-          by (inr it) (inl none) = absurd (no_event none it.event)
-          by (inr it) (inr act) =
-              let first : List Up = commits p it.thread (Act it.thread it.request it.reply (woken_by it.request it.reply mine)) mine in
-              subst (EachMay (MayCommit made p.shape l) (standing_up l) (said_of e.sent)) (sym (untaken (standing_down l) c (next_after next es) (next_after next (e ∷ es)) e mine e.input (standing l mine) _ rule.step it.event))
-              (subst (λ ms. EachMay (MayCommit made p.shape l) (standing_up l) ms (standing l mine)) (sym it.whole)
-              (may_append (MayCommit made p.shape l) (standing_up l) first it.rest (standing l mine) (of_event act it.thread it.request it.reply _ it.event)
-              (none_commit made p.shape l it.rest (after (standing_up l) first (standing l mine)) it.no_records)))
+          by : IsQuiet e ⊎ Acts p c (next_after next es) e mine → EachMay (MayCommit made p.shape l) (standing_up l) (said_of e.sent) (by_taken_down (standing_down l) e.input (standing l mine))
+          by (inl quiet) = none_commit made p.shape l (said_of e.sent) (by_taken_down (standing_down l) e.input (standing l mine)) quiet.no_records
+          by (inr acts) =
+              let first : List Up = commits p acts.act.thread (event acts.act) mine in
+              subst (EachMay (MayCommit made p.shape l) (standing_up l) (said_of e.sent)) (sym (untaken (standing_down l) c (next_after next es) (next_after next (e ∷ es)) e mine e.input (standing l mine) _ rule.step acts.act.event))
+              (subst (λ ms. EachMay (MayCommit made p.shape l) (standing_up l) ms (standing l mine)) (sym acts.whole)
+              (may_append (MayCommit made p.shape l) (standing_up l) first acts.rest (standing l mine) (record_leased acts.act (ending_of (event acts.act) (locks_of acts.act.thread mine)) refl)
+              (none_commit made p.shape l acts.rest (after (standing_up l) first (standing l mine)) acts.no_records)))
 
     -- ---- both ends
 

@@ -1,5 +1,5 @@
--- A program that puts a number into a root, where only objects fit: it doesn't stay within its shape. In a lawful journal of it a
--- record comes that doesn't fit.
+-- A program that puts a number into a root, where only objects fit: it doesn't stay within its shape. In a lawful
+-- journal of it a record comes that doesn't fit.
 use Rattle.std.specs.Prelude.{pos, Option, Some, None, List, [], ◌∷◌, length, slice_get}
 use Rattle.dso_base.specs.declared.journal.Entry.{Entry}
 use Rattle.dso_base.specs.declared.journal.Input.TheVariants as input
