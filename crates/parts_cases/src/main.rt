@@ -1,4 +1,4 @@
-//! Rows of calls of the parts of a client, with what each answers.
+//! Rows of calls of the parts of a client and of a server, with what each answers.
 //!
 //! A row of the input is a sentence, `: `, and a command; it is printed as the sentence, `: `, and the answer. Any other
 //! line is printed as it stands, and all parts are new from there on. The commands are told in `parts.rt`.
@@ -7,9 +7,11 @@
 mod holds;
 mod ids;
 mod leases;
+mod locks;
 mod parts;
 mod plain_holds;
 mod plain_leases;
+mod plain_locks;
 mod waits;
 mod words;
 

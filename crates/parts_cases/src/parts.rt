@@ -2,6 +2,8 @@
 //!
 //! | Command | What it calls |
 //! |---|---|
+//! | `lock request 1 m5 write` | the server's table of locks (`locks.rt`) |
+//! | `lock random 7 500` | 500 calls drawn from a number, beside plain lists of leases and requests (`plain_locks.rt`) |
 //! | `ids take` | the pool and the source of ids (`ids.rt`) |
 //! | `wait add 1.1` | the list of waiting threads (`waits.rt`) |
 //! | `hold enter 1.1 m5 read 1` | the list of holds (`holds.rt`) |
@@ -10,17 +12,19 @@
 //! | `lease random 7 500` | 500 calls drawn from a number, beside a plain list of locks (`plain_leases.rt`) |
 
 use crate::words::{first_of, shown};
-use crate::{holds, ids, leases, waits};
+use crate::{holds, ids, leases, locks, waits};
 use dso_base::NoMemory;
 use dso_hold::Hold;
 use dso_ids::{IdPool, IdSource};
 use dso_lease::Leases;
+use dso_locks::LockTable;
 use dso_wait::WaitList;
 use std::alloc::{AllocError, Global};
 
 /// One of each.
 #[derive(Drop)]
 pub struct Parts {
+    locks: LockTable,
     pool: IdPool,
     source: IdSource,
     waiters: WaitList,
@@ -32,6 +36,7 @@ impl Parts {
     /// All new.
     pub fn new(alloc: Global) -> Parts {
         Parts {
+            locks: LockTable::new(alloc),
             pool: IdPool::new(),
             source: IdSource::new(),
             waiters: WaitList::new(alloc),
@@ -56,6 +61,7 @@ impl Parts {
     /// The answer to the command.
     fn told(&mut self, alloc: Global, word: &str, rest: &str) -> Result<String, NoMemory> {
         match word {
+            "lock" => locks::told(alloc, &mut self.locks, rest),
             "ids" => ids::told(alloc, &mut self.pool, &mut self.source, rest),
             "wait" => waits::told(alloc, &mut self.waiters, rest),
             "hold" => holds::told(alloc, &mut self.holds, rest),
