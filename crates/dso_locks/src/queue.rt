@@ -73,7 +73,7 @@ impl Queue {
         ensures none { IfNone result (self.now ≡ []) }
         ensures first { IfSome result (λ request. self.now ≡ waiter_of request ∷ without_client request.client self.now) }
     {
-        self.requests.first().copied()
+        self.requests.get(0).copied()
     }
 
     /// Takes out the client's request. It takes no memory.

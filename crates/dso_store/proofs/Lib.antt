@@ -1,3 +1,3 @@
-pub mod Bodies
-pub mod Holders
+pub mod BodiesWritten
+pub mod HoldersWritten
 pub mod Others

@@ -2,7 +2,7 @@
 use Rattle.std.specs.BTreeMap.{BTreeMap}
 use Rattle.std.specs.Ordering.{nat_cmp}
 use Rattle.std.specs.Prelude.{ℕ, Bool, cond, eqb, is_some, Option, Some, List, [], map, filter, flat_map}
-use Rattle.std.specs.Vec.{Vec}
+use Rattle.std.specs.declared.vec.Vec.{Vec}
 use Rattle.dso_base.specs.declared.journal.Sent.{Sent}
 use Rattle.dso_base.specs.declared.journal.Sent.TheVariants.{ToClient}
 use Rattle.dso_base.specs.declared.message.Down.TheVariants as down

@@ -8,7 +8,9 @@ use Rattle.dso_base.specs.declared.journal.Sent.{Sent}
 use Rattle.dso_base.specs.declared.record.Body.{Body}
 use Rattle.dso_base.specs.declared.record.Set.{Set}
 use Rattle.dso_base.specs.declared.record.Txn.{Txn}
+use Rattle.dso_law.specs.Copies.{is_among}
 use Rattle.dso_law.specs.ServerStep.{changes_to}
+use Rattle.dso_law.specs.Store.{body_by_news, body_by_sets}
 use Rattle.dso_law.specs.Settings.{Settings, clients_of}
 use Rattle.dso_store.specs.declared.store.Store.{Store}
 use Rattle.dso_lookup.specs.Maps.{look}
@@ -25,6 +27,18 @@ changes_by p c txn holds = flat_map (λ d. cond (eqb d c) [] (changes_to d (sets
 -- who holds an object is one of the cluster's clients
 abbrev pub AreClients : Settings → (ℕ → ℕ → Bool) → Type 0
 AreClients p holds = (c o : ℕ) → holds c o ≡ true → list_any (eqb c) (clients_of p) ≡ true
+
+-- the bodies once those of news are added
+abbrev pub with_news : List Body → (ℕ → Option Body) → ℕ → Option Body
+with_news news bodies o = body_by_news o news (bodies o)
+
+-- the bodies once the values of sets are written
+abbrev pub with_sets : List Set → (ℕ → Option Body) → ℕ → Option Body
+with_sets sets bodies o = body_by_sets o sets (bodies o)
+
+-- the holders once the client holds the objects of news
+abbrev pub with_holder : ℕ → List Body → (ℕ → ℕ → Bool) → ℕ → ℕ → Bool
+with_holder client news holds c o = cond (eqb c client) (cond (is_among o news) true (holds c o)) (holds c o)
 
 -- the objects that clients hold, by client, as a function
 abbrev pub holds_by : BTreeMap ℕ (BTreeMap ℕ (Unit {0})) → ℕ → ℕ → Bool

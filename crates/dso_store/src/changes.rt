@@ -10,11 +10,7 @@ use std::alloc::Global;
 use std::collections::BTreeMap;
 
 /// Puts the set at the end, if its object is in the row.
-fn add_held(
-    row: &BTreeMap<u64, ()>,
-    set: Set,
-    sets: &mut Vec<Set>,
-) -> Result<(), NoMemory>
+fn add_held(row: &BTreeMap<u64, ()>, set: Set, sets: &mut Vec<Set>) -> Result<(), NoMemory>
     ensures { OnOk result (sets.new.items ≡ sets.old.items ++ filter (λ s. row_has (Some row.now) s.object) (set ∷ [])) }
 {
     if row.contains_key(&set.object) {
@@ -24,11 +20,7 @@ fn add_held(
 }
 
 /// The sets whose objects are in the row, in their order.
-fn sets_in(
-    alloc: Global,
-    row: &BTreeMap<u64, ()>,
-    sets: &[Set],
-) -> Result<Vec<Set>, NoMemory>
+fn sets_in(alloc: Global, row: &BTreeMap<u64, ()>, sets: &[Set]) -> Result<Vec<Set>, NoMemory>
     ensures { IfOk result (λ held. held.items ≡ filter (λ s. row_has (Some row.now) s.object) sets.now) }
 {
     let mut held = Vec::new(alloc);

@@ -1,7 +1,6 @@
 //! Which client holds which object.
-ghost use Rattle.std.specs.Prelude.{ℕ, ◌≡◌, true, false, cond, eqb, OnOk};
-ghost use Rattle.dso_law.specs.Copies.{is_among};
-ghost use Rattle.dso_store.specs.Graph.{holds_by};
+ghost use Rattle.std.specs.Prelude.{◌≡◌, true, false, cond, eqb, OnOk};
+ghost use Rattle.dso_store.specs.Graph.{holds_by, with_holder};
 
 use dso_base::{Body, NoMemory};
 use dso_lookup::{find_in, insert_in, remove_in, take};
@@ -41,7 +40,7 @@ pub(crate) fn drop_holder(holders: &mut Holders, client: u8, object: u64)
 pub(crate) fn drop_client(holders: &mut Holders, client: u8)
     ensures { holds_by holders.new ≡ (λ c o. cond (eqb c client) false (holds_by holders.old c o)) }
 {
-    take(holders, &client);
+    let _ = take(holders, &client);
 }
 
 /// The client holds the objects of the bodies.
@@ -51,7 +50,7 @@ pub(crate) fn add_all(
     client: u8,
     news: &[Body],
 ) -> Result<(), NoMemory>
-    ensures { OnOk result (holds_by holders.new ≡ (λ c o. cond (eqb c client) (cond (is_among o news.now) true (holds_by holders.old c o)) (holds_by holders.old c o))) }
+    ensures { OnOk result (holds_by holders.new ≡ with_holder client news.now (holds_by holders.old)) }
 {
     for body in news {
         add_holder(alloc, holders, client, body.object)?;

@@ -1,5 +1,5 @@
 //! The server's graph.
-ghost use Rattle.std.specs.Prelude.{ℕ, ◌≡◌, false, None, Some, cond, eqb, OnOk, IfOk};
+ghost use Rattle.std.specs.Prelude.{◌≡◌, false, None, Some, cond, eqb, OnOk, IfOk};
 ghost use Rattle.std.specs.Option.{option_copied};
 ghost use Rattle.dso_base.specs.declared.journal.Input.TheVariants.{TookUp, Lose};
 ghost use Rattle.dso_base.specs.declared.message.Up.TheVariants as up;

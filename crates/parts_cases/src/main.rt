@@ -12,6 +12,9 @@ mod parts;
 mod plain_holds;
 mod plain_leases;
 mod plain_locks;
+mod plain_store;
+mod store_records;
+mod store_rows;
 mod waits;
 mod words;
 
@@ -19,7 +22,7 @@ use parts::Parts;
 use std::io;
 
 fn main(rt: HostRuntime) -> io::Result<()> {
-    let mut parts = Parts::new(rt.alloc());
+    let mut parts = Parts::new(rt.alloc())?;
     for line in rt.lines(rt.alloc()) {
         let answer = parts.answered(rt.alloc(), line?.as_str())?;
         println!(rt; "{answer}")?;

@@ -1,5 +1,5 @@
 -- Holders that are added and dropped.
-use Rattle.std.proofs.Common.{ℕ, ◌+◌, ◌<◌, ◌≤◌, ◌≡◌, refl, sym, ◌∙◌, ap, Bool, true, false, cond, eqb, ◌&&◌, ◌||◌, is_some, length, get_or, drop, Option, Some, None, List, [], ◌∷◌}
+use Rattle.std.proofs.Common.{ℕ, ◌+◌, ◌<◌, ◌≤◌, ◌≡◌, refl, sym, ◌∙◌, ap, Bool, true, false, cond, eqb, ◌&&◌, ◌||◌, is_some, length, get_or, drop, Option, Some, None, List, ◌∷◌}
 use Rattle.std.proofs.Math.Path.{fun_ext}
 use Rattle.std.proofs.lemmas.List.{drop_all, drop_more}
 use Rattle.std.specs.BTreeMap.{BTreeMap, is_at}
@@ -9,8 +9,8 @@ use Rattle.dso_law.specs.Copies.{is_among}
 use Rattle.dso_lookup.specs.Maps.{look, writes, or_old, written}
 use Rattle.dso_lookup.specs.Rows.{in_row, look_in, is_at_pair}
 use Rattle.dso_lookup.proofs.Tests.{number_at}
-use Rattle.dso_store.specs.Graph.{holds_by}
-use Rattle.dso_store.proofs.Bodies.{flipped, written_at}
+use Rattle.dso_store.specs.Graph.{holds_by, with_holder}
+use Rattle.dso_store.proofs.BodiesWritten.{flipped, written_at}
 
 -- the holders with one of one client written
 pub one_holder : (old new : BTreeMap ℕ (BTreeMap ℕ (Unit {0}))) (client object : ℕ) (v : Option (Unit {0})) → look_in nat_cmp nat_cmp new ≡ written (writes (is_at_pair nat_cmp nat_cmp client object) (λ _. v)) (look_in nat_cmp nat_cmp old)
@@ -34,14 +34,10 @@ no_holder old new client gone = fun_ext (λ c. fun_ext (λ o. ap (λ f. is_some 
     by true row o = refl
     by false row o = refl
 
--- the holders once a client holds the objects of the bodies
-abbrev pub held_with : ℕ → List Body → (ℕ → ℕ → Bool) → ℕ → ℕ → Bool
-held_with client news holds c o = cond (eqb c client) (cond (is_among o news) true (holds c o)) (holds c o)
-
 -- one more of the bodies is held
 pub held_next : (client : ℕ) (news : List Body) (body : Body) (i : ℕ) (now next : ℕ → ℕ → Bool) → i < length news → body ≡ get_or news i body
-    → next ≡ (λ c o. cond (eqb c client) (cond (eqb body.object o) true (now c o)) (now c o)) → held_with client (drop (i + 1) news) next ≡ held_with client (drop i news) now
-held_next client news body i now next less is put = ap (λ holds. held_with client (drop (i + 1) news) holds) put ∙ (fun_ext (λ c. fun_ext (λ o. by (eqb c client) (eqb body.object o) (is_among o (drop (i + 1) news)) (now c o))) ∙ ap (λ bodies. held_with client bodies now) (sym first))
+    → next ≡ (λ c o. cond (eqb c client) (cond (eqb body.object o) true (now c o)) (now c o)) → with_holder client (drop (i + 1) news) next ≡ with_holder client (drop i news) now
+held_next client news body i now next less is put = ap (λ holds. with_holder client (drop (i + 1) news) holds) put ∙ (fun_ext (λ c. fun_ext (λ o. by (eqb c client) (eqb body.object o) (is_among o (drop (i + 1) news)) (now c o))) ∙ ap (λ bodies. with_holder client bodies now) (sym first))
   where
     first : drop i news ≡ body ∷ drop (i + 1) news
     first = drop_more news i body less ∙ ap (λ x. x ∷ drop (i + 1) news) (sym is)
@@ -53,8 +49,8 @@ held_next client news body i now next less is put = ap (λ holds. held_with clie
     by false b t x = refl
 
 -- none is left
-pub held_all : (client : ℕ) (news : List Body) (i : ℕ) (now : ℕ → ℕ → Bool) → length news ≤ i → held_with client (drop i news) now ≡ now
-held_all client news i now least = ap (λ bodies. held_with client bodies now) (drop_all news i least) ∙ fun_ext (λ c. fun_ext (λ o. by (eqb c client) (now c o)))
+pub held_all : (client : ℕ) (news : List Body) (i : ℕ) (now : ℕ → ℕ → Bool) → length news ≤ i → with_holder client (drop i news) now ≡ now
+held_all client news i now least = ap (λ bodies. with_holder client bodies now) (drop_all i news least) ∙ fun_ext (λ c. fun_ext (λ o. by (eqb c client) (now c o)))
   where
     by : (b x : Bool) → cond b x x ≡ x
     by true x = refl
