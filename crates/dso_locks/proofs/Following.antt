@@ -1,7 +1,6 @@
 -- With one more entry the readings of the server rule change as a lock of the table does.
-use Rattle.std.proofs.Common.{ℕ, ◌≡◌, refl, sym, ◌∙◌, ap, Bool, true, false, cond, eqb, ◌&&◌, None, List, [], ◌∷◌, ◌++◌}
+use Rattle.std.proofs.Common.{ℕ, ◌≡◌, refl, ap, Bool, true, false, cond, eqb, None, List, [], ◌∷◌, ◌++◌}
 use Rattle.std.proofs.Math.Path.{fun_ext}
-use Rattle.dso_base.specs.declared.journal.Entry.{Entry}
 use Rattle.dso_base.specs.declared.journal.Input.{Input}
 use Rattle.dso_base.specs.declared.journal.Input.TheVariants as input
 use Rattle.dso_base.specs.declared.journal.Sent.{Sent}
