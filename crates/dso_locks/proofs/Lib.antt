@@ -5,3 +5,4 @@ pub mod Names
 pub mod Placing
 pub mod Telling
 pub mod Losing
+pub mod Following

@@ -1,5 +1,5 @@
 -- Requests of a lock, each of another client.
-use Rattle.std.proofs.Common.{ℕ, ◌≡◌, refl, sym, ◌∙◌, ap, Bool, true, false, cond, not, eqb, ◌||◌, slice_get, IfSome, List, [], ◌∷◌, ◌++◌, map, filter}
+use Rattle.std.proofs.Common.{ℕ, ◌≤◌, ◌≡◌, arith, length, get_or, refl, sym, ◌∙◌, ap, Bool, true, false, cond, not, eqb, ◌||◌, List, [], ◌∷◌, ◌++◌, map, filter}
 use Rattle.std.proofs.lemmas.Bool.{eq-eqb, eqb-true}
 use Rattle.std.specs.List.{list_any}
 use Rattle.dso_law.specs.Granting.{Waiter, without_client}
@@ -81,6 +81,6 @@ different_added waiter (first ∷ queue) e differ =
     (none_added first.client waiter queue differ.0 (flipped first.client waiter.client h.0), different_added waiter queue h.1 differ.1)
 
 -- what comes first among requests that differ stands before those of other clients
-pub first_found : (requests : List Request) → AreDifferent (map waiter_of requests) → IfSome (slice_get requests 0) (λ request. map waiter_of requests ≡ waiter_of request ∷ without_client request.client (map waiter_of requests))
-first_found [] differ = tt
-first_found (request ∷ requests) differ = first_apart (waiter_of request) (map waiter_of requests) differ
+pub first_found : (requests : List Request) (none : Request) → AreDifferent (map waiter_of requests) → 1 ≤ length requests → map waiter_of requests ≡ waiter_of (get_or requests 0 none) ∷ without_client (get_or requests 0 none).client (map waiter_of requests)
+first_found [] none differ some = absurd (omega arith)
+first_found (request ∷ requests) none differ some = first_apart (waiter_of request) (map waiter_of requests) differ

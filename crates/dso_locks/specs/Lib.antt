@@ -1,3 +1,4 @@
+pub mod Laws
 pub mod Locks
 pub mod Requests
 pub mod Serving

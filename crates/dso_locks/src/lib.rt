@@ -1,6 +1,7 @@
 //! The server's locks: which client has a lease of which, who asks for one, and what they are told.
 #![tactic(auto)]
 
+pub mod laws;
 mod lock;
 mod lock_table;
 mod news;

@@ -73,7 +73,10 @@ impl Queue {
         ensures none { IfNone result (self.now ≡ []) }
         ensures first { IfSome result (λ request. self.now ≡ waiter_of request ∷ without_client request.client self.now) }
     {
-        self.requests.first().copied()
+        match self.requests.as_slice() {
+            [first, ..] => Some(*first),
+            [] => None,
+        }
     }
 
     /// Takes out the client's request. It takes no memory.

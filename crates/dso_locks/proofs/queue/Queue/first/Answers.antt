@@ -1,12 +1,15 @@
-use Rattle.std.proofs.Common.{◌≡◌, ◌∷◌, ◌∙◌, IfSome, ap, subst, sym}
-use Rattle.std.specs.List.{slice_get}
+use Rattle.std.proofs.Common.{◌≡◌, ◌∷◌, ◌≤◌, get_or, length, map, subst, sym}
+use Rattle.dso_base.specs.declared.lock.Level.TheVariants.{Read}
 use Rattle.dso_law.specs.Granting.{without_client}
+use Rattle.dso_locks.specs.declared.queue.Request.{Request}
 use Rattle.dso_locks.specs.Requests.{waiter_of}
 use Rattle.dso_locks.proofs.Requests.{first_found}
 use Rattle.dso_locks.proofs.queue.Queue.first.Goals as goal
 
-pub returns-clause-first : goal.returns-clause-first
-returns-clause-first c =
-    let found = c.copied.ensures ∙ (c.first.ensures.value ∙ ap (λ requests. slice_get requests 0) c.deref.ensures.value) in
-    let all = subst (λ queue. IfSome (slice_get c.self.inside.requests.items 0) (λ request. queue ≡ waiter_of request ∷ without_client request.client queue)) c.self.view_is (first_found c.self.inside.requests.items c.self.invariant) in
-    subst (λ first. IfSome first (λ request. c.args.self.now ≡ waiter_of request ∷ without_client request.client c.args.self.now)) (sym found) all
+pub returns-in-len1-up-clause-first : goal.returns-in-len1-up-clause-first
+returns-in-len1-up-clause-first c =
+    let none : Request = record { client = 0; level = Read } in
+    let requests = c.self.inside.requests.items in
+    let it = first_found requests none c.self.invariant (subst (λ all. 1 ≤ length all) c.as_slice.ensures.value c.in-len1-up.len_at_least) in
+    subst (λ queue. queue ≡ waiter_of (get_or c.as_slice.result.now 0 none) ∷ without_client (get_or c.as_slice.result.now 0 none).client queue) c.self.view_is
+    (subst (λ all. map waiter_of requests ≡ waiter_of (get_or all 0 none) ∷ without_client (get_or all 0 none).client (map waiter_of requests)) (sym c.as_slice.ensures.value) it)

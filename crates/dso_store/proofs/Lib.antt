@@ -1,0 +1,3 @@
+pub mod BodiesWritten
+pub mod HoldersWritten
+pub mod Others
