@@ -12,9 +12,14 @@
 //! | `unacked add 1` | the records that are not acknowledged (`unacked_rows.rt`) |
 //! | `table new 2` | the table of objects (`table_rows.rt`) |
 //! | `table random 7 500` | 500 calls drawn from a number, beside a plain list of objects (`plain_table.rt`) |
+//! | `lock request 1 m5 write` | the server's table of locks (`locks.rt`) |
+//! | `lock random 7 500` | 500 calls drawn from a number, beside plain lists of leases and requests (`plain_locks.rt`) |
+//! | `store publish 1 1 5` | the server's graph (`store_rows.rt`) |
+//! | `store random 7 500` | 500 calls drawn from a number, beside plain lists of values and holders (`plain_store.rt`) |
 
 use crate::block_rows::Hand;
-use crate::words::{first_of, shown};
+use crate::server_parts::ServerParts;
+use crate::words::first_of;
 use crate::{holds, ids, leases, table_rows, unacked_rows, waits};
 use dso_base::NoMemory;
 use dso_hold::Hold;
@@ -36,12 +41,16 @@ pub struct Parts {
     hand: Hand,
     unacked: Unacked,
     table: Option<Table>,
+    server: ServerParts,
 }
 
 impl Parts {
     /// All new.
-    pub fn new(alloc: Global) -> Parts {
-        Parts {
+    pub fn new(alloc: Global) -> Result<Parts, AllocError> {
+        let Ok(server) = ServerParts::new(alloc) else {
+            return Err(AllocError);
+        };
+        Ok(Parts {
             pool: IdPool::new(),
             source: IdSource::new(),
             waiters: WaitList::new(alloc),
@@ -50,13 +59,14 @@ impl Parts {
             hand: Hand::new(alloc),
             unacked: Unacked::new(alloc),
             table: None,
-        }
+            server,
+        })
     }
 
     /// What is printed for the line.
     pub fn answered(&mut self, alloc: Global, line: &str) -> Result<String, AllocError> {
         let Some((name, command)) = line.split_once(": ") else {
-            *self = Parts::new(alloc);
+            *self = Parts::new(alloc)?;
             return format!(in alloc; "{line}");
         };
         let (word, rest) = first_of(command);
@@ -76,7 +86,7 @@ impl Parts {
             "block" => self.hand.told(alloc, rest),
             "unacked" => unacked_rows::told(alloc, &mut self.unacked, rest),
             "table" => table_rows::told(alloc, &mut self.table, rest),
-            _ => shown(alloc, "no such command"),
+            _ => self.server.told(alloc, word, rest),
         }
     }
 }

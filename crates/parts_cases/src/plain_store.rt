@@ -1,0 +1,219 @@
+//! Calls on the graph that are drawn from a number, each compared with what plain lists of values and holders tell.
+
+use crate::store_records::{publishing, setting};
+use crate::store_rows::opened;
+use crate::words::{count, number, shown};
+use dso_base::{NoMemory, Set, Value};
+use dso_store::Store;
+use std::alloc::Global;
+
+/// An array with the values of its two elements.
+#[derive(Clone, Copy)]
+struct Row {
+    object: u64,
+    first: Value,
+    second: Value,
+}
+
+/// All arrays, who holds which, and the records applied, the latest last.
+#[derive(Drop)]
+struct Lists {
+    objects: Vec<Row>,
+    holders: Vec<(u8, u64)>,
+    records: Vec<(u8, u64)>,
+}
+
+/// Makes so many calls, drawn from the number, and tells whether each answered what the lists tell.
+pub fn compared(alloc: Global, first: &str, second: &str) -> Result<String, NoMemory> {
+    match (number(first), count(second)) {
+        (Some(seed), Some(calls)) => agreement(alloc, seed, calls),
+        _ => shown(alloc, "no such numbers"),
+    }
+}
+
+/// Whether all calls agreed.
+fn agreement(alloc: Global, seed: u64, calls: u32) -> Result<String, NoMemory> {
+    let mut store = opened(alloc)?;
+    let mut lists = Lists {
+        objects: Vec::new(alloc),
+        holders: Vec::new(alloc),
+        records: Vec::new(alloc),
+    };
+    let mut drawn = seed;
+    for _ in 0..calls {
+        drawn = drawn
+            .wrapping_mul(6364136223846793005)
+            .wrapping_add(1442695040888963407);
+        call(alloc, &mut store, &mut lists, drawn >> 33)?;
+        if !reads_agree(
+            &store,
+            &lists,
+            drawn_client(drawn / 1048576),
+            1 + drawn / 16777216 % 16,
+        ) {
+            return shown(alloc, "a read differs");
+        }
+        if !others_agree(alloc, &store, &lists, drawn >> 33)? {
+            return shown(alloc, "the changes differ");
+        }
+    }
+    shown(alloc, "all calls agree")
+}
+
+/// One of five clients.
+fn drawn_client(drawn: u64) -> u8 {
+    match drawn % 5 {
+        0 => 1,
+        1 => 2,
+        2 => 3,
+        3 => 9,
+        _ => 16,
+    }
+}
+
+/// A set of one of sixteen arrays, be it there or not.
+fn drawn_set(drawn: u64) -> Set {
+    Set {
+        object: 1 + drawn / 8 % 16,
+        field: if drawn / 128 % 2 == 0 { 0 } else { 1 },
+        value: Value::Long((drawn % 1000) as i64),
+    }
+}
+
+/// Makes the call that is drawn, in the graph and in the lists.
+fn call(alloc: Global, store: &mut Store, lists: &mut Lists, drawn: u64) -> Result<(), NoMemory> {
+    let client = drawn_client(drawn);
+    let set = drawn_set(drawn);
+    let object = set.object;
+    match drawn / 256 % 20 {
+        0 => {
+            lists.holders.retain(|held| held.0 != client);
+            store.lose(client);
+            Ok(())
+        }
+        1..5 => {
+            lists.holders.retain(|held| *held != (client, object));
+            store.unhold(client, object);
+            Ok(())
+        }
+        5..10 => {
+            lists.holders.push((client, object))?;
+            store.hold(alloc, client, object)
+        }
+        10..13 => publish(alloc, store, lists, client, object),
+        _ => write(alloc, store, lists, client, set),
+    }
+}
+
+/// Publishes the object, if it isn't there.
+fn publish(
+    alloc: Global,
+    store: &mut Store,
+    lists: &mut Lists,
+    client: u8,
+    object: u64,
+) -> Result<(), NoMemory> {
+    if is_there(lists.objects.as_slice(), object) {
+        return Ok(());
+    }
+    let seq = next_number(lists.records.as_slice(), client);
+    lists.objects.push(Row {
+        object,
+        first: Value::Long(0),
+        second: Value::Long(0),
+    })?;
+    lists.holders.push((client, object))?;
+    lists.records.push((client, seq))?;
+    let txn = publishing(alloc, client, seq, object)?;
+    store.apply(alloc, client, &txn)
+}
+
+/// Whether the object has a row.
+fn is_there(rows: &[Row], object: u64) -> bool {
+    rows.iter().any(|row| row.object == object)
+}
+
+/// The number of the client's last record, 0 before its first.
+fn last_number(records: &[(u8, u64)], client: u8) -> u64 {
+    records
+        .iter()
+        .rev()
+        .find(|record| record.0 == client)
+        .map_or(0, |record| record.1)
+}
+
+/// The number of its next record.
+fn next_number(records: &[(u8, u64)], client: u8) -> u64 {
+    last_number(records, client).saturating_add(1)
+}
+
+/// Writes the value of the set, if its object is there.
+fn write(
+    alloc: Global,
+    store: &mut Store,
+    lists: &mut Lists,
+    client: u8,
+    set: Set,
+) -> Result<(), NoMemory> {
+    if !is_there(lists.objects.as_slice(), set.object) {
+        return Ok(());
+    }
+    let seq = next_number(lists.records.as_slice(), client);
+    for row in lists.objects.iter_mut() {
+        if row.object == set.object && set.field == 0 {
+            row.first = set.value;
+        }
+        if row.object == set.object && set.field == 1 {
+            row.second = set.value;
+        }
+    }
+    lists.records.push((client, seq))?;
+    let txn = setting(alloc, client, seq, set)?;
+    store.apply(alloc, client, &txn)
+}
+
+/// Whether the graph tells of the client and the object what the lists tell.
+fn reads_agree(store: &Store, lists: &Lists, client: u8, object: u64) -> bool {
+    let held = lists.holders.iter().any(|held| *held == (client, object));
+    let last = last_number(lists.records.as_slice(), client);
+    store.holds(client, object) == held
+        && store.last(client) == last
+        && body_agrees(store, lists.objects.as_slice(), object)
+}
+
+/// Whether the object has the values of its row, or neither is there.
+fn body_agrees(store: &Store, rows: &[Row], object: u64) -> bool {
+    let row = rows.iter().find(|row| row.object == object).copied();
+    match (store.object(object), row) {
+        (Some(body), Some(row)) => {
+            body.object == object && body.values.as_slice() == [row.first, row.second].as_slice()
+        }
+        (None, None) => true,
+        _ => false,
+    }
+}
+
+/// Whether the changes of a record of the set are for the other holders of its object, by rising client.
+fn others_agree(alloc: Global, store: &Store, lists: &Lists, drawn: u64) -> Result<bool, NoMemory> {
+    let client = drawn_client(drawn);
+    let set = drawn_set(drawn);
+    let txn = setting(alloc, client, 1, set)?;
+    let others = store.others_holding(alloc, client, &txn)?;
+    let mut holders = Vec::new(alloc);
+    for number in 0..5 {
+        let other = drawn_client(number);
+        if other != client
+            && lists
+                .holders
+                .iter()
+                .any(|held| *held == (other, set.object))
+        {
+            holders.push(other)?;
+        }
+    }
+    let told = others.len() == holders.len();
+    Ok(
+        told && others.iter().zip(holders.iter()).all(|(change, other)| change.0 == *other
+            && change.1.as_slice() == [set].as_slice()),
+    )
+}

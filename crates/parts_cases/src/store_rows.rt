@@ -1,0 +1,128 @@
+//! The server's graph, of two roots: `publish 1 7 5` (client 1's record 7 publishes object 5, an array of two longs),
+//! `set 1 8 5 0 9` (its record 8 sets element 0 of object 5 to 9), `others 1 8 5 0 9` (who is told of that record), `hold 1 5`,
+//! `unhold 1 5`, `lose 1`, `holds 1 5`, `last 1`, `object 5`, `random 7 500`.
+
+use crate::plain_store;
+use crate::store_records::{publishing, setting};
+use crate::words::{count, debugged, first_of, number, shown, small};
+use dso_base::{Items, NoMemory, Set, Shape, Value};
+use dso_store::Store;
+use std::alloc::Global;
+
+/// A graph of two roots.
+pub fn opened(alloc: Global) -> Result<Store, NoMemory> {
+    let shape = Shape {
+        classes: Items::new(alloc),
+        roots: 2,
+        names: 2,
+        texts: 0,
+    };
+    Store::new(alloc, &shape)
+}
+
+/// The answer to the call.
+pub fn told(alloc: Global, store: &mut Store, text: &str) -> Result<String, NoMemory> {
+    let (word, rest) = first_of(text);
+    let (first, rest) = first_of(rest);
+    if word == "random" {
+        return plain_store::compared(alloc, first, rest);
+    }
+    if word == "object" {
+        return body_of(alloc, store, first);
+    }
+    match small(first) {
+        Some(client) => of_client(alloc, store, word, client, rest),
+        None => shown(alloc, "no such client"),
+    }
+}
+
+/// The body of the object.
+fn body_of(alloc: Global, store: &Store, text: &str) -> Result<String, NoMemory> {
+    match number(text) {
+        Some(object) => debugged(alloc, store.object(object)),
+        None => shown(alloc, "no such object"),
+    }
+}
+
+/// The answer to a call for a client.
+fn of_client(
+    alloc: Global,
+    store: &mut Store,
+    word: &str,
+    client: u8,
+    text: &str,
+) -> Result<String, NoMemory> {
+    match word {
+        "last" => shown(alloc, store.last(client)),
+        "lose" => {
+            store.lose(client);
+            shown(alloc, "lost")
+        }
+        _ => of_object(alloc, store, word, client, text),
+    }
+}
+
+/// The answer to a call on an object, or on a record, for a client.
+fn of_object(
+    alloc: Global,
+    store: &mut Store,
+    word: &str,
+    client: u8,
+    text: &str,
+) -> Result<String, NoMemory> {
+    let (first, rest) = first_of(text);
+    match (word, number(first)) {
+        ("holds", Some(object)) => shown(alloc, store.holds(client, object)),
+        ("hold", Some(object)) => {
+            store.hold(alloc, client, object)?;
+            shown(alloc, "held")
+        }
+        ("unhold", Some(object)) => {
+            store.unhold(client, object);
+            shown(alloc, "dropped")
+        }
+        (_, Some(seq)) => of_record(alloc, store, word, client, seq, rest),
+        _ => shown(alloc, "no such number"),
+    }
+}
+
+/// The answer to a call on a record.
+fn of_record(
+    alloc: Global,
+    store: &mut Store,
+    word: &str,
+    client: u8,
+    seq: u64,
+    text: &str,
+) -> Result<String, NoMemory> {
+    let (first, rest) = first_of(text);
+    match (word, number(first), set_of(text)) {
+        ("publish", Some(object), _) if rest.is_empty() => {
+            let txn = publishing(alloc, client, seq, object)?;
+            store.apply(alloc, client, &txn)?;
+            shown(alloc, "applied")
+        }
+        ("set", _, Some(set)) => {
+            let txn = setting(alloc, client, seq, set)?;
+            store.apply(alloc, client, &txn)?;
+            shown(alloc, "applied")
+        }
+        ("others", _, Some(set)) => {
+            let txn = setting(alloc, client, seq, set)?;
+            let others = store.others_holding(alloc, client, &txn)?;
+            debugged(alloc, others)
+        }
+        _ => shown(alloc, "no such call"),
+    }
+}
+
+/// A set as `5 0 9`: the object, the field, and the number that it is given.
+fn set_of(text: &str) -> Option<Set> {
+    let (object, rest) = first_of(text);
+    let (field, value) = first_of(rest);
+    Some(Set {
+        object: number(object)?,
+        field: count(field)?,
+        value: Value::Long(value.parse().ok()?),
+    })
+}
