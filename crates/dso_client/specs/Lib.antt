@@ -1,0 +1,10 @@
+pub mod Points
+pub mod SeatStands
+pub mod TableStands
+pub mod LockingStands
+pub mod LedgerStands
+pub mod RunFacts
+pub mod KeptStands
+pub mod KnownObjects
+pub mod Lacks
+pub mod ClientStands
