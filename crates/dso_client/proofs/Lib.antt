@@ -6,3 +6,9 @@ pub mod NextIds
 pub mod TwoNeeds
 pub mod KnownObjects
 pub mod HoldsSome
+pub mod Blank
+pub mod AtStart
+pub mod Flushable
+pub mod Flushed
+pub mod FlushMade
+pub mod SeatsFound

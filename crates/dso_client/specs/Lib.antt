@@ -8,3 +8,10 @@ pub mod KeptStands
 pub mod KnownObjects
 pub mod Lacks
 pub mod ClientStands
+pub mod CodeRuns
+pub mod Openings
+pub mod Entries
+pub mod Flushing
+pub mod SeatPlaces
+pub mod Threads
+pub mod Turns

@@ -5,12 +5,19 @@
 #![tactic(auto)]
 
 mod asking;
+mod cause;
+mod client;
+mod flushing;
 mod kept;
 mod known;
 mod lack;
 mod ledger;
 mod locking;
 mod locks;
+mod opening;
 mod reply;
 mod seat;
 mod turn;
+
+pub use cause::Cause;
+pub use client::Client;

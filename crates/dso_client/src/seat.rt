@@ -1,10 +1,12 @@
 //! A thread at its client.
-ghost use Rattle.std.specs.Prelude.{◌≡◌, is_some};
+ghost use Rattle.std.specs.Prelude.{◌≡◌, ◌≤◌, count_by, is_some, length};
 ghost use Rattle.std.specs.Option.{option_copied};
 ghost use Rattle.dso_law.specs.Threads.{own, is_private, is_local};
 ghost use Rattle.dso_client.specs.Points.{Point};
+ghost use Rattle.dso_client.specs.SeatPlaces.{seat_in};
 ghost use Rattle.dso_client.specs.SeatStands.{SeatStands};
 
+use crate::kept::Kept;
 use dso_base::{Body, ClassId, LockName, Request, ThreadId};
 use dso_machine::Thread;
 use dso_txn::{OpenBlock, Privates};
@@ -76,5 +78,27 @@ impl Seat {
             LockName::Mon(object) => self.is_private(object),
             LockName::Name(_) => false,
         }
+    }
+}
+
+/// The seat of the thread of this index, None exactly where there is no such thread.
+pub(crate) fn seat_at(kept: &Kept, index: u8) -> Option<&Seat>
+    ensures { option_copied result ≡ seat_in kept.now.seats.items index }
+{
+    match index {
+        0 => None,
+        _ => kept.seats.as_slice().get(index as usize - 1),
+    }
+}
+
+/// How many of the threads have a next request.
+pub(crate) fn alive(seats: &[Seat]) -> usize
+    ensures count { result ≡ count_by (λ seat. is_some seat.next) seats.now }
+    ensures most { result ≤ length seats.now }
+{
+    match seats {
+        [] => 0,
+        [seat, rest @ ..] if seat.next.is_some() => alive(rest) + 1,
+        [_, rest @ ..] => alive(rest),
     }
 }
