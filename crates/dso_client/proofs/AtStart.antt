@@ -74,7 +74,9 @@ module _ (code : Code) (p : Settings) (c : ℕ) (shape : p.shape ≡ code.shape)
   facts = record {
     apart = λ l e. absurd (cc e);
     settled = λ t. refl;
+    numbered = record { acked = 0; numbers = tt; whole = refl };
     strangers = λ t e. refl;
+    waitless = λ t e. refl;
     unwanted = λ t o e its. refl;
   }
 

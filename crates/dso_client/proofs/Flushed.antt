@@ -75,7 +75,7 @@ module _ (code : Code) (p : Settings) (c clock o : ℕ) (es : List Entry) where
       asked x false same = h.asked x
 
   facts_after : RunFacts (point code p c es) → RunFacts (point code p c after)
-  facts_after h = record { apart = h.apart; settled = h.settled; strangers = h.strangers; unwanted = h.unwanted }
+  facts_after h = record { apart = h.apart; settled = h.settled; numbered = h.numbered; strangers = h.strangers; waitless = h.waitless; unwanted = h.unwanted }
 
   pub stands_flushed : (old new : Kept) → ClientStands code p c old es → MayFlush p c o es → is_resident o es ≡ true
       → state_in new.table ≡ flushed o (state_in old.table) → new ≡ record old { table = new.table } → ClientStands code p c new after

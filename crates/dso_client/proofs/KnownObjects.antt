@@ -1,5 +1,5 @@
 -- What a thread knows of an object that isn't its own.
-use Rattle.std.proofs.Common.{◌≡◌, ℕ, ◌<◌, ◌^◌, refl, sym, ◌∙◌, ap, false, ◌||◌, is_some, Option, Some, None, length, slice_get, arith, inl, inr}
+use Rattle.std.proofs.Common.{◌≡◌, ℕ, ◌<◌, ◌^◌, refl, sym, ◌∙◌, ap, false, ◌||◌, is_some, Option, Some, None, length, slice_get, arith, inl, inr, true}
 use Rattle.std.proofs.lemmas.Bool.Decides.{leb_tells}
 use Rattle.std.proofs.lemmas.Option.{slice_get_past}
 use Rattle.std.specs.Option.{option_map}
@@ -97,3 +97,10 @@ size_fits at table seat o class size h sizes e = by (own at.settings.shape seat.
     by (Some body) is held there = of_own body is (ap (λ mine. or_else (option_map class_of_body mine) (class_held o at.entries)) (sym is) ∙ e)
     by None is (Some body) there = of_copy body there (ap (λ mine. or_else (option_map class_of_body mine) (class_held o at.entries)) (sym is) ∙ e)
     by None is None there = absurd (not_there at table seat o h is (h.knows.of_copies.bodies o ∙ there))
+
+-- an object with a copy is resident, of its class and size
+pub resident_with : (at : Point) (table : Tables) (o : ℕ) (body : Body) → TableStands at table → body_of ((state_in table).standing o) ≡ Some body → is_resident o at.entries ≡ true
+resident_with at table o body stands e = sym (bodies_are_held o at.entries).resident ∙ ap is_some (sym (stands.bodies o) ∙ e)
+
+pub class_with : (at : Point) (table : Tables) (o : ℕ) (body : Body) → TableStands at table → body_of ((state_in table).standing o) ≡ Some body → class_held o at.entries ≡ Some (class_of_body body)
+class_with at table o body stands e = (bodies_are_held o at.entries).class body (sym (stands.bodies o) ∙ e)

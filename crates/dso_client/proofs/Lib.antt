@@ -12,3 +12,5 @@ pub mod Flushable
 pub mod Flushed
 pub mod FlushMade
 pub mod SeatsFound
+pub mod BatchEnds
+pub mod FirstAcked

@@ -15,3 +15,4 @@ pub mod Flushing
 pub mod SeatPlaces
 pub mod Threads
 pub mod Turns
+pub mod Fitting

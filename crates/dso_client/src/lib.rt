@@ -7,6 +7,7 @@
 mod asking;
 mod cause;
 mod client;
+mod fitting;
 mod flushing;
 mod kept;
 mod known;
@@ -17,6 +18,7 @@ mod locks;
 mod opening;
 mod reply;
 mod seat;
+mod shaped;
 mod turn;
 
 pub use cause::Cause;

@@ -1,7 +1,8 @@
 //! A thread at its client.
-ghost use Rattle.std.specs.Prelude.{◌≡◌, ◌≤◌, count_by, is_some, length};
+ghost use Rattle.std.specs.Prelude.{◌≡◌, ◌≤◌, ◌↔◌, IsTrue, count_by, is_some, length};
 ghost use Rattle.std.specs.Option.{option_copied};
-ghost use Rattle.dso_law.specs.Threads.{own, is_private, is_local};
+ghost use Rattle.dso_law.specs.Threads.{own, is_private, is_local, locks_of};
+ghost use Rattle.dso_law.specs.FitsDown.{IsWaitingOn};
 ghost use Rattle.dso_client.specs.Points.{Point};
 ghost use Rattle.dso_client.specs.SeatPlaces.{seat_in};
 ghost use Rattle.dso_client.specs.SeatStands.{SeatStands};
@@ -68,6 +69,16 @@ impl Seat {
         ensures { (at : Point) → SeatStands at self.now → result ≡ is_private at.settings.shape self.now.id object at.entries }
     {
         self.privates.get(object).is_some()
+    }
+
+    /// Whether the thread waits on the lock.
+    pub(crate) fn is_waiting_on(&self, lock: LockName) -> bool
+        ensures { (at : Point) → SeatStands at self.now → IsTrue result ↔ IsWaitingOn lock (locks_of self.now.id at.entries).waiting }
+    {
+        match self.waiting {
+            Some(waiting) => waiting.lock == lock,
+            None => false,
+        }
     }
 
     /// Whether the lock is the monitor of an object that is private to the thread.
