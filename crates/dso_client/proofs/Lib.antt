@@ -14,3 +14,4 @@ pub mod FlushMade
 pub mod SeatsFound
 pub mod BatchEnds
 pub mod FirstAcked
+pub mod facts
