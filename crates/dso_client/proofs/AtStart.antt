@@ -64,6 +64,7 @@ module _ (code : Code) (p : Settings) (c : ℕ) (shape : p.shape ≡ code.shape)
   ledger_stands : (ledger : Ledger) → IsEmptyLedger ledger → LedgerStands (point code p c []) ledger
   ledger_stands ledger h = record {
     ids = λ k. ap (λ pool. ids_in pool k) h.pool ∙ no_id k;
+    bounded = let next = ap (λ pool. pool.next) h.pool in let end = ap (λ pool. pool.end) h.pool in omega (arith, next, end);
     end = ap (λ pool. pool.end) h.pool;
     asking = h.asking;
     records = h.records;

@@ -44,3 +44,25 @@ least_fits k (txn ∷ txns) least seq numbers h same is =
 pub none_fits : (txns : List Txn) (seq : ℕ) (numbers : ℕ → Bool) → ((n : ℕ) → numbers n ≡ among txns n) → ((n : ℕ) → numbers n ≡ false) → FitsAck seq txns → ⊥
 none_fits [] seq numbers same none f = f
 none_fits (txn ∷ txns) seq numbers same none f = absurd (cc (sym (none txn.seq) ∙ (same txn.seq ∙ first_among txn txns)))
+
+-- none of those behind the first has its number
+pub not_behind : (k : ℕ) (txn : Txn) (txns : List Txn) → NumberedFrom k (txn ∷ txns) → among txns txn.seq ≡ false
+not_behind k txn txns h = by (among txns txn.seq) refl
+  where
+    by : (b : Bool) → among txns txn.seq ≡ b → b ≡ false
+    by false e = refl
+    by true e =
+        let more = above (suc k) txns txn.seq h.1 e in
+        let first = h.0 in
+        absurd (omega (arith, more, first))
+
+-- the first has the least number
+pub first_is_least : (k : ℕ) (txns : List Txn) (seq : ℕ) (numbers : ℕ → Bool) → NumberedFrom k txns → ((n : ℕ) → numbers n ≡ among txns n) → FitsAck seq txns → IsLeast seq numbers
+first_is_least k [] seq numbers h same fits = absurd fits
+first_is_least k (txn ∷ txns) seq numbers h same fits = record {
+  kept = ap numbers fits ∙ (same txn.seq ∙ first_among txn txns);
+  least = λ n e.
+      let over = above k (txn ∷ txns) n h (sym (same n) ∙ e) in
+      let first = h.0 in
+      omega (arith, over, first, fits);
+}

@@ -89,7 +89,14 @@ module _ (code : Code) (p : Settings) (c clock o : ℕ) (es : List Entry) where
       seats = all_as (SeatStands (point code p c es)) (SeatStands (point code p c after)) seat_after old.seats.items h.parts.seats;
       table = table_after old.table new.table h.parts.table there is;
       locking = record { holds = h.parts.locking.holds; leases = h.parts.locking.leases; lists = h.parts.locking.lists };
-      ledger = record { ids = h.parts.ledger.ids; end = h.parts.ledger.end; asking = h.parts.ledger.asking; records = h.parts.ledger.records; unacked = h.parts.ledger.unacked };
+      ledger = record {
+        ids = h.parts.ledger.ids;
+        bounded = h.parts.ledger.bounded;
+        end = h.parts.ledger.end;
+        asking = h.parts.ledger.asking;
+        records = h.parts.ledger.records;
+        unacked = h.parts.ledger.unacked;
+      };
       facts = facts_after h.parts.facts;
     };
     threads = h.threads;

@@ -15,3 +15,5 @@ pub mod SeatsFound
 pub mod BatchEnds
 pub mod FirstAcked
 pub mod facts
+pub mod heard
+pub mod Outcomes

@@ -22,3 +22,13 @@ pub record KeptStands (at : Point) (kept : Kept) : Type 0 where
   pub locking : LockingStands at kept.locking
   pub ledger : LedgerStands at kept.ledger
   pub facts : RunFacts at
+
+-- so without what the entries keep in a run
+pub record PartsStand (at : Point) (kept : Kept) : Type 0 where
+  pub number : kept.number ≡ at.client
+  pub places : map (λ seat. seat.id) kept.seats.items ≡ threads_of at.settings at.client
+  pub numbered : map (λ seat. seat.id) kept.seats.items ≡ first_threads at.client (length kept.seats.items)
+  pub seats : AllByRecursion (SeatStands at) kept.seats.items
+  pub table : TableStands at kept.table
+  pub locking : LockingStands at kept.locking
+  pub ledger : LedgerStands at kept.ledger

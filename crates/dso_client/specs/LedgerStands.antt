@@ -1,6 +1,6 @@
 -- A client's ids and the numbers of its records stand for its entries.
 use Rattle.std.specs.List.{list_any}
-use Rattle.std.specs.Prelude.{◌≡◌, ℕ, ◌+◌, eqb, cond, ltb, max, Option, Some, None, List, [], ◌∷◌}
+use Rattle.std.specs.Prelude.{◌≡◌, ◌≤◌, ℕ, ◌+◌, eqb, cond, ltb, max, Option, Some, None, List, [], ◌∷◌}
 use Rattle.dso_law.specs.Settings.{batch_size}
 use Rattle.dso_law.specs.Records.{batches, is_batch_asked, records, unacked}
 use Rattle.dso_law.specs.IdsAhead.{ids_from}
@@ -22,6 +22,7 @@ ids_end (first ∷ batches) = max (first + batch_size) (ids_end batches)
 -- that aren't acknowledged.
 pub record LedgerStands (at : Point) (ledger : Ledger) : Type 0 where
   pub ids : (k : ℕ) → ids_in ledger.pool k ≡ ids_from k at.entries
+  pub bounded : ledger.pool.next ≤ ledger.pool.end
   pub end : ledger.pool.end ≡ ids_end (batches at.entries)
   pub asking : ledger.is_asking ≡ is_batch_asked at.entries
   pub records : ledger.records ≡ records at.entries

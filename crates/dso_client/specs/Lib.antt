@@ -16,3 +16,4 @@ pub mod SeatPlaces
 pub mod Threads
 pub mod Turns
 pub mod Fitting
+pub mod Hearing

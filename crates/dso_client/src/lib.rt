@@ -9,6 +9,7 @@ mod cause;
 mod client;
 mod fitting;
 mod flushing;
+mod hearing;
 mod kept;
 mod known;
 mod lack;

@@ -31,7 +31,7 @@ use Rattle.dso_law.specs.Leases.{standing_up, standing_down, standing, leased, i
 use Rattle.dso_law.specs.Closing.{is_closing, due}
 use Rattle.dso_law.specs.RequestNeeds.{Need, NeedsId, NeedsObject, NeedsClass, NeedsMark, NeedsLease, NeedsOthersOut, NeedsAck, unless_asked, unmet, ask_for}
 use Rattle.dso_law.specs.Replies.{woken_by}
-use Rattle.dso_law.specs.ClientStep.{record_of, commits, returns, asks_again, Does, Asks, DoesOrAsks, ActsOn, ClientStepOn}
+use Rattle.dso_law.specs.ClientStep.{record_of, commits, returns, asks_again, DoesOrAsks, ActsOn, ClientStepOn}
 use Rattle.dso_law.specs.ClientRun.{ClientRun, next_in}
 use Rattle.dso_law.proofs.runs.Kept.{returns_due}
 

@@ -1,6 +1,6 @@
 -- Who isn't one of the client's threads does nothing in its entries.
 use Rattle.std.specs.List.{list_any}
-use Rattle.std.proofs.Common.{◌≡◌, ℕ, refl, sym, ◌∙◌, ap, Bool, true, false, cond, eqb, ◌&&◌, ◌||◌, Option, Some, None, List, [], ◌∷◌, ◌++◌, filter}
+use Rattle.std.proofs.Common.{◌≡◌, ℕ, refl, sym, ◌∙◌, ap, Bool, true, false, cond, eqb, ◌&&◌, ◌||◌, Option, Some, None, List, [], ◌∷◌, filter}
 use Rattle.std.proofs.lemmas.Bool.{eqb-true, eq-eqb}
 use Rattle.dso_base.specs.declared.journal.Entry.{Entry}
 use Rattle.dso_base.specs.declared.journal.Input.{Input}
@@ -14,7 +14,7 @@ use Rattle.dso_plain.specs.History.{is_act_of}
 use Rattle.dso_plain.proofs.keys.SameKeys.{same_thread}
 use Rattle.dso_law.specs.Entries.{by_event}
 use Rattle.dso_law.specs.Settings.{Settings, threads_of}
-use Rattle.dso_law.specs.Threads.{Locks, Waiting, locks_by, locks_after, locks_of, block_after, open_block}
+use Rattle.dso_law.specs.Threads.{Locks, locks_by, locks_after, locks_of, block_after, open_block}
 use Rattle.dso_law.specs.RequestNeeds.{Need, unmet}
 use Rattle.dso_law.specs.Replies.{woken_by}
 use Rattle.dso_law.specs.ClientStep.{ActsOn, DoesOrAsks, ClientStepOn, is_act, faults, wants_object}
