@@ -19,6 +19,7 @@ mod locks;
 mod opening;
 mod reply;
 mod seat;
+mod settling;
 mod shaped;
 mod turn;
 

@@ -105,7 +105,7 @@ pub(crate) fn is_awaited(locking: &Locking, seats: &[Seat], lock: LockName) -> b
 }
 
 /// Whether the lease is of level `Read`.
-fn is_read(level: Level) -> bool
+pub(crate) fn is_read(level: Level) -> bool
     ensures { result ≡ is_read (Some level) }
 {
     match level {
