@@ -17,3 +17,4 @@ pub mod FirstAcked
 pub mod facts
 pub mod heard
 pub mod Outcomes
+pub mod due

@@ -17,3 +17,4 @@ pub mod Threads
 pub mod Turns
 pub mod Fitting
 pub mod Hearing
+pub mod Touching
