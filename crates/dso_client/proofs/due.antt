@@ -3,3 +3,5 @@ pub mod Rising
 pub mod Parts
 pub mod Leased
 pub mod Touched
+pub mod Returned
+pub mod Took

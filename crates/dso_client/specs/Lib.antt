@@ -18,3 +18,4 @@ pub mod Turns
 pub mod Fitting
 pub mod Hearing
 pub mod Touching
+pub mod Taking

@@ -10,6 +10,7 @@ ghost use Rattle.dso_table.specs.Victims.{IsVictim};
 ghost use Rattle.dso_client.specs.ClientStands.{ClientStands};
 ghost use Rattle.dso_client.specs.CodeRuns.{RunsCode};
 ghost use Rattle.dso_client.specs.Flushing.{Flushes, NoneDue};
+ghost use Rattle.dso_client.specs.Taking.{Takes};
 ghost use Rattle.dso_client.specs.Threads.{IsEnabled, TellsAlive, TellsOver};
 ghost use Rattle.dso_client.specs.Openings.{HasThreads, IsEmptyLedger, IsEmptyLocking, first_threads};
 
@@ -19,8 +20,9 @@ use crate::ledger::Ledger;
 use crate::locking::Locking;
 use crate::opening::seats;
 use crate::seat::{Seat, alive, seat_at};
+use crate::taking::take;
 use crate::turn::may_act;
-use dso_base::NoMemory;
+use dso_base::{Down, NoMemory, Up};
 use dso_hold::Hold;
 use dso_ids::IdPool;
 use dso_lease::Leases;
@@ -121,6 +123,18 @@ impl Client {
                 Err(refused)
             }
         }
+    }
+
+    /// Takes a message of the server, and answers what the client sends. Whatever entries the client stood for: where the
+    /// message fits, it stands for them with the entry that takes it and sends these leases back, which follows by the client
+    /// rule; a message that doesn't fit changes and sends nothing. The shape is that of the code of the threads.
+    ///
+    /// It answers `NoMemory` where an allocation was refused; the client is spent then.
+    pub fn take(&mut self, alloc: Global, code: &Code, message: &Down) -> Result<Vec<Up>, NoMemory>
+        ensures takes { IfOk result (λ sent. Takes code.now message.now self.old self.new sent.items) }
+        ensures runs { (code : Code) → RunsCode code self.old → RunsCode code self.new }
+    {
+        take(alloc, &mut self.kept, &code.shape, message)
     }
 
     /// Flushes an object: the table's victim, which may be flushed where more objects are resident than the client is to

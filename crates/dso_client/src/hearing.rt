@@ -1,5 +1,5 @@
 //! What a message that fits makes of what a client keeps.
-ghost use Rattle.std.specs.Prelude.{ℕ, ◌≡◌, [], ◌∷◌, OnOk, true};
+ghost use Rattle.std.specs.Prelude.{ℕ, ◌≡◌, [], ◌∷◌, OnOk, map, true};
 ghost use Rattle.dso_base.specs.declared.message.Down.TheVariants as down;
 ghost use Rattle.dso_law.specs.FitsDown.{FitsAck, FitsDown, FitsIds};
 ghost use Rattle.dso_law.specs.Leases.{is_asked_for};
@@ -11,14 +11,15 @@ ghost use Rattle.dso_client.specs.LedgerStands.{LedgerStands};
 ghost use Rattle.dso_client.specs.LockingStands.{LockingStands};
 ghost use Rattle.dso_client.specs.Points.{Point};
 ghost use Rattle.dso_client.specs.RunFacts.{RunFacts};
-ghost use Rattle.dso_client.specs.SeatPlaces.{with_mark};
+ghost use Rattle.dso_client.specs.SeatPlaces.{running, with_mark};
+ghost use Rattle.dso_client.specs.Touching.{resumed_lock, touched};
 ghost use Rattle.dso_client.specs.TableStands.{TableStands};
 
 use crate::kept::Kept;
 use crate::ledger::Ledger;
 use crate::locking::Locking;
-use crate::seat::Seat;
-use dso_base::{Body, Down, Level, LockName, NoMemory, Set};
+use crate::seat::{Seat, seat_at};
+use dso_base::{Body, Down, Level, LockName, NoMemory, Request, Set};
 use dso_lookup::take;
 use dso_table::Table;
 use std::alloc::Global;
@@ -115,8 +116,9 @@ pub(crate) fn mark(seats: &mut [Seat], index: u8)
 ///
 /// It answers `NoMemory` where an allocation was refused.
 pub(crate) fn hear(alloc: Global, kept: &mut Kept, message: &Down) -> Result<(), NoMemory>
-    ensures { OnOk result ((clock : ℕ) (at : Point) → KeptStands at kept.old → FitsDown at.settings at.client message.now at.entries → IdsAreTaken at.entries
+    ensures parts { OnOk result ((clock : ℕ) (at : Point) → KeptStands at kept.old → FitsDown at.settings at.client message.now at.entries → IdsAreTaken at.entries
         → PartsStand (heard clock message.now at) kept.new) }
+    ensures runs { map running kept.new.seats.items ≡ map running kept.old.seats.items }
 {
     match message {
         Down::Ids(first) => {
@@ -145,5 +147,29 @@ pub(crate) fn hear(alloc: Global, kept: &mut Kept, message: &Down) -> Result<(),
             mark(kept.seats.as_mut_slice(), thread.index);
             Ok(())
         }
+    }
+}
+
+/// The lock whose lease a message that fits may make due. It takes no memory.
+pub(crate) fn touched(kept: &Kept, message: &Down) -> Option<LockName>
+    ensures { (at : Point) → KeptStands at kept.now → FitsDown at.settings at.client message.now at.entries → result ≡ touched at message.now }
+{
+    match message {
+        Down::Recall(lock) => Some(*lock),
+        Down::Wake(_, thread) => match seat_at(kept, thread.index) {
+            Some(seat) => resumed_lock(seat.next),
+            None => None,
+        },
+        _ => None,
+    }
+}
+
+/// The lock that a thread wants that goes on after a wait.
+fn resumed_lock(next: Option<Request>) -> Option<LockName>
+    ensures { result ≡ resumed_lock next }
+{
+    match next {
+        Some(Request::Resume(lock)) => Some(lock),
+        _ => None,
     }
 }

@@ -21,6 +21,7 @@ mod reply;
 mod seat;
 mod settling;
 mod shaped;
+mod taking;
 mod turn;
 
 pub use cause::Cause;

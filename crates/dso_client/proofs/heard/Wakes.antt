@@ -12,7 +12,7 @@ use Rattle.dso_client.specs.declared.seat.Seat.{Seat}
 use Rattle.dso_client.specs.Hearing.{heard}
 use Rattle.dso_client.specs.Openings.{thread_at, first_threads}
 use Rattle.dso_client.specs.Points.{Point}
-use Rattle.dso_client.specs.SeatPlaces.{marked_at, with_mark}
+use Rattle.dso_client.specs.SeatPlaces.{running, marked_at, with_mark}
 use Rattle.dso_client.specs.SeatStands.{SeatStands}
 use Rattle.dso_client.proofs.SeatsFound.{all_at, seat_is}
 
@@ -32,21 +32,30 @@ set_get (z ∷ zs) (suc i) (suc k) x y e = elim (set_get zs i k x y e) [
   | inr h ↦ inr ((λ same. h.0 (cc same)), h.1)
 ]
 
--- a list keeps its ids where one of its seats is marked
-pub ids_kept : (seats : List Seat) (index : ℕ) → map (λ seat. seat.id) (with_mark index seats) ≡ map (λ seat. seat.id) seats
-ids_kept seats zero = refl
-ids_kept seats (suc at) = by (slice_get seats at) refl
+-- what is told of the seats but their marks stays where one of them is marked
+pub told_kept : {X : Type 0} (tell : Seat → X) → ((seat : Seat) → tell (record seat { is_marked = true }) ≡ tell seat) → (seats : List Seat) (index : ℕ)
+    → map tell (with_mark index seats) ≡ map tell seats
+told_kept tell same seats zero = refl
+told_kept {X} tell same seats (suc at) = by (slice_get seats at) refl
   where
-    set_there : (seats : List Seat) (at : ℕ) (seat : Seat) → slice_get seats at ≡ Some seat → map (λ (s : Seat). s.id) (slice_set seats at (record seat { is_marked = true })) ≡ map (λ (s : Seat). s.id) seats
+    set_there : (seats : List Seat) (at : ℕ) (seat : Seat) → slice_get seats at ≡ Some seat → map tell (slice_set seats at (record seat { is_marked = true })) ≡ map tell seats
     set_there [] at seat e = refl
     set_there (first ∷ seats) zero seat e =
-        let same : first ≡ seat = cc e in
-        ap (λ (s : Seat). s.id ∷ map (λ (s : Seat). s.id) seats) (sym same)
-    set_there (first ∷ seats) (suc at) seat e = ap (λ rest. first.id ∷ rest) (set_there seats at seat e)
+        let it : first ≡ seat = cc e in
+        ap (λ x. x ∷ map tell seats) (same seat ∙ ap tell (sym it))
+    set_there (first ∷ seats) (suc at) seat e = ap (λ rest. tell first ∷ rest) (set_there seats at seat e)
 
-    by : (found : Option Seat) → slice_get seats at ≡ found → map (λ (s : Seat). s.id) (marked_at at found seats) ≡ map (λ (s : Seat). s.id) seats
+    by : (found : Option Seat) → slice_get seats at ≡ found → map tell (marked_at at found seats) ≡ map tell seats
     by None e = refl
     by (Some seat) e = set_there seats at seat e
+
+-- so their ids
+pub ids_kept : (seats : List Seat) (index : ℕ) → map (λ seat. seat.id) (with_mark index seats) ≡ map (λ seat. seat.id) seats
+ids_kept seats index = told_kept (λ seat. seat.id) (λ seat. refl) seats index
+
+-- and their threads
+pub runs_kept : (seats : List Seat) (index : ℕ) → map running (with_mark index seats) ≡ map running seats
+runs_kept seats index = told_kept running (λ seat. refl) seats index
 
 -- and its length
 pub length_kept : (seats : List Seat) (index : ℕ) → length (with_mark index seats) ≡ length seats
