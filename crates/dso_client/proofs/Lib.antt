@@ -18,3 +18,4 @@ pub mod facts
 pub mod heard
 pub mod Outcomes
 pub mod due
+pub mod asked

@@ -19,3 +19,4 @@ pub mod Fitting
 pub mod Hearing
 pub mod Touching
 pub mod Taking
+pub mod Asking

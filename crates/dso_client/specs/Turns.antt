@@ -60,3 +60,8 @@ abbrev pub IsTurn : Point → ThreadId → Request → Turn → Type 0
 IsTurn at t request (turn.Answers reply woken) = Answers at t request reply woken
 IsTurn at t request (turn.Asks message) = Asks at t request message
 IsTurn at t request (turn.Waits told) = Waits at t request told
+
+-- The thread's next request, and what its turn comes to with it; None where it has none.
+abbrev pub IsTurnOf : Point → ThreadId → Option (Request × Turn) → Type 0
+IsTurnOf at t None = at.next t ≡ None
+IsTurnOf at t (Some (request, turn)) = (at.next t ≡ Some request) × IsTurn at t request turn

@@ -1,11 +1,15 @@
 //! What a thread's turn comes to.
-ghost use Rattle.std.specs.Prelude.{◌≡◌, Some, None};
+ghost use Rattle.std.specs.List.{list_any};
+ghost use Rattle.std.specs.Prelude.{◌≡◌, Some, None, true};
 ghost use Rattle.dso_law.specs.ClientStep.{can_act, may_act};
 ghost use Rattle.dso_base.specs.declared.lock.ThreadId.{ThreadId};
 ghost use Rattle.dso_base.specs.declared.request.Request.{Request};
+ghost use Rattle.dso_base.specs.Following.{is_thread};
 ghost use Rattle.dso_law.specs.RequestNeeds.{unmet};
 ghost use Rattle.dso_client.specs.Lacks.{TellsNeed};
-ghost use Rattle.dso_client.specs.Turns.{IsTurn};
+ghost use Rattle.dso_client.specs.Turns.{IsTurn, IsTurnOf};
+ghost use Rattle.dso_law.specs.Settings.{threads_of};
+ghost use Rattle.dso_client.specs.Openings.{thread_at};
 ghost use Rattle.dso_client.specs.KeptStands.{KeptStands};
 ghost use Rattle.dso_client.specs.Points.{Point};
 ghost use Rattle.dso_client.specs.RunFacts.{SizesAreKept};
@@ -16,7 +20,7 @@ use crate::cause::{Cause, cause_of};
 use crate::kept::Kept;
 use crate::lack::{Lack, first_lack};
 use crate::reply::{has_reply, reply, woken};
-use crate::seat::Seat;
+use crate::seat::{Seat, seat_at};
 use dso_base::{Reply, Request, Shape, ThreadId, Up};
 
 /// What the turn of a thread comes to.
@@ -70,6 +74,29 @@ pub(crate) fn turn_of(kept: &Kept, shape: &Shape, seat: &Seat, request: Request)
     match first_lack(kept, seat, request) {
         Some(lack) => lacking_turn(kept, lack),
         None => answering_turn(kept, shape, seat, request),
+    }
+}
+
+/// The next request of a seat, and what its turn comes to with it; None where it has none.
+fn turn_in(kept: &Kept, shape: &Shape, seat: &Seat) -> Option<(Request, Turn)>
+    ensures { (at : Point) → KeptStands at kept.now → SeatStands at seat.now → SizesAreKept at → at.settings.shape ≡ shape.now
+        → IsTurnOf at seat.now.id result }
+{
+    match seat.next {
+        Some(request) => Some((request, turn_of(kept, shape, seat, request))),
+        None => None,
+    }
+}
+
+/// The next request of the client's thread of this index, and what its turn comes to with it; None where the thread has
+/// ended. There is such a thread.
+pub(crate) fn turn_at(kept: &Kept, shape: &Shape, index: u8) -> Option<(Request, Turn)>
+    ensures { (at : Point) → KeptStands at kept.now → SizesAreKept at → at.settings.shape ≡ shape.now
+        → list_any (is_thread (thread_at at.client index)) (threads_of at.settings at.client) ≡ true → IsTurnOf at (thread_at at.client index) result }
+{
+    match seat_at(kept, index) {
+        Some(seat) => turn_in(kept, shape, seat),
+        None => None,
     }
 }
 
