@@ -19,3 +19,4 @@ pub mod heard
 pub mod Outcomes
 pub mod due
 pub mod asked
+pub mod lived

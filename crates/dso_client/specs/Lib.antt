@@ -20,3 +20,4 @@ pub mod Hearing
 pub mod Touching
 pub mod Taking
 pub mod Asking
+pub mod Living

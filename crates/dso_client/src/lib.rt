@@ -4,6 +4,7 @@
 //! allows there.
 #![tactic(auto)]
 
+mod answered;
 mod asking;
 mod cause;
 mod client;
@@ -14,6 +15,7 @@ mod kept;
 mod known;
 mod lack;
 mod ledger;
+mod living;
 mod locking;
 mod locks;
 mod opening;

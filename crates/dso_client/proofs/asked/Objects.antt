@@ -54,11 +54,11 @@ none_there (Some body) e = absurd (cc e)
 
 module _ (clock : ℕ) (at : Point) (t : ThreadId) (mine : t.client ≡ at.client) (old : Tables) (h : TableStands at old) where
   -- whether a thread is the one that acts
-  same : (u : ThreadId) → is_at (thread_order t) u ≡ (eqb u.client at.client && eqb t.index u.index)
+  pub same : (u : ThreadId) → is_at (thread_order t) u ≡ (eqb u.client at.client && eqb t.index u.index)
   same u = thread_at t u ∙ (ap (λ c. eqb u.client c && eqb u.index t.index) mine ∙ ap (λ b. eqb u.client at.client && b) (lock_either_way (Name t.index) (Name u.index)))
 
   -- what the thread wanted before it wants no more
-  unwanted : (u : ThreadId) (x : ℕ) → (acted t (state_in old)).wanted (u, x) ≡ (eqb u.client at.client && cond (eqb t.index u.index) false (wants_object x u.index at.entries))
+  pub unwanted : (u : ThreadId) (x : ℕ) → (acted t (state_in old)).wanted (u, x) ≡ (eqb u.client at.client && cond (eqb t.index u.index) false (wants_object x u.index at.entries))
   unwanted u x = ap (λ b. or_old (cond b (Some false) None) ((state_in old).wanted (u, x))) (same u)
       ∙ dropped (eqb u.client at.client) (eqb t.index u.index) (wants_object x u.index at.entries) ((state_in old).wanted (u, x)) (h.wanted u x)
 

@@ -1,0 +1,3 @@
+-- What stands once a request was answered.
+pub mod Ids
+pub mod Objects

@@ -1,0 +1,52 @@
+//! A request that is answered.
+ghost use Rattle.std.specs.Prelude.{◌≡◌};
+ghost use Rattle.dso_law.specs.Threads.{ending_by, exit_ending, hold_of, locks_of};
+ghost use Rattle.dso_plain.specs.After.{exited};
+ghost use Rattle.dso_client.specs.Living.{put_to};
+ghost use Rattle.dso_client.specs.LockingStands.{LockingStands};
+ghost use Rattle.dso_client.specs.Points.{Point};
+
+use crate::locking::Locking;
+use dso_base::{Ending, LockName, Reply, Request, ThreadId};
+
+/// A thread, its request, the reply, and the thread that the act wakes.
+#[derive(Clone, Copy, Debug, PartialEq, Eq)]
+pub struct Answered {
+    pub thread: ThreadId,
+    pub request: Request,
+    pub reply: Reply,
+    pub woken: Option<ThreadId>,
+}
+
+/// The object that a done put is to.
+pub(crate) fn put_to(act: Answered) -> Option<u64>
+    ensures { result ≡ put_to act.request act.reply }
+{
+    match (act.request, act.reply) {
+        (Request::Put(object, ..), Reply::Done) => Some(object),
+        _ => None,
+    }
+}
+
+/// The ending that an exit is: none where the thread still holds the lock behind it.
+fn exit_ending(locking: &Locking, thread: ThreadId, lock: LockName) -> Option<Ending>
+    ensures { (at : Point) → LockingStands at locking.now → result ≡ exit_ending lock (exited (hold_of thread lock at.entries)) }
+{
+    match locking.holds.level_of(thread, lock) {
+        Some(_) if locking.holds.count(thread, lock) != 1 => None,
+        _ => Some(Ending::Exit(lock)),
+    }
+}
+
+/// The ending that the act is, where it is one.
+pub(crate) fn ending_of(locking: &Locking, act: Answered) -> Option<Ending>
+    ensures { (at : Point) → LockingStands at locking.now → result ≡ ending_by act.request act.reply (locks_of act.thread at.entries) }
+{
+    match (act.request, act.reply) {
+        (Request::Exit(lock), Reply::Done) => exit_ending(locking, act.thread, lock),
+        (Request::Wait(lock), Reply::Done) => Some(Ending::Wait(lock)),
+        (Request::Timeout(lock), Reply::Done) => Some(Ending::Timeout(lock)),
+        (Request::End(fault), Reply::Done) => Some(Ending::End(fault)),
+        _ => None,
+    }
+}
