@@ -1,3 +1,5 @@
 -- What stands once a request was answered.
 pub mod Ids
 pub mod Objects
+pub mod Leases
+pub mod Lists

@@ -1,15 +1,24 @@
 -- What a client keeps once a thread's request was answered, before anything is sent.
-use Rattle.std.specs.Prelude.{ℕ, Option, Some, None, [], ◌∷◌}
+use Rattle.std.specs.BTreeMap.{BTreeMap}
+use Rattle.std.specs.Prelude.{◌≡◌, ℕ, cond, Option, Some, None, List, [], ◌∷◌}
 use Rattle.dso_base.specs.declared.journal.Entry.{Entry}
 use Rattle.dso_base.specs.declared.journal.Input.TheVariants as input
 use Rattle.dso_base.specs.declared.journal.Node.TheVariants.{Client}
+use Rattle.dso_base.specs.declared.lock.LockName.{LockName}
+use Rattle.dso_base.specs.declared.lock.ThreadId.{ThreadId}
 use Rattle.dso_base.specs.declared.request.Event.{Event}
 use Rattle.dso_base.specs.declared.request.Event.TheVariants.{Act}
 use Rattle.dso_base.specs.declared.request.Reply.{Reply}
 use Rattle.dso_base.specs.declared.request.Reply.TheVariants.{Done}
 use Rattle.dso_base.specs.declared.request.Request.{Request}
-use Rattle.dso_base.specs.declared.request.Request.TheVariants.{Put}
+use Rattle.dso_base.specs.declared.request.Request.TheVariants.{Put, Enter, Resume}
+use Rattle.dso_lease.specs.declared.leases.Leases.{Leases}
+use Rattle.dso_lease.specs.Leases.{standing_in}
+use Rattle.dso_plain.specs.KeyTests.{is_lock}
+use Rattle.dso_law.specs.ClientWaiters.{client_list}
+use Rattle.dso_law.specs.Leases.{leased, is_entered, is_recalled, is_asked_for}
 use Rattle.dso_client.specs.declared.answered.Answered.{Answered}
+use Rattle.dso_client.specs.LockingStands.{standing_as, list_at}
 use Rattle.dso_client.specs.Points.{Point}
 
 -- the event that the answer makes
@@ -28,3 +37,22 @@ lived clock act at = record at { entries = lived_entry clock at.client act ∷ a
 abbrev pub put_to : Request → Reply → Option ℕ
 put_to (Put o f v) Done = Some o
 put_to request reply = None
+
+-- the lock that the act enters: an Enter answered Done, or a Resume
+abbrev pub entered_lock : Request → Reply → Option LockName
+entered_lock (Enter l level) Done = Some l
+entered_lock (Resume l) Done = Some l
+entered_lock request reply = None
+
+-- of each lock its lease, and whether it is asked for, as the entries tell
+abbrev pub LeasesStand : Point → Leases → Type 0
+LeasesStand at leases = (l : LockName) → standing_in leases l
+    ≡ standing_as (leased l at.entries) (is_entered l at.entries) (is_recalled l at.entries) (is_asked_for l at.entries)
+
+-- of each lock its list of waiters, as the entries tell
+abbrev pub ListsStand : Point → BTreeMap LockName (List ThreadId) → Type 0
+ListsStand at lists = (l : LockName) → list_at lists l ≡ client_list l at.entries
+
+-- the lists with another one for this lock
+abbrev pub HasList : LockName → List ThreadId → BTreeMap LockName (List ThreadId) → BTreeMap LockName (List ThreadId) → Type 0
+HasList l list old new = (x : LockName) → list_at new x ≡ cond (is_lock x l) list (list_at old x)

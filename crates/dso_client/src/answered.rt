@@ -2,7 +2,7 @@
 ghost use Rattle.std.specs.Prelude.{◌≡◌};
 ghost use Rattle.dso_law.specs.Threads.{ending_by, exit_ending, hold_of, locks_of};
 ghost use Rattle.dso_plain.specs.After.{exited};
-ghost use Rattle.dso_client.specs.Living.{put_to};
+ghost use Rattle.dso_client.specs.Living.{entered_lock, put_to};
 ghost use Rattle.dso_client.specs.LockingStands.{LockingStands};
 ghost use Rattle.dso_client.specs.Points.{Point};
 
@@ -47,6 +47,16 @@ pub(crate) fn ending_of(locking: &Locking, act: Answered) -> Option<Ending>
         (Request::Wait(lock), Reply::Done) => Some(Ending::Wait(lock)),
         (Request::Timeout(lock), Reply::Done) => Some(Ending::Timeout(lock)),
         (Request::End(fault), Reply::Done) => Some(Ending::End(fault)),
+        _ => None,
+    }
+}
+
+/// The lock that the act enters.
+pub(crate) fn entered_lock(act: Answered) -> Option<LockName>
+    ensures { result ≡ entered_lock act.request act.reply }
+{
+    match (act.request, act.reply) {
+        (Request::Enter(lock, _), Reply::Done) | (Request::Resume(lock), Reply::Done) => Some(lock),
         _ => None,
     }
 }

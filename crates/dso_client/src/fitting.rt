@@ -105,7 +105,7 @@ fn awaits_wake(locking: &Locking, seat: &Seat, lock: LockName) -> bool
 }
 
 /// Whether the thread is in the client's list of the lock.
-fn is_listed(locking: &Locking, lock: LockName, thread: ThreadId) -> bool
+pub(crate) fn is_listed(locking: &Locking, lock: LockName, thread: ThreadId) -> bool
     ensures { (at : Point) → LockingStands at locking.now → result ≡ list_any (is_thread thread) (client_list lock at.entries) }
 {
     match locking.lists.get(&lock) {

@@ -1,16 +1,26 @@
 //! What an answered request makes of what a client keeps, before anything is sent.
-ghost use Rattle.std.specs.Prelude.{ℕ, ◌≡◌, OnOk, is_some};
+ghost use Rattle.std.specs.Prelude.{ℕ, ◌≡◌, None, OnOk, is_some, [], ◌∷◌, ◌++◌};
+ghost use Rattle.std.specs.BTreeMap.{is_at};
+ghost use Rattle.dso_lookup.specs.Maps.{look, writes, written};
+ghost use Rattle.dso_lookup.specs.Orders.{lock_order};
+ghost use Rattle.dso_base.specs.declared.request.Reply.TheVariants.{Done};
 ghost use Rattle.dso_law.specs.Threads.{ending_by, locks_of};
 ghost use Rattle.dso_client.specs.LedgerStands.{LedgerStands};
-ghost use Rattle.dso_client.specs.Living.{lived};
+ghost use Rattle.dso_client.specs.Living.{HasList, LeasesStand, ListsStand, lived};
+ghost use Rattle.dso_client.specs.LockingStands.{list_at};
+ghost use Rattle.dso_wait.specs.Waiters.{without};
 ghost use Rattle.dso_client.specs.Points.{Point};
 ghost use Rattle.dso_client.specs.TableStands.{TableStands};
 
-use crate::answered::{Answered, put_to};
+use crate::answered::{Answered, entered_lock, put_to};
 use crate::ledger::Ledger;
-use dso_base::{NoMemory, Reply};
+use dso_base::{LockName, NoMemory, Reply, Request, ThreadId};
+use dso_lease::Leases;
+use dso_lookup::{put, take};
 use dso_table::Table;
+use dso_wait::WaitList;
 use std::alloc::Global;
+use std::collections::BTreeMap;
 
 /// The id of a new object is taken. It takes no memory.
 pub(crate) fn live_ledger(ledger: &mut Ledger, act: Answered)
@@ -42,5 +52,94 @@ pub(crate) fn live_table(
     match put_to(act) {
         Some(object) => table.opened(alloc, object, act.thread),
         None => Ok(()),
+    }
+}
+
+/// The lease of the lock that the act enters was entered since its grant. It takes no memory.
+pub(crate) fn live_leases(leases: &mut Leases, act: Answered)
+    ensures { (clock : ℕ) (at : Point) → LeasesStand at leases.old → LeasesStand (lived clock act at) leases.new }
+{
+    if let Some(lock) = entered_lock(act) {
+        leases.entered(lock);
+    }
+}
+
+/// Takes out the list of the lock, an empty one where there is none.
+fn take_list(alloc: Global, lists: &mut BTreeMap<LockName, WaitList>, lock: LockName) -> WaitList
+    ensures list { result ≡ list_at lists.old lock }
+    ensures gone { look lock_order lists.new ≡ written (writes (is_at (lock_order lock)) (λ _. None)) (look lock_order lists.old) }
+{
+    match take(lists, &lock) {
+        Some(list) => list,
+        None => WaitList::new(alloc),
+    }
+}
+
+/// The thread stands at the end of the list of the lock.
+fn add_waiter(
+    alloc: Global,
+    lists: &mut BTreeMap<LockName, WaitList>,
+    lock: LockName,
+    thread: ThreadId,
+) -> Result<(), NoMemory>
+    ensures { OnOk result (HasList lock (list_at lists.old lock ++ thread ∷ []) lists.old lists.new) }
+{
+    let mut list = take_list(alloc, lists, lock);
+    list.add(thread)?;
+    put(lists, lock, list)
+}
+
+/// The thread stands no longer in the list of the lock. It takes no memory.
+fn remove_waiter(lists: &mut BTreeMap<LockName, WaitList>, lock: LockName, thread: ThreadId)
+    ensures { HasList lock (without thread (list_at lists.old lock)) lists.old lists.new }
+{
+    if let Some(list) = lists.get_mut(&lock) {
+        list.remove(thread);
+    }
+}
+
+/// The list of the lock is empty. It takes no memory.
+fn empty_list(lists: &mut BTreeMap<LockName, WaitList>, lock: LockName)
+    ensures { HasList lock [] lists.old lists.new }
+{
+    let _ = take(lists, &lock);
+}
+
+/// What a done act makes of the lists.
+fn done_lists(
+    alloc: Global,
+    lists: &mut BTreeMap<LockName, WaitList>,
+    act: Answered,
+) -> Result<(), NoMemory>
+    ensures { OnOk result ((clock : ℕ) (at : Point) → ListsStand at lists.old → act.reply ≡ Done → ListsStand (lived clock act at) lists.new) }
+{
+    match act.request {
+        Request::Wait(lock) => add_waiter(alloc, lists, lock, act.thread)?,
+        Request::Timeout(lock) => remove_waiter(lists, lock, act.thread),
+        Request::Notify(lock) => {
+            if let Some(woken) = act.woken {
+                remove_waiter(lists, lock, woken);
+            }
+        }
+        Request::NotifyAll(lock) => empty_list(lists, lock),
+        _ => {}
+    }
+    Ok(())
+}
+
+/// A thread that waits stands at the end of the client's list of its lock; one that gives up or is woken stands in it no
+/// longer; and a notification of all empties it.
+///
+/// It answers `NoMemory` where an allocation was refused.
+pub(crate) fn live_lists(
+    alloc: Global,
+    lists: &mut BTreeMap<LockName, WaitList>,
+    act: Answered,
+) -> Result<(), NoMemory>
+    ensures { OnOk result ((clock : ℕ) (at : Point) → ListsStand at lists.old → ListsStand (lived clock act at) lists.new) }
+{
+    match act.reply {
+        Reply::Done => done_lists(alloc, lists, act),
+        _ => Ok(()),
     }
 }

@@ -1,0 +1,42 @@
+//! What an answered request makes of what is kept of a thread, before anything is sent.
+ghost use Rattle.std.specs.Prelude.{ℕ, ◌≡◌};
+ghost use Rattle.dso_law.specs.ClientWaiters.{is_marked};
+ghost use Rattle.dso_law.specs.Threads.{seen_by};
+ghost use Rattle.dso_client.specs.Living.{lived};
+ghost use Rattle.dso_client.specs.LockingStands.{LockingStands};
+ghost use Rattle.dso_client.specs.Points.{Point};
+ghost use Rattle.dso_client.specs.SeatStands.{SeatStands};
+
+use crate::answered::Answered;
+use crate::fitting::is_listed;
+use crate::locking::Locking;
+use crate::seat::Seat;
+use dso_base::{ClassId, Reply, Request};
+
+/// What the latest look of the acting thread saw, once it acted.
+pub(crate) fn seen_after(act: Answered, before: Option<(ClassId, u32)>) -> Option<(ClassId, u32)>
+    ensures { result ≡ seen_by act.request act.reply before }
+{
+    match (act.request, act.reply) {
+        (Request::Look(_), Reply::Seen(class, size)) => Some((class, size)),
+        _ => before,
+    }
+}
+
+/// Whether a thread is marked once the request was answered: its own wait unmarks it; its own timeout marks it where the
+/// client's list of the lock has it, and so does a notification of all; and a notification marks whom it wakes.
+pub(crate) fn marked_after(locking: &Locking, seat: &Seat, act: Answered) -> bool
+    ensures { (clock : ℕ) (at : Point) → LockingStands at locking.now → SeatStands at seat.now → result ≡ is_marked seat.now.id (lived clock act at).entries }
+{
+    match (act.request, act.reply) {
+        (Request::Wait(_), Reply::Done) => seat.id != act.thread && seat.is_marked,
+        (Request::Timeout(lock), Reply::Done) => {
+            (seat.id == act.thread && is_listed(locking, lock, seat.id)) || seat.is_marked
+        }
+        (Request::Notify(_), Reply::Done) => act.woken == Some(seat.id) || seat.is_marked,
+        (Request::NotifyAll(lock), Reply::Done) => {
+            is_listed(locking, lock, seat.id) || seat.is_marked
+        }
+        _ => seat.is_marked,
+    }
+}
