@@ -3,3 +3,4 @@ pub mod Ids
 pub mod Objects
 pub mod Leases
 pub mod Lists
+pub mod Holds

@@ -1,5 +1,6 @@
 -- What a client keeps once a thread's request was answered, before anything is sent.
 use Rattle.std.specs.BTreeMap.{BTreeMap}
+use Rattle.std.specs.Option.{option_map}
 use Rattle.std.specs.Prelude.{◌≡◌, ℕ, cond, Option, Some, None, List, [], ◌∷◌}
 use Rattle.dso_base.specs.declared.journal.Entry.{Entry}
 use Rattle.dso_base.specs.declared.journal.Input.TheVariants as input
@@ -12,13 +13,16 @@ use Rattle.dso_base.specs.declared.request.Reply.{Reply}
 use Rattle.dso_base.specs.declared.request.Reply.TheVariants.{Done}
 use Rattle.dso_base.specs.declared.request.Request.{Request}
 use Rattle.dso_base.specs.declared.request.Request.TheVariants.{Put, Enter, Resume}
+use Rattle.dso_hold.specs.declared.tables.Tables.{Tables}
+use Rattle.dso_hold.specs.Holds.{hold_in}
 use Rattle.dso_lease.specs.declared.leases.Leases.{Leases}
 use Rattle.dso_lease.specs.Leases.{standing_in}
 use Rattle.dso_plain.specs.KeyTests.{is_lock}
 use Rattle.dso_law.specs.ClientWaiters.{client_list}
 use Rattle.dso_law.specs.Leases.{leased, is_entered, is_recalled, is_asked_for}
+use Rattle.dso_law.specs.Threads.{hold_of}
 use Rattle.dso_client.specs.declared.answered.Answered.{Answered}
-use Rattle.dso_client.specs.LockingStands.{standing_as, list_at}
+use Rattle.dso_client.specs.LockingStands.{as_hold, standing_as, list_at}
 use Rattle.dso_client.specs.Points.{Point}
 
 -- the event that the answer makes
@@ -56,3 +60,7 @@ ListsStand at lists = (l : LockName) → list_at lists l ≡ client_list l at.en
 -- the lists with another one for this lock
 abbrev pub HasList : LockName → List ThreadId → BTreeMap LockName (List ThreadId) → BTreeMap LockName (List ThreadId) → Type 0
 HasList l list old new = (x : LockName) → list_at new x ≡ cond (is_lock x l) list (list_at old x)
+
+-- of each thread and lock the hold, as the entries tell
+abbrev pub HoldsStand : Point → Tables → Type 0
+HoldsStand at holds = (t : ThreadId) (l : LockName) → option_map as_hold (hold_in holds (l, t)) ≡ hold_of t l at.entries

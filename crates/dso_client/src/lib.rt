@@ -16,6 +16,7 @@ mod known;
 mod lack;
 mod ledger;
 mod living;
+mod living_holds;
 mod living_seat;
 mod locking;
 mod locks;
