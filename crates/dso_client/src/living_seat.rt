@@ -1,7 +1,7 @@
 //! What an answered request makes of what is kept of a thread, before anything is sent.
 ghost use Rattle.std.specs.Prelude.{ℕ, ◌≡◌};
 ghost use Rattle.dso_law.specs.ClientWaiters.{is_marked};
-ghost use Rattle.dso_law.specs.Threads.{seen_by};
+ghost use Rattle.dso_law.specs.Threads.{locks_by, locks_of, seen_by};
 ghost use Rattle.dso_client.specs.Living.{lived};
 ghost use Rattle.dso_client.specs.LockingStands.{LockingStands};
 ghost use Rattle.dso_client.specs.Points.{Point};
@@ -10,7 +10,7 @@ ghost use Rattle.dso_client.specs.SeatStands.{SeatStands};
 use crate::answered::Answered;
 use crate::fitting::is_listed;
 use crate::locking::Locking;
-use crate::seat::Seat;
+use crate::seat::{Seat, Waiting};
 use dso_base::{ClassId, Reply, Request};
 
 /// What the latest look of the acting thread saw, once it acted.
@@ -38,5 +38,23 @@ pub(crate) fn marked_after(locking: &Locking, seat: &Seat, act: Answered) -> boo
             is_listed(locking, lock, seat.id) || seat.is_marked
         }
         _ => seat.is_marked,
+    }
+}
+
+/// The lock that the acting thread waits on, once it acted: its wait, with the count of its hold before; none once it goes on.
+pub(crate) fn waiting_after(
+    locking: &Locking,
+    act: Answered,
+    before: Option<Waiting>,
+) -> Option<Waiting>
+    ensures { (at : Point) → LockingStands at locking.now → before ≡ (locks_of act.thread at.entries).waiting
+        → result ≡ (locks_by act.request act.reply (locks_of act.thread at.entries)).waiting }
+{
+    match (act.request, act.reply) {
+        (Request::Wait(lock), Reply::Done) => {
+            Some(Waiting::new(lock, locking.holds.count(act.thread, lock)))
+        }
+        (Request::Resume(_), Reply::Done) => None,
+        _ => before,
     }
 }

@@ -30,6 +30,15 @@ impl Model for Waiting {
     ghost inverse = { λ waiting. record { lock = waiting.lock; count = waiting.count } };
 }
 
+impl Waiting {
+    /// The lock, and the count of the hold that the thread is to have of it again.
+    pub(crate) fn new(lock: LockName, count: u32) -> Waiting
+        ensures { result ≡ record { lock = lock; count = count } }
+    {
+        Waiting { lock, count }
+    }
+}
+
 /// A thread with what its client keeps of it: its next request, None where it has ended; the work that it has in hand; the
 /// class and size that its latest look saw; the lock that it waits on; whether it is marked; the number of its last
 /// record.
