@@ -19,6 +19,7 @@ pub mod FaultsAsked
 pub mod NamesKept
 pub mod NamesOut
 pub mod LostClients
+pub mod Unheard
 pub mod WaysDown
 pub mod WaysDownFit
 pub mod ThreadsOwn

@@ -19,10 +19,11 @@ use Rattle.dso_law.specs.Granting.{standing_with}
 use Rattle.dso_legal.specs.Agreement.{messages}
 use Rattle.dso_legal.specs.Lawful.{IsLawful}
 use Rattle.dso_legal.specs.AsMade.{as_made}
+use Rattle.dso_legal.specs.Blocks.{HasFirstEndings}
 use Rattle.dso_legal.specs.Committed.{committed}
 use Rattle.dso_legal.specs.Resolved.{AreResolved, IsPrefixResolved}
 use Rattle.dso_legal.specs.Slots.{is_finished}
-use Rattle.dso_legal.specs.WaitsAndLosses.{WithoutWaits, WithoutLosses}
+use Rattle.dso_legal.specs.WaitsAndLosses.{WithoutWaits}
 use Rattle.dso_legal.specs.SoundProgram.{IsSound}
 use Rattle.dso_legal.specs.PendingBlocks.{pending}
 use Rattle.dso_legal.specs.Line.{Line}
@@ -40,11 +41,12 @@ pub record ClusterStands (p : Settings) (es : List Entry) : Type 0 where
   pub made : RunsButMarks p.shape (as_made es) (opening p.shape)
   pub client : (c : ℕ) → is_lost c (entries_of Server es) ≡ false → ClientStands p c es
 
--- What is committed of a journal: a legal history in which each thread follows the program; of each thread a prefix of
--- its events, each once and in order, resolved by the server; and, where the journal is finished, all events of each
--- thread whose client isn't lost.
+-- What is committed of a journal: a legal history in which each thread follows the program; of each client, a lost one too, the
+-- blocks of its first endings, in order and nothing else; of each thread a prefix of its events, each once and in order,
+-- resolved by the server; and, where the journal is finished, all events of each thread whose client isn't lost.
 pub record CommitsLegally (p : Settings) (next : ThreadId → List Event → Option Request) (es : List Entry) : Type 0 where
   pub legal : IsLegal next (Listed next) p.shape (committed es)
+  pub endings : (c : ℕ) → HasFirstEndings c es
   pub parts : (t : ThreadId) → IsPrefixResolved (events_in t (entries_of (Client t.client) es)) (events_of t (committed es))
   pub whole : is_finished p es ≡ true → (t : ThreadId) → list_any (is_thread t) p.threads ≡ true → is_lost t.client (entries_of Server es) ≡ false
       → AreResolved (events_in t (entries_of (Client t.client) es)) (events_of t (committed es))
@@ -56,15 +58,15 @@ pub record CommitsAsMade (p : Settings) (es : List Entry) : Type 0 where
   pub whole : is_finished p es ≡ true → (t : ThreadId) → list_any (is_thread t) p.threads ≡ true → is_lost t.client (entries_of Server es) ≡ false
       → events_of t (committed es) ≡ events_in t (entries_of (Client t.client) es)
 
--- The central law, for journals without losses: where the program is sound, a lawful journal commits so.
+-- The central law: where the program is sound, a lawful journal commits so, whatever clients it loses.
 abbrev pub CentralLaw : Type 0
 CentralLaw = (p : Settings) (next : ThreadId → List Event → Option Request) → IsSound p.shape next
-    → (es : List Entry) → IsLawful p next es → WithoutLosses es → CommitsLegally p next es
+    → (es : List Entry) → IsLawful p next es → CommitsLegally p next es
 
 -- And without waits its history has each thread's events just as the thread made them.
 abbrev pub CommitsWhatWasMade : Type 0
-CommitsWhatWasMade = (p : Settings) (next : ThreadId → List Event → Option Request) → IsSound p.shape next → (es : List Entry) → IsLawful p next es → WithoutWaits es → WithoutLosses es → CommitsAsMade p es
+CommitsWhatWasMade = (p : Settings) (next : ThreadId → List Event → Option Request) → IsSound p.shape next → (es : List Entry) → IsLawful p next es → WithoutWaits es → CommitsAsMade p es
 
--- All clients stand after a lawful journal without losses, of a sound program.
+-- All clients that aren't lost stand after a lawful journal of a sound program.
 abbrev pub ClientsStand : Type 0
-ClientsStand = (p : Settings) (next : ThreadId → List Event → Option Request) → IsSound p.shape next → (es : List Entry) → IsLawful p next es → WithoutLosses es → ClusterStands p es
+ClientsStand = (p : Settings) (next : ThreadId → List Event → Option Request) → IsSound p.shape next → (es : List Entry) → IsLawful p next es → ClusterStands p es

@@ -28,6 +28,7 @@ pub mod LocksThere
 pub mod RecordsLeased
 pub mod NamesOut
 pub mod LostClients
+pub mod Settled
 pub mod WaysDown
 pub mod RecordsOwn
 pub mod Room

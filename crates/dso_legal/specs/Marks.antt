@@ -30,7 +30,6 @@ use Rattle.dso_legal.specs.Lawful.{IsLawful}
 use Rattle.dso_legal.specs.Places.{Place, Away, Kept, Gone, place_with}
 use Rattle.dso_legal.specs.Resolved.{WaiterLists}
 use Rattle.dso_legal.specs.SoundProgram.{IsSound}
-use Rattle.dso_legal.specs.WaitsAndLosses.{WithoutLosses}
 
 -- who is kept in its client's list of each lock
 abbrev pub KeptThreads : Type 0
@@ -160,8 +159,8 @@ pub record KnowsWaiters (p : Settings) (es : List Entry) : Type 0 where
   pub leased : (l : LockName) (t : ThreadId) → kept_at es l t ≡ true
       → leased_to t.client l (counted (entries_of Server es)) ≡ Some Write
 
--- The waiters are known: so it is after a lawful journal without losses, of a sound program. The unmarked waiters of a
+-- The waiters are known: so it is after a lawful journal of a sound program. The unmarked waiters of a
 -- lock are those that the client with the lock at Write keeps, and those of the server's list.
 abbrev pub WaitersAreKnown : Type 0
 WaitersAreKnown = (p : Settings) (next : ThreadId → List Event → Option Request) → IsSound p.shape next
-    → (es : List Entry) → IsLawful p next es → WithoutLosses es → KnowsWaiters p es
+    → (es : List Entry) → IsLawful p next es → KnowsWaiters p es

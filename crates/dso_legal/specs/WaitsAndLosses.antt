@@ -1,9 +1,7 @@
--- Journals without waits, without broken connections, without lost clients.
+-- Journals without waits.
 use Rattle.std.specs.List.{AllByRecursion}
 use Rattle.std.specs.Prelude.{Bool, true, false, ◌≡◌, Option, Some, None, List}
 use Rattle.dso_base.specs.declared.journal.Entry.{Entry}
-use Rattle.dso_base.specs.declared.journal.Input.{Input}
-use Rattle.dso_base.specs.declared.journal.Input.TheVariants as input
 use Rattle.dso_base.specs.declared.request.Event.{Event}
 use Rattle.dso_base.specs.declared.request.Event.TheVariants.{Act, Lost}
 use Rattle.dso_base.specs.declared.request.Request.{Request}
@@ -41,12 +39,3 @@ HasNoWait (Some event) = is_wait event ≡ false
 -- No event of the journal is a Wait, Tick, Timeout, Notify or NotifyAll.
 abbrev pub WithoutWaits : List Entry → Type 0
 WithoutWaits es = AllByRecursion (λ e. HasNoWait e.event) es
-
--- the input loses a client
-abbrev pub is_loss : Input → Bool
-is_loss (input.Lose c) = true
-is_loss other = false
-
--- No entry of the journal loses a client.
-abbrev pub WithoutLosses : List Entry → Type 0
-WithoutLosses es = AllByRecursion (λ e. is_loss e.input ≡ false) es

@@ -15,7 +15,7 @@ ghost use Rattle.dso_legal.specs.LocksThere.{LocksAreThere};
 ghost use Rattle.dso_legal.specs.OwnObjects.{ObjectsInHandAreOwn};
 ghost use Rattle.dso_legal.specs.NewsAreNew.{NewsAreNew};
 ghost use Rattle.dso_legal.specs.Sorted.{RecordsAreSorted};
-ghost use Rattle.dso_legal.specs.Blocks.{BlocksAreKept, BlocksAreHandedIn, HistoriesHoldBlocks, HistoriesHoldBlocksAsMade};
+ghost use Rattle.dso_legal.specs.Blocks.{BlocksAreKept, BlocksAreHandedIn, HistoriesHoldBlocks, HistoriesHoldEvents, HistoriesHoldBlocksAsMade};
 ghost use Rattle.dso_legal.specs.Works.{WorksTell};
 ghost use Rattle.dso_legal.specs.Names.{NamesStayKnown, ObjectsAreMade};
 ghost use Rattle.dso_legal.specs.Views.{ActsArePossible, ActsFindMarks};
@@ -26,7 +26,8 @@ ghost use Rattle.dso_legal.specs.Store.{StoreIsHeap};
 ghost use Rattle.dso_legal.specs.SoundCode.{SoundCodeIsSoundProgram, SoundCodeGivesKnownTexts, SoundCodeStaysWithinShape};
 ghost use Rattle.dso_legal.specs.RecordsLeased.{RecordsAreLeased};
 ghost use Rattle.dso_legal.specs.NamesOut.{NamesAreOut};
-ghost use Rattle.dso_legal.specs.LostClients.{LostAreToldNothing};
+ghost use Rattle.dso_legal.specs.LostClients.{LostAreToldNothing, LostAreUnheard};
+ghost use Rattle.dso_legal.specs.Settled.{SettledAreCommitted};
 ghost use Rattle.dso_legal.specs.WaysDown.{WaysDownFit};
 ghost use Rattle.dso_legal.specs.RecordsOwn.{RecordsAreOwn, HeldAreStored};
 ghost use Rattle.dso_legal.specs.Room.{BatchesHaveRoom};
@@ -198,6 +199,18 @@ pub fn lost_are_told_nothing()
     ensures { LostAreToldNothing }
 {}
 
+/// A message that the server takes of a client that it lost before is answered by nothing, and changes nothing that the server's
+/// readings or the history tell.
+pub fn lost_are_unheard()
+    ensures { LostAreUnheard }
+{}
+
+/// Releases are synchronous: where a thread has settled, the history has each block that it ended before, of a lost client too,
+/// whatever client is lost later. So it is of every program.
+pub fn settled_are_committed()
+    ensures { SettledAreCommitted }
+{}
+
 /// What comes to a client, to a lost one too, finds it as it must: a grant was asked for; a batch of ids was asked for, and is
 /// above those that the client has; an acknowledgement is of the first record that isn't acknowledged; an object was asked for.
 pub fn ways_down_fit()
@@ -238,11 +251,12 @@ pub fn blocks_are_handed_in()
     ensures { BlocksAreHandedIn }
 {}
 
-/// The history has of each thread of a client that isn't lost the events of the blocks that the server took, each
-/// notification that left the choice to the server with whom it chose. Clause `as_made`: without waits just as the threads
-/// made them.
+/// The history has of each client, a lost one too, the blocks of its first endings, as many as the server took records of it, in
+/// order and nothing else, each notification that left the choice to the server with whom it chose. Clause `events`: of each
+/// thread the events of these. Clause `as_made`: without waits just as the threads made them.
 pub fn histories_hold_blocks()
-    ensures resolved { HistoriesHoldBlocks }
+    ensures blocks { HistoriesHoldBlocks }
+    ensures events { HistoriesHoldEvents }
     ensures as_made { HistoriesHoldBlocksAsMade }
 {}
 
@@ -266,7 +280,7 @@ pub fn acts_are_possible()
     ensures marks { ActsFindMarks }
 {}
 
-/// After a journal without losses, of a sound program, whatever is marked: the history as made runs; of each client the blocks in
+/// After a journal of a sound program, whatever is marked: the history as made runs; of each client that isn't lost the blocks in
 /// flight to the server can run after it, with what they hold and touch within the client's leases there; each thread's open block
 /// can run behind them; and each copy is a past value, not older than what the client's threads have seen, and the heap's once all
 /// in flight is taken, where no change overtakes a lease of the field's guard.
@@ -274,7 +288,7 @@ pub fn clients_stand()
     ensures { ClientsStand }
 {}
 
-/// After such a journal, for each thread and each lock: each message in flight between its client and the server may come where
+/// After such a journal, for each thread of a client that isn't lost and each lock: each message in flight between its client and the server may come where
 /// the thread stands among the waiters of the lock, and once all are taken both ends say the same: it is kept in its client's
 /// list, gone to the server, or away.
 pub fn waiters_are_tokens()
@@ -303,9 +317,10 @@ pub fn sound_code_is_sound_program()
     ensures within { SoundCodeStaysWithinShape }
 {}
 
-/// **The central law.** A lawful journal without losses, of a sound program, commits a legal history, in which each thread
-/// follows the program; the history has of each thread a prefix of its events, each once and in order, and all of them where the
-/// journal is finished, but for whom the server chose to wake. Clause `as_made`: without waits, just as the threads made them.
+/// **The central law.** A lawful journal of a sound program, whatever clients it loses, commits a legal history, in which each thread
+/// follows the program. Of each client, a lost one too, the history has the blocks of its first endings, in order and nothing else;
+/// of each thread a prefix of its events, each once and in order; and where the journal is finished, all events of each thread
+/// whose client isn't lost, but for whom the server chose to wake. Clause `as_made`: without waits, just as the threads made them.
 pub fn central_law()
     ensures legal { CentralLaw }
     ensures as_made { CommitsWhatWasMade }

@@ -28,7 +28,6 @@ pub mod Quiet
 pub mod Releasing
 pub mod Room
 pub mod Running
-pub mod RunsWithoutLosses
 pub mod SameSettings
 pub mod Storing
 pub mod Sums

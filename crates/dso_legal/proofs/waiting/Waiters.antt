@@ -30,8 +30,7 @@ use Rattle.dso_law.specs.Threads.{hold_in, locks_after, locks_of, hold_of}
 use Rattle.dso_legal.specs.Lawful.{next_after, ClientFollows, ServerFollows, NodeFollows, AllFollow}
 use Rattle.dso_legal.specs.Places.{Gone, place_up, place_down, MayPlaceUp, MayPlaceDown, place_of, place_with, AgreeOnWaiter}
 use Rattle.dso_legal.specs.SoundProgram.{IsSound, KeepsLocks, KeepsTo}
-use Rattle.dso_legal.specs.WaitsAndLosses.{WithoutLosses}
-use Rattle.dso_legal.proofs.acts.SeesAll.{AllUntold}
+use Rattle.dso_legal.proofs.blocks.ThreadHistory.{Untold}
 use Rattle.dso_legal.proofs.blocks.OwnActs.{threads_follow, threads_wait, own_acts}
 use Rattle.dso_legal.proofs.blocks.SameLocks.{same_locks}
 use Rattle.dso_legal.proofs.blocks.WaitsApart.{waits_apart}
@@ -79,15 +78,15 @@ module _ (p : Settings) (c : ℕ) (own : List Entry) (well : HoldsWell p c own) 
 
 module _ (p : Settings) (next : ThreadId → List Event → Option Request) (sound : IsSound p.shape next) where
   -- A client's act is fair.
-  module _ (e : Entry) (es : List Entry) (follow : AllFollow p next es) (untold : AllUntold es) where
-    fair_at : (a : ThreadId) (request : Request) (reply : Reply) → HoldsWell p a.client (e ∷ entries_of (Client a.client) es) → next_after next es a ≡ Some request
+  module _ (e : Entry) (es : List Entry) (follow : AllFollow p next es) (untold : Untold es) where
+    fair_at : (a : ThreadId) (request : Request) (reply : Reply) → is_lost a.client (entries_of Server es) ≡ false → HoldsWell p a.client (e ∷ entries_of (Client a.client) es) → next_after next es a ≡ Some request
         → unmet p a.client (next_after next es) a request (entries_of (Client a.client) es) ≡ None → reply_of p a request (entries_of (Client a.client) es) ≡ Some reply
         → e.event ≡ Some (Act a request reply (woken_by request reply (entries_of (Client a.client) es)))
         → (l : LockName) → IsFair (entries_of (Client a.client) es) l a request reply (woken_by request reply (entries_of (Client a.client) es)) p a.client (next_after next es)
-    fair_at a request reply well_now asked met answered event l =
+    fair_at a request reply alive well_now asked met answered event l =
         let own : List Entry = entries_of (Client a.client) es in
         let well : HoldsWell p a.client own = holds_well p next es follow a.client in
-        let keeps : KeepsTo p.shape a (events_in a own) request = sound.keeps a (events_in a own) request (own_acts a own) (untold a) (threads_wait p next a es follow) (threads_follow p next a es follow) asked in
+        let keeps : KeepsTo p.shape a (events_in a own) request = sound.keeps a (events_in a own) request (own_acts a own) (untold.alive a alive) (threads_wait p next a es follow) (threads_follow p next a es follow) asked in
         let same = same_locks a own in
         let locks_now : (u : ThreadId) → hold_of u l (e ∷ own) ≡ hold_in l ((acted own a request reply (woken_by request reply own)).locks u).holds = λ u. ap (λ ev. hold_in l (by_event (locks_after u) ev (locks_of u own)).holds) event in
         record {
@@ -95,16 +94,16 @@ module _ (p : Settings) (next : ThreadId → List Event → Option Request) (sou
           keeps = subst (KeepsLocks request) (sym same) keeps.locks;
           met = met;
           answered = answered;
-          apart = waits_apart p next sound a es follow (untold a);
+          apart = waits_apart p next sound a es follow (untold.alive a alive);
           one = record { alone = λ u held. record { others = λ w other. apart_at_write p a.client own well l u w other held } };
           one_now = record { alone = λ u held. record { others = λ w other held_too. apart_at_write p a.client (e ∷ own) well_now l u w other (ap hold_level (locks_now u) ∙ held) (ap hold_level (locks_now w) ∙ held_too) } };
           leased = λ u held. leased_at_write p a.client own well l u held;
         }
 
-    fair : (c : ℕ) → HoldsWell p c (e ∷ entries_of (Client c) es) → AreFair p c (next_after next es) (next_after next (e ∷ es)) e (entries_of (Client c) es)
-    fair c well_now a request reply its = subst (λ n. HoldsWell p n (e ∷ entries_of (Client n) es) → next_after next es a ≡ Some request → unmet p n (next_after next es) a request (entries_of (Client n) es) ≡ None
+    fair : (c : ℕ) → is_lost c (entries_of Server es) ≡ false → HoldsWell p c (e ∷ entries_of (Client c) es) → AreFair p c (next_after next es) (next_after next (e ∷ es)) e (entries_of (Client c) es)
+    fair c alive well_now a request reply its = subst (λ n. is_lost n (entries_of Server es) ≡ false → HoldsWell p n (e ∷ entries_of (Client n) es) → next_after next es a ≡ Some request → unmet p n (next_after next es) a request (entries_of (Client n) es) ≡ None
         → reply_of p a request (entries_of (Client n) es) ≡ Some reply → e.event ≡ Some (Act a request reply (woken_by request reply (entries_of (Client n) es)))
-        → (l : LockName) → IsFair (entries_of (Client n) es) l a request reply (woken_by request reply (entries_of (Client n) es)) p n (next_after next es)) its (fair_at a request reply) well_now
+        → (l : LockName) → IsFair (entries_of (Client n) es) l a request reply (woken_by request reply (entries_of (Client n) es)) p n (next_after next es)) its (fair_at a request reply) alive well_now
 
   -- What stands after each entry.
   pub record WaitersStand (es : List Entry) : Type 0 where
@@ -130,7 +129,7 @@ module _ (p : Settings) (next : ThreadId → List Event → Option Request) (sou
     };
   }
 
-  module _ (e : Entry) (es : List Entry) (follow : AllFollow p next (e ∷ es)) (untold : AllUntold es) (stand : WaitersStand es) where
+  module _ (e : Entry) (es : List Entry) (follow : AllFollow p next (e ∷ es)) (untold : Untold es) (stand : WaitersStand es) where
     -- who is woken is gone to the server, and what is granted isn't leased
     is_due : (c : ℕ) (alive : is_lost c (entries_of Server es) ≡ false) → TakesFirst e.input (Client c) es → (m : Down) → e.input ≡ input.TookDown m → FitsDown p c m (entries_of (Client c) es) → IsDue (entries_of (Client c) es) (stand.client c alive) m
     is_due c alive first (down.Grant j level) is fits = (known p next es follow.0).plain c j fits
@@ -153,7 +152,7 @@ module _ (p : Settings) (next : ThreadId → List Event → Option Request) (sou
         let before : ThreadId → Option Request = next_after next es in
         let after_it : ThreadId → Option Request = next_after next (e ∷ es) in
         let well_now : HoldsWell p c (e ∷ own) = well_after p c before after_it e own (holds_well p next es follow.0 c) (moves p c before after_it e own rule.step) (keeps_leases p c before after_it e own ((known p next es follow.0).plain c) rule.step) in
-        says_well p c before after_it e own well_now (fair e es follow.0 untold c well_now) (stand.client c alive) e.input refl rule.step (is_due c alive first)
+        says_well p c before after_it e own well_now (fair e es follow.0 untold c alive well_now) (stand.client c alive) e.input refl rule.step (is_due c alive first)
 
     -- what the server's makes of a thread
     pub server_does : (l : LockName) (t : ThreadId) → is_lost t.client (entries_of Server es) ≡ false → TakesFirst e.input Server es → ServerFollows p next e es → is_of_lost e.input (entries_of Server es) ≡ false → loses t.client e.input ≡ false
@@ -201,6 +200,6 @@ module _ (p : Settings) (next : ThreadId → List Event → Option Request) (sou
     }
 
   -- Waiters are tokens.
-  pub waiters_stand : (es : List Entry) → AllFollow p next es → WithoutLosses es → WaitersStand es
-  waiters_stand [] follow safe = starts
-  waiters_stand (e ∷ es) follow safe = stands_on e es follow (all_holds p next sound es follow.0 safe.1).untold (waiters_stand es follow.0 safe.1)
+  pub waiters_stand : (es : List Entry) → AllFollow p next es → WaitersStand es
+  waiters_stand [] follow = starts
+  waiters_stand (e ∷ es) follow = stands_on e es follow (all_holds p next sound es follow.0).untold (waiters_stand es follow.0)
