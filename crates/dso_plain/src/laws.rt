@@ -2,7 +2,6 @@
 ghost use Rattle.dso_plain.specs.Loss.{Loss, WaitersLeft, ChoiceAfterLoss};
 ghost use Rattle.dso_lookup.specs.Reaching.{ReachTells};
 ghost use Rattle.dso_plain.specs.Publishing.{PublishedIsReached};
-ghost use Rattle.dso_plain.specs.Rechoice.{Rechoice};
 ghost use Rattle.dso_plain.specs.Own.{Own, Guarded};
 ghost use Rattle.dso_plain.specs.Laws.{RunsAreChoices, Diamond, ChoicesSwap, RunsInParts, RunsButMarksInParts, EndsInParts, Past, Growth, LegalGoesOn, Monitors};
 
@@ -59,13 +58,6 @@ pub fn legal_goes_on()
 /// have no part in any lock.
 pub fn monitors()
     ensures { Monitors }
-{}
-
-/// Where a client is lost, a run of other clients' threads runs again with whatever choices fit among the waiters
-/// left, where each thread that resumes, or is told that it was woken, is still marked; it ends in the same state but
-/// for the marks.
-pub fn rechoice()
-    ensures { Rechoice }
 {}
 
 /// Acts of other threads leave a thread's own parts as they were, and a run that does not touch a guard at Write leaves

@@ -27,16 +27,13 @@ use Rattle.dso_legal.proofs.acts.Acts.{acts_are_possible}
 use Rattle.dso_legal.proofs.blocks.Orderly.{is_orderly}
 use Rattle.dso_legal.proofs.blocks.OwnActs.{IsNextAct, threads_follow, threads_wait, own_acts}
 use Rattle.dso_legal.proofs.copies.SeesCopies.{sees_copy}
+use Rattle.dso_legal.proofs.fitting.Untold.{AllUntold}
 use Rattle.dso_legal.proofs.line.StandsOn.{AllStand, ActsCan, runs_on, holds_seen, acts_from}
 use Rattle.dso_legal.proofs.blocks.ThreadHistory.{names_known, names_no_root, fresh, going, not_lost}
 
 -- The copies of all clients stand.
 abbrev pub AllCopies : Settings → List Entry → Type 0
 AllCopies p es = (c : ℕ) → CopiesStand p.shape c (state_at p c es) (messages (down_in_flight c es)) (entries_of (Client c) es)
-
--- Nothing told any thread of object 0.
-abbrev pub AllUntold : List Entry → Type 0
-AllUntold es = (t : ThreadId) → list_any (event_tells 0) (events_in t (entries_of (Client t.client) es)) ≡ false
 
 module _ (p : Settings) (next : ThreadId → List Event → Option Request) (es : List Entry) (follow : AllFollow p next es) (safe : WithoutLosses es) (sound : IsSound p.shape next) (stand : AllStand p es) (copies : AllCopies p es) (untold : AllUntold es) where
   -- What a thread that hasn't ended sees.

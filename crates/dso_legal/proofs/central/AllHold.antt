@@ -23,7 +23,8 @@ use Rattle.dso_legal.proofs.line.AllStandOn.{all_stand_on}
 use Rattle.dso_legal.proofs.central.Finished.{UntoldAlong}
 use Rattle.dso_legal.proofs.blocks.OwnActs.{IsNextAct, next_act}
 use Rattle.dso_legal.proofs.copies.OwnCopies.{own_copies}
-use Rattle.dso_legal.proofs.acts.SeesAll.{AllCopies, AllUntold, acts_can, act_tells_none}
+use Rattle.dso_legal.proofs.acts.SeesAll.{AllCopies, acts_can, act_tells_none}
+use Rattle.dso_legal.proofs.fitting.Untold.{AllUntold}
 use Rattle.dso_legal.proofs.copies.ServerCopies.{moved, server_copies}
 use Rattle.dso_legal.proofs.line.StandsOn.{AllStand, all_stand_start}
 use Rattle.dso_legal.proofs.channels.AfterEntry.{own_turn, other_turn, server_turn}

@@ -6,7 +6,7 @@ use Rattle.dso_base.specs.declared.lock.ThreadId.{ThreadId}
 use Rattle.dso_base.specs.declared.record.Body.{Body}
 use Rattle.dso_plain.specs.State.{PlainState, opening}
 use Rattle.dso_plain.specs.History.{last_state}
-use Rattle.dso_plain.specs.Rechoice.{with_marks}
+use Rattle.dso_plain.specs.SameActs.{with_marks}
 use Rattle.dso_law.specs.Entries.{entries_of}
 use Rattle.dso_law.specs.ServerReadings.{counted}
 use Rattle.dso_law.specs.Store.{stored}
@@ -46,7 +46,7 @@ clients_stand p next sound es lawful safe =
 
 -- Who waits on a lock, both ends tell alike,
 pub waiters_are_tokens : WaitersAreTokens
-waiters_are_tokens p next sound es lawful safe l t = (waiters_stand p next sound es lawful.follow safe).agree l t (none_is_lost t.client es safe)
+waiters_are_tokens p next sound es follow l t = (waiters_stand p next sound es follow).agree l t
 
 -- and the unmarked ones are those that the client with the lock keeps and those of the server's list.
 pub waiters_are_known : WaitersAreKnown

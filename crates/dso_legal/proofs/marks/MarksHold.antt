@@ -143,7 +143,7 @@ module _ (p : Settings) (next : ThreadId → List Event → Option Request) (sou
     alive c = none_is_lost c es safe.1
 
     stand : WaitersStand p next sound es
-    stand = waiters_stand p next sound es follow.0 safe.1
+    stand = waiters_stand p next sound es follow.0
 
     -- an entry that gives the history nothing and leaves who is placed
     stays : committed (e ∷ es) ≡ committed es → ((l : LockName) (t : ThreadId) → is_placed (place_at (e ∷ es) l t) ≡ is_placed (place_at es l t)) → MarksHold (e ∷ es)
@@ -192,7 +192,7 @@ module _ (p : Settings) (next : ThreadId → List Event → Option Request) (sou
       record_holds : (d : ℕ) (txn : Txn) → e.input ≡ input.TookUp d (up.Commit txn) → MarksHold (e ∷ es)
       record_holds d txn is =
           let knows = record_knows p next sound e es follow safe at d txn is hold.runs (marks_known es alive stand hold) in
-          let now : WaitersStand p next sound (e ∷ es) = waiters_stand p next sound (e ∷ es) follow safe in
+          let now : WaitersStand p next sound (e ∷ es) = waiters_stand p next sound (e ∷ es) follow in
           let alive_now : (c : ℕ) → is_lost c (entries_of Server (e ∷ es)) ≡ false = λ c. none_is_lost c (e ∷ es) safe in
           record {
             runs = knows.runs;
@@ -222,7 +222,7 @@ module _ (p : Settings) (next : ThreadId → List Event → Option Request) (sou
 
   -- And the marks are known.
   pub marks_are_known : (es : List Entry) → AllFollow p next es → WithoutLosses es → MarksAreKnown (kept_at es) (lists_at es) (last_state p.shape (committed es))
-  marks_are_known es follow safe = marks_known es (λ c. none_is_lost c es safe) (waiters_stand p next sound es follow safe) (marks_hold es follow safe)
+  marks_are_known es follow safe = marks_known es (λ c. none_is_lost c es safe) (waiters_stand p next sound es follow) (marks_hold es follow safe)
 
   -- Who is kept has a client with the lock at Write.
   pub kept_at_write : (es : List Entry) → AllFollow p next es → WithoutLosses es → (l : LockName) (t : ThreadId) → kept_at es l t ≡ true → leased_to t.client l (counted (entries_of Server es)) ≡ Some Write
@@ -237,4 +237,4 @@ module _ (p : Settings) (next : ThreadId → List Event → Option Request) (sou
       by : (s : Place) → place_at es l t ≡ s → leased_to t.client l (counted (entries_of Server es)) ≡ Some Write
       by Away is = absurd (cc (sym (ap is_kept is) ∙ stands))
       by Gone is = absurd (cc (sym (ap is_kept is) ∙ stands))
-      by Kept is = enough_write (leased_to t.client l (counted (entries_of Server es))) (kept_leased p next sound es follow safe l t alive_then is)
+      by Kept is = enough_write (leased_to t.client l (counted (entries_of Server es))) (kept_leased p next sound es follow l t alive_then is)

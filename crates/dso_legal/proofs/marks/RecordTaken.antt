@@ -129,7 +129,7 @@ module _ (p : Settings) (next : ThreadId → List Event → Option Request) (sou
     alive c = none_is_lost c es safe.1
 
     stand : WaitersStand p next sound es
-    stand = waiters_stand p next sound es follow.0 safe.1
+    stand = waiters_stand p next sound es follow.0
 
     abbrev server : List Entry
     server = counted (entries_of Server es)
@@ -172,7 +172,7 @@ module _ (p : Settings) (next : ThreadId → List Event → Option Request) (sou
         by : (s : Place) → place_at es l u ≡ s → kept_at es l u ≡ false
         by Away is = kept_is l u ∙ ap is_kept is
         by Gone is = kept_is l u ∙ ap is_kept is
-        by Kept is = absurd (cc (sym (ap (conflicts Write) (enough_write (leased_to u.client l server) (kept_leased p next sound es follow.0 safe.1 l u (alive u.client) is)))
+        by Kept is = absurd (cc (sym (ap (conflicts Write) (enough_write (leased_to u.client l server) (kept_leased p next sound es follow.0 l u (alive u.client) is)))
             ∙ (all_lent p next es follow.0 l).compatible d u.client Write apart leased))
 
     fits_here : AllByRecursion (FitsHere d (kept_at es)) (notes_of takes.block)
@@ -186,7 +186,7 @@ module _ (p : Settings) (next : ThreadId → List Event → Option Request) (sou
 
     -- its block, if it times out, asks for no mark
     unasked : IsUnasked takes.block
-    unasked = subst IsUnasked (sym takes.numbered) (numbered_so IsUnasked (λ late. refl) txn.seq (ended_blocks (entries_of (Client d) es)) (asks_fairly p next sound es follow.0 safe.1 d).ended)
+    unasked = subst IsUnasked (sym takes.numbered) (numbered_so IsUnasked (λ late. refl) txn.seq (ended_blocks (entries_of (Client d) es)) (asks_fairly p next sound es follow.0 d).ended)
 
     asks : MayAsk a takes.block (kept_at es) (lists_at es)
     asks = by txn.ending refl
