@@ -254,7 +254,7 @@ pub fn names_stay_known()
 
 /// What a client answers a thread, the one heap allows, whatever is marked, where the client's readings are true of it.
 pub fn acts_are_possible()
-    ensures possible { ActsArePossible }
+    ensures { ActsArePossible }
 {}
 
 /// After a journal without losses, of a sound program, whatever is marked: the history as made runs; of each client the blocks in

@@ -130,7 +130,7 @@ module _ (p : Settings) (next : ThreadId → List Event → Option Request) (sou
         ∙ ap (λ b. b || has_ended (events_in t own)) (sym (ends_same act.request act.reply (locks_of act.thread own) (reply_listed p act.thread own act.request act.reply act.answered)))
         ∙ sym (moved_so ending (has_ended (events_in t own)));
     may = λ e es follow act same ending is.
-        subst (λ v. has_ended (events_in v (entries_of (Client v.client) es)) ≡ false) (sym (same_thread t act.thread same))
+        subst (λ v. has_ended (events_in v (entries_of (Client v.client) es)) ≡ false) (same_thread t act.thread same)
         (keeps_to p next sound es follow act.thread act.request act.asked).goes;
   }
 

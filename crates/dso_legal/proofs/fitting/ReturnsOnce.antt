@@ -81,8 +81,8 @@ module _ (p : Settings) (c : ℕ) (before after_it : ThreadId → Option Request
   -- what is said, in its parts
   parts_give : (front rest : List Up) → AllByRecursion GivesList front → AllByRecursion GivesList rest → e.sent ≡ map ToServer (front ++ returns p c after_it (unsent e ∷ own) ++ rest) → AllByRecursion GivesList (said_of e.sent)
   parts_give front rest h k sends = subst (AllByRecursion GivesList) (sym (ap said_of sends ∙ said_all (front ++ returns p c after_it (unsent e ∷ own) ++ rest)))
-      (each_of_two GivesList front (returns p c after_it (unsent e ∷ own) ++ rest) h
-      (each_of_two GivesList (returns p c after_it (unsent e ∷ own)) rest (returns_give (due p c after_it (unsent e ∷ own))) k))
+      (each_of_two GivesList (front ++ returns p c after_it (unsent e ∷ own)) rest
+      (each_of_two GivesList front (returns p c after_it (unsent e ∷ own)) h (returns_give (due p c after_it (unsent e ∷ own)))) k)
 
   act_gives : (t : ThreadId) (request : Request) (need : Option Need) → DoesOrAsks p c t request need before after_it e own → AllByRecursion GivesList (said_of e.sent)
   act_gives t request None does =

@@ -178,7 +178,7 @@ module _ {S : Type 0} (p : Settings) (next : ThreadId → List Event → Option 
           by false apart = refl
 
       heard_same : (i : Input) (s : S) → ServerStepOn p i e (entries_of Server es) → is_of_lost i (entries_of Server es) ≡ false → by_taken_up (λ c m s. stepped m s) i s ≡ by_taken_up (if_to t.client stepped) i s
-      heard_same (input.TookUp d m) s step counts = by m (eqb t.client d) refl (subst (λ b. HeardOrLost p d m b e (counted (entries_of Server es))) counts step.heard).fits
+      heard_same (input.TookUp d m) s rule counts = by m (eqb t.client d) refl (subst (λ b. HeardOrLost p d m b e (counted (entries_of Server es))) counts rule.heard).fits
         where
           by : (m : Up) (b : Bool) → eqb t.client d ≡ b → FitsUp p d m (counted (entries_of Server es)) → stepped m s ≡ cond b (stepped m s) s
           by (up.Commit txn) true same fits = refl
@@ -188,10 +188,10 @@ module _ {S : Type 0} (p : Settings) (next : ThreadId → List Event → Option 
           by (up.Flushed o) b same fits = sym (same_either b s)
           by (up.Request l level) b same fits = sym (same_either b s)
           by (up.Return l threads) b same fits = sym (same_either b s)
-      heard_same (input.Lose d) s step counts = refl
-      heard_same (input.Break d) s step counts = refl
-      heard_same (input.Rejoin d) s step counts = refl
-      heard_same other s step counts = absurd step
+      heard_same (input.Lose d) s rule counts = refl
+      heard_same (input.Break d) s rule counts = refl
+      heard_same (input.Rejoin d) s rule counts = refl
+      heard_same other s rule counts = absurd rule
 
       server_end : ServerFollows p next e es → is_of_lost e.input (entries_of Server es) ≡ false
           → ServerEnd p next t.client MayCome stepped Always unchanged own_status taken_status e (counted (entries_of Server es))

@@ -11,7 +11,7 @@ use Rattle.dso_base.specs.declared.request.Event.TheVariants.{Act, Lost}
 use Rattle.dso_base.specs.declared.request.Reply.{Reply}
 use Rattle.dso_base.specs.declared.request.Reply.TheVariants.{Done, Made, Seen, Val, Local, Refused}
 use Rattle.dso_base.specs.declared.request.Request.{Request}
-use Rattle.dso_base.specs.declared.request.Request.TheVariants.{New, Put}
+use Rattle.dso_base.specs.declared.request.Request.TheVariants.{New, Print, Put}
 use Rattle.dso_base.specs.declared.value.Kind.{Kind}
 use Rattle.dso_base.specs.declared.value.Kind.TheVariants as kind
 use Rattle.dso_base.specs.declared.value.Value.{Value}
@@ -98,6 +98,7 @@ module _ (p : Settings) (next : ThreadId → List Event → Option Request) wher
   brings : (now : List Entry) (t : ThreadId) (events : List Event) (request : Request) (reply : Reply) → KeepsTo p.shape t events request → Brings p next F V O now request reply
   brings now t events (New class n) (Made o) keeps = λ f less. opening_names_none (kind_of p.shape class f)
   brings now t events (Put o f v) Done keeps = told_names_none v events keeps.names.1
+  brings now t events (Print v) Done keeps = tt
   brings now t events request reply keeps = tt
 
   module _ (sound : IsSound p.shape next) where

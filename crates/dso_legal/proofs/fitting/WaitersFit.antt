@@ -1,8 +1,10 @@
 -- What is said of waiters by a message that comes fits: the threads of a return, the wait that a timeout ends, the thread that a waking marks.
 use Rattle.std.specs.List.{list_any, AllByRecursion}
-use Rattle.std.proofs.Common.{Bool, List, None, Option, Some, [], ap, cond, false, refl, subst, sym, true, ℕ, ◌&&◌, ◌++◌, ◌||◌, ◌∙◌, ◌∷◌, ◌≡◌, ◌≢◌, or_else}
+use Rattle.std.proofs.Common.{Bool, List, None, Option, Some, [], ap, cond, false, refl, subst, sym, true, ℕ, ◌&&◌, ◌++◌, ◌||◌, ◌∙◌, ◌∷◌, ◌≡◌, ◌≢◌}
 use Rattle.dso_base.specs.Following.{is_thread}
 use Rattle.dso_base.specs.declared.journal.Entry.{Entry}
+use Rattle.dso_base.specs.declared.journal.Input.{Input}
+use Rattle.dso_base.specs.declared.journal.Input.TheVariants as input
 use Rattle.dso_base.specs.declared.journal.Node.TheVariants.{Client, Server}
 use Rattle.dso_base.specs.declared.lock.Level.{Level}
 use Rattle.dso_base.specs.declared.lock.Level.TheVariants.{Read, Write}
@@ -20,21 +22,23 @@ use Rattle.dso_base.specs.declared.request.Event.TheVariants.{Act}
 use Rattle.dso_base.specs.declared.request.Reply.{Reply}
 use Rattle.dso_base.specs.declared.request.Reply.TheVariants.{Done}
 use Rattle.dso_base.specs.declared.request.Request.{Request}
-use Rattle.dso_base.specs.declared.request.Request.TheVariants.{Timeout}
+use Rattle.dso_base.specs.declared.request.Request.TheVariants.{End, Exit, Timeout, Wait}
+use Rattle.dso_plain.specs.After.{exited}
 use Rattle.dso_plain.specs.KeyTests.{is_lock}
+use Rattle.dso_plain.specs.State.{Hold}
 use Rattle.dso_plain.proofs.keys.SameKeys.{same_thread, thread_self}
 use Rattle.dso_law.specs.Channels.{IsFirst, down_in_flight, up_in_flight}
 use Rattle.dso_law.specs.ClientWaiters.{is_marked}
-use Rattle.dso_law.specs.Entries.{entries_of, events_in}
+use Rattle.dso_law.specs.Entries.{by_taken_up, entries_of, events_in}
 use Rattle.dso_law.specs.FitsDown.{FitsWake}
 use Rattle.dso_law.specs.FitsUp.{AreDistinct, IsNewWaiter}
 use Rattle.dso_law.specs.Granting.{leased_to}
 use Rattle.dso_law.specs.RequestNeeds.{is_enough}
 use Rattle.dso_law.specs.Replies.{woken_by}
-use Rattle.dso_law.specs.ServerReadings.{counted, is_lost, last_ending}
+use Rattle.dso_law.specs.ServerReadings.{counted, is_lost, last_ending, last_ending_by}
 use Rattle.dso_law.specs.ServerWaiters.{waiters_of}
 use Rattle.dso_law.specs.Settings.{Settings, threads_of}
-use Rattle.dso_law.specs.Threads.{Locks, ending_by, ending_of, locks_of}
+use Rattle.dso_law.specs.Threads.{Locks, ending_by, ending_of, exit_ending, hold_in, locks_of, or_else}
 use Rattle.dso_legal.specs.Lawful.{AllFollow, next_after}
 use Rattle.dso_legal.specs.PendingBlocks.{locks_through, no_locks}
 use Rattle.dso_legal.specs.Places.{Gone, Kept, MayPlaceDown, MayPlaceUp, Place, place_down, place_of, place_up, place_with}
@@ -82,6 +86,13 @@ late_act (Timeout k) Done locks l ends latest once = once ∙ ap (λ x. Some (en
   where
     same_late : Some (ending.Timeout k) ≡ Some (ending.Timeout l) → k ≡ l
     same_late is = cc is
+late_act (Exit k) Done locks l ends latest once = never (exited (hold_in k locks.holds)) ends
+  where
+    never : (hold : Option Hold) → exit_ending k hold ≡ Some (ending.Timeout l) → latest ≡ Some (ending.Wait l)
+    never None is = absurd (cc is)
+    never (Some hold) is = absurd (cc is)
+late_act (Wait k) Done locks l ends latest once = absurd (cc ends)
+late_act (End fault) Done locks l ends latest once = absurd (cc ends)
 late_act request reply locks l ends latest once = absurd (cc ends)
 
 module _ (p : Settings) (next : ThreadId → List Event → Option Request) (sound : IsSound p.shape next) (t : ThreadId) where
@@ -102,7 +113,7 @@ module _ (p : Settings) (next : ThreadId → List Event → Option Request) (sou
         let own : List Entry = entries_of (Client t.client) es in
         let event : Event = Act act.thread act.request act.reply (woken_by act.request act.reply own) in
         latest_more t (events_in t own) event no_locks None
-        ∙ ap (λ locks. or_else (ending_of event locks) (latest (events_in t own))) (sym (same_locks t own) ∙ ap (λ u. locks_of u own) (same_thread t act.thread same))
+        ∙ ap (λ locks. or_else (ending_of event locks) (latest (events_in t own))) (sym (same_locks t own) ∙ ap (λ u. locks_of u own) (sym (same_thread t act.thread same)))
         ∙ sym (moved_on (ending_of event (locks_of act.thread own)) (latest (events_in t own)));
     may = λ e es follow act same end is. ends_wait e es follow act same end is;
   }
@@ -111,13 +122,22 @@ module _ (p : Settings) (next : ThreadId → List Event → Option Request) (sou
           → ending_of (Act act.thread act.request act.reply (woken_by act.request act.reply (entries_of (Client t.client) es))) (locks_of act.thread (entries_of (Client t.client) es)) ≡ Some end
           → EndsItsWait end (latest (events_in t (entries_of (Client t.client) es)))
       ends_wait e es follow act same (ending.Timeout l) is = late_act act.request act.reply (locks_of act.thread (entries_of (Client t.client) es)) l is (latest (events_in t (entries_of (Client t.client) es)))
-          (subst (λ u. TimesOutOnce act.request (latest_ending u (events_in u (entries_of (Client u.client) es)) no_locks None)) (sym (same_thread t act.thread same))
+          (subst (λ u. TimesOutOnce act.request (latest_ending u (events_in u (entries_of (Client u.client) es)) no_locks None)) (same_thread t act.thread same)
           (keeps_to p next sound es follow act.thread act.request act.asked).times_out_once)
       ends_wait e es follow act same end is = tt
 
   last_taken : (server : List Entry) → taken_status p next t EndsItsWait last_now None latest server ≡ last_ending t server
   last_taken [] = refl
-  last_taken (e ∷ server) = ap (λ last. _) (last_taken server)
+  last_taken (e ∷ server) = by e.input (taken_status p next t EndsItsWait last_now None latest server) (last_ending t server) (last_taken server)
+    where
+      by : (i : Input) (a b : Option Ending) → a ≡ b → by_taken_up (λ c m s. stepped p next t EndsItsWait last_now None latest m s) i a ≡ by_taken_up (last_ending_by t) i b
+      by (input.TookUp d (up.Commit txn)) a b same = ap (λ last. cond (is_thread t txn.thread) (Some txn.ending) last) same
+      by (input.TookUp d up.IdAsk) a b same = same
+      by (input.TookUp d (up.Fault o)) a b same = same
+      by (input.TookUp d (up.Flushed o)) a b same = same
+      by (input.TookUp d (up.Request l level)) a b same = same
+      by (input.TookUp d (up.Return l threads)) a b same = same
+      by i a b same = same
 
   pub record_ends_wait : (es : List Entry) → AllFollow p next es → is_lost t.client (entries_of Server es) ≡ false → (txn : Txn) → txn.thread ≡ t → IsFirst (up.Commit txn) (up_in_flight t.client es)
       → EndsItsWait txn.ending (last_ending t (counted (entries_of Server es)))

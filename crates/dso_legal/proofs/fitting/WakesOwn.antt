@@ -25,9 +25,9 @@ use Rattle.std.specs.Prelude.{Option}
 use Rattle.dso_plain.proofs.keys.SameKeys.{same_number}
 use Rattle.dso_law.specs.Channels.{down_in_flight, takes_down}
 use Rattle.dso_law.specs.Entries.{entries_of, unsent}
-use Rattle.dso_law.specs.Granting.{leases_so_far, queue_of, serves}
+use Rattle.dso_law.specs.Granting.{leases_so_far, queue_of, serves, serves_all}
 use Rattle.dso_law.specs.ServerReadings.{counted, is_of_lost}
-use Rattle.dso_law.specs.ServerStep.{HeardOrLost, ServerStepOn, answers, changes_of}
+use Rattle.dso_law.specs.ServerStep.{HeardOrLost, ServerStepOn, answers, changes_of, object_to}
 use Rattle.dso_law.specs.ServerWaiters.{lists_after, lists_noted, waiters_of, waiters_woken, wake_each, wakes, wakes_of, wakes_timed_out}
 use Rattle.dso_law.specs.Settings.{Settings}
 use Rattle.dso_law.specs.Store.{stored}
@@ -113,7 +113,7 @@ module _ (p : Settings) (e : Entry) (all : List Entry) where
 
   answers_its : (d : ℕ) (m : Up) → EachToIts (answers p d m now)
   answers_its d up.IdAsk = (tt, tt)
-  answers_its d (up.Fault o) = none_to_its _ (object_wakes_none d (stored p.shape o now))
+  answers_its d (up.Fault o) = none_to_its (object_to d (stored p.shape o now)) (object_wakes_none d (stored p.shape o now))
   answers_its d (up.Flushed o) = tt
   answers_its d (up.Request l level) = leases_its (serves p l now) (serve_each p l (queue_of l now) (leases_so_far l now))
   answers_its d (up.Return l threads) = leases_its (serves p l now) (serve_each p l (queue_of l now) (leases_so_far l now))
@@ -128,7 +128,7 @@ module _ (p : Settings) (e : Entry) (all : List Entry) where
 
   sent_its : (i : Input) → ServerStepOn p i e all → EachToIts e.sent
   sent_its (input.TookUp d m) step = heard_its d m _ step.heard
-  sent_its (input.Lose d) step = subst EachToIts (sym step.sends) (leases_its _ (serves_all_told p now))
+  sent_its (input.Lose d) step = subst EachToIts (sym step.sends) (leases_its (serves_all p now) (serves_all_told p now))
   sent_its (input.Break d) step = subst EachToIts (sym step.sends) tt
   sent_its (input.Rejoin d) step = subst EachToIts (sym step.sends) tt
   sent_its other step = absurd step
