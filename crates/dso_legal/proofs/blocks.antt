@@ -11,7 +11,7 @@ pub mod OpenBlocksPass
 pub mod ThreadHistory
 pub mod OwnActs
 pub mod OwnThreads
-pub mod WakesOwn
+pub mod StaysWithin
 pub mod WaitsApart
 pub mod Orderly
 pub mod SameLocks

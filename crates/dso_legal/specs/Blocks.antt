@@ -18,7 +18,7 @@ use Rattle.dso_legal.specs.Agreement.{messages}
 use Rattle.dso_legal.specs.Lawful.{IsLawful}
 use Rattle.dso_legal.specs.Committed.{ended_blocks, committed}
 use Rattle.dso_legal.specs.Resolved.{AreResolved}
-use Rattle.dso_legal.specs.WaitsAndLosses.{WithoutWaits}
+use Rattle.dso_legal.specs.WithoutWaits.{WithoutWaits}
 use Rattle.dso_legal.specs.PendingBlocks.{joined, handed_in, taken_in, records_in, records_sent, no_locks, locks_through, privates_through, StaysOpen, AreRecordsOf}
 
 -- whether the event is an act of a thread of the client

@@ -23,7 +23,7 @@ use Rattle.dso_legal.specs.Blocks.{HasFirstEndings}
 use Rattle.dso_legal.specs.Committed.{committed}
 use Rattle.dso_legal.specs.Resolved.{AreResolved, IsPrefixResolved}
 use Rattle.dso_legal.specs.Slots.{is_finished}
-use Rattle.dso_legal.specs.WaitsAndLosses.{WithoutWaits}
+use Rattle.dso_legal.specs.WithoutWaits.{WithoutWaits}
 use Rattle.dso_legal.specs.SoundProgram.{IsSound}
 use Rattle.dso_legal.specs.PendingBlocks.{pending}
 use Rattle.dso_legal.specs.Line.{Line}

@@ -34,7 +34,7 @@ pub mod RecordsOwn
 pub mod Room
 pub mod MessagesFit
 pub mod SoundCode
-pub mod WaitsAndLosses
+pub mod WithoutWaits
 pub mod Works
 pub mod Blocks
 pub mod Names

@@ -21,10 +21,10 @@ use Rattle.dso_base.specs.Following.{is_thread}
 use Rattle.dso_plain.specs.KeyTests.{is_lock}
 use Rattle.dso_law.specs.Channels.{up_in_flight, down_in_flight}
 use Rattle.dso_law.specs.Entries.{entries_of, by_taken_up, by_taken_down, by_sent_up, by_sent_down, if_to}
-use Rattle.dso_law.specs.ServerReadings.{is_lost, counted}
+use Rattle.dso_law.specs.ServerReadings.{counted, is_lost}
 use Rattle.dso_law.specs.Settings.{Settings}
 use Rattle.dso_legal.specs.Agreement.{messages, Agree}
-use Rattle.dso_legal.specs.Lawful.{IsLawful}
+use Rattle.dso_legal.specs.Lawful.{AllFollow}
 use Rattle.dso_legal.specs.SoundProgram.{IsSound}
 
 -- Where a thread stands among the waiters of a lock: in no list, since it is awake or waits and is marked; kept in its client's
@@ -118,9 +118,9 @@ abbrev pub AgreeOnWaiter : ℕ → LockName → ThreadId → List Entry → Type
 AgreeOnWaiter c l t es = Agree (MayPlaceUp l t) (place_up l t) (MayPlaceDown l t) (place_down l t) (messages (up_in_flight c es)) (messages (down_in_flight c es))
     (place_with c l t (counted (entries_of Server es))) (place_of l t (entries_of (Client c) es))
 
--- Waiters are tokens: in a lawful journal of a sound program, each client that isn't lost and the server agree on each of its
--- threads, for each lock.
+-- Waiters are tokens: after entries each of which follows those before it, of a sound program, each client that isn't lost and
+-- the server agree on each of its threads, for each lock.
 abbrev pub WaitersAreTokens : Type 0
 WaitersAreTokens = (p : Settings) (next : ThreadId → List Event → Option Request) → IsSound p.shape next
-    → (es : List Entry) → IsLawful p next es
+    → (es : List Entry) → AllFollow p next es
     → (l : LockName) (t : ThreadId) → is_lost t.client (entries_of Server es) ≡ false → AgreeOnWaiter t.client l t es

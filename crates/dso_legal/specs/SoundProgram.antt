@@ -18,7 +18,7 @@ use Rattle.dso_base.specs.declared.value.Value.{Value}
 use Rattle.dso_base.specs.declared.value.Value.TheVariants as value
 use Rattle.dso_base.specs.Following.{Listed, FollowsProgram}
 use Rattle.dso_plain.specs.Possible.{CanBeMade}
-use Rattle.dso_plain.specs.Rechoice.{AreSameActs}
+use Rattle.dso_plain.specs.SameActs.{AreSameActs}
 use Rattle.dso_plain.specs.Touches.{AreActsOf}
 use Rattle.dso_law.specs.FitsDown.{IsWaitingOn}
 use Rattle.dso_law.specs.RequestNeeds.{hold_level}

@@ -5,7 +5,6 @@ use Rattle.dso_base.specs.declared.journal.Entry.{Entry}
 use Rattle.dso_base.specs.declared.lock.Level.{Level}
 use Rattle.dso_base.specs.declared.lock.LockName.{LockName}
 use Rattle.dso_base.specs.declared.lock.ThreadId.{ThreadId}
-use Rattle.dso_base.specs.declared.request.Event.TheVariants.{Act}
 use Rattle.dso_base.specs.declared.request.Reply.{Reply}
 use Rattle.dso_base.specs.declared.request.Request.{Request}
 use Rattle.dso_base.specs.declared.shape.Shape.{Shape}
@@ -13,7 +12,7 @@ use Rattle.dso_base.specs.declared.value.ClassId.{ClassId}
 use Rattle.dso_base.specs.declared.value.Value.{Value}
 use Rattle.dso_base.specs.Following.{is_thread}
 use Rattle.dso_plain.specs.Past.{KeepsPast}
-use Rattle.dso_plain.specs.Possible.{IsCompatible, StandsFrom, IsOf, IsPossibleButMarks, FitsMarks}
+use Rattle.dso_plain.specs.Possible.{IsCompatible, StandsFrom, IsOf, IsPossibleButMarks}
 use Rattle.dso_plain.specs.State.{PlainState, IsShared, HoldsGuard, hold_on_guard, level_of}
 use Rattle.dso_law.specs.Entries.{events_in}
 use Rattle.dso_law.specs.Settings.{Settings}
@@ -22,9 +21,8 @@ use Rattle.dso_law.specs.FitsDown.{IsWaitingOn}
 use Rattle.dso_law.specs.Leases.{leased}
 use Rattle.dso_law.specs.RequestNeeds.{is_enough, hold_level, unmet}
 use Rattle.dso_law.specs.Records.{next_id}
-use Rattle.dso_law.specs.Replies.{value_seen, reply_of, woken_by}
+use Rattle.dso_law.specs.Replies.{value_seen, reply_of}
 use Rattle.dso_law.specs.Threads.{own, locks_of, hold_of, work_of}
-use Rattle.dso_legal.specs.WaitsAndLosses.{waits_or_notifies}
 use Rattle.dso_legal.specs.Names.{NamesAreKnown}
 use Rattle.dso_legal.specs.SoundProgram.{KeepsTo}
 use Rattle.dso_legal.specs.Works.{HaveLocks, TellsWork}
@@ -77,9 +75,3 @@ ActsArePossible = (p : Settings) (next : ThreadId → Option Request) (t : Threa
     → Sees p t client start_state s → IsOrderly p t client → KeepsTo p.shape t (events_in t client) request
     → unmet p t.client next t request client ≡ None → reply_of p t request client ≡ Some reply
     → IsPossibleButMarks p.shape t request reply s
-
--- And with its marks, where the thread doesn't wait and the request neither waits nor notifies.
-abbrev pub ActsFindMarks : Type 0
-ActsFindMarks = (p : Settings) (t : ThreadId) (request : Request) (reply : Reply) (client : List Entry) (s : PlainState)
-    → (locks_of t client).waiting ≡ None → KeepsTo p.shape t (events_in t client) request → waits_or_notifies request ≡ false
-    → FitsMarks (Act t request reply (woken_by request reply client)) s

@@ -18,7 +18,7 @@ ghost use Rattle.dso_legal.specs.Sorted.{RecordsAreSorted};
 ghost use Rattle.dso_legal.specs.Blocks.{BlocksAreKept, BlocksAreHandedIn, HistoriesHoldBlocks, HistoriesHoldEvents, HistoriesHoldBlocksAsMade};
 ghost use Rattle.dso_legal.specs.Works.{WorksTell};
 ghost use Rattle.dso_legal.specs.Names.{NamesStayKnown, ObjectsAreMade};
-ghost use Rattle.dso_legal.specs.Views.{ActsArePossible, ActsFindMarks};
+ghost use Rattle.dso_legal.specs.Views.{ActsArePossible};
 ghost use Rattle.dso_legal.specs.Central.{ClientsStand, CentralLaw, CommitsWhatWasMade};
 ghost use Rattle.dso_legal.specs.Places.{WaitersAreTokens};
 ghost use Rattle.dso_legal.specs.Marks.{WaitersAreKnown};
@@ -31,7 +31,7 @@ ghost use Rattle.dso_legal.specs.Settled.{SettledAreCommitted};
 ghost use Rattle.dso_legal.specs.WaysDown.{WaysDownFit};
 ghost use Rattle.dso_legal.specs.RecordsOwn.{RecordsAreOwn, HeldAreStored};
 ghost use Rattle.dso_legal.specs.Room.{BatchesHaveRoom};
-ghost use Rattle.dso_legal.specs.MessagesFit.{MessagesFit, MessagesFitWithoutWaits};
+ghost use Rattle.dso_legal.specs.MessagesFit.{MessagesFit};
 
 /// For each client that isn't lost and each lock: each message in flight may come where it stands, and once all are taken the
 /// client and the server say the same of the lock's lease.
@@ -162,23 +162,16 @@ pub fn records_are_leased()
     ensures { RecordsAreLeased }
 {}
 
-/// In a journal of a sound program that stays within its shape, a record that comes of a client that isn't lost is of one of
-/// the client's threads, which no record taken before ended, and whom its notifications woke there are threads of the client.
+/// In a journal of a sound program, a record that comes of a client that isn't lost is of one of the client's threads, which no
+/// record taken before ended, and whom its notifications woke there are threads of the client.
 pub fn records_are_own()
     ensures { RecordsAreOwn }
 {}
 
 /// In a journal of a sound program that stays within its shape, of fewer than 2^54 entries: the first message in flight from
-/// each client that isn't lost fits at the server, and the first to each client, a lost one too, fits there, as far as the
-/// waiters that a return brings, a timeout ends and a waking marks fit.
+/// each client that isn't lost fits at the server, and the first to each client, a lost one too, fits there.
 pub fn messages_fit()
     ensures { MessagesFit }
-{}
-
-/// So in a journal in which no thread waits all of them fit: no return brings a waiter, no record ends by a timeout, and nobody
-/// is woken.
-pub fn messages_fit_without_waits()
-    ensures { MessagesFitWithoutWaits }
 {}
 
 /// Each object that a client holds, as the server sees it, is in the server's graph.
@@ -273,11 +266,9 @@ pub fn names_stay_known()
     ensures made { ObjectsAreMade }
 {}
 
-/// What a client answers a thread, the one heap allows, whatever is marked, where the client's readings are true of it. Clause
-/// `marks`: an act of a thread that doesn't wait, which neither waits nor notifies, asks for no mark.
+/// What a client answers a thread, the one heap allows, whatever is marked, where the client's readings are true of it.
 pub fn acts_are_possible()
-    ensures possible { ActsArePossible }
-    ensures marks { ActsFindMarks }
+    ensures { ActsArePossible }
 {}
 
 /// After a journal of a sound program, whatever is marked: the history as made runs; of each client that isn't lost the blocks in
@@ -288,15 +279,15 @@ pub fn clients_stand()
     ensures { ClientsStand }
 {}
 
-/// After such a journal, for each thread of a client that isn't lost and each lock: each message in flight between its client and the server may come where
-/// the thread stands among the waiters of the lock, and once all are taken both ends say the same: it is kept in its client's
-/// list, gone to the server, or away.
+/// Of a sound program, whatever waits and is lost: for each thread of a client that isn't lost and each lock, each message in
+/// flight between its client and the server may come where the thread stands among the waiters of the lock, and once all are taken
+/// both ends say the same: it is kept in its client's list, gone to the server, or away.
 pub fn waiters_are_tokens()
     ensures { WaitersAreTokens }
 {}
 
-/// After such a journal the unmarked waiters of a lock in the one heap are those that the client with the lock at Write keeps in
-/// its list and those of the server's list, each in one of them and once.
+/// After a journal of a sound program the unmarked waiters of a lock in the one heap are those that the client with the lock at
+/// Write keeps in its list and those of the server's list, each in one of them and once; of a lost client there are none.
 pub fn waiters_are_known()
     ensures { WaitersAreKnown }
 {}

@@ -219,10 +219,6 @@ module _ (p : Settings) (next : ThreadId → List Event → Option Request) wher
     pub holds_blocks : (es : List Entry) → AllFollow p next es → events_of t (as_made es) ≡ events_of t (joined (taken_in t.client es))
     holds_blocks es follow = sym (events_at t (as_made es)) ∙ ap (events_of t) (history_holds t.client es follow)
 
-    -- After the client's loss it has no more of them.
-    pub lost_stays : (e : Entry) (es : List Entry) → AllFollow p next (e ∷ es) → is_lost t.client (entries_of Server es) ≡ true → events_of t (as_made (e ∷ es)) ≡ events_of t (as_made es)
-    lost_stays e es follow lost = holds_blocks (e ∷ es) follow ∙ ap (λ blocks. events_of t (joined blocks)) (lost_keeps p next t.client e es follow.0 lost) ∙ sym (holds_blocks es follow.0)
-
     -- a thread's events in three parts, at its client
     in_parts : (es : List Entry) → AllFollow p next es
         → events_of t (as_made es) ++ (events_of t (joined (pending t.client es)) ++ open_block t (entries_of (Client t.client) es)) ≡ events_in t (entries_of (Client t.client) es)

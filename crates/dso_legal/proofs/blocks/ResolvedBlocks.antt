@@ -25,7 +25,7 @@ use Rattle.dso_legal.specs.Blocks.{is_act_at, acts_at, HasFirstEndings, Historie
 use Rattle.dso_legal.specs.Lawful.{AllFollow}
 use Rattle.dso_legal.specs.Committed.{ended_blocks, block_numbered, block_taken, woken_there, lists_after_event, resolved_event, resolved, committed_by, committed_at, committed}
 use Rattle.dso_legal.specs.Resolved.{IsResolved, AreResolved}
-use Rattle.dso_legal.specs.WaitsAndLosses.{waits_or_notifies, is_wait, HasNoWait, WithoutWaits}
+use Rattle.dso_legal.specs.WithoutWaits.{waits_or_notifies, is_wait, HasNoWait, WithoutWaits}
 use Rattle.dso_legal.proofs.blocks.EachEvent.{AtClient, each_follows, each_made}
 use Rattle.dso_legal.proofs.blocks.Histories.{history_holds, holds_blocks}
 use Rattle.dso_legal.proofs.records.HandedIn.{few_taken}

@@ -9,10 +9,10 @@ use Rattle.dso_base.specs.declared.lock.ThreadId.{ThreadId}
 use Rattle.dso_base.specs.declared.request.Event.{Event}
 use Rattle.dso_base.specs.declared.request.Event.TheVariants.{Act, Lost}
 use Rattle.dso_base.specs.declared.request.Request.{Request}
-use Rattle.dso_base.specs.Following.{is_thread, FollowsProgram, Listed}
+use Rattle.dso_base.specs.Following.{is_thread}
 use Rattle.dso_plain.specs.History.{RunsButMarks, end_of, last_state, events_of}
 use Rattle.dso_plain.specs.State.{PlainState, Object, opening}
-use Rattle.dso_plain.specs.Touches.{MakesIn, AreActsOf}
+use Rattle.dso_plain.specs.Touches.{MakesIn}
 use Rattle.dso_plain.proofs.independence.RunsSwap.{runs_but_marks_in_parts, ends_in_parts}
 use Rattle.dso_plain.proofs.keys.SameKeys.{number_self, same_number, same_thread, thread_self}
 use Rattle.dso_lookup.proofs.Tests.{both}
@@ -29,8 +29,8 @@ use Rattle.dso_legal.specs.CopiesStand.{state_at}
 use Rattle.dso_legal.specs.Lawful.{AllFollow}
 use Rattle.dso_legal.specs.MadeOnce.{is_made, objects_made, objects_of}
 use Rattle.dso_legal.specs.Names.{NameOnlyTold, NamesAreKnown}
-use Rattle.dso_legal.specs.PendingBlocks.{joined, pending, taken_in, handed_in, no_locks}
-use Rattle.dso_legal.specs.SoundProgram.{event_tells, WaitsAreHeld, IsSound}
+use Rattle.dso_legal.specs.PendingBlocks.{joined, pending, taken_in, handed_in}
+use Rattle.dso_legal.specs.SoundProgram.{IsSound}
 use Rattle.dso_legal.proofs.blocks.EachEvent.{each_dropped}
 use Rattle.dso_legal.proofs.blocks.ClientBlocks.{keeps_thread, own_events, no_events, joined_parts}
 use Rattle.dso_legal.proofs.copies.FieldMoves.{apart}
@@ -45,12 +45,11 @@ use Rattle.dso_legal.proofs.leases.LeaseSteps.{if_true, no_both}
 use Rattle.dso_legal.proofs.line.LineForeign.{makes_first}
 use Rattle.dso_legal.proofs.objects.Makers.{makes_counts, within, listed_if, at_least, count_listed}
 use Rattle.dso_legal.proofs.acts.Names.{names_stay_known}
-use Rattle.dso_legal.proofs.acts.NoRoots.{NoRoots, opening_names_none, puts_none, run_names_none}
 use Rattle.dso_legal.proofs.objects.ObjectsMade.{objects_are_made}
 use Rattle.dso_legal.proofs.blocks.OwnActs.{threads_follow, threads_wait, own_acts}
 use Rattle.dso_legal.proofs.blocks.OwnThreads.{of_client, no_events_in}
-use Rattle.dso_legal.proofs.acts.SoundNames.{has_before, waits_before, first_follows, sound_names}
-use Rattle.dso_legal.proofs.blocks.OpenRuns.{acts_in_parts}
+use Rattle.dso_legal.proofs.acts.SoundNames.{sound_names}
+use Rattle.dso_legal.proofs.fitting.Untold.{AllUntold}
 use Rattle.dso_legal.proofs.blocks.SparedHistory.{history_spared, open_spared, ended_blocks_spared, no_loss_parts}
 
 -- lists that are empty together
@@ -62,10 +61,10 @@ empty_second : {X : Type 0} (xs ys : List X) → xs ++ ys ≡ [] → ys ≡ []
 empty_second [] ys e = e
 empty_second (x ∷ xs) ys e = absurd (cc e)
 
--- Nothing told a thread of a client that isn't lost of object 0, nor any thread in the history.
-pub record Untold (es : List Entry) : Type 0 where
-  pub alive : (t : ThreadId) → is_lost t.client (entries_of Server es) ≡ false → list_any (event_tells 0) (events_in t (entries_of (Client t.client) es)) ≡ false
-  pub history : (t : ThreadId) → list_any (event_tells 0) (events_of t (as_made es)) ≡ false
+-- the first events of a list that names only what was told do too
+first_told : (before first second : List Event) → NameOnlyTold before (first ++ second) → NameOnlyTold before first
+first_told before [] second told = tt
+first_told before (event ∷ first) second told = (told.0, first_told (before ++ event ∷ []) first second told.1)
 
 -- what is made in the events of the threads
 makes_of : (events : List Event) (o : ℕ) → MakesIn events o → (u : ThreadId) × MakesIn (events_of u events) o
@@ -177,35 +176,15 @@ module _ (p : Settings) (next : ThreadId → List Event → Option Request) (es 
     history_runs = (runs_but_marks_in_parts p.shape (as_made es) (waiting ++ open_block t own) (opening p.shape)).1 (runs, (runs_but_marks_in_parts p.shape waiting (open_block t own) (last_state p.shape (as_made es))).1 (line, opened))
 
     -- where nothing told a thread of object 0
-    module _ (sound : IsSound p.shape next) (untold : Untold es) where
-      -- a prefix of a thread's events, of which none tells of object 0, names only what was told
-      prefix_told : (u : ThreadId) (first : List Event) → IsPrefix first (events_in u (entries_of (Client u.client) es)) → list_any (event_tells 0) first ≡ false → NameOnlyTold [] first
-      prefix_told u first part none = sound_names p.shape next sound u first
-          (acts_in_parts u first part.rest (subst (AreActsOf u) part.whole (own_acts u (entries_of (Client u.client) es)))).0 none
-          (waits_before u first part.rest no_locks (subst (λ events. WaitsAreHeld u events no_locks) part.whole (threads_wait p next u es follow)))
-          (first_follows next u [] first part.rest (subst (FollowsProgram next (Listed next) u) part.whole (threads_follow p next u es follow)))
-
+    module _ (sound : IsSound p.shape next) (untold : AllUntold es) where
       -- each thread names only what it was told
       all_told : (u : ThreadId) → NameOnlyTold [] (events_of u thread_history)
-      all_told u = by (is_lost u.client (entries_of Server es)) refl
-        where
-          by : (b : Bool) → is_lost u.client (entries_of Server es) ≡ b → NameOnlyTold [] (events_of u thread_history)
-          by false there = prefix_told u (events_of u thread_history) (first_part u)
-              (has_before (event_tells 0) (events_of u thread_history) (first_part u).rest (subst (λ events. list_any (event_tells 0) events ≡ false) (first_part u).whole (untold.alive u there)))
-          by true lost = subst (NameOnlyTold []) (sym (of_stranger u (apart_from (eqb t.client u.client) refl)))
-              (prefix_told u (events_of u (as_made es)) (first_in_history p next u es follow) (untold.history u))
-            where
-              apart_from : (b : Bool) → eqb t.client u.client ≡ b → b ≡ false
-              apart_from true same = no_both (is_lost u.client (entries_of Server es)) lost (subst (λ c. is_lost c (entries_of Server es) ≡ false) (same_number t.client u.client same) alive)
-              apart_from false other = refl
+      all_told u = first_told [] (events_of u thread_history) (first_part u).rest (subst (NameOnlyTold []) (first_part u).whole
+          (sound_names p.shape next sound u (events_in u (entries_of (Client u.client) es)) (own_acts u (entries_of (Client u.client) es)) (untold u) (threads_wait p next u es follow) (threads_follow p next u es follow)))
 
       -- What the thread may name is known.
       pub names_known : NamesAreKnown t (events_in t own) acting_state
       names_known = subst (NamesAreKnown t (events_in t own)) same_state (subst (λ events. NamesAreKnown t events (last_state p.shape thread_history)) all_own (names_stay_known p.shape thread_history history_runs all_told t))
-
-      -- No field names object 0.
-      pub names_no_root : NoRoots acting_state
-      names_no_root = subst NoRoots same_state (run_names_none p.shape thread_history (opening p.shape) (puts_none thread_history all_told) (opening_names_none p.shape))
 
     -- The next id is new.
     pub fresh : (o : ℕ) → next_id own ≡ Some o → (1 ≤ o) × (acting_state.objects o ≡ None)

@@ -6,7 +6,7 @@ use Rattle.dso_base.specs.declared.lock.ThreadId.{ThreadId}
 use Rattle.dso_base.specs.declared.record.Body.{Body}
 use Rattle.dso_plain.specs.State.{PlainState, opening}
 use Rattle.dso_plain.specs.History.{last_state}
-use Rattle.dso_plain.specs.Rechoice.{with_marks}
+use Rattle.dso_plain.specs.SameActs.{with_marks}
 use Rattle.dso_law.specs.Entries.{entries_of}
 use Rattle.dso_law.specs.ServerReadings.{counted}
 use Rattle.dso_law.specs.Store.{stored}
@@ -17,7 +17,7 @@ use Rattle.dso_legal.specs.Marks.{WaitersAreKnown}
 use Rattle.dso_legal.specs.Places.{WaitersAreTokens}
 use Rattle.dso_legal.specs.Store.{IsHeapOf, StoreIsHeap}
 use Rattle.dso_legal.proofs.blocks.ResolvedBlocks.{history_resolved}
-use Rattle.dso_legal.proofs.central.AllHold.{AllHolds, all_holds, untold_along}
+use Rattle.dso_legal.proofs.central.AllHold.{AllHolds, all_holds}
 use Rattle.dso_legal.proofs.central.Finished.{commits_as_made, commits_where_it_runs}
 use Rattle.dso_legal.proofs.marks.MarksHold.{marks_hold, marks_are_known, kept_at_write}
 use Rattle.dso_legal.proofs.marks.SameRuns.{RunsResolved, runs_resolved}
@@ -27,12 +27,11 @@ use Rattle.dso_legal.proofs.waiting.Waiters.{waiters_stand}
 
 -- A lawful journal commits legally,
 pub central_law : CentralLaw
-central_law p next sound es lawful = commits_where_it_runs p next sound es lawful (λ t. untold_along p next sound t es lawful.follow)
-    (marks_hold p next sound es lawful.follow).runs
+central_law p next sound es lawful = commits_where_it_runs p next sound es lawful (marks_hold p next sound es lawful.follow).runs
 
 -- and without waits just what its threads made.
 pub commits_what_was_made : CommitsWhatWasMade
-commits_what_was_made p next sound es lawful calm = commits_as_made p next sound es lawful (λ t. untold_along p next sound t es lawful.follow) calm
+commits_what_was_made p next sound es lawful calm = commits_as_made p next sound es lawful calm
 
 -- After it all clients stand that aren't lost.
 pub clients_stand : ClientsStand
@@ -45,7 +44,7 @@ clients_stand p next sound es lawful =
 
 -- Who waits on a lock, both ends tell alike,
 pub waiters_are_tokens : WaitersAreTokens
-waiters_are_tokens p next sound es lawful l t alive = (waiters_stand p next sound es lawful.follow).agree l t alive
+waiters_are_tokens p next sound es follow l t alive = (waiters_stand p next sound es follow).agree l t alive
 
 -- and the unmarked ones are those that the client with the lock keeps and those of the server's list.
 pub waiters_are_known : WaitersAreKnown

@@ -28,7 +28,7 @@ use Rattle.dso_law.specs.Replies.{woken_by}
 use Rattle.dso_law.specs.ServerReadings.{is_lost}
 use Rattle.dso_law.specs.Threads.{Locks, locks_of, ending_by, block_after, open_block, ends_thread}
 use Rattle.dso_legal.specs.Agreement.{messages}
-use Rattle.dso_legal.specs.WaitsAndLosses.{WithoutWaits}
+use Rattle.dso_legal.specs.WithoutWaits.{WithoutWaits}
 use Rattle.dso_legal.specs.Central.{CommitsLegally, CommitsAsMade}
 use Rattle.dso_legal.specs.Resolved.{AreResolved}
 use Rattle.dso_legal.proofs.blocks.ResolvedBlocks.{resolved_of, history_resolved, history_calm, first_endings}
@@ -37,14 +37,15 @@ use Rattle.dso_legal.specs.Committed.{committed, ended_blocks}
 use Rattle.dso_legal.specs.AsMade.{as_made}
 use Rattle.dso_legal.specs.Lawful.{next_after, ClientFollows, NodeFollows, AllFollow, IsLawful}
 use Rattle.dso_legal.specs.PendingBlocks.{joined, taken_in, pending, records_in, handed_in, AreRecordsOf}
-use Rattle.dso_legal.specs.SoundProgram.{event_tells, IsSound}
+use Rattle.dso_legal.specs.SoundProgram.{IsSound}
+use Rattle.dso_legal.proofs.fitting.Untold.{keeps_to}
 use Rattle.dso_legal.specs.Slots.{is_any, is_end, ends, has_ended, is_quiet, is_over, is_due, is_finished}
 use Rattle.dso_legal.proofs.acts.SoundNames.{first_follows}
 use Rattle.dso_legal.proofs.records.BothEnds.{client_with}
 use Rattle.dso_legal.proofs.records.HandedIn.{are_records_split}
 use Rattle.dso_legal.proofs.blocks.Histories.{first_in_history, thread_in_parts}
 use Rattle.dso_legal.proofs.leases.LeaseSteps.{no_both}
-use Rattle.dso_legal.proofs.blocks.OwnActs.{IsNextAct, next_act, reply_listed, threads_follow, threads_wait, own_acts}
+use Rattle.dso_legal.proofs.blocks.OwnActs.{IsNextAct, next_act, reply_listed, threads_follow}
 
 -- tests of booleans
 neither_fails : (a b : Bool) → not (not a || b) ≡ true → (a ≡ true) × (not b ≡ true)
@@ -115,17 +116,12 @@ end_is_ending (End fault) Done locks is listed = refl
 end_is_ending (End fault) reply locks is listed = absurd listed
 end_is_ending request reply locks is listed = absurd (cc is)
 
--- In front of each entry, nothing told the thread of object 0.
-abbrev pub UntoldAlong : ThreadId → List Entry → Type 0
-UntoldAlong t [] = Unit {0}
-UntoldAlong t (e ∷ es) = UntoldAlong t es × (list_any (event_tells 0) (events_in t (entries_of (Client t.client) es)) ≡ false)
-
 module _ (p : Settings) (next : ThreadId → List Event → Option Request) (sound : IsSound p.shape next) (t : ThreadId) where
   -- a thread that has ended has no open block
   abbrev EndsClosed : List Entry → Type 0
   EndsClosed own = list_any ends (events_in t own) ≡ true → open_block t own ≡ []
 
-  module _ (e : Entry) (es : List Entry) (follow : AllFollow p next es) (untold : list_any (event_tells 0) (events_in t (entries_of (Client t.client) es)) ≡ false) (before : EndsClosed (entries_of (Client t.client) es)) where
+  module _ (e : Entry) (es : List Entry) (follow : AllFollow p next es) (before : EndsClosed (entries_of (Client t.client) es)) where
     abbrev own : List Entry
     own = entries_of (Client t.client) es
 
@@ -135,7 +131,7 @@ module _ (p : Settings) (next : ThreadId → List Event → Option Request) (sou
         → cond b (block_after (Act it.thread it.request it.reply (woken_by it.request it.reply own)) (locks_of t own) (open_block t own)) (open_block t own) ≡ []
     act_closed it true is ended =
         let asked : next t (events_in t own) ≡ Some it.request = subst (λ u. next_after next es u ≡ Some it.request) (same_thread t it.thread is) it.asked in
-        let goes : list_any ends (events_in t own) ≡ false = same_ends (events_in t own) ∙ (sound.keeps t (events_in t own) it.request (own_acts t own) untold (threads_wait p next t es follow) (threads_follow p next t es follow) asked).goes in
+        let goes : list_any ends (events_in t own) ≡ false = same_ends (events_in t own) ∙ (keeps_to p next sound es follow t it.request asked).goes in
         let act : Event = Act it.thread it.request it.reply (woken_by it.request it.reply own) in
         ap (λ b. cond b [] (open_block t own ++ act ∷ []))
         (end_is_ending it.request it.reply (locks_of t own) (last_found ends (events_in t own) act ended goes) (reply_listed p it.thread own it.request it.reply it.answered))
@@ -158,9 +154,9 @@ module _ (p : Settings) (next : ThreadId → List Event → Option Request) (sou
         by false is = before
 
   -- A thread that has ended has no open block.
-  pub ended_is_closed : (es : List Entry) → AllFollow p next es → UntoldAlong t es → has_ended t es ≡ true → open_block t (entries_of (Client t.client) es) ≡ []
-  ended_is_closed [] follow untold ended = refl
-  ended_is_closed (e ∷ es) follow untold ended = closed_at e es follow.0 untold.1 (ended_is_closed es follow.0 untold.0) e.node follow.1.rule ended
+  pub ended_is_closed : (es : List Entry) → AllFollow p next es → has_ended t es ≡ true → open_block t (entries_of (Client t.client) es) ≡ []
+  ended_is_closed [] follow ended = refl
+  ended_is_closed (e ∷ es) follow ended = closed_at e es follow.0 (ended_is_closed es follow.0) e.node follow.1.rule ended
 
 module _ (p : Settings) (next : ThreadId → List Event → Option Request) (c : ℕ) where
   -- what isn't a client of the cluster has no entries
@@ -202,24 +198,23 @@ module _ (p : Settings) (next : ThreadId → List Event → Option Request) (es 
       first_follows next t [] (events_of t (as_made es)) part.rest (subst (FollowsProgram next (Listed next) t) part.whole (threads_follow p next t es follow))
 
   -- and all of them where the journal is finished and its client isn't lost.
-  pub is_whole : is_lost t.client (entries_of Server es) ≡ false → IsSound p.shape next → UntoldAlong t es → list_any (is_thread t) p.threads ≡ true → is_finished p es ≡ true → events_of t (as_made es) ≡ events_in t client
-  is_whole alive sound untold its finished =
+  pub is_whole : is_lost t.client (entries_of Server es) ≡ false → IsSound p.shape next → list_any (is_thread t) p.threads ≡ true → is_finished p es ≡ true → events_of t (as_made es) ≡ events_in t client
+  is_whole alive sound its finished =
       let over = both (not (list_any (λ t. not (is_over p es t)) p.threads)) (not (list_any (λ c. not (is_quiet p c es)) (clients_of p)) && not (list_any (λ c. is_due p c es) (clients_of p))) finished in
       let quiet = both (not (list_any (λ c. not (is_quiet p c es)) (clients_of p))) (not (list_any (λ c. is_due p c es) (clients_of p))) over.1 in
       let ended : has_ended t es ≡ true = the_other (is_lost t.client (entries_of Server es)) (has_ended t es) (passes (is_over p es) (is_thread t) t (λ u same. same_thread t u same) p.threads over.0 its) alive in
       sym (append-nil (events_of t (as_made es)))
       ∙ ap (λ blocks. events_of t (as_made es) ++ (events_of t (joined blocks) ++ [])) (sym (quiet_pending p next t.client es follow alive quiet.0))
-      ∙ ap (λ block. events_of t (as_made es) ++ (events_of t (joined (pending t.client es)) ++ block)) (sym (ended_is_closed p next sound t es follow untold ended))
+      ∙ ap (λ block. events_of t (as_made es) ++ (events_of t (joined (pending t.client es)) ++ block)) (sym (ended_is_closed p next sound t es follow ended))
       ∙ thread_in_parts p next t t.client refl es follow
 
-module _ (p : Settings) (next : ThreadId → List Event → Option Request) (sound : IsSound p.shape next) (es : List Entry) (lawful : IsLawful p next es)
-    (untold : (t : ThreadId) → is_lost t.client (entries_of Server es) ≡ false → UntoldAlong t es) where
+module _ (p : Settings) (next : ThreadId → List Event → Option Request) (sound : IsSound p.shape next) (es : List Entry) (lawful : IsLawful p next es) where
   -- each thread's events in the history, as they were made
   resolved_here : (t : ThreadId) → AreResolved (events_of t (as_made es)) (events_of t (committed es))
   resolved_here t = resolved_of t (as_made es) (committed es) (history_resolved es)
 
   whole_here : is_finished p es ≡ true → (t : ThreadId) → list_any (is_thread t) p.threads ≡ true → is_lost t.client (entries_of Server es) ≡ false → events_of t (as_made es) ≡ events_in t (entries_of (Client t.client) es)
-  whole_here finished t its alive = is_whole p next es lawful.follow t alive sound (untold t alive) its finished
+  whole_here finished t its alive = is_whole p next es lawful.follow t alive sound its finished
 
   -- A lawful journal of a sound program commits legally where its history runs.
   pub commits_where_it_runs : Runs p.shape (committed es) (opening p.shape) → CommitsLegally p next es

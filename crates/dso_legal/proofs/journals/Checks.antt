@@ -56,7 +56,7 @@ use Rattle.dso_law.specs.Threads.{Waiting, locks_of}
 use Rattle.dso_law.specs.ClientWaiters.{client_list, is_marked}
 use Rattle.dso_law.specs.ServerWaiters.{waiters_of}
 use Rattle.dso_legal.proofs.journals.Facts.{is_there, isnt_roots, isnt_roots_array, not_read}
-use Rattle.dso_legal.specs.WaitsAndLosses.{is_wait, HasNoWait, WithoutWaits}
+use Rattle.dso_legal.specs.WithoutWaits.{is_wait, HasNoWait, WithoutWaits}
 
 -- ---- tests, and how they are put together
 

@@ -14,7 +14,7 @@ use Rattle.dso_plain.specs.State.{PlainState, opening}
 use Rattle.dso_plain.specs.History.{RunsButMarks, end_of, last_state}
 use Rattle.dso_plain.proofs.independence.RunsSwap.{runs_but_marks_in_parts, ends_in_parts}
 use Rattle.dso_plain.proofs.keys.SameKeys.{same_number}
-use Rattle.dso_plain.proofs.loss.RunsSurvive.{left}
+use Rattle.dso_plain.proofs.loss.RunsSurvive.{left, loss}
 use Rattle.dso_law.specs.Settings.{Settings}
 use Rattle.dso_law.specs.Entries.{entries_of, by_taken_up}
 use Rattle.dso_law.specs.Channels.{takes_up, up_in_flight}
@@ -31,11 +31,11 @@ use Rattle.dso_legal.specs.Lawful.{ServerFollows, NodeFollows, AllFollow}
 use Rattle.dso_legal.specs.Line.{Line}
 use Rattle.dso_legal.specs.PendingBlocks.{joined, pending}
 use Rattle.dso_legal.proofs.blocks.SparedHistory.{history_spared}
-use Rattle.dso_legal.proofs.blocks.WakesOwn.{open_apart_from, pending_apart_from}
+use Rattle.dso_legal.proofs.blocks.StaysWithin.{open_apart_from, pending_apart_from}
 use Rattle.dso_legal.proofs.central.ThreadEnds.{connected}
 use Rattle.dso_legal.proofs.channels.AfterEntry.{ServerTurn, server_turn}
 use Rattle.dso_legal.proofs.line.LineElsewhere.{LineStands, told_grow}
-use Rattle.dso_legal.proofs.line.LineLost.{survives, LineSurvives, line_survives}
+use Rattle.dso_legal.proofs.line.LineLost.{LineSurvives, line_survives}
 use Rattle.dso_legal.proofs.line.LineParts.{IsMore, line_grows}
 
 module _ (p : Settings) (next : ThreadId → List Event → Option Request) (e : Entry) (es : List Entry) (follow : AllFollow p next (e ∷ es)) (at : e.node ≡ Server) (d : ℕ) (lose : e.input ≡ input.Lose d) where
@@ -121,4 +121,4 @@ module _ (p : Settings) (next : ThreadId → List Event → Option Request) (e :
       pub opens_lost : (t : ThreadId) → RunsButMarks p.shape (open_block t (entries_of (Client c) es)) (state_at p c es) → RunsButMarks p.shape (open_block t (entries_of (Client c) (e ∷ es))) (state_at p c (e ∷ es))
       opens_lost t runs = subst (λ own. RunsButMarks p.shape (open_block t own) (state_at p c (e ∷ es))) (sym turn.own)
           (subst (λ r. RunsButMarks p.shape (open_block t (entries_of (Client c) es)) r) (sym at_client_lost)
-          (survives p.shape d (open_block t (entries_of (Client c) es)) (state_at p c es) runs (open_apart_from p next c es follow.0 d other t)).runs)
+          (loss p.shape d (open_block t (entries_of (Client c) es)) (state_at p c es) runs (open_apart_from p next c es follow.0 d other t)).still_runs)

@@ -57,6 +57,7 @@ use Rattle.dso_legal.proofs.blocks.ResolvedBlocks.{history_resolved}
 use Rattle.dso_legal.proofs.channels.AfterEntry.{server_turn}
 use Rattle.dso_legal.proofs.channels.InFlight.{told_to, told_status}
 use Rattle.dso_legal.proofs.central.AllHold.{all_holds}
+use Rattle.dso_legal.proofs.fitting.Untold.{all_untold}
 use Rattle.dso_legal.proofs.leases.LeaseSteps.{no_both, unless_true}
 use Rattle.dso_legal.proofs.leases.LeasesCompatible.{all_lent}
 use Rattle.dso_legal.proofs.marks.BlockMarks.{KnowsMarks, LateLast, block_knows}
@@ -197,7 +198,7 @@ module _ (p : Settings) (next : ThreadId → List Event → Option Request) (sou
 
     -- its block, if it times out, asks for no mark
     unasked : IsUnasked takes.block
-    unasked = subst IsUnasked (sym takes.numbered) (numbered_so IsUnasked (λ late. refl) txn.seq (ended_blocks (entries_of (Client d) es)) (asks_fairly p next sound es follow.0 d alive).ended)
+    unasked = subst IsUnasked (sym takes.numbered) (numbered_so IsUnasked (λ late. refl) txn.seq (ended_blocks (entries_of (Client d) es)) (asks_fairly p next sound es follow.0 d).ended)
 
     asks : MayAsk a takes.block (kept_at es) (lists_at es)
     asks = by txn.ending refl
@@ -260,7 +261,7 @@ module _ (p : Settings) (next : ThreadId → List Event → Option Request) (sou
     kept_heard : (l : LockName) (t : ThreadId) → is_lost t.client (entries_of Server es) ≡ false → is_kept (place_at (e ∷ es) l t) ≡ is_kept (by_taken_up (if_to t.client (place_up l t)) e.input (place_at es l t))
     kept_heard l t there = ap (λ js. is_kept (place_with t.client l t js)) counted_now ∙ ap is_kept (told_status t.client (place_down l t) e.sent (by_taken_up (if_to t.client (place_up l t)) e.input (place_at es l t)))
         ∙ wakes_leave l t (told_to t.client e.sent) (by_taken_up (if_to t.client (place_up l t)) e.input (place_at es l t))
-        (server_does p next sound e es follow (all_holds p next sound es follow.0).untold stand l t there first rule counts (ap (loses t.client) took)).comes
+        (server_does p next sound e es follow (all_untold p next sound es follow.0) stand l t there first rule counts (ap (loses t.client) took)).comes
 
     kept_after : (l : LockName) (t : ThreadId) → is_lost t.client (entries_of Server es) ≡ false → kept_through takes.block (kept_at es) l t ≡ is_kept (place_at (e ∷ es) l t)
     kept_after l t there = own_or_other d t

@@ -162,7 +162,7 @@ module _ (p : Settings) (next : ThreadId → List Event → Option Request) (sou
         by false counts = after_entry first rule counts (neither (loses t.client e.input) (is_lost t.client (entries_of Server es)) still).0
     kept_at (Client d) first rule still = before
 
-  -- Over entries each of which follows those before it.
+  -- Over entries that follow one another.
   pub kept_leased : (es : List Entry) → AllFollow p next es → (l : LockName) (t : ThreadId) → is_lost t.client (entries_of Server es) ≡ false → IsKeptLeased l t (counted (entries_of Server es))
   kept_leased [] follow l t alive = λ kept. absurd (cc kept)
   kept_leased (e ∷ es) follow l t alive =

@@ -23,20 +23,18 @@ use Rattle.dso_plain.proofs.keys.SameKeys.{same_number, same_thread, thread_self
 use Rattle.dso_law.specs.ClientWaiters.{marked_by_taken, marked_by_act, marked_by_event, is_marked, is_listed, is_woken}
 use Rattle.dso_law.specs.Entries.{entries_of, by_taken_down, by_event, events_in}
 use Rattle.dso_law.specs.Replies.{timeout_reply, woken_by, reply_of}
-use Rattle.dso_law.specs.ServerReadings.{is_lost}
 use Rattle.dso_law.specs.Settings.{Settings}
 use Rattle.dso_law.specs.Threads.{Locks, Waiting, resumed, locks_by, locks_after, locks_of, ending_by, block_after, open_block}
 use Rattle.dso_legal.specs.Committed.{block_if, ended_by, ended_blocks}
 use Rattle.dso_legal.specs.Lawful.{next_after, ClientFollows, NodeFollows, AllFollow}
 use Rattle.dso_legal.specs.SoundProgram.{IsSound, KeepsLocks, KeepsTo}
-use Rattle.dso_legal.proofs.blocks.ThreadHistory.{Untold}
+use Rattle.dso_legal.proofs.fitting.Untold.{AllUntold, all_untold}
 use Rattle.dso_legal.proofs.blocks.EachEvent.{each_both}
 use Rattle.dso_legal.proofs.blocks.OwnActs.{next_act, threads_follow, threads_wait, own_acts}
 use Rattle.dso_legal.proofs.blocks.SameLocks.{same_locks}
 use Rattle.dso_legal.proofs.blocks.WaitsApart.{does_wait}
-use Rattle.dso_legal.proofs.central.AllHold.{all_holds}
 use Rattle.dso_legal.proofs.leases.LeaseSteps.{no_both}
-use Rattle.dso_legal.proofs.records.BothEnds.{client_with, not_lost_before}
+use Rattle.dso_legal.proofs.records.BothEnds.{client_with}
 use Rattle.dso_legal.proofs.waiting.ServerWaiters.{any_append}
 
 -- the act asks for its thread's mark: it goes on after a wait, or is told that it was woken
@@ -296,32 +294,30 @@ module _ (e : Entry) (own : List Entry) (fair : AsksFairly own) where
       at t = thread_after p own a request reply keeps answered fair taken_marks (λ u. mark_taken u e.input (is_marked u own)) t (is_thread t a) refl
 
 module _ (p : Settings) (next : ThreadId → List Event → Option Request) (sound : IsSound p.shape next) where
-  module _ (e : Entry) (es : List Entry) (follow : AllFollow p next es) (untold : Untold es) where
+  module _ (e : Entry) (es : List Entry) (follow : AllFollow p next es) (untold : AllUntold es) where
     -- an act keeps to the thread's locks
-    keeps_at : (a : ThreadId) (request : Request) → is_lost a.client (entries_of Server es) ≡ false → next_after next es a ≡ Some request → KeepsLocks request (locks_of a (entries_of (Client a.client) es))
-    keeps_at a request alive asked =
+    keeps_at : (a : ThreadId) (request : Request) → next_after next es a ≡ Some request → KeepsLocks request (locks_of a (entries_of (Client a.client) es))
+    keeps_at a request asked =
         let own : List Entry = entries_of (Client a.client) es in
-        let keeps : KeepsTo p.shape a (events_in a own) request = sound.keeps a (events_in a own) request (own_acts a own) (untold.alive a alive) (threads_wait p next a es follow) (threads_follow p next a es follow) asked in
+        let keeps : KeepsTo p.shape a (events_in a own) request = sound.keeps a (events_in a own) request (own_acts a own) (untold a) (threads_wait p next a es follow) (threads_follow p next a es follow) asked in
         subst (KeepsLocks request) (sym (same_locks a own)) keeps.locks
 
-    fair_client : (c : ℕ) → is_lost c (entries_of Server es) ≡ false → ClientFollows p next c e es → AsksFairly (entries_of (Client c) es) → AsksFairly (e ∷ entries_of (Client c) es)
-    fair_client c alive rule fair = elim (next_act p c (next_after next es) (next_after next (e ∷ es)) e (entries_of (Client c) es) rule.step) [
+    fair_client : (c : ℕ) → ClientFollows p next c e es → AsksFairly (entries_of (Client c) es) → AsksFairly (e ∷ entries_of (Client c) es)
+    fair_client c rule fair = elim (next_act p c (next_after next es) (next_after next (e ∷ es)) e (entries_of (Client c) es) rule.step) [
       | inl none ↦ no_event e (entries_of (Client c) es) fair none
       | inr it ↦ an_act e (entries_of (Client c) es) fair p it.thread it.request it.reply
-          (subst (λ n. is_lost n (entries_of Server es) ≡ false → KeepsLocks it.request (locks_of it.thread (entries_of (Client n) es))) it.its (λ alive. keeps_at it.thread it.request alive it.asked) alive) it.answered it.event
+          (subst (λ n. KeepsLocks it.request (locks_of it.thread (entries_of (Client n) es))) it.its (keeps_at it.thread it.request it.asked)) it.answered it.event
     ]
 
-    fair_at : (c : ℕ) (node : Node) → is_lost c (entries_of Server es) ≡ false → NodeFollows p next node e es → AsksFairly (entries_of (Client c) es) → AsksFairly (client_with c node e es)
-    fair_at c Server alive rule fair = fair
-    fair_at c (Client d) alive rule fair = by (eqb c d) refl
+    fair_at : (c : ℕ) (node : Node) → NodeFollows p next node e es → AsksFairly (entries_of (Client c) es) → AsksFairly (client_with c node e es)
+    fair_at c Server rule fair = fair
+    fair_at c (Client d) rule fair = by (eqb c d) refl
       where
         by : (b : Bool) → eqb c d ≡ b → AsksFairly (cond b (e ∷ entries_of (Client c) es) (entries_of (Client c) es))
-        by true same = fair_client c alive (subst (λ n. ClientFollows p next n e es) (sym (same_number c d same)) rule) fair
+        by true same = fair_client c (subst (λ n. ClientFollows p next n e es) (sym (same_number c d same)) rule) fair
         by false other = fair
 
-  -- Over entries each of which follows those before it, no block of a client that isn't lost asks for a mark where it times out.
-  pub asks_fairly : (es : List Entry) → AllFollow p next es → (c : ℕ) → is_lost c (entries_of Server es) ≡ false → AsksFairly (entries_of (Client c) es)
-  asks_fairly [] follow c alive = record { in_time = λ t. refl; asks = λ t is. absurd (cc is); ended = tt }
-  asks_fairly (e ∷ es) follow c alive =
-      let before : is_lost c (entries_of Server es) ≡ false = not_lost_before c e.node e es alive in
-      fair_at e es follow.0 (all_holds p next sound es follow.0).untold c e.node before follow.1.rule (asks_fairly es follow.0 c before)
+  -- Over entries that follow one another no block that times out asks for a mark.
+  pub asks_fairly : (es : List Entry) → AllFollow p next es → (c : ℕ) → AsksFairly (entries_of (Client c) es)
+  asks_fairly [] follow c = record { in_time = λ t. refl; asks = λ t is. absurd (cc is); ended = tt }
+  asks_fairly (e ∷ es) follow c = fair_at e es follow.0 (all_untold p next sound es follow.0) c e.node follow.1.rule (asks_fairly es follow.0 c)

@@ -11,7 +11,7 @@ use Rattle.dso_base.specs.declared.request.Request.TheVariants as request
 use Rattle.dso_base.specs.declared.value.ClassId.TheVariants.{Plain}
 use Rattle.dso_base.specs.declared.value.Value.TheVariants as value
 use Rattle.dso_law.specs.Settings.{Settings}
-use Rattle.dso_legal.specs.WaitsAndLosses.{WithoutWaits}
+use Rattle.dso_legal.specs.WithoutWaits.{WithoutWaits}
 use Rattle.dso_legal.specs.Lawful.{IsLawful}
 use Rattle.dso_legal.specs.SoundProgram.{IsSound}
 use Rattle.dso_legal.specs.examples.Courses.{Course, Stops, Makes, Looks, Reads, Ticks, TimesOut, Does, program_of}
