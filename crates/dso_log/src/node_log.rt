@@ -71,8 +71,8 @@ impl NodeLog {
         }
     }
 
-    /// The clock of the last entry, 0 where there is none.
-    fn last_clock(&self) -> u64
+    /// The clock of the last entry, 0 where there is none. It takes no memory.
+    pub fn last_clock(&self) -> u64
         ensures { result ≡ last_clock self.now }
     {
         match self.entries.last() {
