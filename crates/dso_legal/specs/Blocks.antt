@@ -59,27 +59,32 @@ pub record IsHandedIn (c : ℕ) (es : List Entry) : Type 0 where
 
 -- Blocks are handed in, in every lawful journal, by each client that isn't lost.
 abbrev pub BlocksAreHandedIn : Type 0
-BlocksAreHandedIn = (p : Settings) (next : ThreadId → List Event → Option Request) (es : List Entry) → IsLawful p next es
+BlocksAreHandedIn = (p : Settings) (next : ThreadId → List Event → Option Request) (es : List Entry)
+    → IsLawful p next es
     → (c : ℕ) → is_lost c (entries_of Server es) ≡ false → IsHandedIn c es
 
--- What the history has of a client: the blocks of its first endings, in their order and nothing else, each notification that left
--- the choice to the server with whom it chose. A block ends with its thread's ending, so each thread is cut at its last one
--- among these. They are as many as the server took records of the client; of a lost one it takes no more.
+-- What the history has of a client: the blocks of its first endings, in their order and nothing else, each notification
+-- that left the choice to the server with whom it chose. A block ends with its thread's ending, so each thread is cut
+-- at its last one among these. They are as many as the server took records of the client; of a lost one it takes no
+-- more.
 pub record HasFirstEndings (c : ℕ) (es : List Entry) : Type 0 where
   pub few : handed_in c es ≤ length (ended_blocks (entries_of (Client c) es))
   pub blocks : AreResolved (joined (taken_in c es)) (acts_at c (committed es))
 
 -- Histories hold blocks: of each client, a lost one too, those of its first endings.
 abbrev pub HistoriesHoldBlocks : Type 0
-HistoriesHoldBlocks = (p : Settings) (next : ThreadId → List Event → Option Request) (es : List Entry) → IsLawful p next es
+HistoriesHoldBlocks = (p : Settings) (next : ThreadId → List Event → Option Request) (es : List Entry)
+    → IsLawful p next es
     → (c : ℕ) → HasFirstEndings c es
 
 -- So of each thread the events of these.
 abbrev pub HistoriesHoldEvents : Type 0
-HistoriesHoldEvents = (p : Settings) (next : ThreadId → List Event → Option Request) (es : List Entry) → IsLawful p next es
+HistoriesHoldEvents = (p : Settings) (next : ThreadId → List Event → Option Request) (es : List Entry)
+    → IsLawful p next es
     → (t : ThreadId) → AreResolved (events_of t (joined (taken_in t.client es))) (events_of t (committed es))
 
 -- In a journal without waits, just as the threads made them.
 abbrev pub HistoriesHoldBlocksAsMade : Type 0
-HistoriesHoldBlocksAsMade = (p : Settings) (next : ThreadId → List Event → Option Request) (es : List Entry) → IsLawful p next es → WithoutWaits es
+HistoriesHoldBlocksAsMade = (p : Settings) (next : ThreadId → List Event → Option Request) (es : List Entry)
+    → IsLawful p next es → WithoutWaits es
     → (t : ThreadId) → events_of t (committed es) ≡ events_of t (joined (taken_in t.client es))

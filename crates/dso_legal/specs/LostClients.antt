@@ -34,9 +34,10 @@ pub record IsUnheard (e : Entry) (es : List Entry) : Type 0 where
   pub readings : counted (entries_of Server (e ∷ es)) ≡ counted (entries_of Server es)
   pub history : committed (e ∷ es) ≡ committed es
 
--- Lost clients are unheard: of entries each of which follows those before it, one that takes a message of a client that was
--- lost before changes nothing and is answered by nothing.
+-- Lost clients are unheard: of entries each of which follows those before it, one that takes a message of a client that
+-- was lost before changes nothing and is answered by nothing.
 abbrev pub LostAreUnheard : Type 0
 LostAreUnheard = (p : Settings) (next : ThreadId → List Event → Option Request) (e : Entry) (es : List Entry)
     → AllFollow p next (e ∷ es)
-    → e.node ≡ Server → (c : ℕ) (m : Up) → e.input ≡ input.TookUp c m → is_lost c (entries_of Server es) ≡ true → IsUnheard e es
+    → e.node ≡ Server → (c : ℕ) (m : Up) → e.input ≡ input.TookUp c m → is_lost c (entries_of Server es) ≡ true
+    → IsUnheard e es

@@ -30,7 +30,8 @@ pub record IsOwnRecord (p : Settings) (c : ℕ) (server : List Entry) (txn : Txn
 -- client that isn't lost is.
 abbrev pub RecordsAreOwn : Type 0
 RecordsAreOwn = (p : Settings) (next : ThreadId → List Event → Option Request)
-    → IsSound p.shape next → (es : List Entry) → AllFollow p next es → (c : ℕ) → is_lost c (entries_of Server es) ≡ false
+    → IsSound p.shape next → (es : List Entry) → AllFollow p next es → (c : ℕ)
+    → is_lost c (entries_of Server es) ≡ false
     → (txn : Txn) → IsFirst (Commit txn) (up_in_flight c es) → IsOwnRecord p c (counted (entries_of Server es)) txn
 
 -- Held objects are stored: after entries each of which follows those before it, each object that a client holds is

@@ -24,5 +24,6 @@ entries_of_all logs = flat_map (λ log. log.entries) logs
 -- the clocks rise, and of neighbours with one clock so do the nodes
 pub record AreInOrder (entries : List Entry) : Type 0 where
   pub clocks : IsNonDecreasingBy clock_of entries
-  pub nodes : (k : ℕ) (d : Entry) → k + 1 < length entries → clock_of (slice_index_or entries k d) ≡ clock_of (slice_index_or entries (k + 1) d)
+  pub nodes : (k : ℕ) (d : Entry) → k + 1 < length entries
+      → clock_of (slice_index_or entries k d) ≡ clock_of (slice_index_or entries (k + 1) d)
       → node_of (slice_index_or entries k d) ≤ node_of (slice_index_or entries (k + 1) d)

@@ -8,9 +8,10 @@ use Rattle.dso_session.specs.declared.session.Posted.{Posted}
 use Rattle.dso_session.specs.declared.session.Role.{Role}
 use Rattle.dso_session.specs.declared.session.Role.TheVariants as role
 
--- What an end keeps: which end it is; how often the connection broke, as far as it knows; whether messages may go; whether a Hello
--- is to go first; the last number that it accepted; how many of its messages the other end has seen; the number of the last one that
--- went to the channel, or behind which it goes on; the messages not seen yet, in order; the clock of the last one sent.
+-- What an end keeps: which end it is; how often the connection broke, as far as it knows; whether messages may go;
+-- whether a Hello is to go first; the last number that it accepted; how many of its messages the other end has seen;
+-- the number of the last one that went to the channel, or behind which it goes on; the messages not seen yet, in order;
+-- the clock of the last one sent.
 pub record End (M : Type 0) : Type 0 where
   pub role : Role
   pub epoch : ℕ
@@ -61,8 +62,8 @@ gone_on end (Some one) = record end { given = end.given + 1 }
 abbrev pub behind_frame : {M : Type 0} → End M → End M
 behind_frame end = cond end.owes_hello (record end { owes_hello = false }) (gone_on end (next_kept end))
 
--- A message is given up where the frame is of this connection, its number is the next one, and the other end has seen no more than was
--- sent.
+-- A message is given up where the frame is of this connection, its number is the next one, and the other end has seen
+-- no more than was sent.
 abbrev pub answer_carry : {M : Type 0} → ℕ → ℕ → ℕ → ℕ → M → End M → Accepted M
 answer_carry epoch number seen clock message end = cond (not (eqb epoch end.epoch)) (accepted.OldConnection epoch)
     (cond (leb number end.accepted) (accepted.Again number)

@@ -33,7 +33,8 @@ sent_by other sent = sent
 
 -- the frame carries the message of its number
 abbrev pub CarriesSent : {M : Type 0} → List (Posted M) → Frame M → Type 0
-CarriesSent sent (Carry epoch number seen clock message) = (1 ≤ number) × (slice_get sent (number - 1) ≡ Some (record { message = message; clock = clock }))
+CarriesSent sent (Carry epoch number seen clock message) = (1 ≤ number)
+    × (slice_get sent (number - 1) ≡ Some (record { message = message; clock = clock }))
 CarriesSent sent (Hello epoch seen clock) = Unit {0}
 
 -- each frame that goes does
@@ -41,12 +42,15 @@ abbrev pub GivesSent : {M : Type 0} → List (Posted M) → Option (Frame M) →
 GivesSent sent None = Unit {0}
 GivesSent sent (Some frame) = CarriesSent sent frame
 
--- Frames carry what was sent: whatever happens to an end, the messages that it sent are those sent before and those that it sends now;
--- the frame that is next carries the message of its number; and so it does whatever is sent later.
+-- Frames carry what was sent: whatever happens to an end, the messages that it sent are those sent before and those
+-- that it sends now; the frame that is next carries the message of its number; and so it does whatever is sent later.
 pub record KeepsSent (M : Type 0) : Type 0 where
-  pub goes_on : (happening : Happening M) (sent : List (Posted M)) (end : End M) → HasSent sent end → HasSent (sent_by happening sent) (happened happening end)
-  pub next : (sent : List (Posted M)) (end : End M) → HasSent sent end → end.seen ≤ end.given → GivesSent sent (next_frame end)
-  pub stays : (sent more : List (Posted M)) (frame : Frame M) → CarriesSent sent frame → CarriesSent (sent ++ more) frame
+  pub goes_on : (happening : Happening M) (sent : List (Posted M)) (end : End M) → HasSent sent end
+      → HasSent (sent_by happening sent) (happened happening end)
+  pub next : (sent : List (Posted M)) (end : End M) → HasSent sent end → end.seen ≤ end.given
+      → GivesSent sent (next_frame end)
+  pub stays : (sent more : List (Posted M)) (frame : Frame M) → CarriesSent sent frame
+      → CarriesSent (sent ++ more) frame
 
 -- what an answer gives up
 abbrev pub given_up : {M : Type 0} → Accepted M → List (Posted M)
@@ -73,8 +77,9 @@ abbrev pub after_all : {M : Type 0} → List (Happening M) → End M → End M
 after_all [] end = end
 after_all (first ∷ rest) end = after_all rest (happened first end)
 
--- Given up once: whichever frames of the other end come, in whatever order and however often, with whatever lost or broken between, what is
--- given up are the messages behind those accepted before, in order, up to the last number accepted.
+-- Given up once: whichever frames of the other end come, in whatever order and however often, with whatever lost or
+-- broken between, what is given up are the messages behind those accepted before, in order, up to the last number
+-- accepted.
 abbrev pub GivenUpOnce : Type 0 → Type 0
 GivenUpOnce M = (sent : List (Posted M)) (happenings : List (Happening M)) (end : End M) → CarrySent sent happenings
     → take end.accepted sent ++ given_up_over happenings end ≡ take (after_all happenings end).accepted sent
