@@ -34,19 +34,24 @@ AreApartFrom client (e ∷ es) = IsApartFrom client e × AreApartFrom client es
 pub record SurvivesLoss (shape : Shape) (client : ℕ) (es : List Event) (s : PlainState) : Type 0 where
   pub still_runs : RunsButMarks shape es (after shape (Lost client) s)
   pub same_end : end_of shape es (after shape (Lost client) s) ≡ after shape (Lost client) (end_of shape es s)
-  pub touches : (l : LockName) (x : Level) → TouchesIn shape es (after shape (Lost client) s) l x → TouchesIn shape es s l x
+  pub touches : (l : LockName) (x : Level) → TouchesIn shape es (after shape (Lost client) s) l x
+      → TouchesIn shape es s l x
 
--- Loss: a run of threads of other clients that notifies no thread of the client survives the client's loss, whatever is marked.
+-- Loss: a run of threads of other clients that notifies no thread of the client survives the client's loss, whatever is
+-- marked.
 abbrev pub Loss : Type 0
-Loss = (shape : Shape) (client : ℕ) (es : List Event) (s : PlainState) → RunsButMarks shape es s → AreApartFrom client es → SurvivesLoss shape client es s
+Loss = (shape : Shape) (client : ℕ) (es : List Event) (s : PlainState) → RunsButMarks shape es s
+    → AreApartFrom client es → SurvivesLoss shape client es s
 
 -- Marks: and it finds the marks that it asks for, where it did before.
 abbrev pub MarksAfterLoss : Type 0
-MarksAfterLoss = (shape : Shape) (client : ℕ) (es : List Event) (s : PlainState) → Runs shape es s → AreApartFrom client es → Runs shape es (after shape (Lost client) s)
+MarksAfterLoss = (shape : Shape) (client : ℕ) (es : List Event) (s : PlainState) → Runs shape es s
+    → AreApartFrom client es → Runs shape es (after shape (Lost client) s)
 
 -- The waiters left after the loss are those of other clients.
 abbrev pub WaitersLeft : Type 0
-WaitersLeft = (shape : Shape) (client : ℕ) (s : PlainState) (l : LockName) (w : ThreadId) → IsUnmarkedWaiter l w (after shape (Lost client) s) ↔ (IsUnmarkedWaiter l w s × (w.client ≢ client))
+WaitersLeft = (shape : Shape) (client : ℕ) (s : PlainState) (l : LockName) (w : ThreadId)
+    → IsUnmarkedWaiter l w (after shape (Lost client) s) ↔ (IsUnmarkedWaiter l w s × (w.client ≢ client))
 
 -- Choice: where a thread of another client could notify somebody or nobody, it can notify, after the loss, whom it
 -- chooses among the waiters left, and nobody exactly where none is left.

@@ -12,7 +12,8 @@ with_marks marks s = record s { marked = marks }
 
 -- the same act, but for whom it wakes
 abbrev pub IsSameAct : Event → Event → Type 0
-IsSameAct (Act t request reply woken) (Act t' request' reply' woken') = (t' ≡ t) × (request' ≡ request) × (reply' ≡ reply)
+IsSameAct (Act t request reply woken) (Act t' request' reply' woken') = (t' ≡ t) × (request' ≡ request)
+    × (reply' ≡ reply)
 IsSameAct e e' = ⊥
 
 -- the same acts in the same order
