@@ -4,7 +4,6 @@ pub mod Answering
 pub mod Asking
 pub mod ByLaw
 pub mod CallAgain
-pub mod CallLists
 pub mod Calls
 pub mod CounterAsks
 pub mod CounterCode
@@ -33,4 +32,3 @@ pub mod Storing
 pub mod Sums
 pub mod Turning
 pub mod Whole
-pub mod PlainLists
