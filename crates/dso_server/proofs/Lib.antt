@@ -1,0 +1,9 @@
+pub mod Lists
+pub mod ThreadTables
+pub mod Quiet
+pub mod GraphTook
+pub mod LocksTook
+pub mod WaitersTook
+pub mod ThreadsTook
+pub mod BatchesGiven
+pub mod ListTables

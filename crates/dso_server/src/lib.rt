@@ -1,0 +1,11 @@
+//! The server's core: it takes the messages of the clients, one after the other, and answers each by the server rule.
+#![tactic(auto)]
+
+mod batches;
+mod server;
+mod taken;
+mod threads;
+mod waiters;
+
+pub use server::Server;
+pub use taken::Taken;
