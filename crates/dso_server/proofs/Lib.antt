@@ -1,3 +1,4 @@
+pub mod Telling
 pub mod Lists
 pub mod ThreadTables
 pub mod Quiet
@@ -7,3 +8,6 @@ pub mod WaitersTook
 pub mod ThreadsTook
 pub mod BatchesGiven
 pub mod ListTables
+pub mod NewWaiters
+pub mod Among
+pub mod ShapeFits

@@ -1,5 +1,5 @@
 -- A table of threads after one is written.
-use Rattle.std.proofs.Common.{ℕ, ◌≡◌, ◌+◌, ◌<◌, ◌≤◌, refl, sym, ◌∙◌, ap, Bool, true, false, cond, ◌||◌, is_some, length, get_or, drop, Option, Some, None, List}
+use Rattle.std.proofs.Common.{ℕ, ◌≡◌, ◌+◌, ◌<◌, ◌≤◌, refl, sym, ◌∙◌, ap, Bool, true, false, cond, eqb, ◌&&◌, ◌||◌, filter, is_some, length, get_or, drop, Option, Some, None, List, [], ◌∷◌}
 use Rattle.std.proofs.Math.Path.{fun_ext}
 use Rattle.std.proofs.lemmas.List.{drop_all, drop_more}
 use Rattle.std.specs.BTreeMap.{BTreeMap, is_at}
@@ -71,3 +71,22 @@ none_last now next thread none put = put ∙ (ap (λ f t. cond (is_thread t thre
     by : (b : Bool) → cond {A = Option Ending} b None None ≡ None
     by true = refl
     by false = refl
+
+-- a thread is one of a client's threads where it is the client's and one of all
+pub threads_of_client : (t : ThreadId) (c : ℕ) (threads : List ThreadId) → list_any (is_thread t) (filter (λ u. eqb u.client c) threads) ≡ (eqb t.client c && list_any (is_thread t) threads)
+threads_of_client t c [] = none (eqb t.client c)
+  where
+    none : (b : Bool) → false ≡ (b && false)
+    none true = refl
+    none false = refl
+threads_of_client t c (u ∷ threads) = by (eqb u.client c) refl (is_thread t u) refl (threads_of_client t c threads)
+  where
+    same : is_thread t u ≡ true → eqb t.client c ≡ eqb u.client c
+    same e = ap (λ w. eqb w.client c) (sym (same_thread t u e))
+
+    by : (b : Bool) → eqb u.client c ≡ b → (its : Bool) → is_thread t u ≡ its → list_any (is_thread t) (filter (λ w. eqb w.client c) threads) ≡ (eqb t.client c && list_any (is_thread t) threads)
+        → list_any (is_thread t) (cond b (u ∷ filter (λ w. eqb w.client c) threads) (filter (λ w. eqb w.client c) threads)) ≡ (eqb t.client c && (its || list_any (is_thread t) threads))
+    by true e true i rest = rw (i, same i, e) refl
+    by true e false i rest = rw i rest
+    by false e true i rest = rest ∙ rw (same i, e) refl
+    by false e false i rest = rest

@@ -1,4 +1,4 @@
--- That an answer tells whether a message fits, whatever entries the server stands for.
+-- That the server's answers hold of whatever entries it stands for.
 use Rattle.std.specs.Prelude.{◌≡◌, ◌↔◌, Bool, IsTrue, List}
 use Rattle.dso_base.specs.declared.journal.Entry.{Entry}
 use Rattle.dso_base.specs.declared.shape.Shape.{Shape}
@@ -7,8 +7,17 @@ use Rattle.dso_law.specs.Settings.{Settings}
 use Rattle.dso_server.specs.declared.server.Server.{Server}
 use Rattle.dso_server.specs.ServerStands.{ServerStands}
 
--- The answer tells whether the fact holds of the entries that count, for each list of entries that the server stands
--- for, in a cluster of this shape.
-abbrev pub Tells : Server → Shape → Bool → (Settings → List Entry → Type 0) → Type 0
-Tells server shape answer Fact = (p : Settings) (es : List Entry) → ServerStands p server es → p.shape ≡ shape
+-- The value is that of the reading, over the entries that count, for each list of entries that the server stands for.
+abbrev pub Knows : {V : Type 0} → Server → V → (Settings → List Entry → V) → Type 0
+Knows server value reading = (p : Settings) (es : List Entry) → ServerStands p server es
+    → value ≡ reading p (counted es)
+
+-- The answer tells whether the fact holds of the entries that count, for each list that the server stands for.
+abbrev pub Tells : Server → Bool → (Settings → List Entry → Type 0) → Type 0
+Tells server answer Fact = (p : Settings) (es : List Entry) → ServerStands p server es
+    → IsTrue answer ↔ Fact p (counted es)
+
+-- The same in each cluster of this shape.
+abbrev pub TellsIn : Shape → Server → Bool → (Settings → List Entry → Type 0) → Type 0
+TellsIn shape server answer Fact = (p : Settings) (es : List Entry) → p.shape ≡ shape → ServerStands p server es
     → IsTrue answer ↔ Fact p (counted es)

@@ -4,4 +4,5 @@ pub mod Threads
 pub mod Sending
 pub mod ServerStands
 pub mod Fitting
+pub mod Records
 pub mod Answering

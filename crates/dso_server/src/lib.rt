@@ -2,7 +2,11 @@
 #![tactic(auto)]
 
 mod batches;
+mod fits_locks;
+mod fits_record;
+mod known;
 mod server;
+mod shapes;
 mod taken;
 mod threads;
 mod waiters;
