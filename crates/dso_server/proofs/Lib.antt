@@ -10,4 +10,6 @@ pub mod BatchesGiven
 pub mod ListTables
 pub mod NewWaiters
 pub mod Among
+pub mod Each
+pub mod RecordFits
 pub mod ShapeFits

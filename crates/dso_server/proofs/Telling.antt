@@ -1,5 +1,5 @@
 -- What an answer tells.
-use Rattle.std.proofs.Common.{◌≡◌, refl, sym, ◌∙◌, ap, Bool, true, false, not, is_some, Option, Some, None}
+use Rattle.std.proofs.Common.{◌≡◌, refl, sym, ◌∙◌, ap, subst, Bool, true, false, not, is_some, Option, Some, None}
 
 -- no, where the fact never holds
 pub no : {F : Type 0} → (F → ⊥) → (false ≡ true → F) × (F → false ≡ true)
@@ -33,3 +33,7 @@ some_there o e none = cc (sym e ∙ ap is_some none)
 pub there_some : {A : Type 0} (o : Option A) → (o ≡ None → ⊥) → is_some o ≡ true
 there_some None some = absurd (some refl)
 there_some (Some a) some = refl
+
+-- what is told of one value is told of another that is the same
+pub told_at : {X : Type 0} {b : Bool} (F : X → Type 0) {x y : X} → x ≡ y → (b ≡ true → F x) × (F x → b ≡ true) → (b ≡ true → F y) × (F y → b ≡ true)
+told_at F same tells = (λ e. subst F same (tells.0 e), λ f. tells.1 (subst F (sym same) f))

@@ -2,7 +2,10 @@
 #![tactic(auto)]
 
 mod batches;
+mod fits;
+mod fits_lists;
 mod fits_locks;
+mod fits_parts;
 mod fits_record;
 mod known;
 mod server;
