@@ -1,7 +1,8 @@
 //! Whether a message fits.
+ghost use Rattle.std.specs.Bool.{OnTrue};
 ghost use Rattle.dso_base.specs.declared.message.Up.TheVariants as up;
 ghost use Rattle.dso_law.specs.FitsUp.{FitsUp};
-ghost use Rattle.dso_server.specs.Fitting.{Tells, TellsIn};
+ghost use Rattle.dso_server.specs.Fitting.{IsFree, Tells, TellsIn};
 
 use crate::fits_locks::{fits_request, fits_return};
 use crate::fits_record::fits_record;
@@ -22,7 +23,8 @@ fn fits_fault(server: &Server, client: u8, object: u64) -> bool
 /// Whether the message of the client fits, of whatever entries the server stands for. It takes no memory. A request, a
 /// fault and a flush cost the logarithm of what the server holds, a return and a record that for each of their items.
 pub(crate) fn fits(server: &Server, shape: &Shape, client: u8, message: &Up) -> bool
-    ensures { TellsIn shape.now server.now result (λ p es. FitsUp p client message.now es) }
+    ensures tells { TellsIn shape.now server.now result (λ p es. FitsUp p client message.now es) }
+    ensures free { OnTrue result (IsFree client message.now server.now) }
 {
     match message {
         Up::IdAsk => true,

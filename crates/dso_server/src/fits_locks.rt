@@ -1,9 +1,12 @@
 //! Whether a request or a return fits.
-ghost use Rattle.std.specs.Prelude.{◌≡◌, ◌≤◌, ◌↔◌, IsTrue, true, [], length, take};
+ghost use Rattle.std.specs.Prelude.{◌≡◌, ◌≤◌, ◌↔◌, IsTrue, true, false, [], length, take};
+ghost use Rattle.std.specs.Bool.{OnTrue};
 ghost use Rattle.std.specs.List.{AllByRecursion, list_any};
 ghost use Rattle.dso_base.specs.Following.{is_thread};
 ghost use Rattle.dso_law.specs.FitsUp.{AreDistinct, FitsRequest, FitsReturn, IsLock, IsNewWaiter};
 ghost use Rattle.dso_law.specs.ServerReadings.{is_given};
+ghost use Rattle.dso_locks.specs.Locks.{waits};
+ghost use Rattle.dso_locks.specs.Tables.{locks_in};
 ghost use Rattle.dso_server.specs.Fitting.{Tells, TellsIn};
 
 use crate::known::{is_given, is_thread_of, is_waiter, lease, waits};
@@ -32,7 +35,8 @@ fn is_lock(server: &Server, shape: &Shape, lock: LockName) -> bool
 
 /// Whether a request of the client fits.
 pub(crate) fn fits_request(server: &Server, shape: &Shape, client: u8, lock: LockName) -> bool
-    ensures { TellsIn shape.now server.now result (λ p es. FitsRequest p client lock es) }
+    ensures tells { TellsIn shape.now server.now result (λ p es. FitsRequest p client lock es) }
+    ensures free { OnTrue result (waits client (locks_in server.now.locks lock) ≡ false) }
 {
     if let Some(_) = lease(server, client, lock) {
         return false;

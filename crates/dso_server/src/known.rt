@@ -9,6 +9,8 @@ ghost use Rattle.dso_law.specs.ServerReadings.{is_given, is_given_to, is_ended, 
 ghost use Rattle.dso_law.specs.ServerWaiters.{waiters_of};
 ghost use Rattle.dso_law.specs.Settings.{threads_of};
 ghost use Rattle.dso_law.specs.Store.{holds_object, stored};
+ghost use Rattle.dso_locks.specs.Locks.{waits};
+ghost use Rattle.dso_locks.specs.Tables.{locks_in};
 ghost use Rattle.dso_server.specs.Fitting.{Knows, Tells};
 ghost use Rattle.dso_server.specs.Threads.{ends_there};
 
@@ -42,7 +44,8 @@ fn is_write(lease: Option<Level>) -> bool
 
 /// Whether the client has a request of the lock.
 pub(crate) fn waits(server: &Server, client: u8, lock: LockName) -> bool
-    ensures { Knows server.now result (λ p es. list_any (λ waiter. eqb waiter.client client) (queue_of lock es)) }
+    ensures known { Knows server.now result (λ p es. list_any (λ waiter. eqb waiter.client client) (queue_of lock es)) }
+    ensures table { result ≡ waits client (locks_in server.now.locks lock) }
 {
     server.locks.waits(client, lock)
 }

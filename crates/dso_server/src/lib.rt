@@ -8,11 +8,13 @@ mod fits_locks;
 mod fits_parts;
 mod fits_record;
 mod known;
+mod messages;
 mod server;
 mod shapes;
 mod taken;
 mod threads;
 mod waiters;
+mod wakes;
 
 pub use server::Server;
 pub use taken::Taken;
