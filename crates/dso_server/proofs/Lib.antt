@@ -7,6 +7,9 @@ pub mod LocksTook
 pub mod WaitersTook
 pub mod ThreadsTook
 pub mod BatchesGiven
+pub mod Taking
+pub mod Opening
+pub mod answered
 pub mod ListTables
 pub mod NewWaiters
 pub mod Among

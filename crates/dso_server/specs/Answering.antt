@@ -1,5 +1,5 @@
 -- What the server's calls make of it, whatever entries it stood for.
-use Rattle.std.specs.Prelude.{ℕ, ◌≡◌, true, false, List, [], ◌∷◌}
+use Rattle.std.specs.Prelude.{ℕ, ◌≡◌, true, false, List, [], ◌∷◌, length}
 use Rattle.dso_base.specs.declared.journal.Entry.{Entry}
 use Rattle.dso_base.specs.declared.message.Down.{Down}
 use Rattle.dso_base.specs.declared.message.Up.{Up}
@@ -14,6 +14,10 @@ use Rattle.dso_server.specs.declared.taken.Taken.{Taken}
 use Rattle.dso_server.specs.declared.taken.Taken.TheVariants.{Done, Gone, Unfit}
 use Rattle.dso_server.specs.Sending.{lost, sent_of, took}
 use Rattle.dso_server.specs.ServerStands.{ServerStands}
+
+-- how many batches of ids the server gave
+abbrev pub given_by : Server → ℕ
+given_by server = length server.ids
 
 -- A message answered: the messages are those of the rule's row, and the server stands for the entries with the one in
 -- which it took it, at any clock.

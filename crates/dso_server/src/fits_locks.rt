@@ -89,12 +89,7 @@ fn are_none(threads: &[ThreadId]) -> bool
 }
 
 /// Whether a return of the client fits.
-pub(crate) fn fits_return(
-    server: &Server,
-    client: u8,
-    lock: LockName,
-    threads: &[ThreadId],
-) -> bool
+pub(crate) fn fits_return(server: &Server, client: u8, lock: LockName, threads: &[ThreadId]) -> bool
     ensures { Tells server.now result (λ p es. FitsReturn p client lock threads.now es) }
 {
     match lease(server, client, lock) {

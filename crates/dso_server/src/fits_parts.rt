@@ -15,7 +15,9 @@ use crate::known::{
 };
 use crate::server::Server;
 use crate::shapes::{fits_shape, guard_at, kind_at};
-use dso_base::{Body, Choice, ClassId, Ending, Items, LockName, Note, Set, Shape, ThreadId, Value, fits};
+use dso_base::{
+    Body, Choice, ClassId, Ending, Items, LockName, Note, Set, Shape, ThreadId, Value, fits,
+};
 
 /// Whether the published object fits: its id was given to the client and isn't in the graph, its class isn't that of the
 /// roots, and its class and values fit the shape.
@@ -57,7 +59,11 @@ pub(crate) fn fits_set(server: &Server, shape: &Shape, client: u8, set: Set) -> 
     if !fits_field(shape, set, body) {
         return false;
     }
-    may_write(server, client, guard_at(shape, body.class, set.object, set.field))
+    may_write(
+        server,
+        client,
+        guard_at(shape, body.class, set.object, set.field),
+    )
 }
 
 /// The first place of the news, which rise by object, whose object isn't under this one.

@@ -1,6 +1,7 @@
 //! The server's core: it takes the messages of the clients, one after the other, and answers each by the server rule.
 #![tactic(auto)]
 
+mod answers;
 mod batches;
 mod fits;
 mod fits_lists;

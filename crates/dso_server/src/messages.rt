@@ -11,11 +11,7 @@ use dso_locks::Told;
 use std::alloc::Global;
 
 /// The message to the client, alone.
-pub(crate) fn alone(
-    alloc: Global,
-    client: u8,
-    message: Down,
-) -> Result<Vec<(u8, Down)>, NoMemory>
+pub(crate) fn alone(alloc: Global, client: u8, message: Down) -> Result<Vec<(u8, Down)>, NoMemory>
     ensures { IfOk result (λ messages. messages.items ≡ (client, message) ∷ []) }
 {
     let mut messages = Vec::new(alloc);

@@ -36,10 +36,12 @@ pub(crate) fn guard_at(shape: &Shape, class: ClassId, object: u64, field: u32) -
 {
     match class {
         ClassId::Plain(number) => match field_at(shape, number, field as usize) {
-            Some(FieldShape {
-                guard: Guard::Name(name),
-                ..
-            }) => LockName::Name(*name),
+            Some(
+                FieldShape {
+                    guard: Guard::Name(name),
+                    ..
+                },
+            ) => LockName::Name(*name),
             _ => LockName::Mon(object),
         },
         ClassId::Array(_) => LockName::Mon(object),
