@@ -16,3 +16,4 @@ pub mod Among
 pub mod Each
 pub mod RecordFits
 pub mod ShapeFits
+pub mod ByRule

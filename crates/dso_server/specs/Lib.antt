@@ -6,3 +6,4 @@ pub mod ServerStands
 pub mod Fitting
 pub mod Records
 pub mod Answering
+pub mod Laws

@@ -9,6 +9,7 @@ mod fits_locks;
 mod fits_parts;
 mod fits_record;
 mod known;
+pub mod laws;
 mod messages;
 mod server;
 mod shapes;
