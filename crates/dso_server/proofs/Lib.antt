@@ -15,5 +15,4 @@ pub mod NewWaiters
 pub mod Among
 pub mod Each
 pub mod RecordFits
-pub mod ShapeFits
 pub mod ByRule

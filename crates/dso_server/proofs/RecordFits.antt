@@ -57,9 +57,6 @@ module _ (p : Settings) (c : ℕ) (txn : Txn) (es : List Entry) where
       stored = of_stored (FitsValue p.shape p txn.news es) fit.0 fit.1
 
   -- and its parts fit where it does
-  pub maker_fits : FitsRecord p c txn es → FitsMaker p c txn es
-  maker_fits r = (r.number, r.thread, r.going)
-
   pub objects_fit : FitsRecord p c txn es → FitsObjects p c txn es
   objects_fit r = (r.news, r.sets, r.sets_rise)
 

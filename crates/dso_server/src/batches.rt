@@ -53,6 +53,13 @@ impl Batches {
         Ok(self.source.batch())
     }
 
+    /// How many batches were given. It takes no memory.
+    pub fn given(&self) -> u64
+        ensures { result ≡ length self.now }
+    {
+        self.source.given()
+    }
+
     /// Whether the id was given to a client. It takes no memory.
     pub fn is_given(&self, object: u64) -> bool
         ensures { result ≡ list_any (is_in_batch object) (batches_to self.now) }

@@ -96,6 +96,13 @@ impl Server {
         lost(alloc, self, client)
     }
 
+    /// How many batches of ids it gave. It takes no memory.
+    pub fn batches_given(&self) -> u64
+        ensures { result ≡ given_by self.now }
+    {
+        self.ids.given()
+    }
+
     /// Whether the client was lost. It takes no memory.
     pub fn is_lost(&self, client: u8) -> bool
         ensures { (p : Settings) (es : List Entry) → ServerStands p self.now es → result ≡ is_lost client es }
