@@ -14,10 +14,10 @@ use crate::known::{
     holds, is_given, is_given_to, is_stored, is_thread_of, last_ending, lease, may_write, stored,
 };
 use crate::server::Server;
-use crate::shapes::{fits_shape, guard_at, kind_at};
 use dso_base::{
     Body, Choice, ClassId, Ending, Items, LockName, Note, Set, Shape, ThreadId, Value, fits,
 };
+use dso_law::{fits_shape, guard_at, kind_at};
 
 /// Whether the published object fits: its id was given to the client and isn't in the graph, its class isn't that of the
 /// roots, and its class and values fit the shape.

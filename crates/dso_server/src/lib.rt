@@ -12,7 +12,6 @@ mod known;
 pub mod laws;
 mod messages;
 mod server;
-mod shapes;
 mod taken;
 mod threads;
 mod waiters;

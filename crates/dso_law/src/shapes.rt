@@ -1,4 +1,4 @@
-//! Whether a body fits the shape of the program's classes. These reads take no memory.
+//! What a shape says of the fields of any class, and whether a body fits it.
 ghost use Rattle.std.specs.Prelude.{◌≡◌, ◌↔◌, IsTrue, slice_get};
 ghost use Rattle.std.specs.Option.{option_copied};
 ghost use Rattle.dso_base.specs.Shape.{fields_at, guard_of, kind_of};
@@ -16,8 +16,8 @@ fn field_at(shape: &Shape, number: u32, field: usize) -> Option<&FieldShape>
     shape.classes.get(number as usize)?.fields.get(field)
 }
 
-/// The kind of a field of the class.
-pub(crate) fn kind_at(shape: &Shape, class: ClassId, field: usize) -> Kind
+/// The kind of a field of the class, that of objects where the class has no such field. It takes no memory.
+pub fn kind_at(shape: &Shape, class: ClassId, field: usize) -> Kind
     ensures { result ≡ kind_of shape.now class field }
 {
     match class {
@@ -30,8 +30,9 @@ pub(crate) fn kind_at(shape: &Shape, class: ClassId, field: usize) -> Kind
     }
 }
 
-/// The lock that guards a field of an object of the class.
-pub(crate) fn guard_at(shape: &Shape, class: ClassId, object: u64, field: u32) -> LockName
+/// The lock that guards a field of an object of the class, the object's monitor where the class has no such field. It
+/// takes no memory.
+pub fn guard_at(shape: &Shape, class: ClassId, object: u64, field: u32) -> LockName
     ensures { result ≡ guard_of shape.now class object field }
 {
     match class {
@@ -75,8 +76,9 @@ fn values_fit(shape: &Shape, class: ClassId, values: &[Value]) -> bool
     true
 }
 
-/// Whether the class and the values of the body fit the shape.
-pub(crate) fn fits_shape(shape: &Shape, body: &Body) -> bool
+/// Whether the class and the values of the body fit the shape: it has as many values as an object of its class, and each
+/// fits its field. It takes no memory.
+pub fn fits_shape(shape: &Shape, body: &Body) -> bool
     ensures { IsTrue result ↔ FitsShape shape.now body.now }
 {
     has_size(shape, body.class, body.values.len())
