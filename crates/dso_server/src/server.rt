@@ -55,7 +55,8 @@ impl Server {
         })
     }
 
-    /// Takes a message of a client of the cluster, whose shape is that of [`Server::new`].
+    /// Takes a message of a client of the cluster, whose shape is that of [`Server::new`]. Fewer than 2^54 batches of ids were
+    /// given before.
     ///
     /// It is `Done` where the client isn't lost and the message fits: the messages are those of the server rule's row, in
     /// its order, and the server stands for its entries with the one in which it took the message. It is `Gone` exactly
