@@ -1,0 +1,3 @@
+pub mod ChosenSlot
+pub mod Flags
+pub mod Laws
