@@ -1,3 +1,4 @@
 pub mod NthSet
 pub mod Named
 pub mod Chosen
+pub mod Breaks

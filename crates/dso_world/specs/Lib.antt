@@ -1,3 +1,4 @@
 pub mod ChosenSlot
 pub mod Flags
+pub mod Breaks
 pub mod Laws
