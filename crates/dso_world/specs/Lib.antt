@@ -2,3 +2,4 @@ pub mod ChosenSlot
 pub mod Flags
 pub mod Breaks
 pub mod Laws
+pub mod Link

@@ -3,6 +3,9 @@
 
 mod chooser;
 pub mod laws;
+mod link;
+mod pump;
 mod seed;
 
 pub use chooser::Chooser;
+pub use link::Link;
