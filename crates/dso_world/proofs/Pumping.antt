@@ -9,7 +9,7 @@ use Rattle.dso_session.specs.Ends.{End, IsInOrder, behind_frame, carrying, gone_
 use Rattle.dso_world.specs.Link.{carried, emptied, gives, hello_due, left_to_give}
 
 -- the item at a place is the first one from there on
-from_here : {X : Type 0} (xs : List X) (i : ℕ) (x : X) → slice_get xs i ≡ Some x → drop i xs ≡ x ∷ drop (suc i) xs
+pub from_here : {X : Type 0} (xs : List X) (i : ℕ) (x : X) → slice_get xs i ≡ Some x → drop i xs ≡ x ∷ drop (suc i) xs
 from_here [] i x is = absurd (cc is)
 from_here (y ∷ ys) zero x is = let same : y ≡ x = cc is in ap (λ z. z ∷ ys) same
 from_here (y ∷ ys) (suc i) x is = from_here ys i x is
