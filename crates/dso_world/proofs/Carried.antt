@@ -1,14 +1,14 @@
 -- Frames that carry messages.
-use Rattle.std.proofs.Common.{ℕ, zero, suc, ◌+◌, ◌-◌, ◌<◌, ◌≤◌, ◌≡◌, refl, sym, ◌∙◌, ap, subst, Bool, true, false, cond, Option, Some, None, List, [], ◌∷◌, ◌++◌, append_assoc, drop, length, slice_get, arith}
+use Rattle.std.proofs.Common.{ℕ, ◌+◌, ◌-◌, ◌≤◌, ◌≡◌, refl, ◌∙◌, ap, subst, true, false, cond, List, [], ◌∷◌, ◌++◌, drop, length, arith}
 use Rattle.std.proofs.Math.ListN.{drop_of_length-le}
-use Rattle.std.proofs.lemmas.List.{append-nil, drop-drop}
+use Rattle.std.proofs.lemmas.List.{drop-drop}
 use Rattle.dso_session.specs.declared.frame.Frame.{Frame}
-use Rattle.dso_session.specs.declared.frame.Frame.TheVariants.{Carry, Hello}
+use Rattle.dso_session.specs.declared.frame.Frame.TheVariants.{Hello}
 use Rattle.dso_session.specs.declared.session.Posted.{Posted}
-use Rattle.dso_session.specs.Ends.{End, sent_count}
+use Rattle.dso_session.specs.Ends.{End}
 use Rattle.dso_session.specs.Laws.{HasSent}
-use Rattle.dso_world.specs.Link.{carried, emptied, gives, hello_due, left_to_give}
-use Rattle.dso_world.specs.LinkStands.{AreCarried, Carries, Greets, GreetsFirst}
+use Rattle.dso_world.specs.Link.{carried, emptied, gives, left_to_give}
+use Rattle.dso_world.specs.LinkStands.{AreCarried, GreetsFirst}
 
 module _ {M : Type 0} where
   -- frames carry the messages of which they are made

@@ -7,3 +7,4 @@ pub mod Pumping
 pub mod Carried
 pub mod LinkEnds
 pub mod Links
+pub mod LinkTakes

@@ -1,10 +1,9 @@
 -- What an end of a connection is once it sent a message, took one, or took the connection up again.
-use Rattle.std.proofs.Common.{ℕ, suc, ◌+◌, ◌-◌, ◌<◌, ◌≤◌, ◌≡◌, refl, sym, ◌∙◌, ap, subst, Bool, true, false, cond, eqb, leb, ltb, not, ◌&&◌, ◌||◌, Option, Some, None, List, [], ◌∷◌, ◌++◌, drop, length, max, arith}
+use Rattle.std.proofs.Common.{ℕ, suc, ◌+◌, ◌<◌, ◌≤◌, ◌≡◌, refl, sym, ◌∙◌, ap, subst, Bool, true, false, cond, leb, ltb, not, ◌&&◌, ◌||◌, List, [], ◌∷◌, ◌++◌, drop, length, arith}
 use Rattle.std.proofs.Math.Seq.{drop-append_seam}
 use Rattle.std.proofs.lemmas.Bool.{eq-eqb, le-ltb, leb-true, ltb-false}
 use Rattle.dso_session.specs.declared.frame.Accepted.{Accepted}
 use Rattle.dso_session.specs.declared.frame.Accepted.TheVariants as accepted
-use Rattle.dso_session.specs.declared.frame.Frame.{Frame}
 use Rattle.dso_session.specs.declared.frame.Frame.TheVariants.{Carry, Hello}
 use Rattle.dso_session.specs.declared.session.Posted.{Posted}
 use Rattle.dso_session.specs.declared.session.Role.{Role}

@@ -1,13 +1,13 @@
 -- What happens to the connection of a client makes of it one that stands for what has happened.
-use Rattle.std.proofs.Common.{ℕ, suc, ◌+◌, ◌-◌, ◌<◌, ◌≤◌, ◌≡◌, refl, sym, ◌∙◌, ap, subst, Bool, true, false, cond, eqb, Option, Some, None, List, [], ◌∷◌, ◌++◌, drop, length, slice_get, arith}
+use Rattle.std.proofs.Common.{ℕ, ◌+◌, ◌≤◌, ◌≡◌, sym, ◌∙◌, ap, subst, false, cond, eqb, List, [], ◌∷◌, ◌++◌, drop, length, arith}
 use Rattle.std.proofs.lemmas.List.{append-nil, drop-append-le, length-append, length-drop}
 use Rattle.std.proofs.lemmas.Bool.{eq-eqb, ne_eqb}
 use Rattle.dso_session.specs.declared.frame.Frame.{Frame}
 use Rattle.dso_session.specs.declared.session.Posted.{Posted}
 use Rattle.dso_session.specs.declared.session.Role.TheVariants as role
 use Rattle.dso_session.specs.Ends.{End, posted}
-use Rattle.dso_world.specs.Link.{Line, carried, emptied, gives, sent_down, sent_up}
-use Rattle.dso_world.specs.LinkStands.{AreCarried, BrokenStands, Course, CourseStands, GreetsFirst, HalfStands, JoinedStands, LinkStands, LinksGoOn, Past}
+use Rattle.dso_world.specs.Link.{Line, carried, gives, sent_down, sent_up}
+use Rattle.dso_world.specs.LinkStands.{AreCarried, Course, CourseStands, GreetsFirst, LinkStands, Past}
 use Rattle.dso_world.specs.LinkStands.{Joined, Broken, Half}
 use Rattle.dso_world.proofs.Carried.{carried_are, carried_more, greets_more, unready_gives}
 use Rattle.dso_world.proofs.LinkEnds.{gave_all, posted_gives, posted_stands, sent_one}
