@@ -1,0 +1,10 @@
+pub mod NthSet
+pub mod Named
+pub mod Chosen
+pub mod Breaks
+pub mod Order
+pub mod Pumping
+pub mod Carried
+pub mod LinkEnds
+pub mod Links
+pub mod LinkTakes

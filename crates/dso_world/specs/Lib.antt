@@ -1,0 +1,6 @@
+pub mod ChosenSlot
+pub mod Flags
+pub mod Breaks
+pub mod Laws
+pub mod Link
+pub mod LinkStands
