@@ -27,7 +27,7 @@ use Rattle.dso_store.specs.Graph.{AreClients, body_in, holds_in}
 within_unused : (p : Settings) → IsWithin p unused
 within_unused p = record { leased = λ c there. absurd (cc there); waiting = λ c there. absurd (cc there) }
 
-pub stands_opening : (p : Settings) (shape : Shape) (threads : List ThreadId) (server : Server) → p.shape ≡ shape → p.threads ≡ threads → contains nat_cmp server.lost ≡ (λ c. false) → server.ids ≡ []
+pub stands_opening : (p : Settings) (shape : Shape) (threads : List ThreadId) (server : Server) → p.shape ≡ shape → ((t : ThreadId) → list_any (is_thread t) p.threads ≡ list_any (is_thread t) threads) → contains nat_cmp server.lost ≡ (λ c. false) → server.ids ≡ []
     → body_in server.store ≡ (λ o. cond (eqb o 0) (Some (opening_roots shape)) None) → holds_in server.store ≡ (λ c o. false) → graph.last_in server.store ≡ (λ c. 0)
     → locks_in server.locks ≡ (λ l. unused) → requested_in server.locks ≡ [] → server.waiters.entries ≡ []
     → known_in server.threads ≡ (λ t. list_any (is_thread t) threads) → last_in server.threads ≡ (λ t. None) → ServerStands p server []
@@ -44,5 +44,5 @@ stands_opening p shape threads server ps pt lost ids bodies holds last locks req
       };
       locks = record { locks = locks; requested = requested; within = λ l. subst (λ f. IsWithin p (f l)) (sym locks) (within_unused p) };
       waiters = record { lists = lists; once = λ l. subst (λ f. AreDistinct (f l)) (sym lists) tt };
-      threads = record { known = known ∙ ap (λ ts t. list_any (is_thread t) ts) (sym pt); last = ended; ended = λ t. refl };
+      threads = record { known = known ∙ sym (fun_ext pt); last = ended; ended = λ t. refl };
     }

@@ -6,15 +6,17 @@ ghost use Rattle.dso_law.specs.Settings.{Settings};
 ghost use Rattle.dso_locks.specs.Locks.{IsClient};
 ghost use Rattle.dso_server.specs.Answering.{IsLost, IsTaken, given_by};
 ghost use Rattle.dso_server.specs.ServerStands.{ServerStands};
+ghost use Rattle.dso_server.specs.Threads.{RunsThreadsOf};
 
 use crate::answers::{answer, lost};
 use crate::batches::Batches;
 use crate::fits::fits;
 use crate::taken::Taken;
-use crate::threads::{Threads, opening};
+use crate::threads::{Threads, opening, threads_of};
 use crate::waiters::Waiters;
-use dso_base::{Down, NoMemory, Shape, ThreadId, Up};
+use dso_base::{Down, NoMemory, Up};
 use dso_locks::LockTable;
+use dso_machine::Code;
 use dso_store::Store;
 use std::alloc::Global;
 use std::collections::{BTreeMap, BTreeSet};
@@ -36,15 +38,18 @@ pub struct Server {
 }
 
 impl Server {
-    /// The server before its first entry, of any cluster of this shape that has these threads.
+    /// The server before its first entry, of a cluster of so many clients that runs this code. How many clients there are it
+    /// doesn't keep: its answers hold of whatever cluster has the code's shape and threads.
     ///
     /// It answers `NoMemory` where an allocation was refused.
-    pub fn new(alloc: Global, shape: &Shape, threads: &[ThreadId]) -> Result<Server, NoMemory>
-        ensures stands { IfOk result (λ server. (p : Settings) → p.shape ≡ shape.now → p.threads ≡ threads.now → ServerStands p server []) }
+    pub fn new(alloc: Global, code: &Code, clients: u8) -> Result<Server, NoMemory>
+        ensures stands { IfOk result (λ server. (p : Settings) → p.shape ≡ code.now.shape → RunsThreadsOf code.now p → p.clients ≡ clients → ServerStands p server []) }
         ensures given { IfOk result (λ server. given_by server ≡ 0) }
     {
-        let store = Store::new(alloc, shape)?;
-        let threads = opening(alloc, threads)?;
+        let _ = clients;
+        let store = Store::new(alloc, &code.shape)?;
+        let listed = threads_of(alloc, code.bodies.as_slice())?;
+        let threads = opening(alloc, listed.as_slice())?;
         Ok(Server {
             lost: BTreeSet::new(alloc),
             ids: Batches::new(alloc),
@@ -55,7 +60,7 @@ impl Server {
         })
     }
 
-    /// Takes a message of a client of the cluster, whose shape is that of [`Server::new`]. Fewer than 2^54 batches of ids were
+    /// Takes a message of a client of the cluster, whose code is that of [`Server::new`]. Fewer than 2^54 batches of ids were
     /// given before.
     ///
     /// It is `Done` where the client isn't lost and the message fits: the messages are those of the server rule's row, in
@@ -67,18 +72,18 @@ impl Server {
     pub fn take(
         &mut self,
         alloc: Global,
-        shape: &Shape,
+        code: &Code,
         client: u8,
         message: &Up,
     ) -> Result<(Taken, Vec<(u8, Down)>), NoMemory>
         requires { given_by self.old < 2 ^ 54 }
-        ensures taken { IfOk result (λ answer. (p : Settings) (es : List Entry) → p.shape ≡ shape.now → ServerStands p self.old es → IsClient p client → IsTaken p client message.now answer.0 answer.1.items self.old self.new es) }
+        ensures taken { IfOk result (λ answer. (p : Settings) (es : List Entry) → p.shape ≡ code.now.shape → ServerStands p self.old es → IsClient p client → IsTaken p client message.now answer.0 answer.1.items self.old self.new es) }
         ensures given { OnOk result (given_by self.new ≤ given_by self.old + 1) }
     {
         if self.lost.contains(&client) {
             return Ok((Taken::Gone, Vec::new(alloc)));
         }
-        if !fits(self, shape, client, message) {
+        if !fits(self, &code.shape, client, message) {
             return Ok((Taken::Unfit, Vec::new(alloc)));
         }
         let messages = answer(alloc, self, client, message)?;

@@ -1,16 +1,28 @@
 //! The threads of the cluster, each with how its last record ended.
-ghost use Rattle.std.specs.Prelude.{◌≡◌, true, false, None, Some, cond, is_some, eqb, ◌&&◌, IfOk, OnOk};
+ghost use Rattle.std.specs.Prelude.{◌≡◌, true, false, None, Some, cond, is_some, eqb, map, ◌&&◌, IfOk, OnOk};
 ghost use Rattle.std.specs.List.{list_any};
 ghost use Rattle.dso_base.specs.Following.{is_thread};
 ghost use Rattle.dso_server.specs.Threads.{known_in, last_in};
 
 use dso_base::{Ending, NoMemory, ThreadId};
 use dso_lookup::put;
+use dso_machine::ThreadBody;
 use std::alloc::Global;
 use std::collections::BTreeMap;
 
 /// Each thread with how its last record ended, None before its first.
 pub type Threads = BTreeMap<ThreadId, Option<Ending>>;
+
+/// The threads of these bodies, in their order.
+pub(crate) fn threads_of(alloc: Global, bodies: &[ThreadBody]) -> Result<Vec<ThreadId>, NoMemory>
+    ensures { IfOk result (λ threads. threads.items ≡ map (λ body. body.thread) bodies.now) }
+{
+    let mut threads = Vec::with_capacity(alloc, bodies.len())?;
+    for body in bodies {
+        threads.push(body.thread)?;
+    }
+    Ok(threads)
+}
 
 /// These threads, before their first records.
 pub(crate) fn opening(alloc: Global, threads: &[ThreadId]) -> Result<Threads, NoMemory>

@@ -11,17 +11,18 @@ use crate::answers::with_messages;
 use crate::records::record;
 use crate::words::{first_of, level, lock, number, small, thread};
 use dso_base::{ClassShape, FieldShape, Guard, Items, Kind, NoMemory, Shape, ThreadId, Up};
+use dso_machine::{Code, ThreadBody};
 use dso_server::Server;
 use std::alloc::{AllocError, Global};
 
 /// How many batches a row may ask for.
 const MOST_BATCHES: u64 = 1000;
 
-/// A server of clients with two threads each, 1 to 3, and of this shape: class 0 with a long guarded by the object's
+/// A server of clients with two threads each, 1 to 3, that do nothing, and of this shape: class 0 with a long guarded by the object's
 /// monitor and an object guarded by the named lock 1; one root, two named locks, one text.
 #[derive(Drop)]
 pub struct Rows {
-    shape: Shape,
+    code: Code,
     server: Server,
 }
 
@@ -46,22 +47,35 @@ fn shape(alloc: Global) -> Result<Shape, NoMemory> {
     })
 }
 
-/// The threads.
-fn threads(alloc: Global) -> Result<Vec<ThreadId>, NoMemory> {
-    let mut threads = Vec::new(alloc);
+/// The bodies of the threads.
+fn bodies(alloc: Global) -> Result<Items<ThreadBody>, NoMemory> {
+    let mut bodies = Items::new(alloc);
     for client in 1..4 {
-        threads.push(ThreadId { client, index: 1 })?;
-        threads.push(ThreadId { client, index: 2 })?;
+        bodies.push(body(alloc, ThreadId { client, index: 1 }))?;
+        bodies.push(body(alloc, ThreadId { client, index: 2 }))?;
     }
-    Ok(threads)
+    Ok(bodies)
 }
 
-/// The shape and a server of it.
+/// A thread that does nothing.
+fn body(alloc: Global, thread: ThreadId) -> ThreadBody {
+    ThreadBody {
+        thread,
+        vars: 0,
+        body: Items::new(alloc),
+    }
+}
+
+/// The code and a server of it.
 fn opened(alloc: Global) -> Result<Rows, NoMemory> {
-    let shape = shape(alloc)?;
-    let threads = threads(alloc)?;
-    let server = Server::new(alloc, &shape, threads.as_slice())?;
-    Ok(Rows { shape, server })
+    let bodies = bodies(alloc)?;
+    let code = Code {
+        shape: shape(alloc)?,
+        methods: Items::new(alloc),
+        bodies,
+    };
+    let server = Server::new(alloc, &code, 3)?;
+    Ok(Rows { code, server })
 }
 
 /// The text of the words.
@@ -154,7 +168,7 @@ impl Rows {
         if self.server.batches_given() > MOST_BATCHES {
             return shown(alloc, "too many batches");
         }
-        let (taken, messages) = self.server.take(alloc, &self.shape, client, message)?;
+        let (taken, messages) = self.server.take(alloc, &self.code, client, message)?;
         let text = format!(in alloc; "{taken:?}")?;
         with_messages(alloc, text, messages.as_slice())
     }
