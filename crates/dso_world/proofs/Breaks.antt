@@ -1,6 +1,6 @@
 -- That no break of a connection is due while it is broken.
-use Rattle.std.specs.List.{AllPairs, list_any}
-use Rattle.std.proofs.Common.{ℕ, zero, suc, ◌+◌, ◌<◌, ◌≤◌, ◌≡◌, ◌≢◌, refl, sym, ◌∙◌, ap, subst, Bool, true, false, cond, eqb, leb, ltb, not, ◌&&◌, ◌||◌, Option, List, [], ◌∷◌, filter, length, slice_index_or, arith}
+use Rattle.std.specs.List.{AllPairs}
+use Rattle.std.proofs.Common.{ℕ, suc, ◌+◌, ◌<◌, ◌≤◌, ◌≡◌, ◌≢◌, refl, sym, ◌∙◌, subst, Bool, true, false, cond, eqb, leb, ltb, not, ◌&&◌, ◌||◌, Option, List, [], ◌∷◌, filter, length, slice_index_or, arith}
 use Rattle.std.proofs.lemmas.Bool.{eqb-false, eqb-true, leb-false, le-ltb, leb-true, ltb-false}
 use Rattle.dso_base.specs.declared.journal.Entry.{Entry}
 use Rattle.dso_base.specs.declared.journal.Input.{Input}
@@ -15,8 +15,8 @@ use Rattle.dso_law.specs.Settings.{Settings}
 use Rattle.dso_law.specs.Entries.{entries_of, is_node}
 use Rattle.dso_law.specs.Channels.{FitsConnection, breaks, count_inputs, is_broken, rejoins, takes_up}
 use Rattle.dso_law.specs.ServerReadings.{is_break_due, is_loss_due, is_lost, is_reached, loses, taken_count}
-use Rattle.dso_law.specs.ServerStep.{ServerStepOn, TookStep, BreakStep}
-use Rattle.dso_legal.specs.Lawful.{AllFollow, IsLawful, NodeFollows}
+use Rattle.dso_law.specs.ServerStep.{ServerStepOn}
+use Rattle.dso_legal.specs.Lawful.{AllFollow, NodeFollows}
 use Rattle.dso_world.specs.Breaks.{BrokenIsNeverDue}
 
 -- how many of the triggers are for the client, after at most so many messages

@@ -4,3 +4,7 @@ pub mod Chosen
 pub mod Breaks
 pub mod Order
 pub mod Pumping
+pub mod Carried
+pub mod LinkEnds
+pub mod Links
+pub mod LinkTakes

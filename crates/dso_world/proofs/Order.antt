@@ -1,13 +1,13 @@
 -- What an end gave stays among what it sent, and what the other end has seen was given.
-use Rattle.std.proofs.Common.{ℕ, suc, ◌+◌, ◌-◌, ◌<◌, ◌≤◌, ◌^◌, ◌≡◌, refl, sym, ◌∙◌, ap, subst, Bool, true, false, cond, eqb, leb, ltb, not, ◌&&◌, ◌||◌, Option, Some, None, List, [], ◌∷◌, ◌++◌, drop, length, max, slice_get, arith}
+use Rattle.std.proofs.Common.{ℕ, suc, ◌+◌, ◌-◌, ◌<◌, ◌≤◌, ◌^◌, ◌≡◌, refl, Bool, true, false, cond, eqb, leb, ltb, not, ◌||◌, Option, Some, None, [], ◌∷◌, slice_get, arith}
 use Rattle.std.proofs.lemmas.List.{length-append, length-drop}
-use Rattle.std.proofs.lemmas.Bool.{leb-false, leb-true, ltb-false}
+use Rattle.std.proofs.lemmas.Bool.{ltb-false}
 use Rattle.std.proofs.lemmas.Option.{slice_get_within}
 use Rattle.dso_session.specs.declared.frame.Accepted.TheVariants as accepted
 use Rattle.dso_session.specs.declared.frame.Frame.{Frame}
 use Rattle.dso_session.specs.declared.frame.Frame.TheVariants.{Carry, Hello}
 use Rattle.dso_session.specs.declared.session.Posted.{Posted}
-use Rattle.dso_session.specs.Ends.{End, IsInOrder, after_answer, after_frame, behind_frame, broken, forgotten, gone_on, is_new, next_kept, posted, rejoined, sent_count}
+use Rattle.dso_session.specs.Ends.{End, IsInOrder, after_answer, after_frame, behind_frame, broken, forgotten, gone_on, is_new, next_kept, posted, sent_count}
 
 module _ {M : Type 0} where
   -- with one message more

@@ -1,15 +1,15 @@
 -- An end gives its frames one after the other.
-use Rattle.std.proofs.Common.{ℕ, zero, suc, ◌+◌, ◌-◌, ◌<◌, ◌≤◌, ◌≡◌, refl, sym, ◌∙◌, ap, Bool, true, false, cond, Option, Some, None, List, [], ◌∷◌, ◌++◌, drop, length, slice_get, subst, append_assoc, arith}
+use Rattle.std.proofs.Common.{ℕ, zero, suc, ◌+◌, ◌-◌, ◌≤◌, ◌≡◌, refl, sym, ◌∙◌, ap, Bool, true, false, cond, Option, Some, None, List, [], ◌∷◌, ◌++◌, drop, length, slice_get, subst, append_assoc, arith}
 use Rattle.std.proofs.lemmas.List.{append-nil}
 use Rattle.dso_world.proofs.Order.{order_behind}
 use Rattle.dso_session.specs.declared.frame.Frame.{Frame}
 use Rattle.dso_session.specs.declared.frame.Frame.TheVariants.{Carry, Hello}
 use Rattle.dso_session.specs.declared.session.Posted.{Posted}
-use Rattle.dso_session.specs.Ends.{End, IsInOrder, behind_frame, carrying, gone_on, next_frame, next_kept, sent_count}
-use Rattle.dso_world.specs.Link.{carried, emptied, gives, hello_due, left_to_give}
+use Rattle.dso_session.specs.Ends.{End, IsInOrder, behind_frame, carrying, gone_on, next_frame}
+use Rattle.dso_world.specs.Link.{carried, emptied, gives}
 
 -- the item at a place is the first one from there on
-from_here : {X : Type 0} (xs : List X) (i : ℕ) (x : X) → slice_get xs i ≡ Some x → drop i xs ≡ x ∷ drop (suc i) xs
+pub from_here : {X : Type 0} (xs : List X) (i : ℕ) (x : X) → slice_get xs i ≡ Some x → drop i xs ≡ x ∷ drop (suc i) xs
 from_here [] i x is = absurd (cc is)
 from_here (y ∷ ys) zero x is = let same : y ≡ x = cc is in ap (λ z. z ∷ ys) same
 from_here (y ∷ ys) (suc i) x is = from_here ys i x is

@@ -3,3 +3,4 @@ pub mod Flags
 pub mod Breaks
 pub mod Laws
 pub mod Link
+pub mod LinkStands

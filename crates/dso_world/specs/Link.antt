@@ -1,5 +1,5 @@
 -- The connection of a client: its two ends, and the frames that wait in its two channels.
-use Rattle.std.specs.Prelude.{ℕ, suc, ◌+◌, ◌-◌, ◌≤◌, Bool, true, false, cond, eqb, Option, Some, None, List, [], ◌∷◌, ◌++◌, drop, option_map}
+use Rattle.std.specs.Prelude.{ℕ, ◌+◌, ◌-◌, false, cond, eqb, Option, List, [], ◌∷◌, ◌++◌, drop, option_map}
 use Rattle.dso_law.specs.Replies.{first_of_list}
 use Rattle.dso_session.specs.declared.frame.Accepted.{Accepted}
 use Rattle.dso_session.specs.declared.frame.Frame.{Frame}

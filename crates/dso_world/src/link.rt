@@ -60,6 +60,41 @@ impl<M: Data + Drop> Link<M> {
         self.down.is_empty()
     }
 
+    /// How many messages the client sent. It takes no memory.
+    pub fn sent_up(&self) -> u64
+        ensures { result ≡ sent_count self.now.client }
+    {
+        self.client.sent()
+    }
+
+    /// How many messages the server sent. It takes no memory.
+    pub fn sent_down(&self) -> u64
+        ensures { result ≡ sent_count self.now.server }
+    {
+        self.server.sent()
+    }
+
+    /// How many messages of the client the server took. It takes no memory.
+    pub fn taken_up(&self) -> u64
+        ensures { result ≡ self.now.server.accepted }
+    {
+        self.server.accepted()
+    }
+
+    /// How many messages of the server the client took. It takes no memory.
+    pub fn taken_down(&self) -> u64
+        ensures { result ≡ self.now.client.accepted }
+    {
+        self.client.accepted()
+    }
+
+    /// How often the connection broke. It takes no memory.
+    pub fn breaks(&self) -> u32
+        ensures { result ≡ self.now.server.epoch }
+    {
+        self.server.epoch()
+    }
+
     /// The client gives its frames; those of a connection that is broken are dropped.
     fn pump_up(&mut self) -> Result<(), NoMemory>
         ensures { OnOk result (self.new ≡ pumped_up self.old) }
