@@ -9,9 +9,9 @@ use std::marker::Model;
 
 /// Which steps are open, and which of them is taken next.
 ///
-/// It has a flag for each slot, at the slot's place. Contracts see the flags, the place at which the next round begins and how
-/// many steps made an entry (`Row`). To choose costs one pass over the flags; a seed that was used before goes on from where it
-/// was.
+/// It has a flag for each slot, at the slot's place. Contracts see the flags, the place at which the next round begins
+/// and how many steps made an entry (`Row`). To choose costs one pass over the flags; a seed that was used before goes on
+/// from where it was.
 #[derive(Drop)]
 pub struct Chooser {
     flags: Vec<bool>,
@@ -61,7 +61,8 @@ fn next_set(flags: &[bool], begin: usize) -> Option<usize>
 }
 
 impl Chooser {
-    /// So many slots, none of which is open, before the first step. It answers `NoMemory` where an allocation was refused.
+    /// So many slots, none of which is open, before the first step. It answers `NoMemory` where an allocation was
+    /// refused.
     pub fn new(alloc: Global, slots: usize) -> Result<Chooser, NoMemory>
         ensures { IfOk result (λ chooser. chooser ≡ closed_row slots) }
     {
@@ -97,8 +98,8 @@ impl Chooser {
         self.begin = place + 1;
     }
 
-    /// The place of the slot that is taken next: by round robin, or by the seed. None exactly where no slot is open. It takes no
-    /// memory.
+    /// The place of the slot that is taken next: by round robin, or by the seed. None exactly where no slot is open. It
+    /// takes no memory.
     pub fn choose(&mut self, seed: Option<u64>) -> Option<usize>
         requires { self.old.entries + 1 < 2 ^ 64 }
         ensures chosen { result ≡ chosen_place seed self.old }

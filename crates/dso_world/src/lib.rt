@@ -1,4 +1,5 @@
-//! The cluster in one program: which steps are open, which one is chosen, and what goes over the connections of its clients.
+//! The cluster in one program: which steps are open, which one is chosen, and what goes over the connections of its
+//! clients.
 #![tactic(auto)]
 
 mod chooser;

@@ -10,8 +10,8 @@ use std::alloc::Global;
 use std::collections::VecDeque;
 use std::marker::Model;
 
-/// The connection of a client: its two ends, and the frames that wait on the way up to the server and on the way down to the
-/// client.
+/// The connection of a client: its two ends, and the frames that wait on the way up to the server and on the way down
+/// to the client.
 ///
 /// Contracts see all of it (`Line`). What an end can give goes to its channel within the call that makes it so. After
 /// `NoMemory` a link stands for no connection any more.
@@ -135,8 +135,8 @@ impl<M: Data + Drop> Link<M> {
         self.pump_down()
     }
 
-    /// The server takes the first frame on the way up, and what it makes of it is answered, None exactly where none waits. It
-    /// answers `NoMemory` where an allocation was refused.
+    /// The server takes the first frame on the way up, and what it makes of it is answered, None exactly where none
+    /// waits. It answers `NoMemory` where an allocation was refused.
     pub fn take_up(&mut self) -> Result<Option<Accepted<M>>, NoMemory>
         ensures answer { IfOk result (λ answer. answer ≡ first_answer self.old.up self.old.server) }
         ensures after { OnOk result (self.new ≡ taken_up self.old) }
@@ -146,8 +146,8 @@ impl<M: Data + Drop> Link<M> {
         Ok(answer)
     }
 
-    /// The client takes the first frame on the way down, and what it makes of it is answered, None exactly where none waits. It
-    /// answers `NoMemory` where an allocation was refused.
+    /// The client takes the first frame on the way down, and what it makes of it is answered, None exactly where none
+    /// waits. It answers `NoMemory` where an allocation was refused.
     pub fn take_down(&mut self) -> Result<Option<Accepted<M>>, NoMemory>
         ensures answer { IfOk result (λ answer. answer ≡ first_answer self.old.down self.old.client) }
         ensures after { OnOk result (self.new ≡ taken_down self.old) }
@@ -157,8 +157,8 @@ impl<M: Data + Drop> Link<M> {
         Ok(answer)
     }
 
-    /// The connection breaks, as the server knows: what waits on the ways is lost. It answers `NoMemory` where an allocation was
-    /// refused.
+    /// The connection breaks, as the server knows: what waits on the ways is lost. It answers `NoMemory` where an
+    /// allocation was refused.
     pub fn break_now(&mut self) -> Result<(), NoMemory>
         requires { self.old.server.epoch + 1 < 2 ^ 32 }
         ensures { OnOk result (self.new ≡ cut self.old) }

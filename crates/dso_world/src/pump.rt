@@ -7,8 +7,8 @@ use dso_base::{Data, NoMemory};
 use dso_session::{Accepted, Frame, Session};
 use std::collections::VecDeque;
 
-/// Every frame that the end can give goes to the channel. It answers `NoMemory` where an allocation was refused. It costs a step
-/// for each frame.
+/// Every frame that the end can give goes to the channel. It answers `NoMemory` where an allocation was refused. It
+/// costs a step for each frame.
 pub(crate) fn pump<M: Data + Drop>(
     end: &mut Session<M>,
     channel: &mut VecDeque<Frame<M>>,
