@@ -1,6 +1,7 @@
 //! The laws of the cluster in one program. Each is the contract of a function that does nothing.
 ghost use Rattle.dso_world.specs.Breaks.{BrokenIsNeverDue};
 ghost use Rattle.dso_world.specs.LinkStands.{LinksGoOn};
+ghost use Rattle.dso_world.specs.PastOf.{LettersAreLeft};
 ghost use Rattle.dso_world.specs.Laws.{PlacesAreChosen};
 
 /// Where each flag tells whether its slot is open, and a round begins behind the slot of the last entry, the chosen
@@ -21,4 +22,11 @@ pub fn broken_is_never_due()
 /// sent and not taken, on a broken one on the way down, and on one that the client has taken up again on the way up.
 pub fn links_go_on<M>()
     ensures { LinksGoOn M }
+{}
+
+/// In a lawful journal the letters in flight between a client and the server are those posted that were not taken. So where
+/// a connection stands for what happened to it by the journal, a frame waits exactly where the journal has a message or a
+/// rejoin to take; upwards only where no loss and no break is due.
+pub fn letters_are_left<M>()
+    ensures { LettersAreLeft M }
 {}
