@@ -9,3 +9,4 @@ pub mod LinkEnds
 pub mod Links
 pub mod LinkTakes
 pub mod Letters
+pub mod SlotsOnce

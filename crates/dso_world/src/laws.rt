@@ -2,12 +2,18 @@
 ghost use Rattle.dso_world.specs.Breaks.{BrokenIsNeverDue};
 ghost use Rattle.dso_world.specs.LinkStands.{LinksGoOn};
 ghost use Rattle.dso_world.specs.PastOf.{LettersAreLeft};
-ghost use Rattle.dso_world.specs.Laws.{PlacesAreChosen};
+ghost use Rattle.dso_world.specs.Laws.{PlacesAreChosen, RoundsGoOn};
 
 /// Where each flag tells whether its slot is open, and a round begins behind the slot of the last entry, the chosen
 /// place is that of the chosen slot, by round robin and by each seed. None is chosen exactly where no slot is open.
 pub fn places_are_chosen()
     ensures { PlacesAreChosen }
+{}
+
+/// Where each thread stands once among those of the cluster, the place behind a slot is the next one: so a round begins
+/// behind the place at which the last step was taken.
+pub fn rounds_go_on()
+    ensures { RoundsGoOn }
 {}
 
 /// In a lawful journal of a program that sets no break twice, a break of a client's connection is never due while that
