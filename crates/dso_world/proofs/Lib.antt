@@ -8,3 +8,5 @@ pub mod Carried
 pub mod LinkEnds
 pub mod Links
 pub mod LinkTakes
+pub mod Letters
+pub mod SlotsOnce

@@ -23,7 +23,7 @@ not_below a b less = by (leb a b) refl
     by true is = absurd (omega (arith, less, leb-true a b is))
     by false is = refl
 
-below : (a b : ℕ) → a < b → ltb a b ≡ true
+pub below : (a b : ℕ) → a < b → ltb a b ≡ true
 below a b less = by (ltb a b) refl
   where
     by : (test : Bool) → ltb a b ≡ test → test ≡ true

@@ -1,5 +1,5 @@
 -- That the place chosen in a row of flags is that of the chosen slot.
-use Rattle.std.specs.Prelude.{ℕ, ◌≡◌, ◌↔◌, Option, Some, None, List, [], length, map, option_and_then, slice_get}
+use Rattle.std.specs.Prelude.{ℕ, ◌+◌, ◌≡◌, ◌≢◌, ◌↔◌, AllPairs, Option, Some, None, List, [], length, map, option_and_then, slice_get}
 use Rattle.dso_base.specs.declared.journal.Entry.{Entry}
 use Rattle.dso_base.specs.declared.lock.ThreadId.{ThreadId}
 use Rattle.dso_base.specs.declared.request.Event.{Event}
@@ -32,3 +32,9 @@ module _ (p : Settings) (next : ThreadId → List Event → Option Request) wher
 abbrev pub PlacesAreChosen : Type 0
 PlacesAreChosen = (p : Settings) (next : ThreadId → List Event → Option Request) (row : Row) (es : List Entry)
     → RowStands p next row es → (seed : Option ℕ) → IsChosen p next seed row es
+
+-- Rounds: where each thread stands once, the place behind a slot that stands at a place is the next one. So a round begins behind
+-- the place at which the last step was taken.
+abbrev pub RoundsGoOn : Type 0
+RoundsGoOn = (p : Settings) → AllPairs (λ thread other. thread ≢ other) p.threads → (slot : Slot) (place : ℕ)
+    → slice_get (slots p) place ≡ Some slot → place_behind (Some slot) (slots p) ≡ place + 1

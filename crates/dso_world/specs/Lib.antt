@@ -4,3 +4,4 @@ pub mod Breaks
 pub mod Laws
 pub mod Link
 pub mod LinkStands
+pub mod PastOf

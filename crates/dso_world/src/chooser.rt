@@ -10,8 +10,8 @@ use std::marker::Model;
 /// Which steps are open, and which of them is taken next.
 ///
 /// It has a flag for each slot, at the slot's place. Contracts see the flags, the place at which the next round begins
-/// and how many steps made an entry (`Row`). To choose costs one pass over the flags; a seed that was used before goes on
-/// from where it was.
+/// and how many steps made an entry (`Row`). To choose costs one pass over the flags; a seed that was used before goes
+/// on from where it was.
 #[derive(Drop)]
 pub struct Chooser {
     flags: Vec<bool>,
