@@ -1,0 +1,105 @@
+-- A client before its first entry stands for no entries.
+use Rattle.std.proofs.Common.{◌≡◌, ℕ, ◌+◌, ◌≤◌, refl, sym, ◌∙◌, ap, arith, Bool, true, false, ◌&&◌, Some, None, List, [], ◌∷◌, map, length}
+use Rattle.std.proofs.lemmas.Bool.{le-ltb}
+use Rattle.std.specs.List.{AllByRecursion}
+use Rattle.std.specs.Map.{lookup}
+use Rattle.std.specs.BTreeMap.{is_at}
+use Rattle.std.specs.Prelude.{cond, eqb, ltb}
+use Rattle.std.specs.Option.{option_map, unwrap_or}
+use Rattle.dso_lookup.specs.Orders.{lock_order}
+use Rattle.dso_law.specs.Settings.{Settings, threads_of}
+use Rattle.dso_machine.specs.declared.code.Code.{Code}
+use Rattle.dso_table.specs.declared.tables.Tables.{Tables}
+use Rattle.dso_table.specs.States.{State, nothing_known, body_of, is_asked}
+use Rattle.dso_table.specs.Tables.{state_in}
+use Rattle.dso_client.specs.declared.kept.Kept.{Kept}
+use Rattle.dso_client.specs.declared.ledger.Ledger.{Ledger}
+use Rattle.dso_client.specs.declared.locking.Locking.{Locking}
+use Rattle.dso_client.specs.declared.seat.Seat.{Seat}
+use Rattle.dso_client.specs.ClientStands.{ClientStands, point}
+use Rattle.dso_client.specs.CodeRuns.{SeatRuns, RunsCode}
+use Rattle.dso_client.specs.LedgerStands.{LedgerStands, ids_in}
+use Rattle.dso_client.specs.LockingStands.{LockingStands, as_hold}
+use Rattle.dso_client.specs.Openings.{IsOpening, IsEmptyLocking, IsEmptyLedger, first_threads}
+use Rattle.dso_client.specs.RunFacts.{RunFacts}
+use Rattle.dso_client.specs.SeatStands.{SeatStands}
+use Rattle.dso_client.specs.TableStands.{TableStands}
+
+-- what holds of each, holds of each in other words
+pub all_as : {X : Type 0} (P Q : X → Type 0) → ((x : X) → P x → Q x) → (xs : List X) → AllByRecursion P xs → AllByRecursion Q xs
+all_as P Q turns [] h = tt
+all_as P Q turns (x ∷ xs) h = (turns x h.0, all_as P Q turns xs h.1)
+
+neither : (b : Bool) → false ≡ (b && false)
+neither true = refl
+neither false = refl
+
+module _ (code : Code) (p : Settings) (c : ℕ) (shape : p.shape ≡ code.shape) where
+  seat_stands : (seat : Seat) → IsOpening code seat → SeatStands (point code p c []) seat
+  seat_stands seat h = record { next = h.next; work = h.work; seen = h.seen; waiting = h.waiting; marked = h.unmarked; last = h.last }
+
+  table_stands : (table : Tables) (resident : ℕ) → p.resident ≡ resident → state_in table ≡ nothing_known resident → TableStands (point code p c []) table
+  table_stands table resident room is = record {
+    bodies = λ o. ap (λ (s : State). body_of (s.standing o)) is;
+    asked = λ o. ap (λ (s : State). is_asked (s.standing o)) is;
+    marks = λ o. ap (λ (s : State). s.marks o) is;
+    opened = λ t o. ap (λ (s : State). s.opened (t, o)) is;
+    wanted = λ t o. ap (λ (s : State). s.wanted (t, o)) is ∙ neither (eqb t.client c);
+    room = ap (λ (s : State). s.limit) is ∙ sym room;
+    count = ap (λ (s : State). s.residents) is;
+  }
+
+  locking_stands : (locking : Locking) → IsEmptyLocking locking → LockingStands (point code p c []) locking
+  locking_stands locking h = record {
+    holds = λ t l. ap (λ holds. option_map as_hold (holds (l, t))) h.holds;
+    leases = λ l. ap (λ leases. leases l) h.leases;
+    lists = λ l. ap (λ es. unwrap_or (lookup (is_at (lock_order l)) es) []) h.lists;
+  }
+
+  no_id : (k : ℕ) → cond (ltb (1 + k) 1) (Some (1 + k)) None ≡ None
+  no_id k =
+      let most : 1 ≤ 1 + k = omega arith in
+      ap (λ b. cond b (Some (1 + k)) None) (le-ltb (1 + k) 1 most)
+
+  ledger_stands : (ledger : Ledger) → IsEmptyLedger ledger → LedgerStands (point code p c []) ledger
+  ledger_stands ledger h = record {
+    ids = λ k. ap (λ pool. ids_in pool k) h.pool ∙ no_id k;
+    bounded = let next = ap (λ pool. pool.next) h.pool in let end = ap (λ pool. pool.end) h.pool in omega (arith, next, end);
+    end = ap (λ pool. pool.end) h.pool;
+    asking = h.asking;
+    records = h.records;
+    unacked = λ n. ap (λ numbers. numbers n) h.unacked;
+  }
+
+  facts : RunFacts (point code p c [])
+  facts = record {
+    apart = λ l e. absurd (cc e);
+    settled = λ t. refl;
+    numbered = record { acked = 0; numbers = tt; whole = refl };
+    strangers = λ t e. refl;
+    waitless = λ t e. refl;
+    unwanted = λ t o e its. refl;
+  }
+
+  pub stands_at_start : (kept : Kept) (threads resident : ℕ) → kept.number ≡ c → p.resident ≡ resident → threads_of p c ≡ first_threads c threads
+      → map (λ seat. seat.id) kept.seats.items ≡ first_threads c threads → length kept.seats.items ≡ threads → AllByRecursion (IsOpening code) kept.seats.items
+      → state_in kept.table ≡ nothing_known resident → IsEmptyLocking kept.locking → IsEmptyLedger kept.ledger → ClientStands code p c kept []
+  stands_at_start kept threads resident number room ours ids many opening table locking ledger = record {
+    shape = shape;
+    run = tt;
+    parts = record {
+      number = number;
+      places = ids ∙ sym ours;
+      numbered = ids ∙ ap (first_threads c) (sym many);
+      seats = all_as (IsOpening code) (SeatStands (point code p c [])) seat_stands kept.seats.items opening;
+      table = table_stands kept.table resident room table;
+      locking = locking_stands kept.locking locking;
+      ledger = ledger_stands kept.ledger ledger;
+      facts = facts;
+    };
+    threads = all_as (IsOpening code) _ (λ seat h. h.stands) kept.seats.items opening;
+  }
+
+-- and its threads run the code
+pub runs_at_start : (code : Code) (kept : Kept) → AllByRecursion (IsOpening code) kept.seats.items → RunsCode code kept
+runs_at_start code kept opening = all_as (IsOpening code) (SeatRuns code) (λ seat h. h.runs) kept.seats.items opening

@@ -1,0 +1,32 @@
+-- The flush of a client.
+use Rattle.std.proofs.Common.{◌≡◌, ℕ, ap, sym, ◌∙◌, is_some, inl, inr, Option, Some, None}
+use Rattle.std.specs.Option.{IfSome, IfNone}
+use Rattle.dso_law.proofs.core.Bodies.{bodies_are_held}
+use Rattle.dso_law.proofs.runs.Numbers.{records_are_acked_in_order}
+use Rattle.dso_machine.specs.Next.{next_request}
+use Rattle.dso_table.specs.States.{flushed}
+use Rattle.dso_table.specs.Tables.{state_in}
+use Rattle.dso_table.specs.Victims.{IsFlushable, IsVictim, NoVictim}
+use Rattle.dso_client.specs.declared.kept.Kept.{Kept}
+use Rattle.dso_client.specs.ClientStands.{point}
+use Rattle.dso_client.specs.Flushing.{Flushes, NoneDue}
+use Rattle.dso_client.proofs.Flushable.{may_flush_it, none_due}
+use Rattle.dso_client.proofs.Flushed.{stands_flushed}
+
+victim_goes : (kept : Kept) (o : ℕ) → IsVictim (state_in kept.table) o → IsFlushable (state_in kept.table) o
+victim_goes kept o h = elim h.chosen [ inl first ↦ first.flushable | inr last ↦ last.flushable ]
+
+pub flush_made : (found : Option ℕ) (old new : Kept) → IfSome found (IsVictim (state_in old.table)) → IfSome found (λ o. state_in new.table ≡ flushed o (state_in old.table))
+    → new ≡ record old { table = new.table } → IfSome found (Flushes old new)
+flush_made None old new victim is same = tt
+flush_made (Some o) old new victim is same = λ code p c clock es h.
+    let goes = victim_goes old o victim in
+    let table = h.parts.table in
+    stands_flushed code p c clock o es old new h
+    (may_flush_it (point code p c es) old.table table h.parts.facts (records_are_acked_in_order p c (next_request code) es h.run) o victim.full goes)
+    (sym (ap is_some (table.bodies o) ∙ (bodies_are_held o es).resident) ∙ goes.resident) is same
+
+pub flush_none : (found : Option ℕ) (kept : Kept) → IfNone found (NoVictim (state_in kept.table)) → IfNone found (NoneDue kept)
+flush_none (Some o) kept none = tt
+flush_none None kept none = λ code p c es h.
+    none_due (point code p c es) kept.table h.parts.table h.parts.facts (records_are_acked_in_order p c (next_request code) es h.run) none

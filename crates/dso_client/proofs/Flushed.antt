@@ -1,0 +1,103 @@
+-- What stands after a flush.
+use Rattle.std.proofs.Common.{◌≡◌, ℕ, ◌-◌, refl, sym, ◌∙◌, ap, subst, Bool, true, false, cond, eqb, is_some, Option, Some, None, List, ◌∷◌}
+use Rattle.std.proofs.lemmas.Bool.{eqb-true}
+use Rattle.std.specs.Cmp.{unsigned_tied}
+use Rattle.dso_base.specs.declared.journal.Entry.{Entry}
+use Rattle.dso_lookup.specs.Maps.{or_old}
+use Rattle.dso_law.specs.Settings.{Settings}
+use Rattle.dso_law.specs.Copies.{is_resident, is_object_asked}
+use Rattle.dso_law.specs.HeldBody.{held_body}
+use Rattle.dso_law.specs.ResidentCount.{resident_count}
+use Rattle.dso_law.specs.ClientStep.{MayFlush}
+use Rattle.dso_law.proofs.core.Bodies.{bodies_are_held}
+use Rattle.dso_law.proofs.core.Counts.{residents_are_counted}
+use Rattle.dso_machine.specs.declared.code.Code.{Code}
+use Rattle.dso_table.specs.declared.slot.Standing.{Standing}
+use Rattle.dso_table.specs.declared.slot.Standing.TheVariants.{Asked, Resident}
+use Rattle.dso_table.specs.declared.tables.Tables.{Tables}
+use Rattle.dso_table.specs.States as states
+use Rattle.dso_table.specs.States.{State, body_of, is_asked, with_at, flushed}
+use Rattle.dso_table.specs.Tables.{state_in}
+use Rattle.dso_client.specs.declared.kept.Kept.{Kept}
+use Rattle.dso_client.specs.declared.seat.Seat.{Seat}
+use Rattle.dso_client.specs.ClientStands.{ClientStands, point}
+use Rattle.dso_client.specs.Entries.{flush_entry}
+use Rattle.dso_client.specs.RunFacts.{RunFacts}
+use Rattle.dso_client.specs.SeatStands.{SeatStands}
+use Rattle.dso_client.specs.TableStands.{TableStands}
+use Rattle.dso_client.proofs.AtStart.{all_as}
+
+-- a function with another value at one number
+pub at_number : {V : Type 0} (o : ℕ) (new : V) (old : ℕ → V) (x : ℕ) → with_at o new old x ≡ cond (eqb o x) new (old x)
+at_number {V} o new old x = ap (λ b. or_old (cond b (Some new) None) (old x)) (unsigned_tied o x) ∙ by (eqb o x)
+  where
+    by : (b : Bool) → or_old (cond b (Some new) None) (old x) ≡ cond b new (old x)
+    by true = refl
+    by false = refl
+
+-- a resident object isn't asked for
+not_asked : (standing : Option Standing) → states.is_resident standing ≡ true → is_asked standing ≡ false
+not_asked None e = refl
+not_asked (Some standing) e = there standing e
+  where
+    there : (standing : Standing) → states.is_resident (Some standing) ≡ true → is_asked (Some standing) ≡ false
+    there Asked e = absurd (cc e)
+    there (Resident body) e = refl
+
+module _ (code : Code) (p : Settings) (c clock o : ℕ) (es : List Entry) where
+  abbrev after : List Entry
+  after = flush_entry clock c o ∷ es
+
+  seat_after : (seat : Seat) → SeatStands (point code p c es) seat → SeatStands (point code p c after) seat
+  seat_after seat h = record { next = h.next; work = h.work; seen = h.seen; waiting = h.waiting; marked = h.marked; last = h.last }
+
+  table_after : (old new : Tables) → TableStands (point code p c es) old → is_resident o es ≡ true → state_in new ≡ flushed o (state_in old)
+      → TableStands (point code p c after) new
+  table_after old new h there is = record {
+    bodies = λ x. ap (λ (s : State). body_of (s.standing x)) is ∙ (ap body_of (at_number o None (state_in old).standing x) ∙ bodies x (eqb o x));
+    asked = λ x. ap (λ (s : State). is_asked (s.standing x)) is ∙ (ap is_asked (at_number o None (state_in old).standing x) ∙ asked x (eqb o x) refl);
+    marks = λ x. ap (λ (s : State). s.marks x) is ∙ h.marks x;
+    opened = λ t x. ap (λ (s : State). s.opened (t, x)) is ∙ h.opened t x;
+    wanted = λ t x. ap (λ (s : State). s.wanted (t, x)) is ∙ h.wanted t x;
+    room = ap (λ (s : State). s.limit) is ∙ h.room;
+    count = ap (λ (s : State). s.residents) is ∙ (ap (λ n. n - 1) h.count ∙ ap (λ b. cond b (resident_count es - 1) (resident_count es)) (sym ((residents_are_counted es).has o ∙ there)));
+  }
+    where
+      bodies : (x : ℕ) (b : Bool) → body_of (cond b None ((state_in old).standing x)) ≡ cond b None (held_body x es)
+      bodies x true = refl
+      bodies x false = h.bodies x
+
+      asked : (x : ℕ) (b : Bool) → eqb o x ≡ b → is_asked (cond b None ((state_in old).standing x)) ≡ is_object_asked x es
+      asked x true same =
+          let it : o ≡ x = eqb-true o x same in
+          let resident : states.is_resident ((state_in old).standing x) ≡ true = ap is_some (h.bodies x) ∙ ((bodies_are_held x es).resident ∙ (ap (λ n. is_resident n es) (sym it) ∙ there)) in
+          sym (not_asked ((state_in old).standing x) resident) ∙ h.asked x
+      asked x false same = h.asked x
+
+  facts_after : RunFacts (point code p c es) → RunFacts (point code p c after)
+  facts_after h = record { apart = h.apart; settled = h.settled; numbered = h.numbered; strangers = h.strangers; waitless = h.waitless; unwanted = h.unwanted }
+
+  pub stands_flushed : (old new : Kept) → ClientStands code p c old es → MayFlush p c o es → is_resident o es ≡ true
+      → state_in new.table ≡ flushed o (state_in old.table) → new ≡ record old { table = new.table } → ClientStands code p c new after
+  stands_flushed old new h may there is same = subst (λ kept. ClientStands code p c kept after) (sym same) (record {
+    shape = h.shape;
+    run = (h.run, record { may = may; event = refl; sends = refl });
+    parts = record {
+      number = h.parts.number;
+      places = h.parts.places;
+      numbered = h.parts.numbered;
+      seats = all_as (SeatStands (point code p c es)) (SeatStands (point code p c after)) seat_after old.seats.items h.parts.seats;
+      table = table_after old.table new.table h.parts.table there is;
+      locking = record { holds = h.parts.locking.holds; leases = h.parts.locking.leases; lists = h.parts.locking.lists };
+      ledger = record {
+        ids = h.parts.ledger.ids;
+        bounded = h.parts.ledger.bounded;
+        end = h.parts.ledger.end;
+        asking = h.parts.ledger.asking;
+        records = h.parts.ledger.records;
+        unacked = h.parts.ledger.unacked;
+      };
+      facts = facts_after h.parts.facts;
+    };
+    threads = h.threads;
+  })

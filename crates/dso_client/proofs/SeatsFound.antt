@@ -1,0 +1,122 @@
+-- The seat of a thread is where its index says.
+use Rattle.std.specs.List.{AllByRecursion, list_any}
+use Rattle.std.proofs.Common.{◌≡◌, ℕ, zero, suc, ◌+◌, ◌<◌, refl, sym, ◌∙◌, ap, subst, arith, Bool, true, false, cond, ◌||◌, is_some, inl, inr, Option, Some, None, List, [], ◌∷◌, ◌++◌, map, length, slice_get, count_by, fold}
+use Rattle.std.proofs.lemmas.Bool.Decides.{eqb_tells}
+use Rattle.std.proofs.lemmas.List.{length-append}
+use Rattle.std.proofs.lemmas.Option.{slice_get-map, slice_get_within}
+use Rattle.std.specs.Option.{option_map}
+use Rattle.dso_base.specs.declared.lock.ThreadId.{ThreadId}
+use Rattle.dso_base.specs.Following.{is_thread}
+use Rattle.dso_law.specs.Settings.{up_to, threads_of}
+use Rattle.dso_plain.proofs.keys.SameKeys.{same_thread}
+use Rattle.dso_client.specs.declared.kept.Kept.{Kept}
+use Rattle.dso_client.specs.declared.seat.Seat.{Seat}
+use Rattle.dso_client.specs.KeptStands.{KeptStands}
+use Rattle.dso_client.specs.Openings.{thread_at, first_threads}
+use Rattle.dso_client.specs.Points.{Point}
+use Rattle.dso_client.specs.SeatPlaces.{seat_in}
+use Rattle.dso_client.specs.SeatStands.{SeatStands}
+
+-- what holds of each holds of the one at a place
+pub all_at : {X : Type 0} (P : X → Type 0) (xs : List X) (at : ℕ) (x : X) → AllByRecursion P xs → slice_get xs at ≡ Some x → P x
+all_at P [] at x h e = absurd (cc e)
+all_at P (y ∷ ys) zero x h e = subst P (cc e) h.0
+all_at P (y ∷ ys) (suc at) x h e = all_at P ys at x h.1 e
+
+-- one more element stands behind the others
+at_end : (xs : List ℕ) (x i : ℕ) → i ≡ length xs → slice_get (xs ++ x ∷ []) i ≡ Some x
+at_end [] x zero e = refl
+at_end [] x (suc i) e = absurd (cc e)
+at_end (y ∷ ys) x zero e = absurd (cc e)
+at_end (y ∷ ys) x (suc i) e = at_end ys x i (cc e)
+
+before_end : (xs : List ℕ) (x i : ℕ) → i < length xs → slice_get (xs ++ x ∷ []) i ≡ slice_get xs i
+before_end [] x i less = absurd (omega (arith, less))
+before_end (y ∷ ys) x zero less = refl
+before_end (y ∷ ys) x (suc i) less = before_end ys x i (omega (arith, less))
+
+many_up_to : (n : ℕ) → length (up_to n) ≡ n
+many_up_to zero = refl
+many_up_to (suc n) =
+    let rest = many_up_to n in
+    let all : length (up_to n ++ suc n ∷ []) ≡ length (up_to n) + 1 = length-append (up_to n) (suc n ∷ []) in
+    omega (arith, rest, all)
+
+-- the numbers up to n, counted from 0
+pub number_at_place : (n i : ℕ) → i < n → slice_get (up_to n) i ≡ Some (suc i)
+number_at_place zero i less = absurd (omega (arith, less))
+number_at_place (suc n) i less = elim (eqb_tells i n) [
+  | inl h ↦ at_end (up_to n) (suc n) i (h.1 ∙ sym (many_up_to n)) ∙ ap (λ k. Some (suc k)) (sym h.1)
+  | inr h ↦
+      let many = many_up_to n in
+      let differ = h.1 in
+      let less_still : i < length (up_to n) = omega (arith, many, less, differ) in
+      let within : i < n = omega (arith, less, differ) in
+      before_end (up_to n) (suc n) i less_still ∙ number_at_place n i within
+]
+
+-- the seat at an index is that of the thread
+pub seat_is : (c : ℕ) (seats : List Seat) (index : ℕ) (seat : Seat) → map (λ seat. seat.id) seats ≡ first_threads c (length seats) → seat_in seats index ≡ Some seat
+    → seat.id ≡ thread_at c index
+seat_is c seats zero seat numbered e = absurd (cc e)
+seat_is c seats (suc at) seat numbered e =
+    let n = length seats in
+    let found : slice_get (map (λ (seat : Seat). seat.id) seats) at ≡ Some seat.id = slice_get-map (λ (seat : Seat). seat.id) seats at ∙ ap (option_map (λ (seat : Seat). seat.id)) e in
+    let numbers : slice_get (first_threads c n) at ≡ Some (thread_at c (suc at)) = slice_get-map (thread_at c) (up_to n) at
+    ∙ ap (option_map (thread_at c)) (number_at_place n at (slice_get_within seats at seat e)) in
+    let same : Some seat.id ≡ Some (thread_at c (suc at)) = sym found ∙ (ap (λ threads. slice_get threads at) numbered ∙ numbers) in
+    cc same
+
+-- a thread of a list stands at some place
+place_of : (t : ThreadId) (xs : List ThreadId) → list_any (is_thread t) xs ≡ true → (k : ℕ) × (slice_get xs k ≡ Some t)
+place_of t [] e = absurd (cc e)
+place_of t (x ∷ xs) e = by (is_thread t x) refl e (place_of t xs)
+  where
+    by : (b : Bool) → is_thread t x ≡ b → (b || list_any (is_thread t) xs) ≡ true → (list_any (is_thread t) xs ≡ true → (k : ℕ) × (slice_get xs k ≡ Some t))
+        → (k : ℕ) × (slice_get (x ∷ xs) k ≡ Some t)
+    by true is e rest = (0, ap Some (same_thread t x is))
+    by false is e rest = let later = rest e in (suc later.0, later.1)
+
+-- what is told of something that may be there, is told of something
+mapped : {A B : Type 0} (f : A → B) (x : Option A) (y : B) → option_map f x ≡ Some y → (a : A) × (x ≡ Some a) × (f a ≡ y)
+mapped f None y e = absurd (cc e)
+mapped f (Some a) y e = (a, refl, cc e)
+
+-- a thread of the client has a seat
+pub seat_there : (c : ℕ) (seats : List Seat) (index : ℕ) → map (λ seat. seat.id) seats ≡ first_threads c (length seats)
+    → list_any (is_thread (thread_at c index)) (map (λ seat. seat.id) seats) ≡ true → (seat : Seat) × (seat_in seats index ≡ Some seat)
+seat_there c seats index numbered its =
+    let place = place_of (thread_at c index) (map (λ seat. seat.id) seats) its in
+    let one = mapped (λ (seat : Seat). seat.id) (slice_get seats place.0) (thread_at c index) (sym (slice_get-map (λ (seat : Seat). seat.id) seats place.0) ∙ place.1) in
+    let id = seat_is c seats (suc place.0) one.0 numbered one.1 in
+    let same : index ≡ suc place.0 = ap (λ (t : ThreadId). t.index) (sym one.2 ∙ id) in
+    (one.0, ap (seat_in seats) same ∙ one.1)
+
+module _ (at : Point) (kept : Kept) (stands : KeptStands at kept) (index : ℕ) where
+  -- a seat that is found stands, and is that of the thread
+  pub found_stands : (seat : Seat) → Some seat ≡ seat_in kept.seats.items index → SeatStands at seat
+  found_stands seat e = by index (sym e)
+    where
+      by : (index : ℕ) → seat_in kept.seats.items index ≡ Some seat → SeatStands at seat
+      by zero e = absurd (cc e)
+      by (suc k) e = all_at (SeatStands at) kept.seats.items k seat stands.seats e
+
+  pub found_is : (seat : Seat) → Some seat ≡ seat_in kept.seats.items index → seat.id ≡ thread_at at.client index
+  found_is seat e = seat_is at.client kept.seats.items index seat stands.numbered (sym e)
+
+  -- and there is one for each thread of the client
+  pub never_missing : list_any (is_thread (thread_at at.client index)) (threads_of at.settings at.client) ≡ true → None ≡ seat_in kept.seats.items index → ⊥
+  never_missing its e =
+      let one = seat_there at.client kept.seats.items index stands.numbered (ap (list_any (is_thread (thread_at at.client index))) stands.places ∙ its) in
+      absurd (cc (e ∙ one.1))
+
+-- the threads that have a next request, by their seats: counted from a number on
+alive_from : (at : Point) (n : ℕ) (seats : List Seat) → AllByRecursion (SeatStands at) seats
+    → fold (λ (n : ℕ) (seat : Seat). n + cond (is_some seat.next) 1 0) n seats ≡ fold (λ (n : ℕ) t. n + cond (is_some (at.next t)) 1 0) n (map (λ seat. seat.id) seats)
+alive_from at n [] h = refl
+alive_from at n (seat ∷ seats) h = ap (λ b. fold (λ (n : ℕ) (seat : Seat). n + cond (is_some seat.next) 1 0) (n + cond b 1 0) seats) (ap is_some h.0.next)
+    ∙ alive_from at (n + cond (is_some (at.next seat.id)) 1 0) seats h.1
+
+pub count_alive : (at : Point) (seats : List Seat) → AllByRecursion (SeatStands at) seats
+    → count_by (λ seat. is_some seat.next) seats ≡ count_by (λ t. is_some (at.next t)) (map (λ seat. seat.id) seats)
+count_alive at seats h = alive_from at 0 seats h

@@ -1,0 +1,5 @@
+-- What the entries of a run keep.
+pub mod Strangers
+pub mod Settled
+pub mod Apart
+pub mod All

@@ -1,0 +1,67 @@
+-- An acknowledgement that was taken.
+use Rattle.std.proofs.Common.{◌≡◌, ◌↔◌, ℕ, refl, sym, ◌∙◌, ap, subst, inl, inr, IsTrue, Bool, true, false, cond, eqb, ◌||◌, Option, Some, None, List, [], ◌∷◌, drop}
+use Rattle.std.proofs.lemmas.Bool.{eqb-true, lt-ltb, le-ltb}
+use Rattle.std.proofs.lemmas.Bool.Decides.{leb_tells}
+use Rattle.std.specs.Bool.{OnTrue}
+use Rattle.dso_base.specs.declared.message.Down.TheVariants as down
+use Rattle.dso_base.specs.declared.record.Txn.{Txn}
+use Rattle.dso_law.specs.ChangeMarks.{later_mark}
+use Rattle.dso_law.specs.FitsDown.{FitsAck}
+use Rattle.dso_law.specs.Records.{unacked}
+use Rattle.dso_law.specs.RunLaws.{NumberedFrom}
+use Rattle.dso_table.specs.declared.tables.Tables.{Tables}
+use Rattle.dso_table.specs.States.{State, body_of, is_asked, acknowledged, later_than}
+use Rattle.dso_table.specs.Tables.{state_in}
+use Rattle.dso_txn.specs.Numbers.{numbers_in, with_number, IsLeast}
+use Rattle.dso_client.specs.declared.ledger.Ledger.{Ledger}
+use Rattle.dso_client.specs.Hearing.{heard}
+use Rattle.dso_client.specs.LedgerStands.{LedgerStands}
+use Rattle.dso_client.specs.Points.{Point}
+use Rattle.dso_client.specs.RunFacts.{RunFacts}
+use Rattle.dso_client.specs.TableStands.{TableStands}
+use Rattle.dso_client.proofs.FirstAcked.{among, not_behind, first_is_least}
+use Rattle.dso_client.proofs.Flushed.{at_number}
+use Rattle.dso_client.proofs.heard.Locks.{on_true}
+
+-- the numbers without the first
+without_first : (k seq : ℕ) (txns : List Txn) (n : ℕ) → NumberedFrom k txns → FitsAck seq txns → cond (eqb seq n) false (among txns n) ≡ among (drop 1 txns) n
+without_first k seq [] n h fits = absurd fits
+without_first k seq (txn ∷ txns) n h fits = by (eqb seq n) refl
+  where
+    by : (b : Bool) → eqb seq n ≡ b → cond b false (eqb txn.seq n || among txns n) ≡ among txns n
+    by true e = sym (ap (among txns) (sym (eqb-true seq n e) ∙ fits) ∙ not_behind k txn txns h)
+    by false e = ap (λ b. b || among txns n) (ap (λ s. eqb s n) (sym fits) ∙ e)
+
+pub ack_heard : (clock seq : ℕ) (at : Point) (old new : Ledger) → LedgerStands at old → RunFacts at → FitsAck seq (unacked at.entries) → (done : Bool)
+    → IsTrue done ↔ IsLeast seq (numbers_in old.unacked) → OnTrue done (numbers_in new.unacked ≡ with_number seq false (numbers_in old.unacked))
+    → new ≡ record old { unacked = new.unacked } → LedgerStands (heard clock (down.Ack seq) at) new
+ack_heard clock seq at old new h facts fits done least gone same =
+    let it = on_true done (numbers_in new.unacked ≡ with_number seq false (numbers_in old.unacked))
+    (least.1 (first_is_least facts.numbered.acked (unacked at.entries) seq (numbers_in old.unacked) facts.numbered.numbers h.unacked fits)) gone in
+    subst (LedgerStands (heard clock (down.Ack seq) at)) (sym same) (record {
+      ids = h.ids;
+      bounded = h.bounded;
+      end = h.end;
+      asking = h.asking;
+      records = h.records;
+      unacked = λ n. ap (λ numbers. numbers n) it ∙ (at_number seq false (numbers_in old.unacked) n
+          ∙ (ap (cond (eqb seq n) false) (h.unacked n) ∙ without_first facts.numbered.acked seq (unacked at.entries) n facts.numbered.numbers fits));
+    })
+
+later_same : (seq : ℕ) (mark : Option ℕ) → later_than seq mark ≡ later_mark seq mark
+later_same seq None = refl
+later_same seq (Some n) = elim (leb_tells n seq) [
+  | inl h ↦ ap (λ b. cond b (Some n) None) (le-ltb seq n h.1) ∙ sym (ap (λ b. cond b None (Some n)) h.0)
+  | inr h ↦ ap (λ b. cond b (Some n) None) (lt-ltb seq n h.1) ∙ sym (ap (λ b. cond b None (Some n)) h.0)
+]
+
+pub acked_heard : (clock seq : ℕ) (at : Point) (old new : Tables) → TableStands at old → state_in new ≡ acknowledged seq (state_in old) → TableStands (heard clock (down.Ack seq) at) new
+acked_heard clock seq at old new h is = record {
+  bodies = λ x. ap (λ (s : State). body_of (s.standing x)) is ∙ h.bodies x;
+  asked = λ x. ap (λ (s : State). is_asked (s.standing x)) is ∙ h.asked x;
+  marks = λ x. ap (λ (s : State). s.marks x) is ∙ (ap (later_than seq) (h.marks x) ∙ later_same seq _);
+  opened = λ t x. ap (λ (s : State). s.opened (t, x)) is ∙ h.opened t x;
+  wanted = λ t x. ap (λ (s : State). s.wanted (t, x)) is ∙ h.wanted t x;
+  room = ap (λ (s : State). s.limit) is ∙ h.room;
+  count = ap (λ (s : State). s.residents) is ∙ h.count;
+}

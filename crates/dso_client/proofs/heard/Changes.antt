@@ -1,0 +1,117 @@
+-- Changes that were taken.
+use Rattle.std.proofs.Common.{◌≡◌, ℕ, zero, suc, ◌≤◌, refl, sym, ◌∙◌, ap, arith, Bool, true, false, cond, eqb, Option, Some, None, List, [], ◌∷◌, length, slice_set, drop, take, get_or, ◌-◌, subst}
+use Rattle.std.proofs.lemmas.Bool.{eqb-true, ltb-false}
+use Rattle.std.proofs.lemmas.List.{take_all}
+use Rattle.std.specs.Bool.{OnTrue, OnFalse}
+use Rattle.std.specs.Option.{option_map}
+use Rattle.dso_base.specs.declared.message.Down.TheVariants as down
+use Rattle.dso_base.specs.declared.record.Body.{Body}
+use Rattle.dso_base.specs.declared.record.Set.{Set}
+use Rattle.dso_base.specs.declared.value.Value.{Value}
+use Rattle.dso_change.specs.Hands.{has_field}
+use Rattle.dso_law.specs.HeldBody.{held_body}
+use Rattle.dso_law.specs.Copies.{is_object_asked}
+use Rattle.dso_law.specs.Store.{body_with}
+use Rattle.dso_table.specs.declared.slot.Standing.{Standing}
+use Rattle.dso_table.specs.declared.slot.Standing.TheVariants.{Asked, Resident}
+use Rattle.dso_table.specs.declared.tables.Tables.{Tables}
+use Rattle.dso_table.specs.States.{State, body_of, is_asked, with_value, set}
+use Rattle.dso_table.specs.Tables.{state_in}
+use Rattle.dso_client.specs.Hearing.{heard}
+use Rattle.dso_client.specs.Points.{Point}
+use Rattle.dso_client.specs.TableStands.{TableStands}
+use Rattle.dso_client.proofs.Flushed.{at_number}
+
+-- a list in which a place past its end is set is as it was
+past : (values : List Value) (f : ℕ) (v : Value) → length values ≤ f → slice_set values f v ≡ values
+past [] f v h = refl
+past (first ∷ values) zero v h = absurd (omega (arith, h))
+past (first ∷ values) (suc f) v h = ap (λ rest. first ∷ rest) (past values f v (omega (arith, h)))
+
+-- the copy with the value
+with_it : (change : Set) (standing : Option Standing) → body_of (option_map (with_value change.field change.value) standing) ≡ body_with change (body_of standing)
+with_it change None = refl
+with_it change (Some Asked) = refl
+with_it change (Some (Resident body)) = refl
+
+asked_as : (change : Set) (standing : Option Standing) → is_asked (option_map (with_value change.field change.value) standing) ≡ is_asked standing
+asked_as change None = refl
+asked_as change (Some Asked) = refl
+asked_as change (Some (Resident body)) = refl
+
+-- where there is no such field the body is as it was
+no_field : (change : Set) (body : Option Body) → has_field change.field body ≡ false → body ≡ body_with change body
+no_field change None e = refl
+no_field change (Some body) e =
+    let most : length body.values ≤ change.field = ltb-false change.field (length body.values) e in
+    ap (λ values. Some (record body { values = values })) (sym (past body.values change.field change.value most))
+
+module _ (clock : ℕ) (at : Point) (change : Set) (old new : Tables) (h : TableStands at old) where
+  written : state_in new ≡ set change None (state_in old) → TableStands (heard clock (down.Changes (change ∷ [])) at) new
+  written is = record {
+    bodies = λ x. ap (λ (s : State). body_of (s.standing x)) is
+        ∙ (ap body_of (at_number change.object (option_map (with_value change.field change.value) ((state_in old).standing change.object)) (state_in old).standing x) ∙ bodies x (eqb change.object x) refl);
+    asked = λ x. ap (λ (s : State). is_asked (s.standing x)) is
+        ∙ (ap is_asked (at_number change.object (option_map (with_value change.field change.value) ((state_in old).standing change.object)) (state_in old).standing x) ∙ asked x (eqb change.object x) refl);
+    marks = λ x. ap (λ (s : State). s.marks x) is ∙ h.marks x;
+    opened = λ t x. ap (λ (s : State). s.opened (t, x)) is ∙ h.opened t x;
+    wanted = λ t x. ap (λ (s : State). s.wanted (t, x)) is ∙ h.wanted t x;
+    room = ap (λ (s : State). s.limit) is ∙ h.room;
+    count = ap (λ (s : State). s.residents) is ∙ h.count;
+  }
+    where
+      bodies : (x : ℕ) (b : Bool) → eqb change.object x ≡ b
+          → body_of (cond b (option_map (with_value change.field change.value) ((state_in old).standing change.object)) ((state_in old).standing x)) ≡ cond b (body_with change (held_body x at.entries)) (held_body x at.entries)
+      bodies x true e = with_it change ((state_in old).standing change.object)
+          ∙ (ap (λ o. body_with change (body_of ((state_in old).standing o))) (eqb-true change.object x e) ∙ ap (body_with change) (h.bodies x))
+      bodies x false e = h.bodies x
+
+      asked : (x : ℕ) (b : Bool) → eqb change.object x ≡ b
+          → is_asked (cond b (option_map (with_value change.field change.value) ((state_in old).standing change.object)) ((state_in old).standing x)) ≡ is_object_asked x at.entries
+      asked x true e = asked_as change ((state_in old).standing change.object) ∙ (ap (λ o. is_asked ((state_in old).standing o)) (eqb-true change.object x e) ∙ h.asked x)
+      asked x false e = h.asked x
+
+  unwritten : state_in new ≡ state_in old → has_field change.field (body_of ((state_in old).standing change.object)) ≡ false → TableStands (heard clock (down.Changes (change ∷ [])) at) new
+  unwritten is none = record {
+    bodies = λ x. ap (λ (s : State). body_of (s.standing x)) is ∙ (h.bodies x ∙ bodies x (eqb change.object x) refl);
+    asked = λ x. ap (λ (s : State). is_asked (s.standing x)) is ∙ h.asked x;
+    marks = λ x. ap (λ (s : State). s.marks x) is ∙ h.marks x;
+    opened = λ t x. ap (λ (s : State). s.opened (t, x)) is ∙ h.opened t x;
+    wanted = λ t x. ap (λ (s : State). s.wanted (t, x)) is ∙ h.wanted t x;
+    room = ap (λ (s : State). s.limit) is ∙ h.room;
+    count = ap (λ (s : State). s.residents) is ∙ h.count;
+  }
+    where
+      bodies : (x : ℕ) (b : Bool) → eqb change.object x ≡ b → held_body x at.entries ≡ cond b (body_with change (held_body x at.entries)) (held_body x at.entries)
+      bodies x true e = no_field change (held_body x at.entries) (ap (has_field change.field) (sym (h.bodies x))
+          ∙ (ap (λ o. has_field change.field (body_of ((state_in old).standing o))) (sym (eqb-true change.object x e)) ∙ none))
+      bodies x false e = refl
+
+  pub change_heard : (found : Bool) → found ≡ has_field change.field (body_of ((state_in old).standing change.object)) → OnTrue found (state_in new ≡ set change None (state_in old))
+      → OnFalse found (state_in new ≡ state_in old) → TableStands (heard clock (down.Changes (change ∷ [])) at) new
+  change_heard true found is same = written is
+  change_heard false found is same = unwritten same (sym found)
+
+-- no change leaves all as it is
+pub none_heard : (clock : ℕ) (at : Point) (table : Tables) → TableStands at table → TableStands (heard clock (down.Changes []) at) table
+none_heard clock at table h = record { bodies = h.bodies; asked = h.asked; marks = h.marks; opened = h.opened; wanted = h.wanted; room = h.room; count = h.count }
+
+-- one change and then the others are all of them
+pub all_heard : (clock : ℕ) (at : Point) (change : Set) (changes : List Set) (table : Tables)
+    → TableStands (heard clock (down.Changes changes) (heard clock (down.Changes (change ∷ [])) at)) table → TableStands (heard clock (down.Changes (change ∷ changes)) at) table
+all_heard clock at change changes table h = record { bodies = h.bodies; asked = h.asked; marks = h.marks; opened = h.opened; wanted = h.wanted; room = h.room; count = h.count }
+
+-- all but the first
+rest_is : (changes : List Set) → take (length changes - 1) (drop 1 changes) ≡ drop 1 changes
+rest_is [] = take_all (0 - 1) [] (omega arith)
+rest_is (change ∷ changes) =
+    let many : suc (length changes) - 1 ≡ length changes = omega arith in
+    ap (λ n. take n changes) many ∙ take_all (length changes) changes (omega arith)
+
+-- so for a list that isn't empty, by its first change and the rest
+pub changes_heard : (clock : ℕ) (at : Point) (changes : List Set) (other : Set) (table : Tables) → 1 ≤ length changes
+    → TableStands (heard clock (down.Changes (take (length changes - 1) (drop 1 changes))) (heard clock (down.Changes (get_or changes 0 other ∷ [])) at)) table
+    → TableStands (heard clock (down.Changes changes) at) table
+changes_heard clock at [] other table some h = absurd (omega (arith, some))
+changes_heard clock at (change ∷ changes) other table some h = all_heard clock at change changes table
+    (subst (λ rest. TableStands (heard clock (down.Changes rest) (heard clock (down.Changes (change ∷ [])) at)) table) (rest_is (change ∷ changes)) h)

@@ -1,0 +1,15 @@
+use Rattle.std.proofs.Common.{◌∙◌, sym, subst, false}
+use Rattle.dso_base.specs.declared.message.Down.TheVariants as down
+use Rattle.dso_client.specs.Hearing.{heard}
+use Rattle.dso_client.specs.LedgerStands.{LedgerStands}
+use Rattle.dso_client.proofs.heard.Ids.{batch_heard, none_left}
+use Rattle.dso_client.proofs.hearing.hear_ids.Goals as goal
+
+pub returns-then-next-end : goal.returns-then-next-end
+returns-then-next-end c = λ clock at h fits taken.
+    subst (λ pool. LedgerStands (heard clock (down.Ids c.args.first) at) (record c.args.ledger.now { pool = pool; is_asking = false })) (sym c.refill.ensures)
+    (batch_heard clock c.args.first at fits taken c.args.ledger.now h)
+
+pub returns-else-next-end : goal.returns-else-next-end
+returns-else-next-end c = λ clock at h fits taken.
+    absurd (c.if-next-end.false (c.next.ensures ∙ (none_left clock c.args.first at fits taken c.args.ledger.now h ∙ sym c.end.ensures)))

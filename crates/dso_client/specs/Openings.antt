@@ -1,0 +1,61 @@
+-- A client before its first entry.
+use Rattle.std.specs.Prelude.{◌≡◌, ◌≢◌, ◌≤◌, ℕ, false, Option, Some, None, List, [], map}
+use Rattle.dso_base.specs.declared.lock.ThreadId.{ThreadId}
+use Rattle.dso_base.specs.declared.request.Request.{Request}
+use Rattle.dso_base.specs.Block.{start}
+use Rattle.dso_change.specs.Hands.{hand_of}
+use Rattle.dso_law.specs.Settings.{up_to}
+use Rattle.dso_machine.specs.declared.code.Code.{Code}
+use Rattle.dso_machine.specs.declared.thread.Thread.{Thread}
+use Rattle.dso_machine.specs.Next.{body_of, next_request}
+use Rattle.dso_machine.specs.Standing.{ThreadStands}
+use Rattle.dso_txn.specs.InHand.{hand_in}
+use Rattle.dso_hold.specs.Holds.{hold_in}
+use Rattle.dso_lease.specs.Leases.{standing_in}
+use Rattle.dso_txn.specs.Numbers.{numbers_in}
+use Rattle.dso_client.specs.declared.ledger.Ledger.{Ledger}
+use Rattle.dso_client.specs.declared.locking.Locking.{Locking}
+use Rattle.dso_client.specs.declared.seat.Seat.{Seat}
+use Rattle.dso_client.specs.CodeRuns.{Runs, SeatRuns}
+
+-- the client's thread of this index
+abbrev pub thread_at : ℕ → ℕ → ThreadId
+thread_at c index = record { client = c; index = index }
+
+-- the client's first n threads
+abbrev pub first_threads : ℕ → ℕ → List ThreadId
+first_threads c n = map (thread_at c) (up_to n)
+
+-- the code has the client's first n threads
+abbrev pub HasThreads : Code → ℕ → ℕ → Type 0
+HasThreads code c n = (index : ℕ) → 1 ≤ index → index ≤ n → body_of (thread_at c index) code.bodies ≢ None
+
+-- a thread that runs the code and did nothing yet, with its first request, None where it has ended
+pub record IsAtStart (code : Code) (t : ThreadId) (thread : Thread) (next : Option Request) : Type 0 where
+  pub stands : ThreadStands code t thread []
+  pub asks : next ≡ next_request code t []
+  pub runs : (request : Request) → next ≡ Some request → Runs code t thread request
+
+-- A thread that did nothing yet, with nothing in hand.
+pub record IsOpening (code : Code) (seat : Seat) : Type 0 where
+  pub runs : SeatRuns code seat
+  pub stands : ThreadStands code seat.id seat.thread []
+  pub next : seat.next ≡ next_request code seat.id []
+  pub work : hand_in seat.privates seat.block ≡ hand_of (start [])
+  pub seen : seat.seen ≡ None
+  pub waiting : seat.waiting ≡ None
+  pub unmarked : seat.is_marked ≡ false
+  pub last : seat.last_record ≡ None
+
+-- no lock is held, leased, asked for or waited on
+pub record IsEmptyLocking (locking : Locking) : Type 0 where
+  pub holds : hold_in locking.holds ≡ (λ _. None)
+  pub leases : standing_in locking.leases ≡ (λ _. None)
+  pub lists : locking.lists.entries ≡ []
+
+-- no id is left, none is asked for, and no record was sent
+pub record IsEmptyLedger (ledger : Ledger) : Type 0 where
+  pub pool : ledger.pool ≡ record { next = 1; end = 1 }
+  pub asking : ledger.is_asking ≡ false
+  pub records : ledger.records ≡ 0
+  pub unacked : numbers_in ledger.unacked ≡ (λ _. false)

@@ -1,0 +1,35 @@
+-- What a client's entries keep in a run.
+use Rattle.std.specs.List.{list_any}
+use Rattle.std.specs.Prelude.{◌≡◌, ℕ, ◌≤◌, ◌<◌, ◌^◌, eqb, false, true, not, is_some, Some, None, [], length}
+use Rattle.std.specs.Option.{option_map_or}
+use Rattle.dso_base.specs.declared.lock.LockName.{LockName}
+use Rattle.dso_base.specs.declared.lock.ThreadId.{ThreadId}
+use Rattle.dso_base.specs.declared.record.Body.{Body}
+use Rattle.dso_base.specs.Following.{is_thread}
+use Rattle.dso_law.specs.Settings.{threads_of}
+use Rattle.dso_law.specs.Threads.{own, open_block, locks_of}
+use Rattle.dso_law.specs.Copies.{copy_of}
+use Rattle.dso_law.specs.HeldBody.{held_body}
+use Rattle.dso_law.specs.Leases.{leased, is_asked_for}
+use Rattle.dso_law.specs.Records.{records, unacked, is_settled}
+use Rattle.dso_law.specs.RunLaws.{AreNumbered}
+use Rattle.dso_law.specs.ClientStep.{wants_object}
+use Rattle.dso_client.specs.Points.{Point}
+use Rattle.dso_client.specs.SeatStands.{last_record}
+
+-- A lock that is leased isn't asked for; the records that aren't acknowledged have consecutive numbers up to the last one; a
+-- thread is settled where its last record is acknowledged; a thread that isn't one of the client's has no open block, doesn't
+-- wait, and wants nothing.
+pub record RunFacts (at : Point) : Type 0 where
+  pub apart : (l : LockName) → is_some (leased l at.entries) ≡ true → is_asked_for l at.entries ≡ false
+  pub settled : (t : ThreadId) → is_settled t at.entries ≡ not (option_map_or (λ n. list_any (λ txn. eqb txn.seq n) (unacked at.entries)) (last_record t at.entries) false)
+  pub numbered : AreNumbered (unacked at.entries) (records at.entries)
+  pub strangers : (t : ThreadId) → list_any (is_thread t) (threads_of at.settings at.client) ≡ false → open_block t at.entries ≡ []
+  pub waitless : (t : ThreadId) → list_any (is_thread t) (threads_of at.settings at.client) ≡ false → (locks_of t at.entries).waiting ≡ None
+  pub unwanted : (t : ThreadId) (o : ℕ) → list_any (is_thread t) (threads_of at.settings at.client) ≡ false → eqb t.client at.client ≡ true → wants_object o t.index at.entries ≡ false
+
+-- Sizes: a field past the size of a copy has no value, and sizes are told in 32 bits.
+pub record SizesAreKept (at : Point) : Type 0 where
+  pub fields : (o f : ℕ) (body : Body) → held_body o at.entries ≡ Some body → length body.values ≤ f → copy_of o f at.entries ≡ None
+  pub copies : (o : ℕ) (body : Body) → held_body o at.entries ≡ Some body → length body.values < 2 ^ 32
+  pub own : (t : ThreadId) (o : ℕ) (body : Body) → own at.settings.shape t o at.entries ≡ Some body → length body.values < 2 ^ 32

@@ -1,0 +1,30 @@
+-- What a client tells of its threads.
+use Rattle.std.specs.List.{list_any}
+use Rattle.std.specs.Prelude.{◌≡◌, ◌↔◌, ℕ, Bool, true, IsTrue, is_some, count_by, None, List}
+use Rattle.dso_base.specs.declared.journal.Entry.{Entry}
+use Rattle.dso_base.specs.Following.{is_thread}
+use Rattle.dso_law.specs.Settings.{Settings, threads_of}
+use Rattle.dso_law.specs.ClientRun.{next_in}
+use Rattle.dso_law.specs.ClientStep.{may_act}
+use Rattle.dso_machine.specs.declared.code.Code.{Code}
+use Rattle.dso_machine.specs.Next.{next_request}
+use Rattle.dso_client.specs.declared.kept.Kept.{Kept}
+use Rattle.dso_client.specs.ClientStands.{ClientStands, point}
+use Rattle.dso_client.specs.Openings.{thread_at}
+use Rattle.dso_client.specs.RunFacts.{SizesAreKept}
+
+-- The answer tells, whatever entries the client stands for whose sizes are kept, whether the client rule has an act of its
+-- thread of this index behind them.
+abbrev pub IsEnabled : Kept → ℕ → Bool → Type 0
+IsEnabled kept index answer = (code : Code) (p : Settings) (c : ℕ) (es : List Entry) → ClientStands code p c kept es → SizesAreKept (point code p c es)
+    → list_any (is_thread (thread_at c index)) (threads_of p c) ≡ true → answer ≡ may_act p c (next_in (next_request code) es) (thread_at c index) es
+
+-- the answer tells whether the thread of this index has no next request
+abbrev pub TellsOver : Kept → ℕ → Bool → Type 0
+TellsOver kept index answer = (code : Code) (p : Settings) (c : ℕ) (es : List Entry) → ClientStands code p c kept es
+    → list_any (is_thread (thread_at c index)) (threads_of p c) ≡ true → IsTrue answer ↔ (next_in (next_request code) es (thread_at c index) ≡ None)
+
+-- the number is that of the client's threads that have a next request
+abbrev pub TellsAlive : Kept → ℕ → Type 0
+TellsAlive kept n = (code : Code) (p : Settings) (c : ℕ) (es : List Entry) → ClientStands code p c kept es
+    → n ≡ count_by (λ t. is_some (next_in (next_request code) es t)) (threads_of p c)

@@ -1,0 +1,190 @@
+//! A client.
+ghost use Rattle.std.specs.Prelude.{ℕ, ◌≡◌, List, [], IfNone, IfOk, IfSome};
+ghost use Rattle.dso_base.specs.declared.journal.Entry.{Entry};
+ghost use Rattle.dso_law.specs.Records.{records};
+ghost use Rattle.dso_law.specs.Settings.{Settings, threads_of};
+ghost use Rattle.dso_machine.specs.declared.code.Code.{Code};
+ghost use Rattle.dso_machine.specs.Sound.{IsSound};
+ghost use Rattle.dso_table.specs.Tables.{state_in};
+ghost use Rattle.dso_table.specs.Victims.{IsVictim};
+ghost use Rattle.dso_client.specs.ClientStands.{ClientStands};
+ghost use Rattle.dso_client.specs.CodeRuns.{RunsCode};
+ghost use Rattle.dso_client.specs.Flushing.{Flushes, NoneDue};
+ghost use Rattle.dso_client.specs.Taking.{Takes};
+ghost use Rattle.dso_client.specs.Threads.{IsEnabled, TellsAlive, TellsOver};
+ghost use Rattle.dso_client.specs.Openings.{HasThreads, IsEmptyLedger, IsEmptyLocking, first_threads};
+
+use crate::flushing::flush;
+use crate::kept::Kept;
+use crate::ledger::Ledger;
+use crate::locking::Locking;
+use crate::opening::seats;
+use crate::seat::{Seat, alive, seat_at};
+use crate::taking::take;
+use crate::turn::may_act;
+use dso_base::{Down, NoMemory, Up};
+use dso_hold::Hold;
+use dso_ids::IdPool;
+use dso_lease::Leases;
+use dso_machine::Code;
+use dso_table::Table;
+use dso_txn::Unacked;
+use std::alloc::Global;
+use std::collections::BTreeMap;
+use std::marker::Model;
+
+/// A client of the cluster, with its threads. It keeps no entries: contracts see what it keeps, and say of each list of
+/// entries that it stood for (`ClientStands`) what becomes of it.
+///
+/// A call costs the logarithm of what the client holds, times the number of its threads where it looks what they await.
+/// After `NoMemory` the client is spent: it stands for no list of entries that is known.
+#[derive(Drop)]
+pub struct Client {
+    kept: Kept,
+}
+
+impl Model for Client {
+    ghost use Rattle.dso_client.specs.declared.kept.Kept.{Kept};
+    ghost use Rattle.dso_client.specs.contracts.kept.Kept.{the_row};
+
+    ghost Value = { Kept };
+
+    ghost coded = { the_row.coded };
+
+    ghost view = { λ client. client.kept };
+}
+
+/// Nothing is known of locks.
+fn opening_locking(alloc: Global) -> Locking
+    ensures { IsEmptyLocking result }
+{
+    Locking {
+        holds: Hold::new(alloc),
+        leases: Leases::new(alloc),
+        lists: BTreeMap::new(alloc),
+    }
+}
+
+/// No id is there, and no record was sent.
+fn opening_ledger(alloc: Global) -> Ledger
+    ensures { IsEmptyLedger result }
+{
+    Ledger {
+        pool: IdPool::new(),
+        is_asking: false,
+        records: 0,
+        unacked: Unacked::new(alloc),
+    }
+}
+
+/// What is kept of these threads before the first entry.
+fn opening_kept(alloc: Global, number: u8, seats: Vec<Seat>, table: Table) -> Kept
+    ensures number { result.number ≡ number }
+    ensures seats { result.seats ≡ seats }
+    ensures table { result.table ≡ table }
+    ensures locking { IsEmptyLocking result.locking }
+    ensures ledger { IsEmptyLedger result.ledger }
+{
+    Kept {
+        number,
+        seats,
+        table,
+        locking: opening_locking(alloc),
+        ledger: opening_ledger(alloc),
+    }
+}
+
+impl Client {
+    /// The client of this number with so many threads, the first of which has index 1, which is to keep so many objects
+    /// resident. Nothing is known to it. The code has these threads.
+    ///
+    /// It answers `NoMemory` where an allocation was refused.
+    pub fn new(
+        alloc: Global,
+        code: &Code,
+        number: u8,
+        threads: u8,
+        resident: u32,
+    ) -> Result<Client, NoMemory>
+        requires sound { IsSound code.now }
+        requires there { HasThreads code.now number threads }
+        ensures runs { IfOk result (RunsCode code.now) }
+        ensures stands { IfOk result (λ client. (p : Settings) → p.shape ≡ code.now.shape → p.resident ≡ resident
+            → threads_of p number ≡ first_threads number threads → ClientStands code.now p number client []) }
+    {
+        let seats = seats(alloc, code, number, threads)?;
+        match Table::new(alloc, resident) {
+            Ok(table) => Ok(Client {
+                kept: opening_kept(alloc, number, seats, table),
+            }),
+            Err(refused) => {
+                // A call, so that the proof of this function doesn't go into the parts of seats.
+                drop(seats);
+                Err(refused)
+            }
+        }
+    }
+
+    /// Takes a message of the server, and answers what the client sends. Whatever entries the client stood for: where the
+    /// message fits, it stands for them with the entry that takes it and sends these leases back, which follows by the client
+    /// rule; a message that doesn't fit changes and sends nothing. The shape is that of the code of the threads.
+    ///
+    /// It answers `NoMemory` where an allocation was refused; the client is spent then.
+    pub fn take(&mut self, alloc: Global, code: &Code, message: &Down) -> Result<Vec<Up>, NoMemory>
+        ensures takes { IfOk result (λ sent. Takes code.now message.now self.old self.new sent.items) }
+        ensures runs { (code : Code) → RunsCode code self.old → RunsCode code self.new }
+    {
+        take(alloc, &mut self.kept, &code.shape, message)
+    }
+
+    /// Flushes an object: the table's victim, which may be flushed where more objects are resident than the client is to
+    /// keep. Whatever entries the client stood for, it stands for them with the flush, which follows by the client rule.
+    ///
+    /// None, with nothing changed, exactly where the rule has no flush. It takes no memory.
+    pub fn flush(&mut self) -> Option<u64>
+        ensures victim { IfSome result (IsVictim (state_in self.old.table)) }
+        ensures made { IfSome result (Flushes self.old self.new) }
+        ensures none { IfNone result (NoneDue self.old) }
+        ensures unchanged { IfNone result (self.new ≡ self.old) }
+        ensures runs { (code : Code) → RunsCode code self.old → RunsCode code self.new }
+    {
+        flush(&mut self.kept.table)
+    }
+
+    /// Whether the client rule has an act of the thread of this index: its next request can be answered, or what it lacks
+    /// asked for. False where there is no such thread. It takes no memory.
+    pub fn enabled(&self, index: u8) -> bool
+        ensures { IsEnabled self.now index result }
+    {
+        match seat_at(&self.kept, index) {
+            Some(seat) => may_act(&self.kept, seat),
+            None => false,
+        }
+    }
+
+    /// Whether the thread of this index has ended: it has no next request. True where there is no such thread. It takes no
+    /// memory.
+    pub fn is_over(&self, index: u8) -> bool
+        ensures { TellsOver self.now index result }
+    {
+        match seat_at(&self.kept, index) {
+            Some(seat) => seat.next.is_none(),
+            None => true,
+        }
+    }
+
+    /// How many records the client sent. It takes no memory.
+    pub fn records(&self) -> u64
+        ensures kept { result ≡ self.now.ledger.records }
+        ensures sent { (code : Code) (p : Settings) (c : ℕ) (es : List Entry) → ClientStands code p c self.now es → result ≡ records es }
+    {
+        self.kept.ledger.records
+    }
+
+    /// How many threads have a next request: those that haven't ended. It takes no memory.
+    pub fn alive(&self) -> usize
+        ensures { TellsAlive self.now result }
+    {
+        alive(self.kept.seats.as_slice())
+    }
+}

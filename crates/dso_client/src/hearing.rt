@@ -1,0 +1,175 @@
+//! What a message that fits makes of what a client keeps.
+ghost use Rattle.std.specs.Prelude.{ℕ, ◌≡◌, [], ◌∷◌, OnOk, map, true};
+ghost use Rattle.dso_base.specs.declared.message.Down.TheVariants as down;
+ghost use Rattle.dso_law.specs.FitsDown.{FitsAck, FitsDown, FitsIds};
+ghost use Rattle.dso_law.specs.Leases.{is_asked_for};
+ghost use Rattle.dso_law.specs.Records.{unacked};
+ghost use Rattle.dso_law.specs.RunLaws.{IdsAreTaken};
+ghost use Rattle.dso_client.specs.Hearing.{heard};
+ghost use Rattle.dso_client.specs.KeptStands.{KeptStands, PartsStand};
+ghost use Rattle.dso_client.specs.LedgerStands.{LedgerStands};
+ghost use Rattle.dso_client.specs.LockingStands.{LockingStands};
+ghost use Rattle.dso_client.specs.Points.{Point};
+ghost use Rattle.dso_client.specs.RunFacts.{RunFacts};
+ghost use Rattle.dso_client.specs.SeatPlaces.{running, with_mark};
+ghost use Rattle.dso_client.specs.Touching.{resumed_lock, touched};
+ghost use Rattle.dso_client.specs.TableStands.{TableStands};
+
+use crate::kept::Kept;
+use crate::ledger::Ledger;
+use crate::locking::Locking;
+use crate::seat::{Seat, seat_at};
+use dso_base::{Body, Down, Level, LockName, NoMemory, Request, Set};
+use dso_lookup::take;
+use dso_table::Table;
+use std::alloc::Global;
+
+/// The greatest id with which a batch of 256 can begin.
+const LAST_FIRST: u64 = u64::MAX - 256;
+
+/// A batch of ids that fits. It takes no memory.
+pub(crate) fn hear_ids(ledger: &mut Ledger, first: u64)
+    ensures { (clock : ℕ) (at : Point) → LedgerStands at ledger.old → FitsIds first at.entries → IdsAreTaken at.entries
+        → LedgerStands (heard clock (down.Ids first) at) ledger.new }
+{
+    ledger.is_asking = false;
+    if LAST_FIRST < first {
+        return;
+    }
+    if ledger.pool.next() == ledger.pool.end() {
+        ledger.pool.refill(first);
+    }
+}
+
+/// An object that was asked for.
+pub(crate) fn hear_object(table: &mut Table, body: &Body) -> Result<(), NoMemory>
+    ensures { OnOk result ((clock : ℕ) (at : Point) → TableStands at table.old → TableStands (heard clock (down.Object body.now) at) table.new) }
+{
+    table.put_object(body, None)
+}
+
+/// A grant of a lock that was asked for: its lease begins, and its list is empty. It takes no memory.
+pub(crate) fn hear_grant(locking: &mut Locking, lock: LockName, level: Level)
+    ensures { (clock : ℕ) (at : Point) → LockingStands at locking.old → RunFacts at → is_asked_for lock at.entries ≡ true
+        → LockingStands (heard clock (down.Grant lock level) at) locking.new }
+{
+    locking.leases.granted(lock, level);
+    let _ = take(&mut locking.lists, &lock);
+}
+
+/// A recall of a lock: its lease, where there is one, is closing. It takes no memory.
+pub(crate) fn hear_recall(locking: &mut Locking, lock: LockName)
+    ensures { (clock : ℕ) (at : Point) → LockingStands at locking.old → LockingStands (heard clock (down.Recall lock) at) locking.new }
+{
+    locking.leases.recalled(lock);
+}
+
+/// An acknowledgement of the first record that isn't acknowledged, by the numbers that are kept. It takes no memory.
+pub(crate) fn hear_ack(ledger: &mut Ledger, seq: u64)
+    ensures { (clock : ℕ) (at : Point) → LedgerStands at ledger.old → RunFacts at → FitsAck seq (unacked at.entries)
+        → LedgerStands (heard clock (down.Ack seq) at) ledger.new }
+{
+    ledger.unacked.ack(seq);
+}
+
+/// An acknowledgement: the records up to this one keep no object. It takes no memory.
+pub(crate) fn hear_acked(table: &mut Table, seq: u64)
+    ensures { (clock : ℕ) (at : Point) → TableStands at table.old → TableStands (heard clock (down.Ack seq) at) table.new }
+{
+    table.acked(seq);
+}
+
+/// A change of a field, where its object is resident. It takes no memory.
+fn hear_change(alloc: Global, table: &mut Table, set: Set)
+    ensures { (clock : ℕ) (at : Point) → TableStands at table.old → TableStands (heard clock (down.Changes (set ∷ [])) at) table.new }
+{
+    table.set(alloc, set, None);
+}
+
+/// The changes of another client's record, in their order. It takes no memory.
+pub(crate) fn hear_changes(alloc: Global, table: &mut Table, sets: &[Set])
+    ensures { (clock : ℕ) (at : Point) → TableStands at table.old → TableStands (heard clock (down.Changes sets.now) at) table.new }
+{
+    match sets {
+        [] => {}
+        [set, rest @ ..] => {
+            hear_change(alloc, table, *set);
+            hear_changes(alloc, table, rest);
+        }
+    }
+}
+
+/// The thread of this index is marked, where there is one. It takes no memory.
+pub(crate) fn mark(seats: &mut [Seat], index: u8)
+    ensures { seats.new ≡ with_mark index seats.old }
+{
+    if index == 0 {
+        return;
+    }
+    let at = index as usize - 1;
+    if at < seats.len() {
+        seats[at].is_marked = true;
+    }
+}
+
+/// What a message that fits makes of what the client keeps, before it sends anything.
+///
+/// It answers `NoMemory` where an allocation was refused.
+pub(crate) fn hear(alloc: Global, kept: &mut Kept, message: &Down) -> Result<(), NoMemory>
+    ensures parts { OnOk result ((clock : ℕ) (at : Point) → KeptStands at kept.old → FitsDown at.settings at.client message.now at.entries → IdsAreTaken at.entries
+        → PartsStand (heard clock message.now at) kept.new) }
+    ensures runs { map running kept.new.seats.items ≡ map running kept.old.seats.items }
+{
+    match message {
+        Down::Ids(first) => {
+            hear_ids(&mut kept.ledger, *first);
+            Ok(())
+        }
+        Down::Object(body) => hear_object(&mut kept.table, body),
+        Down::Grant(lock, level) => {
+            hear_grant(&mut kept.locking, *lock, *level);
+            Ok(())
+        }
+        Down::Recall(lock) => {
+            hear_recall(&mut kept.locking, *lock);
+            Ok(())
+        }
+        Down::Ack(seq) => {
+            hear_ack(&mut kept.ledger, *seq);
+            hear_acked(&mut kept.table, *seq);
+            Ok(())
+        }
+        Down::Changes(sets) => {
+            hear_changes(alloc, &mut kept.table, sets.as_slice());
+            Ok(())
+        }
+        Down::Wake(_, thread) => {
+            mark(kept.seats.as_mut_slice(), thread.index);
+            Ok(())
+        }
+    }
+}
+
+/// The lock whose lease a message that fits may make due. It takes no memory.
+pub(crate) fn touched(kept: &Kept, message: &Down) -> Option<LockName>
+    ensures { (at : Point) → KeptStands at kept.now → FitsDown at.settings at.client message.now at.entries → result ≡ touched at message.now }
+{
+    match message {
+        Down::Recall(lock) => Some(*lock),
+        Down::Wake(_, thread) => match seat_at(kept, thread.index) {
+            Some(seat) => resumed_lock(seat.next),
+            None => None,
+        },
+        _ => None,
+    }
+}
+
+/// The lock that a thread wants that goes on after a wait.
+fn resumed_lock(next: Option<Request>) -> Option<LockName>
+    ensures { result ≡ resumed_lock next }
+{
+    match next {
+        Some(Request::Resume(lock)) => Some(lock),
+        _ => None,
+    }
+}

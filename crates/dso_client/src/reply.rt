@@ -1,0 +1,206 @@
+//! How a client answers a request whose needs are met.
+ghost use Rattle.std.specs.Prelude.{◌≡◌, ◌≢◌, true, false, Some, None, List, [], option_map, cond, is_some};
+ghost use Rattle.dso_base.specs.declared.request.Reply.TheVariants as reply;
+ghost use Rattle.dso_base.specs.declared.request.Request.TheVariants as request;
+ghost use Rattle.dso_law.specs.ClientWaiters.{client_list};
+ghost use Rattle.dso_law.specs.Records.{next_id};
+ghost use Rattle.dso_law.specs.Replies.{class_known, answer_put, put_reply, enter_reply, monitor_reply, timeout_reply, first_of_list, reply_of, woken_by};
+ghost use Rattle.dso_law.specs.RequestNeeds.{hold_level, unmet};
+ghost use Rattle.dso_law.specs.Threads.{Held, is_private, hold_of, locks_of};
+ghost use Rattle.dso_client.specs.KeptStands.{KeptStands};
+ghost use Rattle.dso_client.specs.KnownObjects.{KnowsObject};
+ghost use Rattle.dso_client.specs.LedgerStands.{LedgerStands};
+ghost use Rattle.dso_client.specs.LockingStands.{LockingStands};
+ghost use Rattle.dso_client.specs.Points.{Point};
+ghost use Rattle.dso_client.specs.RunFacts.{SizesAreKept};
+ghost use Rattle.dso_client.specs.SeatStands.{SeatStands};
+
+use crate::kept::Kept;
+use crate::known::{class_known, field_value, guard_of};
+use crate::ledger::Ledger;
+use crate::locking::Locking;
+use crate::locks::level_held;
+use crate::seat::Seat;
+use dso_base::{Fault, Level, LockName, Reply, Request, Shape, ThreadId, Value};
+use dso_table::Table;
+
+/// The id of the next object.
+fn new_reply(ledger: &Ledger) -> Option<Reply>
+    ensures { (at : Point) → LedgerStands at ledger.now → result ≡ option_map reply.Made (next_id at.entries) }
+{
+    if ledger.pool.next() < ledger.pool.end() {
+        Some(Reply::Made(ledger.pool.next()))
+    } else {
+        None
+    }
+}
+
+/// The class and size of an object that is there.
+fn look_reply(table: &Table, seat: &Seat, object: u64) -> Option<Reply>
+    ensures { (at : Point) → KnowsObject at table.now seat.now object → SizesAreKept at
+        → result ≡ option_map (λ class. reply.Seen class.0 class.1) (class_known at.settings seat.now.id object at.entries) }
+{
+    let (class, size) = class_known(table, seat, object)?;
+    match u32::try_from(size) {
+        Ok(size) => Some(Reply::Seen(class, size)),
+        Err(_) => None,
+    }
+}
+
+/// The value of a field of an object that is there.
+fn get_reply(table: &Table, seat: &Seat, object: u64, field: u32) -> Option<Reply>
+    ensures { (at : Point) → KnowsObject at table.now seat.now object → SizesAreKept at
+        → result ≡ reply_of at.settings seat.now.id (request.Get object field) at.entries }
+{
+    match field_value(table, seat, object, field) {
+        Some(value) => Some(Reply::Val(value)),
+        None => None,
+    }
+}
+
+/// A put in a shared object, by how its guard is held, and by whether the thread holds a lock.
+fn shared_put(held: Option<Level>, holds_some: bool) -> Reply
+    ensures { (holds : List Held) → (holds_some ≡ true → holds ≢ []) → (holds_some ≡ false → holds ≡ []) → result ≡ put_reply held holds }
+{
+    match held {
+        Some(Level::Write) => Reply::Done,
+        Some(Level::Read) => Reply::Refused(Fault::ReadOnly),
+        None if holds_some => Reply::Refused(Fault::WrongLock),
+        None => Reply::Refused(Fault::UnlockedSharedObject),
+    }
+}
+
+/// A put in a field of an object whose guard this is: done where the object is private, else by the locks.
+fn put_answer(locking: &Locking, seat: &Seat, object: u64, guard: LockName) -> Reply
+    ensures { (at : Point) → LockingStands at locking.now → SeatStands at seat.now
+        → result ≡ cond (is_private at.settings.shape seat.now.id object at.entries) reply.Done
+        (put_reply (hold_level (hold_of seat.now.id guard at.entries)) (locks_of seat.now.id at.entries).holds) }
+{
+    if seat.is_private(object) {
+        return Reply::Done;
+    }
+    shared_put(
+        level_held(locking, seat.id, guard),
+        locking.holds.any(seat.id),
+    )
+}
+
+/// An entry of a lock that is held at this level, or isn't.
+fn enter_reply(level: Level, held: Option<Level>) -> Reply
+    ensures { result ≡ enter_reply level held }
+{
+    match (level, held) {
+        (Level::Write, Some(Level::Read)) => Reply::Refused(Fault::LockUpgrade),
+        _ => Reply::Done,
+    }
+}
+
+/// A wait or a notification where the lock is held at this level, or isn't.
+fn monitor_reply(held: Option<Level>) -> Reply
+    ensures { result ≡ monitor_reply held }
+{
+    match held {
+        Some(Level::Write) => Reply::Done,
+        _ => Reply::Refused(Fault::IllegalMonitor),
+    }
+}
+
+/// A timeout comes too late where the thread is marked.
+fn timeout_reply(is_marked: bool) -> Reply
+    ensures { result ≡ timeout_reply is_marked }
+{
+    if is_marked {
+        Reply::Val(Value::Bool(true))
+    } else {
+        Reply::Done
+    }
+}
+
+/// A put in a field of an object that is there, None where the object has no such field.
+fn put_reply(kept: &Kept, shape: &Shape, seat: &Seat, object: u64, field: u32) -> Option<Reply>
+    ensures { (at : Point) → KeptStands at kept.now → KnowsObject at kept.now.table seat.now object → at.settings.shape ≡ shape.now
+        → result ≡ answer_put at.settings seat.now.id object field (class_known at.settings seat.now.id object at.entries) at.entries }
+{
+    let (class, size) = class_known(&kept.table, seat, object)?;
+    if (field as usize) < size {
+        let guard = guard_of(shape, class, object, field);
+        Some(put_answer(&kept.locking, seat, object, guard))
+    } else {
+        None
+    }
+}
+
+/// The answer to the request of a thread, whose needs are met. None where there is no such field.
+pub(crate) fn reply(kept: &Kept, shape: &Shape, seat: &Seat, request: Request) -> Option<Reply>
+    ensures { (at : Point) → KeptStands at kept.now → SeatStands at seat.now → SizesAreKept at → at.settings.shape ≡ shape.now
+        → unmet at.settings at.client at.next seat.now.id request at.entries ≡ None → result ≡ reply_of at.settings seat.now.id request at.entries }
+{
+    match request {
+        Request::New(..) => new_reply(&kept.ledger),
+        Request::Look(object) => look_reply(&kept.table, seat, object),
+        Request::Get(object, field) => get_reply(&kept.table, seat, object, field),
+        Request::Put(object, field, _) => put_reply(kept, shape, seat, object, field),
+        Request::Enter(lock, level) => Some(entering_reply(&kept.locking, seat, lock, level)),
+        Request::Wait(lock) | Request::Notify(lock) | Request::NotifyAll(lock) => {
+            Some(monitor_reply(level_held(&kept.locking, seat.id, lock)))
+        }
+        Request::Tick(_) => Some(Reply::Val(Value::Bool(seat.is_marked))),
+        Request::Timeout(_) => Some(timeout_reply(seat.is_marked)),
+        _ => Some(Reply::Done),
+    }
+}
+
+/// Whether there is an answer to the request of a thread, whose needs are met.
+pub(crate) fn has_reply(kept: &Kept, seat: &Seat, request: Request) -> bool
+    ensures { (at : Point) → KeptStands at kept.now → SeatStands at seat.now → SizesAreKept at
+        → unmet at.settings at.client at.next seat.now.id request at.entries ≡ None → result ≡ is_some (reply_of at.settings seat.now.id request at.entries) }
+{
+    match request {
+        Request::New(..) => new_reply(&kept.ledger).is_some(),
+        Request::Look(object) => look_reply(&kept.table, seat, object).is_some(),
+        Request::Get(object, field) => get_reply(&kept.table, seat, object, field).is_some(),
+        Request::Put(object, field, _) => has_field(&kept.table, seat, object, field),
+        _ => true,
+    }
+}
+
+/// Whether an object that is there has the field.
+fn has_field(table: &Table, seat: &Seat, object: u64, field: u32) -> bool
+    ensures { (at : Point) → KnowsObject at table.now seat.now object
+        → result ≡ is_some (answer_put at.settings seat.now.id object field (class_known at.settings seat.now.id object at.entries) at.entries) }
+{
+    match class_known(table, seat, object) {
+        Some((_, size)) => (field as usize) < size,
+        None => false,
+    }
+}
+
+/// An entry is local at the monitor of a private object, and else as the lock is held.
+fn entering_reply(locking: &Locking, seat: &Seat, lock: LockName, level: Level) -> Reply
+    ensures { (at : Point) → LockingStands at locking.now → SeatStands at seat.now
+        → Some result ≡ reply_of at.settings seat.now.id (request.Enter lock level) at.entries }
+{
+    if seat.is_local(lock) {
+        Reply::Local
+    } else {
+        enter_reply(level, level_held(locking, seat.id, lock))
+    }
+}
+
+/// Whom a thread wakes: a notification that is done wakes the first of the lock's list.
+pub(crate) fn woken(locking: &Locking, request: Request, reply: Reply) -> Option<ThreadId>
+    ensures { (at : Point) → LockingStands at locking.now → result ≡ woken_by request reply at.entries }
+{
+    match (request, reply) {
+        (Request::Notify(lock), Reply::Done) => first_listed(locking, lock),
+        _ => None,
+    }
+}
+
+/// The first thread in the list of the lock.
+fn first_listed(locking: &Locking, lock: LockName) -> Option<ThreadId>
+    ensures { (at : Point) → LockingStands at locking.now → result ≡ first_of_list (client_list lock at.entries) }
+{
+    let list = locking.lists.get(&lock)?;
+    list.all().first().copied()
+}
