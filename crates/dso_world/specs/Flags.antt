@@ -2,7 +2,8 @@
 use Rattle.std.specs.Prelude.{ℕ, zero, suc, ◌+◌, Bool, true, false, Option, Some, None, List, [], ◌∷◌, count_by, drop, option_map, replicate, take}
 use Rattle.dso_world.specs.ChosenSlot.{seed_after, lot}
 
--- a flag for each slot, in the order of the slots; the place at which the next round begins; how many steps made an entry
+-- a flag for each slot, in the order of the slots; the place at which the next round begins; how many steps made an
+-- entry
 pub record Row : Type 0 where
   pub flags : List Bool
   pub begin : ℕ
@@ -36,8 +37,8 @@ else_before begin None before = before
 abbrev pub next_set : ℕ → List Bool → Option ℕ
 next_set begin flags = else_before begin (nth_set 0 (drop begin flags)) (nth_set 0 (take begin flags))
 
--- The chosen place. By round robin: that of the first flag set, from where the round begins. By a seed: it moves on once for
--- each entry and once more, and names one of those set.
+-- The chosen place. By round robin: that of the first flag set, from where the round begins. By a seed: it moves on
+-- once for each entry and once more, and names one of those set.
 abbrev pub chosen_place : Option ℕ → Row → Option ℕ
 chosen_place None row = next_set row.begin row.flags
 chosen_place (Some seed) row = nth_set (lot (seed_after (suc row.entries) seed) (set_count row.flags)) row.flags

@@ -27,7 +27,8 @@ opening_line = record { client = opened role.Client; server = opened role.Server
 -- the frames of messages, numbered behind this number
 abbrev pub carried : {M : Type 0} → ℕ → ℕ → ℕ → List (Posted M) → List (Frame M)
 carried epoch number seen [] = []
-carried epoch number seen (one ∷ rest) = Carry epoch (number + 1) seen one.clock one.message ∷ carried epoch (number + 1) seen rest
+carried epoch number seen (one ∷ rest) = Carry epoch (number + 1) seen one.clock one.message
+    ∷ carried epoch (number + 1) seen rest
 
 -- the messages that an end has not given
 abbrev pub left_to_give : {M : Type 0} → End M → List (Posted M)
@@ -45,7 +46,8 @@ gives end = hello_due end ++ carried end.epoch end.given end.accepted (left_to_g
 abbrev pub emptied : {M : Type 0} → End M → End M
 emptied end = record end { owes_hello = false; given = cond end.is_ready (sent_count end) end.given }
 
--- The client gives its frames. Those of a connection that the server knows to be broken are dropped: no step could take them.
+-- The client gives its frames. Those of a connection that the server knows to be broken are dropped: no step could take
+-- them.
 abbrev pub pumped_up : {M : Type 0} → Line M → Line M
 pumped_up line = record line { client = emptied line.client; up = cond (eqb line.client.epoch line.server.epoch) (line.up ++ gives line.client) [] }
 

@@ -1,4 +1,5 @@
--- What the connection of a client is, by what was sent and taken over it, how often it broke and how often it was taken up again.
+-- What the connection of a client is, by what was sent and taken over it, how often it broke and how often it was taken
+-- up again.
 use Rattle.std.specs.Prelude.{ℕ, ◌+◌, ◌≤◌, ◌≡◌, ◌↔◌, Bool, true, false, ltb, Some, List, [], ◌∷◌, ◌++◌, drop, length, slice_get}
 use Rattle.dso_session.specs.declared.frame.Accepted.TheVariants.{Rejoined, Up}
 use Rattle.dso_session.specs.declared.frame.Frame.{Frame}
@@ -10,15 +11,15 @@ use Rattle.dso_session.specs.Ends.{End}
 use Rattle.dso_session.specs.Laws.{HasSent}
 use Rattle.dso_world.specs.Link.{Line, cut, first_answer, opening_line, sent_down, sent_up, taken_down, taken_up}
 
--- Joined: both ends know one connection. Broken: the client doesn't know yet that it broke. Half: the client has taken it up
--- again, and the server not yet.
+-- Joined: both ends know one connection. Broken: the client doesn't know yet that it broke. Half: the client has taken
+-- it up again, and the server not yet.
 pub data Course : Type 0 where
   Joined : Course
   Broken : Course
   Half : Course
 
--- what the client sent, how many of these messages the server took, and the same the other way; how often the connection broke,
--- and how often the client took it up again
+-- what the client sent, how many of these messages the server took, and the same the other way; how often the
+-- connection broke, and how often the client took it up again
 pub record Past (M : Type 0) : Type 0 where
   pub up : List (Posted M)
   pub up_taken : ℕ
@@ -36,7 +37,8 @@ pub record Carries {M : Type 0} (epoch number limit : ℕ) (one : Posted M) (fra
 -- the frames carry the messages, which are numbered behind this number
 abbrev pub AreCarried : {M : Type 0} → ℕ → ℕ → ℕ → List (Posted M) → List (Frame M) → Type 0
 AreCarried epoch number limit [] [] = Unit {0}
-AreCarried epoch number limit (one ∷ rest) (frame ∷ frames) = Carries epoch (number + 1) limit one frame × AreCarried epoch (number + 1) limit rest frames
+AreCarried epoch number limit (one ∷ rest) (frame ∷ frames) = Carries epoch (number + 1) limit one frame
+    × AreCarried epoch (number + 1) limit rest frames
 AreCarried epoch number limit messages frames = ⊥
 
 -- the frame is a Hello of this epoch, from an end that has seen so many messages
@@ -131,19 +133,26 @@ pub record ServerRejoins {M : Type 0} (past : Past M) (line : Line M) : Type 0 w
   pub answer : first_answer line.up line.server ≡ Some (Rejoined past.down_taken)
   pub stands : LinkStands Joined past (taken_up line)
 
--- Connections: what happens to a connection makes of it one that stands for what has happened. Messages are sent at any time; a
--- frame that is taken gives up the next message of the other end, or joins the connection again; frames wait exactly where one
--- can be taken.
+-- Connections: what happens to a connection makes of it one that stands for what has happened. Messages are sent at any
+-- time; a frame that is taken gives up the next message of the other end, or joins the connection again; frames wait
+-- exactly where one can be taken.
 pub record LinksGoOn (M : Type 0) : Type 0 where
   pub opens : LinkStands Joined (opening_past {M = M}) opening_line
-  pub sends_up : (course : Course) (past : Past M) (line : Line M) (message : M) (clock : ℕ) → LinkStands course past line
+  pub sends_up : (course : Course) (past : Past M) (line : Line M) (message : M) (clock : ℕ)
+      → LinkStands course past line
       → LinkStands course (record past { up = past.up ++ record { message = message; clock = clock } ∷ [] }) (sent_up message clock line)
-  pub sends_down : (course : Course) (past : Past M) (line : Line M) (message : M) (clock : ℕ) → LinkStands course past line
+  pub sends_down : (course : Course) (past : Past M) (line : Line M) (message : M) (clock : ℕ)
+      → LinkStands course past line
       → LinkStands course (record past { down = past.down ++ record { message = message; clock = clock } ∷ [] }) (sent_down message clock line)
-  pub takes_up : (past : Past M) (line : Line M) (one : Posted M) → LinkStands Joined past line → slice_get past.up past.up_taken ≡ Some one → TakesUp past line one
-  pub takes_down : (past : Past M) (line : Line M) (one : Posted M) → LinkStands Joined past line → slice_get past.down past.down_taken ≡ Some one → TakesDown past line one
+  pub takes_up : (past : Past M) (line : Line M) (one : Posted M) → LinkStands Joined past line
+      → slice_get past.up past.up_taken ≡ Some one → TakesUp past line one
+  pub takes_down : (past : Past M) (line : Line M) (one : Posted M) → LinkStands Joined past line
+      → slice_get past.down past.down_taken ≡ Some one → TakesDown past line one
   pub client_rejoins : (past : Past M) (line : Line M) → LinkStands Broken past line → ClientRejoins past line
   pub server_rejoins : (past : Past M) (line : Line M) → LinkStands Half past line → ServerRejoins past line
-  pub breaks : (past : Past M) (line : Line M) → LinkStands Joined past line → LinkStands Broken (record past { breaks = past.breaks + 1 }) (cut line)
-  pub none_up : (course : Course) (past : Past M) (line : Line M) → LinkStands course past line → (line.up ≡ []) ↔ (can_take_up course past ≡ false)
-  pub none_down : (course : Course) (past : Past M) (line : Line M) → LinkStands course past line → (line.down ≡ []) ↔ (can_take_down course past ≡ false)
+  pub breaks : (past : Past M) (line : Line M) → LinkStands Joined past line
+      → LinkStands Broken (record past { breaks = past.breaks + 1 }) (cut line)
+  pub none_up : (course : Course) (past : Past M) (line : Line M) → LinkStands course past line
+      → (line.up ≡ []) ↔ (can_take_up course past ≡ false)
+  pub none_down : (course : Course) (past : Past M) (line : Line M) → LinkStands course past line
+      → (line.down ≡ []) ↔ (can_take_down course past ≡ false)

@@ -56,10 +56,13 @@ pub record CanTake (p : Settings) (es : List Entry) {M : Type 0} (as_up : Up →
   pub down : slots.can_take_down p c es ≡ can_take_down (course_of p c es) (past_of as_up as_down c es)
   pub up : slots.can_take_up p c es ≡ (not (is_due p c es) && can_take_up (course_of p c es) (past_of as_up as_down c es))
 
--- Letters: of a lawful journal those in flight are those posted that were not taken; and a client's messages can be taken where
--- its connection says so.
+-- Letters: of a lawful journal those in flight are those posted that were not taken; and a client's messages can be
+-- taken where its connection says so.
 pub record LettersAreLeft (M : Type 0) : Type 0 where
-  pub up : (p : Settings) (next : ThreadId → List Event → Option Request) (es : List Entry) → IsLawful p next es → (c : ℕ) → AreLeft (to_server c) es
-  pub down : (p : Settings) (next : ThreadId → List Event → Option Request) (es : List Entry) → IsLawful p next es → (c : ℕ) → AreLeft (to_client c) es
-  pub takes : (p : Settings) (next : ThreadId → List Event → Option Request) (es : List Entry) → IsLawful p next es → (as_up : Up → M) (as_down : Down → M) (c : ℕ)
+  pub up : (p : Settings) (next : ThreadId → List Event → Option Request) (es : List Entry) → IsLawful p next es
+      → (c : ℕ) → AreLeft (to_server c) es
+  pub down : (p : Settings) (next : ThreadId → List Event → Option Request) (es : List Entry) → IsLawful p next es
+      → (c : ℕ) → AreLeft (to_client c) es
+  pub takes : (p : Settings) (next : ThreadId → List Event → Option Request) (es : List Entry) → IsLawful p next es
+      → (as_up : Up → M) (as_down : Down → M) (c : ℕ)
       → CanTake p es as_up as_down c
