@@ -15,8 +15,8 @@ use Rattle.dso_server.specs.Answering.{IsLost, IsTaken}
 use Rattle.dso_server.specs.Sending.{broke, lost, rejoined, sent_of, took}
 use Rattle.dso_server.specs.ServerStands.{ServerStands}
 
--- A message that is taken and fits, or that is of a lost client, makes an entry by the server rule, where neither a loss
--- of its client nor a break of the connection is due.
+-- A message that is taken and fits, or that is of a lost client, makes an entry by the server rule, where neither a
+-- loss of its client nor a break of the connection is due.
 abbrev pub TakenByRule : Type 0
 TakenByRule = (p : Settings) (clock c : ℕ) (m : Up) (taken : Taken) (messages : List (ℕ × Down)) (old new : Server)
     (es : List Entry) → taken ≢ Unfit → IsTaken p c m taken messages old new es → IsClient p c

@@ -31,7 +31,8 @@ IsRising news = Rises (λ a b. ltb a.object b.object) news
 
 -- the news before the place are under the object, and the others aren't
 abbrev pub IsPlaceOf : ℕ → List Body → ℕ → Type 0
-IsPlaceOf o news at = AllWithin (λ body. body.object < o) news 0 at × AllWithin (λ body. o ≤ body.object) news at (length news)
+IsPlaceOf o news at = AllWithin (λ body. body.object < o) news 0 at
+    × AllWithin (λ body. o ≤ body.object) news at (length news)
 
 -- an object named is there, and a text named is a literal
 abbrev pub FitsValue : Shape → Settings → List Body → List Entry → Value → Type 0
@@ -41,8 +42,8 @@ FitsValue shape p news es v = IsNamed p news es v × IsLiteralOf shape v
 abbrev pub FitsOut : Shape → List Entry → Value → Type 0
 FitsOut shape es v = IsPrinted es v × IsLiteralOf shape v
 
--- the parts of a record that tell whose it is: its number is the client's next, and its thread is one of the client's and
--- hasn't ended
+-- the parts of a record that tell whose it is: its number is the client's next, and its thread is one of the client's
+-- and hasn't ended
 abbrev pub FitsMaker : Settings → ℕ → Txn → List Entry → Type 0
 FitsMaker p c txn es = (txn.seq ≡ suc (last_number c es)) × (list_any (is_thread txn.thread) (threads_of p c) ≡ true)
     × (is_ended txn.thread es ≡ false)

@@ -52,8 +52,8 @@ pub record ThreadsStand (p : Settings) (threads : BTreeMap ThreadId (Option Endi
   pub last : last_in threads ≡ (λ t. last_ending t es)
   pub ended : (t : ThreadId) → is_ended t es ≡ ends_there (last_ending t es)
 
--- The server stands for the entries: it knows who was lost; and of those that count, the batches of ids that were given,
--- the graph, the locks, the waiters and the threads.
+-- The server stands for the entries: it knows who was lost; and of those that count, the batches of ids that were
+-- given, the graph, the locks, the waiters and the threads.
 pub record ServerStands (p : Settings) (server : Server) (es : List Entry) : Type 0 where
   pub lost : contains nat_cmp server.lost ≡ (λ c. is_lost c es)
   pub ids : batches_given (counted es) ≡ batches_to server.ids
