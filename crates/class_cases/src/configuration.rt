@@ -12,12 +12,21 @@ pub(crate) fn of_entries(alloc: Global, entries: &str) -> Result<Option<Config>,
     ensures { IfOk result (λ config. IfSome config IsInRange) }
 {
     let mut config = Config::empty(alloc);
+    if add_all(alloc, &mut config, entries)? {
+        Ok(in_range(alloc, config))
+    } else {
+        Ok(None)
+    }
+}
+
+/// Adds the entries up to the first one that can't be read, and tells whether there is none such.
+fn add_all(alloc: Global, config: &mut Config, entries: &str) -> Result<bool, NoMemory> {
     for entry in entries.split("; ") {
-        if !add(alloc, &mut config, entry)? {
-            return Ok(None);
+        if !add(alloc, config, entry)? {
+            return Ok(false);
         }
     }
-    Ok(in_range(alloc, config))
+    Ok(true)
 }
 
 /// Adds an entry, and tells whether it can be read.

@@ -18,19 +18,22 @@ struct Edge<'a> {
 
 /// The edge that a row gives, as `64 ..` with the front, a part and the back between back ticks.
 fn edge_of(row: &str) -> Option<Edge<'_>> {
-    let mut parts = row.split('`');
-    let count = parts.next()?.trim().parse().ok()?;
-    let front = parts.next()?;
-    parts.next()?;
-    let part = parts.next()?;
-    parts.next()?;
-    let back = parts.next()?;
+    let (count, texts) = row.split_once(' ')?;
+    let (front, rest) = ticked(texts)?;
+    let (part, rest) = ticked(rest)?;
+    let (back, _) = ticked(rest)?;
     Some(Edge {
-        count,
+        count: count.parse().ok()?,
         front,
         part,
         back,
     })
+}
+
+/// The text between the first two back ticks, and what stands behind them.
+fn ticked(text: &str) -> Option<(&str, &str)> {
+    let (_, rest) = text.split_once('`')?;
+    rest.split_once('`')
 }
 
 /// The text of so many parts.

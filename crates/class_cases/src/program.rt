@@ -54,8 +54,8 @@ fn counts(alloc: Global, program: &Program) -> Result<String, NoMemory> {
 fn fields(alloc: Global, fields: &[FieldShape]) -> Result<String, NoMemory> {
     let mut words = String::from_str(alloc, "class\n")?;
     for field in fields {
-        let word = format!(in alloc; "    {:?}, guard {:?}\n", field.kind, field.guard)?;
-        words.push_str(word.as_str())?;
+        let (kind, guard) = (field.kind, field.guard);
+        words = format!(in alloc; "{words}    {kind:?}, guard {guard:?}\n")?;
     }
     Ok(words)
 }
@@ -81,8 +81,7 @@ fn thread_words(alloc: Global, body: &ThreadBody) -> Result<String, NoMemory> {
 fn statements(alloc: Global, statements: &[Stmt]) -> Result<String, NoMemory> {
     let mut words = String::new(alloc);
     for statement in statements {
-        let word = format!(in alloc; "    {statement:?}\n")?;
-        words.push_str(word.as_str())?;
+        words = format!(in alloc; "{words}    {statement:?}\n")?;
     }
     Ok(words)
 }
@@ -91,9 +90,7 @@ fn statements(alloc: Global, statements: &[Stmt]) -> Result<String, NoMemory> {
 fn order(alloc: Global, threads: &[ThreadId]) -> Result<String, NoMemory> {
     let mut words = String::from_str(alloc, "threads")?;
     for thread in threads {
-        let word = format!(in alloc; " {}.{}", thread.client, thread.index)?;
-        words.push_str(word.as_str())?;
+        words = format!(in alloc; "{words} {}.{}", thread.client, thread.index)?;
     }
-    words.push_str("\n")?;
-    Ok(words)
+    Ok(format!(in alloc; "{words}\n")?)
 }

@@ -129,8 +129,8 @@ choice_of (Some woken) = Here woken
 abbrev pub noted : LockName → Choice → Work → Work
 noted l choice work = record work { notes = work.notes ++ record { lock = l; choice = choice } ∷ [] }
 
--- What an act makes of the work in hand, by its request and reply. Refusals leave it as it is, and so do the requests that
--- read, that enter or leave a lock, that wait or go on, and the thread's end.
+-- What an act makes of the work in hand, by its request and reply. Refusals leave it as it is, and so do the requests
+-- that read, that enter or leave a lock, that wait or go on, and the thread's end.
 abbrev pub work_by : Shape → Request → Reply → Option ThreadId → Work → Work
 work_by shape (New class n) (Made o) woken work = record work { privates = opening_body shape class n o ∷ work.privates }
 work_by shape (New class n) reply woken work = work

@@ -1,4 +1,5 @@
--- What it is to follow a program: which replies are listed for a request, and that each event of a thread is its next one.
+-- What it is to follow a program: which replies are listed for a request, and that each event of a thread is its next
+-- one.
 use Rattle.std.specs.Prelude.{◌≡◌, Bool, true, eqb, ◌&&◌, Option, Some, None, List, [], ◌∷◌, ◌++◌}
 use Rattle.dso_base.specs.declared.lock.ThreadId.{ThreadId}
 use Rattle.dso_base.specs.declared.request.Event.{Event}
@@ -14,8 +15,9 @@ use Rattle.dso_base.specs.declared.value.Value.TheVariants as value
 abbrev pub is_thread : ThreadId → ThreadId → Bool
 is_thread t key = eqb key.client t.client && eqb key.index t.index
 
--- The replies that are listed for a request: a new object, its class, a value; to a tick whether the thread was woken, and
--- true to a timeout that comes too late; of a put, an entry and the monitor requests also the refusals; to all else Done.
+-- The replies that are listed for a request: a new object, its class, a value; to a tick whether the thread was woken,
+-- and true to a timeout that comes too late; of a put, an entry and the monitor requests also the refusals; to all else
+-- Done.
 abbrev pub IsListed : Request → Reply → Type 0
 IsListed (New class n) (Made o) = Unit {0}
 IsListed (Look o) (Seen class n) = Unit {0}

@@ -20,8 +20,8 @@ use Rattle.dso_lookup.specs.Search.{is_listed, reference_in}
 abbrev pub Bodies : Type 0
 Bodies = BTreeMap ℕ Body
 
--- What a thread has in hand: by object the bodies of its private objects, and of those that its open block published; and
--- the sets, the printed values and the notifications of that block.
+-- What a thread has in hand: by object the bodies of its private objects, and of those that its open block published;
+-- and the sets, the printed values and the notifications of that block.
 pub record Hand : Type 0 where
   pub privates : ℕ → Option Body
   pub news : ℕ → Option Body

@@ -1,5 +1,3 @@
--- The names and numbers of locks, roots, and the last entry of a configuration that matches.
-pub mod LockNames
+-- The numbers of locks, and that one entry of a configuration is the last that matches.
 pub mod LockNumbers
-pub mod Roots
 pub mod LastEntry

@@ -7,4 +7,3 @@ pub mod Single
 pub mod OfExpressions
 pub mod OfStatements
 pub mod Meanings
-pub mod BorrowedWords

@@ -13,10 +13,10 @@ use Rattle.dso_class.specs.declared.uses.Role.{Role}
 use Rattle.dso_class.specs.declared.uses.Role.TheVariants as role
 use Rattle.dso_class.specs.declared.uses.Head.{Head}
 use Rattle.dso_class.specs.declared.uses.Head.TheVariants as head
-use Rattle.dso_class.specs.Words.{Word}
-use Rattle.dso_class.specs.LastAndFirst.{AreFirsts}
+use Rattle.dso_entries.specs.Words.{Word}
+use Rattle.dso_entries.specs.LastAndFirst.{AreFirsts}
 use Rattle.dso_class.specs.Limits.{most_texts, most_vars}
-use Rattle.dso_class.specs.BorrowedWords.{words_of}
+use Rattle.dso_entries.specs.BorrowedWords.{words_of}
 use Rattle.dso_class.specs.Mentions.{Mention, Owner, Part, receiver_mentions, on, alone, called}
 use Rattle.dso_class.specs.PrecedingMentions.{in_text, in_body, text_in, variable_in}
 use Rattle.dso_class.specs.NameFaults.{HasNoFault}

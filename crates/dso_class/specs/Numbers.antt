@@ -1,5 +1,5 @@
 -- What names are numbers of, and what the code is in which they are: expressions and statements, form by form.
-use Rattle.std.specs.Prelude.{◌≡◌, ◌↔◌, ℕ, ◌<◌, ℤ, Bool, List, [], ◌∷◌, length, slice_get, AllPairs, Contains, IsTrue}
+use Rattle.std.specs.Prelude.{◌≡◌, ◌↔◌, ℕ, ◌<◌, ℤ, Bool, List, [], ◌∷◌, length, AllPairs, Contains, IsTrue}
 use Rattle.std.specs.Prelude.{Option, Some, None}
 use Rattle.dso_base.specs.declared.lock.Grade.{Grade}
 use Rattle.dso_base.specs.declared.op.Op.{Op}
@@ -18,7 +18,8 @@ use Rattle.dso_syntax.specs.declared.tree.StmtTree.{StmtTree}
 use Rattle.dso_syntax.specs.declared.tree.StmtForm.TheVariants as s
 use Rattle.dso_syntax.specs.Grammar.{expression}
 use Rattle.dso_syntax.specs.ProgramGrammar.{statement}
-use Rattle.dso_class.specs.Words.{Word, length_word}
+use Rattle.dso_entries.specs.Words.{Word, length_word}
+pub use Rattle.dso_entries.specs.LockNumbers.{IsNumber}
 use Rattle.dso_class.specs.Declarations.{MethodTree}
 
 -- What is numbered: each list has at a number's place what the number is of. The classes, the fields of each class,
@@ -32,10 +33,6 @@ pub record Numbers : Type 0 where
   pub texts : List Word
   pub variables : List Word
   pub grade : Option Grade
-
--- the number is that of the thing
-abbrev pub IsNumber : {A : Type 0} → List A → A → ℕ → Type 0
-IsNumber things thing number = slice_get things number ≡ Some thing
 
 -- the class of this number has a field of this name, of this number
 pub record HasField (fields : List (List Word)) (name : Word) (class number : ℕ) : Type 0 where

@@ -3,8 +3,8 @@ use Rattle.dso_syntax.specs.declared.tree.Ast.{Ast}
 use Rattle.dso_class.specs.declared.tables.Tables.{Tables}
 use Rattle.dso_class.specs.Declarations.{class_names, all_statics, all_methods}
 use Rattle.dso_class.specs.Gathered.{statics_named, all_fields, AreFieldRows, AreMethodRows}
-use Rattle.dso_class.specs.BorrowedWords.{words_of}
-use Rattle.dso_class.specs.LastAndFirst.{AreFirsts}
+use Rattle.dso_entries.specs.BorrowedWords.{words_of}
+use Rattle.dso_entries.specs.LastAndFirst.{AreFirsts}
 
 -- the tables are those of the text
 pub record AreTables (ast : Ast) (tables : Tables) : Type 0 where

@@ -22,13 +22,14 @@ use Rattle.dso_syntax.specs.declared.tree.Ident.{Ident}
 use Rattle.dso_syntax.specs.declared.tree.StmtTree.{StmtTree}
 use Rattle.dso_class.specs.declared.program.Names.{Names}
 use Rattle.dso_class.specs.declared.program.Program.{Program}
-use Rattle.dso_class.specs.Words.{Word}
-use Rattle.dso_class.specs.LastAndFirst.{LastWith, LastGives, AreFirsts}
+use Rattle.dso_entries.specs.Words.{Word}
+use Rattle.dso_entries.specs.LastAndFirst.{LastWith, AreFirsts}
 use Rattle.dso_class.specs.Mentions.{Owner, thread_owner, body, mentions_of}
 use Rattle.dso_class.specs.PrecedingMentions.{variable_in, text_in, in_text}
 use Rattle.dso_class.specs.Declarations.{ClassTree, FieldTree, MethodTree, ThreadTree, classes_of, fields_of}
 use Rattle.dso_class.specs.Declarations.{threads_of, class_names, all_statics, all_methods}
-use Rattle.dso_class.specs.ConfigEntries.{Matches, Guards, autolocks_of, lock_mentions}
+use Rattle.dso_entries.specs.ConfigEntries.{Matches, Guards, lock_mentions}
+pub use Rattle.dso_entries.specs.ConfigEntries.{IsAutolock}
 use Rattle.dso_class.specs.NameFaults.{HasNoFault}
 use Rattle.dso_class.specs.Numbers.{Numbers, IsNumber, MeansBlock}
 
@@ -59,11 +60,6 @@ numbers_of source variables grade = record {
   variables = variables;
   grade = grade;
 }
-
--- the level at which `synchronized` locks in a method: that of the last autolock for it
-abbrev pub IsAutolock : Config → Word → Word → Option Grade → Type 0
-IsAutolock config class method grade =
-    LastGives (λ entry. Matches entry.method class method) (λ entry. entry.grade) (autolocks_of config) grade
 
 -- the named lock of a method, by its number and level: that of the last entry for it
 pub data IsNamedLock (source : Source) (class method : Word) : Option (ℕ × Grade) → Type 0 where

@@ -3,20 +3,20 @@
 ghost use Rattle.std.specs.Prelude.{◌≡◌, ◌<◌, ◌≤◌, ℕ, [], ◌∷◌, ◌++◌, flat_map, length, IfErr, IfOk, OnOk};
 ghost use Rattle.dso_class.specs.Assignable.{ItemsAssign, MembersAssign};
 ghost use Rattle.dso_class.specs.Heads.{IsClassTaken, IsRefused};
-ghost use Rattle.dso_class.specs.BorrowedWords.{words_of};
+ghost use Rattle.dso_entries.specs.BorrowedWords.{words_of};
 ghost use Rattle.dso_class.specs.Limits.{most_classes};
 ghost use Rattle.dso_class.specs.Mentions.{of_item};
 ghost use Rattle.dso_class.specs.TextWalk.{IsReady, WalksItems};
 
 use crate::declaration::declare;
 use crate::fault::{NameFault, NameKind, What};
-use crate::interner::Interner;
 use crate::limits::MOST_CLASSES;
 use crate::member::{Class, class_members};
 use crate::tables::Tables;
 use crate::thread::thread;
 use dso_base::{ClassShape, Items, Word};
 use dso_config::Config;
+use dso_entries::Interner;
 use dso_machine::{Method, ThreadBody};
 use dso_syntax::{Ident, Item, Member};
 use std::alloc::Global;

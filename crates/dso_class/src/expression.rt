@@ -14,16 +14,16 @@ ghost use Rattle.dso_class.specs.Mentions as mention;
 ghost use Rattle.dso_class.specs.Mentions.{all_of, qualifier_mentions, on};
 ghost use Rattle.dso_class.specs.Numbers.{MeansExpr, MeansExprs};
 ghost use Rattle.dso_class.specs.BodyWalk.{IsMade, MeansField, Walks, bare_used, used};
-ghost use Rattle.dso_class.specs.Words.{Word};
+ghost use Rattle.dso_entries.specs.Words.{Word};
 
 use crate::fault::NameFault;
-use crate::interner::Interner;
 use crate::place::Place;
 use crate::scope::Scope;
 use crate::tables::field_ref;
 use crate::texts::text;
 use crate::uses::{Head, Role, alone, call, called, dotted, new_object, this};
 use dso_base::{Boxed, Items, Kind, Op, Value, Word};
+use dso_entries::Interner;
 use dso_machine::Expr;
 use dso_syntax::{ExprForm, ExprTree, Ident};
 use std::alloc::Global;

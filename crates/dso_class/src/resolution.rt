@@ -13,15 +13,14 @@ ghost use Rattle.dso_class.specs.WholeProgram.{AnswersWhole, IsMadeOf};
 
 use crate::class_item::{self, Resolved, Setting};
 use crate::fault::NameFault;
-use crate::interner::Interner;
 use crate::limits::MOST_STATICS;
-use crate::locks::lock_names;
 use crate::names::{names, text_words};
 use crate::program::{Names, Program};
 use crate::tables::gather;
 use crate::thread_order::threads;
 use dso_base::{Items, NoMemory, Shape, Word};
 use dso_config::Config;
+use dso_entries::{Interner, lock_names};
 use dso_machine::Code;
 use dso_syntax::{Ast, Item};
 use std::alloc::Global;

@@ -9,11 +9,10 @@ ghost use Rattle.dso_class.specs.Numbers.{IsNumber};
 ghost use Rattle.dso_class.specs.BodyWalk.{Walks};
 
 use crate::fault::{NameFault, NameKind, What};
-use crate::interner::Interner;
 use crate::limits::MOST_TEXTS;
 use crate::narrow::narrow;
-use crate::words::{add, number_of};
 use dso_base::Word;
+use dso_entries::{Interner, add, number_of};
 
 /// The number of a text literal, which is put behind the others where it is new.
 pub(crate) fn text<'a>(

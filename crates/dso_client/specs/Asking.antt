@@ -28,9 +28,12 @@ IsMissing es (up.Fault o) = (is_resident o es ≡ false) × (is_object_asked o e
 IsMissing es (up.Request l level) = (leased l es ≡ None) × (is_asked_for l es ≡ false)
 IsMissing es m = ⊥
 
--- Whatever entries the client stood for, where the turn of its thread of this index is to ask with the message: it stands for
--- them with the entry that asks, which follows them by the client rule.
+-- Whatever entries the client stood for, where the turn of its thread of this index is to ask with the message: it
+-- stands for them with the entry that asks, which follows them by the client rule.
 abbrev pub HasAsked : ℕ → Up → Kept → Kept → Type 0
-HasAsked index m old new = (code : Code) (p : Settings) (c clock : ℕ) (es : List Entry) (request : Request) → ClientStands code p c old es
-    → list_any (is_thread (thread_at c index)) (threads_of p c) ≡ true → (point code p c es).next (thread_at c index) ≡ Some request
-    → Asks (point code p c es) (thread_at c index) request m → ClientStands code p c new (asked_entry clock c index m ∷ es)
+HasAsked index m old new = (code : Code) (p : Settings) (c clock : ℕ) (es : List Entry) (request : Request)
+    → ClientStands code p c old es
+    → list_any (is_thread (thread_at c index)) (threads_of p c) ≡ true
+    → (point code p c es).next (thread_at c index) ≡ Some request
+    → Asks (point code p c es) (thread_at c index) request m
+    → ClientStands code p c new (asked_entry clock c index m ∷ es)

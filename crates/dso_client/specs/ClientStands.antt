@@ -16,8 +16,8 @@ use Rattle.dso_client.specs.KeptStands.{KeptStands}
 abbrev pub point : Code → Settings → ℕ → List Entry → Point
 point code p c es = record { settings = p; client = c; next = next_in (next_request code) es; entries = es }
 
--- The client stands for its entries: they are a run of it; what it keeps stands for them; and so does each thread, for its
--- events in them.
+-- The client stands for its entries: they are a run of it; what it keeps stands for them; and so does each thread, for
+-- its events in them.
 pub record ClientStands (code : Code) (p : Settings) (c : ℕ) (kept : Kept) (es : List Entry) : Type 0 where
   pub shape : p.shape ≡ code.shape
   pub run : ClientRun p c (next_request code) es

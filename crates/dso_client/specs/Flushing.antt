@@ -8,12 +8,13 @@ use Rattle.dso_client.specs.declared.kept.Kept.{Kept}
 use Rattle.dso_client.specs.ClientStands.{ClientStands}
 use Rattle.dso_client.specs.Entries.{flush_entry}
 
--- Whatever entries the client stood for, it stands for them with the flush of the object, which follows them by the client
--- rule: that is part of what it stands for.
+-- Whatever entries the client stood for, it stands for them with the flush of the object, which follows them by the
+-- client rule: that is part of what it stands for.
 abbrev pub Flushes : Kept → Kept → ℕ → Type 0
 Flushes old new o = (code : Code) (p : Settings) (c clock : ℕ) (es : List Entry) → ClientStands code p c old es
     → ClientStands code p c new (flush_entry clock c o ∷ es)
 
 -- whatever entries the client stands for, the client rule has no flush behind them
 abbrev pub NoneDue : Kept → Type 0
-NoneDue kept = (code : Code) (p : Settings) (c : ℕ) (es : List Entry) → ClientStands code p c kept es → may_flush p c es ≡ false
+NoneDue kept = (code : Code) (p : Settings) (c : ℕ) (es : List Entry) → ClientStands code p c kept es
+    → may_flush p c es ≡ false

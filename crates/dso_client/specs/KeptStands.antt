@@ -11,8 +11,8 @@ use Rattle.dso_client.specs.TableStands.{TableStands}
 use Rattle.dso_client.specs.LockingStands.{LockingStands}
 use Rattle.dso_client.specs.LedgerStands.{LedgerStands}
 
--- The number of the client; a seat for each of its threads, in their order and numbered from 1 on, each of which stands; the objects, the locks,
--- the ids and records; and what the entries keep in a run.
+-- The number of the client; a seat for each of its threads, in their order and numbered from 1 on, each of which
+-- stands; the objects, the locks, the ids and records; and what the entries keep in a run.
 pub record KeptStands (at : Point) (kept : Kept) : Type 0 where
   pub number : kept.number ≡ at.client
   pub places : map (λ seat. seat.id) kept.seats.items ≡ threads_of at.settings at.client

@@ -18,8 +18,8 @@ abbrev pub ids_end : List ℕ → ℕ
 ids_end [] = 1
 ids_end (first ∷ batches) = max (first + batch_size) (ids_end batches)
 
--- The ids ahead, and the one behind them; whether a batch is asked for; how many records were sent, and the numbers of those
--- that aren't acknowledged.
+-- The ids ahead, and the one behind them; whether a batch is asked for; how many records were sent, and the numbers of
+-- those that aren't acknowledged.
 pub record LedgerStands (at : Point) (ledger : Ledger) : Type 0 where
   pub ids : (k : ℕ) → ids_in ledger.pool k ≡ ids_from k at.entries
   pub bounded : ledger.pool.next ≤ ledger.pool.end

@@ -23,8 +23,8 @@ use Rattle.dso_client.specs.Points.{Point}
 abbrev pub as_hold : Held → Hold
 as_hold held = record { level = held.level; count = held.count }
 
--- how a lock stands with the client: its lease, and whether it was entered and recalled since the grant; else whether it is
--- asked for
+-- how a lock stands with the client: its lease, and whether it was entered and recalled since the grant; else whether
+-- it is asked for
 abbrev pub standing_as : Option Level → Bool → Bool → Bool → Option Standing
 standing_as (Some level) entered recalled asked = Some (Leased (record { level = level; is_entered = entered; is_closing = recalled }))
 standing_as None entered recalled true = Some Asked

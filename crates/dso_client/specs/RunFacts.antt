@@ -17,19 +17,25 @@ use Rattle.dso_law.specs.ClientStep.{wants_object}
 use Rattle.dso_client.specs.Points.{Point}
 use Rattle.dso_client.specs.SeatStands.{last_record}
 
--- A lock that is leased isn't asked for; the records that aren't acknowledged have consecutive numbers up to the last one; a
--- thread is settled where its last record is acknowledged; a thread that isn't one of the client's has no open block, doesn't
--- wait, and wants nothing.
+-- A lock that is leased isn't asked for; the records that aren't acknowledged have consecutive numbers up to the last
+-- one; a thread is settled where its last record is acknowledged; a thread that isn't one of the client's has no open
+-- block, doesn't wait, and wants nothing.
 pub record RunFacts (at : Point) : Type 0 where
   pub apart : (l : LockName) → is_some (leased l at.entries) ≡ true → is_asked_for l at.entries ≡ false
-  pub settled : (t : ThreadId) → is_settled t at.entries ≡ not (option_map_or (λ n. list_any (λ txn. eqb txn.seq n) (unacked at.entries)) (last_record t at.entries) false)
+  pub settled : (t : ThreadId)
+      → is_settled t at.entries ≡ not (option_map_or (λ n. list_any (λ txn. eqb txn.seq n) (unacked at.entries)) (last_record t at.entries) false)
   pub numbered : AreNumbered (unacked at.entries) (records at.entries)
-  pub strangers : (t : ThreadId) → list_any (is_thread t) (threads_of at.settings at.client) ≡ false → open_block t at.entries ≡ []
-  pub waitless : (t : ThreadId) → list_any (is_thread t) (threads_of at.settings at.client) ≡ false → (locks_of t at.entries).waiting ≡ None
-  pub unwanted : (t : ThreadId) (o : ℕ) → list_any (is_thread t) (threads_of at.settings at.client) ≡ false → eqb t.client at.client ≡ true → wants_object o t.index at.entries ≡ false
+  pub strangers : (t : ThreadId) → list_any (is_thread t) (threads_of at.settings at.client) ≡ false
+      → open_block t at.entries ≡ []
+  pub waitless : (t : ThreadId) → list_any (is_thread t) (threads_of at.settings at.client) ≡ false
+      → (locks_of t at.entries).waiting ≡ None
+  pub unwanted : (t : ThreadId) (o : ℕ) → list_any (is_thread t) (threads_of at.settings at.client) ≡ false
+      → eqb t.client at.client ≡ true → wants_object o t.index at.entries ≡ false
 
 -- Sizes: a field past the size of a copy has no value, and sizes are told in 32 bits.
 pub record SizesAreKept (at : Point) : Type 0 where
-  pub fields : (o f : ℕ) (body : Body) → held_body o at.entries ≡ Some body → length body.values ≤ f → copy_of o f at.entries ≡ None
+  pub fields : (o f : ℕ) (body : Body) → held_body o at.entries ≡ Some body → length body.values ≤ f
+      → copy_of o f at.entries ≡ None
   pub copies : (o : ℕ) (body : Body) → held_body o at.entries ≡ Some body → length body.values < 2 ^ 32
-  pub own : (t : ThreadId) (o : ℕ) (body : Body) → own at.settings.shape t o at.entries ≡ Some body → length body.values < 2 ^ 32
+  pub own : (t : ThreadId) (o : ℕ) (body : Body) → own at.settings.shape t o at.entries ≡ Some body
+      → length body.values < 2 ^ 32

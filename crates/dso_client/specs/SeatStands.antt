@@ -23,8 +23,8 @@ abbrev pub last_record : ThreadId → List Entry → Option ℕ
 last_record t [] = None
 last_record t (e ∷ es) = by_sent_up (last_by_sent t) e.sent (last_record t es)
 
--- The thread's next request; the work that it has in hand; what its latest Look saw; the lock that it waits on; whether it
--- is marked; its last record.
+-- The thread's next request; the work that it has in hand; what its latest Look saw; the lock that it waits on; whether
+-- it is marked; its last record.
 pub record SeatStands (at : Point) (seat : Seat) : Type 0 where
   pub next : seat.next ≡ at.next seat.id
   pub work : hand_in seat.privates seat.block ≡ hand_of (work_of at.settings.shape seat.id at.entries)

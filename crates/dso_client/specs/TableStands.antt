@@ -13,13 +13,15 @@ use Rattle.dso_table.specs.States.{body_of, is_asked}
 use Rattle.dso_table.specs.Tables.{state_in}
 use Rattle.dso_client.specs.Points.{Point}
 
--- Of each object: its copy, whether it is asked for, and its mark. Of each thread and object: whether the thread's open block
--- puts to it, and whether the thread wants it. How many objects are to be resident, and how many are.
+-- Of each object: its copy, whether it is asked for, and its mark. Of each thread and object: whether the thread's open
+-- block puts to it, and whether the thread wants it. How many objects are to be resident, and how many are.
 pub record TableStands (at : Point) (table : Tables) : Type 0 where
   pub bodies : (o : ℕ) → body_of ((state_in table).standing o) ≡ held_body o at.entries
   pub asked : (o : ℕ) → is_asked ((state_in table).standing o) ≡ is_object_asked o at.entries
   pub marks : (o : ℕ) → (state_in table).marks o ≡ change_mark o at.entries
-  pub opened : (t : ThreadId) (o : ℕ) → (state_in table).opened (t, o) ≡ list_any (event_puts_to o) (open_block t at.entries)
-  pub wanted : (t : ThreadId) (o : ℕ) → (state_in table).wanted (t, o) ≡ (eqb t.client at.client && wants_object o t.index at.entries)
+  pub opened : (t : ThreadId) (o : ℕ)
+      → (state_in table).opened (t, o) ≡ list_any (event_puts_to o) (open_block t at.entries)
+  pub wanted : (t : ThreadId) (o : ℕ)
+      → (state_in table).wanted (t, o) ≡ (eqb t.client at.client && wants_object o t.index at.entries)
   pub room : (state_in table).limit ≡ at.settings.resident
   pub count : (state_in table).residents ≡ resident_count at.entries

@@ -17,15 +17,16 @@ use Rattle.dso_client.specs.Hearing.{heard}
 use Rattle.dso_client.specs.KeptStands.{PartsStand}
 use Rattle.dso_client.specs.Points.{Point}
 
--- A message that fits: the client stands for its entries with the one that takes it, which follows them by the client rule. One
--- that doesn't changes and sends nothing.
+-- A message that fits: the client stands for its entries with the one that takes it, which follows them by the client
+-- rule. One that doesn't changes and sends nothing.
 pub record TakesIn (code : Code) (p : Settings) (c clock : ℕ) (m : Down) (es : List Entry) (sent : List Up) (old new : Kept) : Type 0 where
   pub taken : FitsDown p c m es → ClientStands code p c new (taken_entry clock c m sent ∷ es)
   pub unfit : (FitsDown p c m es → ⊥) → (new ≡ old) × (sent ≡ [])
 
 -- so for whatever entries the client stood for
 abbrev pub Takes : Code → Down → Kept → Kept → List Up → Type 0
-Takes code m old new sent = (p : Settings) (c clock : ℕ) (es : List Entry) → ClientStands code p c old es → TakesIn code p c clock m es sent old new
+Takes code m old new sent = (p : Settings) (c clock : ℕ) (es : List Entry) → ClientStands code p c old es
+    → TakesIn code p c clock m es sent old new
 
 -- the point once the message was taken, and these were sent
 abbrev pub settled : ℕ → Down → List Up → Point → Point
@@ -38,4 +39,5 @@ pub record Settles (clock : ℕ) (m : Down) (at : Point) (sent : List Up) (new :
 
 -- no lease is to be given back
 abbrev pub IsQuiet : Point → Type 0
-IsQuiet at = (l : LockName) → (is_some (leased l at.entries) && is_due at.settings at.client at.next l at.entries) ≡ false
+IsQuiet at = (l : LockName)
+    → (is_some (leased l at.entries) && is_due at.settings at.client at.next l at.entries) ≡ false

@@ -13,16 +13,19 @@ use Rattle.dso_client.specs.ClientStands.{ClientStands, point}
 use Rattle.dso_client.specs.Openings.{thread_at}
 use Rattle.dso_client.specs.RunFacts.{SizesAreKept}
 
--- The answer tells, whatever entries the client stands for whose sizes are kept, whether the client rule has an act of its
--- thread of this index behind them.
+-- The answer tells, whatever entries the client stands for whose sizes are kept, whether the client rule has an act of
+-- its thread of this index behind them.
 abbrev pub IsEnabled : Kept → ℕ → Bool → Type 0
-IsEnabled kept index answer = (code : Code) (p : Settings) (c : ℕ) (es : List Entry) → ClientStands code p c kept es → SizesAreKept (point code p c es)
-    → list_any (is_thread (thread_at c index)) (threads_of p c) ≡ true → answer ≡ may_act p c (next_in (next_request code) es) (thread_at c index) es
+IsEnabled kept index answer = (code : Code) (p : Settings) (c : ℕ) (es : List Entry) → ClientStands code p c kept es
+    → SizesAreKept (point code p c es)
+    → list_any (is_thread (thread_at c index)) (threads_of p c) ≡ true
+    → answer ≡ may_act p c (next_in (next_request code) es) (thread_at c index) es
 
 -- the answer tells whether the thread of this index has no next request
 abbrev pub TellsOver : Kept → ℕ → Bool → Type 0
 TellsOver kept index answer = (code : Code) (p : Settings) (c : ℕ) (es : List Entry) → ClientStands code p c kept es
-    → list_any (is_thread (thread_at c index)) (threads_of p c) ≡ true → IsTrue answer ↔ (next_in (next_request code) es (thread_at c index) ≡ None)
+    → list_any (is_thread (thread_at c index)) (threads_of p c) ≡ true
+    → IsTrue answer ↔ (next_in (next_request code) es (thread_at c index) ≡ None)
 
 -- the number is that of the client's threads that have a next request
 abbrev pub TellsAlive : Kept → ℕ → Type 0

@@ -32,8 +32,8 @@ pub record NamesNeed (at : Point) (t : ThreadId) (need : Need) (told : Cause) : 
   pub tells : TellsNeed at t (Some need) (Some lacking)
   pub told_so : told ≡ cause_of lacking
 
--- The cause is that of the first need that isn't met. Where all are met there is no reply, which is so of no request of a
--- sound program.
+-- The cause is that of the first need that isn't met. Where all are met there is no reply, which is so of no request of
+-- a sound program.
 abbrev pub IsCause : Point → ThreadId → Option Need → Cause → Type 0
 IsCause at t None told = Unit {0}
 IsCause at t (Some need) told = NamesNeed at t need told

@@ -28,7 +28,8 @@ abbrev pub is_place : LockName → ThreadId → LockName × ThreadId → Bool
 is_place l t = is_at_pair lock_order thread_order l t
 
 -- the holds with another hold of the thread on the lock
-abbrev pub with_hold : LockName → ThreadId → Option Held → (LockName × ThreadId → Option Held) → LockName × ThreadId → Option Held
+abbrev pub with_hold : LockName → ThreadId → Option Held → (LockName × ThreadId → Option Held) → LockName × ThreadId
+    → Option Held
 with_hold l t new holds = written (writes (is_place l t) (λ _. new)) holds
 
 -- the level of a hold, if there is one
@@ -97,9 +98,12 @@ pub record IsFirstInConflict (t : ThreadId) (l : LockName) (level : Level) (hold
   pub conflict : IsInConflict t l level holds w
   pub first : (u : ThreadId) → IsInConflict t l level holds u → is_before u w ≡ false
 
--- The answer to thread t that enters the lock n times, and what it makes of the holds. An upgrade is refused, whoever else
--- holds the lock; else the first thread in conflict is named; else the thread has entered.
-abbrev pub IsAnswer : ThreadId → LockName → Level → ℕ → (LockName × ThreadId → Option Held) → (LockName × ThreadId → Option Held) → Enter → Type 0
+-- The answer to thread t that enters the lock n times, and what it makes of the holds. An upgrade is refused, whoever
+-- else holds the lock; else the first thread in conflict is named; else the thread has entered.
+abbrev pub IsAnswer : ThreadId → LockName → Level → ℕ → (LockName × ThreadId → Option Held)
+    → (LockName × ThreadId → Option Held) → Enter → Type 0
 IsAnswer t l level n old new LockUpgrade = (is_upgrade level (old (l, t)) ≡ true) × (new ≡ old)
-IsAnswer t l level n old new (Blocked w) = (is_upgrade level (old (l, t)) ≡ false) × IsFirstInConflict t l level old w × (new ≡ old)
-IsAnswer t l level n old new Entered = (is_upgrade level (old (l, t)) ≡ false) × NoConflict t l level old × (new ≡ with_hold l t (Some (entered level n (old (l, t)))) old)
+IsAnswer t l level n old new (Blocked w) = (is_upgrade level (old (l, t)) ≡ false) × IsFirstInConflict t l level old w
+    × (new ≡ old)
+IsAnswer t l level n old new Entered = (is_upgrade level (old (l, t)) ≡ false) × NoConflict t l level old
+    × (new ≡ with_hold l t (Some (entered level n (old (l, t)))) old)

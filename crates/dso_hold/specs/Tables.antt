@@ -12,11 +12,13 @@ use Rattle.dso_lookup.specs.Rows.{look_in}
 
 -- The table by thread lists exactly the locks that the thread holds.
 pub record IndexesAgree (tables : Tables) : Type 0 where
-  pub listed : (l : LockName) (t : ThreadId) → is_some (look_in thread_order lock_order tables.by_thread (t, l)) ≡ is_some (hold_in tables (l, t))
+  pub listed : (l : LockName) (t : ThreadId)
+      → is_some (look_in thread_order lock_order tables.by_thread (t, l)) ≡ is_some (hold_in tables (l, t))
 
 -- Who holds a lock at Write, and so excludes a reader, holds it alone.
 pub record IsExclusive (holds : LockName × ThreadId → Option Held) : Type 0 where
-  pub alone : (l : LockName) (t u : ThreadId) → option_map_or (excludes Read) (holds (l, t)) false ≡ true → is_some (holds (l, u)) ≡ true → u ≡ t
+  pub alone : (l : LockName) (t u : ThreadId) → option_map_or (excludes Read) (holds (l, t)) false ≡ true
+      → is_some (holds (l, u)) ≡ true → u ≡ t
 
 -- both
 pub record HoldsAgree (tables : Tables) : Type 0 where

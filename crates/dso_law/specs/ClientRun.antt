@@ -8,8 +8,8 @@ use Rattle.dso_law.specs.Settings.{Settings}
 use Rattle.dso_law.specs.Entries.{events_in}
 use Rattle.dso_law.specs.ClientStep.{ClientStep}
 
--- A program tells the next request of a thread after its events, the first of them first. Here: the next request of each
--- thread after the client's entries.
+-- A program tells the next request of a thread after its events, the first of them first. Here: the next request of
+-- each thread after the client's entries.
 abbrev pub next_in : (ThreadId → List Event → Option Request) → List Entry → ThreadId → Option Request
 next_in next es t = next t (events_in t es)
 

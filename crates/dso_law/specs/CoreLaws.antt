@@ -42,8 +42,8 @@ pub record TellsMark (o : ℕ) (es : List Entry) : Type 0 where
 abbrev pub MarksTell : Type 0
 MarksTell = (o : ℕ) (es : List Entry) → AcksInOrder es → TellsMark o es
 
--- the lease of a lock has the level leased; it admits an outer entry where it isn't closing or wasn't entered; and the lock
--- is to be given back where it has a lease that is closing and entered and no thread of the client holds it
+-- the lease of a lock has the level leased; it admits an outer entry where it isn't closing or wasn't entered; and the
+-- lock is to be given back where it has a lease that is closing and entered and no thread of the client holds it
 pub record TellsLease (p : Settings) (c : ℕ) (next : ThreadId → Option Request) (l : LockName) (es : List Entry)
     : Type 0 where
   pub level : option_map (λ lease. lease.level) (lease_of p c next l es) ≡ leased l es
@@ -57,8 +57,8 @@ abbrev pub LeasesTell : Type 0
 LeasesTell = (p : Settings) (c : ℕ) (next : ThreadId → Option Request) (l : LockName) (es : List Entry)
     → TellsLease p c next l es
 
--- Closing: a lease is closing where it stays so, or where it is of level Read and a thread awaits the lock at Write to whom
--- its monitor is private: which needs no lease, and may go on.
+-- Closing: a lease is closing where it stays so, or where it is of level Read and a thread awaits the lock at Write to
+-- whom its monitor is private: which needs no lease, and may go on.
 abbrev pub ClosingIsKept : Type 0
 ClosingIsKept = (p : Settings) (c : ℕ) (next : ThreadId → Option Request) (l : LockName) (es : List Entry)
     → is_closing p c next l es ≡ (stays_closing p c next l es || (is_read (leased l es)

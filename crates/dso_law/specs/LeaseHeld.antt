@@ -24,15 +24,15 @@ pub record Lease : Type 0 where
 
 -- The next request of each thread is an argument.
 module _ (p : Settings) (c : ℕ) (next : ThreadId → Option Request) where
-  -- The lease of the lock, None where there is none: what was entered or recalled under a lease that was given back counts
-  -- no more.
+  -- The lease of the lock, None where there is none: what was entered or recalled under a lease that was given back
+  -- counts no more.
   abbrev pub lease_of : LockName → List Entry → Option Lease
   lease_of l es = option_map
       (λ level. record { level = level; is_entered = is_entered l es; is_closing = is_closing p c next l es })
       (leased l es)
 
-  -- the thread wants the lease at Write: it awaits the lock at Write, and the lock isn't the monitor of an object that is
-  -- private to it, which it enters without a lease
+  -- the thread wants the lease at Write: it awaits the lock at Write, and the lock isn't the monitor of an object that
+  -- is private to it, which it enters without a lease
   abbrev pub awaits_lease : LockName → List Entry → ThreadId → Bool
   awaits_lease l es t = not (is_local p.shape t l es) && awaits_write p c next l es t
 

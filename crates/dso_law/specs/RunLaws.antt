@@ -46,9 +46,10 @@ WhoAwaitsGoesOn = (p : Settings) (c : ℕ) (next : ThreadId → List Event → O
     (t : ThreadId) (l : LockName) → ClientRun p c next (e ∷ es) → eqb t.client c ≡ true → leased l es ≡ Some Read
     → awaits_lease p c (next_in next es) l es t ≡ true → awaits_lease p c (next_in next (e ∷ es)) l (e ∷ es) t ≡ true
 
--- the lease of the lock after an entry: by the message taken, by the event, by who wants it then, and given back where it is
--- due
-abbrev pub lease_after : Settings → ℕ → (ThreadId → List Event → Option Request) → LockName → Entry → List Entry → Option Lease
+-- the lease of the lock after an entry: by the message taken, by the event, by who wants it then, and given back where
+-- it is due
+abbrev pub lease_after : Settings → ℕ → (ThreadId → List Event → Option Request) → LockName → Entry → List Entry
+    → Option Lease
 lease_after p c next l e es = lease_by_return (list_any (is_lock l) (due p c (next_in next (e ∷ es)) (unsent e ∷ es)))
     (lease_by_wants (list_any (awaits_lease p c (next_in next (e ∷ es)) l (e ∷ es)) (threads_of p c))
     (by_event (lease_by_event l) e.event (by_taken_down (lease_by_taken l) e.input (kept_lease p c (next_in next es) l es))))
@@ -84,8 +85,8 @@ abbrev pub AskedIsAbsent : Type 0
 AskedIsAbsent = (p : Settings) (c : ℕ) (next : ThreadId → List Event → Option Request) (es : List Entry) (o : ℕ)
     → ClientRun p c next es → is_object_asked o es ≡ true → is_resident o es ≡ false
 
--- what a client's entries tell of its ids: it made no more objects than it took ids; while a batch is asked for, it made as
--- many, so none is left
+-- what a client's entries tell of its ids: it made no more objects than it took ids; while a batch is asked for, it
+-- made as many, so none is left
 pub record IdsAreTaken (es : List Entry) : Type 0 where
   pub most : made es ≤ batch_size * length (batches es)
   pub all : is_batch_asked es ≡ true → made es ≡ batch_size * length (batches es)
@@ -100,8 +101,8 @@ abbrev pub IsMaking : Option Event → Type 0
 IsMaking None = ⊥
 IsMaking (Some event) = made_by event 0 ≡ 1
 
--- the ids ahead, entry by entry: an object made takes the first of them; a batch that comes has found none left, and is all
--- that is ahead; any other entry leaves them
+-- the ids ahead, entry by entry: an object made takes the first of them; a batch that comes has found none left, and is
+-- all that is ahead; any other entry leaves them
 pub record IdsGoOn (e : Entry) (es : List Entry) : Type 0 where
   pub made_one : IsMaking e.event → (k : ℕ) → ids_from k (e ∷ es) ≡ ids_from (suc k) es
   pub batch : (first : ℕ) → e.input ≡ input.TookDown (down.Ids first) → (k : ℕ)

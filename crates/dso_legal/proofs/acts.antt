@@ -8,4 +8,3 @@ pub mod SeesAll
 pub mod Names
 pub mod KnownNames
 pub mod SoundNames
-pub mod NoRoots

@@ -11,9 +11,11 @@ pub mod OpenBlocksPass
 pub mod ThreadHistory
 pub mod OwnActs
 pub mod OwnThreads
+pub mod StaysWithin
 pub mod WaitsApart
 pub mod Orderly
 pub mod SameLocks
 pub mod LocksOfEvents
 pub mod SparedHistory
+pub mod Settled
 pub mod WokenByBlocks

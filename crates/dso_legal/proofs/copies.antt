@@ -2,6 +2,7 @@
 pub mod CopiesAtClient
 pub mod CopiesForeign
 pub mod CopiesGoOn
+pub mod CopiesLost
 pub mod CopiesObject
 pub mod CopiesOwn
 pub mod ClassMoves

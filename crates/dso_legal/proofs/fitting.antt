@@ -5,6 +5,7 @@ pub mod Replies
 pub mod ClassesMade
 pub mod Carried
 pub mod Classes
+pub mod Untold
 pub mod Values
 pub mod HeldWhole
 pub mod RepliesThere
@@ -19,11 +20,14 @@ pub mod FaultsAsked
 pub mod NamesKept
 pub mod NamesOut
 pub mod LostClients
+pub mod Unheard
 pub mod WaysDown
 pub mod WaysDownFit
 pub mod ThreadsOwn
+pub mod ThreadRecords
 pub mod RecordsOwn
 pub mod Room
+pub mod ReturnsOnce
+pub mod WakesOwn
+pub mod WaitersFit
 pub mod MessagesFit
-pub mod CalmClient
-pub mod CalmWaiters

@@ -5,6 +5,8 @@ pub mod LineParts
 pub mod LineSent
 pub mod LineTaken
 pub mod LineElsewhere
+pub mod LineLost
+pub mod LossTaken
 pub mod StandsOn
 pub mod StandsOwn
 pub mod AllStandOn

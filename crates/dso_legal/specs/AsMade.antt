@@ -1,4 +1,5 @@
--- The history as its threads made it: the committed one, but that each notification has just the thread that it woke at its client.
+-- The history as its threads made it: the committed one, but that each notification has just the thread that it woke at
+-- its client.
 use Rattle.std.specs.Prelude.{cond, List, [], ◌∷◌, ◌++◌}
 use Rattle.dso_base.specs.declared.journal.Entry.{Entry}
 use Rattle.dso_base.specs.declared.journal.Input.{Input}

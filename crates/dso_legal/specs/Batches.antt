@@ -53,7 +53,8 @@ pub record BatchesInOrder (c : ℕ) (es : List Entry) : Type 0 where
 
 -- In a lawful journal the batches of each client that isn't lost are so.
 abbrev pub BatchesStayInOrder : Type 0
-BatchesStayInOrder = (p : Settings) (next : ThreadId → List Event → Option Request) (es : List Entry) → IsLawful p next es
+BatchesStayInOrder = (p : Settings) (next : ThreadId → List Event → Option Request) (es : List Entry)
+    → IsLawful p next es
     → (c : ℕ) → is_lost c (entries_of Server es) ≡ false → BatchesInOrder c es
 
 -- a batch that is the first in flight to the client was asked for, and is above those that the client has
@@ -64,4 +65,5 @@ pub record BatchFits (c : ℕ) (m : Down) (es : List Entry) : Type 0 where
 -- In a lawful journal, for each client that isn't lost, a batch that comes does.
 abbrev pub BatchesFit : Type 0
 BatchesFit = (p : Settings) (next : ThreadId → List Event → Option Request) (es : List Entry) → IsLawful p next es
-    → (c : ℕ) → is_lost c (entries_of Server es) ≡ false → (m : Down) → IsFirst m (down_in_flight c es) → BatchFits c m es
+    → (c : ℕ) → is_lost c (entries_of Server es) ≡ false → (m : Down) → IsFirst m (down_in_flight c es)
+    → BatchFits c m es

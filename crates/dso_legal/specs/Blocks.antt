@@ -1,9 +1,10 @@
 -- The blocks of a client: its threads' events in their order, its records, and where they stand in the history.
-use Rattle.std.specs.Prelude.{ℕ, ◌≡◌, ◌≤◌, false, Option, List, [], ◌++◌, length, drop}
+use Rattle.std.specs.Prelude.{ℕ, ◌≡◌, ◌≤◌, Bool, false, cond, eqb, Option, List, [], ◌∷◌, ◌++◌, length, drop}
 use Rattle.dso_base.specs.declared.journal.Entry.{Entry}
 use Rattle.dso_base.specs.declared.journal.Node.TheVariants.{Server, Client}
 use Rattle.dso_base.specs.declared.lock.ThreadId.{ThreadId}
 use Rattle.dso_base.specs.declared.request.Event.{Event}
+use Rattle.dso_base.specs.declared.request.Event.TheVariants.{Act, Lost}
 use Rattle.dso_base.specs.declared.request.Request.{Request}
 use Rattle.dso_base.specs.declared.shape.Shape.{Shape}
 use Rattle.dso_plain.specs.History.{events_of}
@@ -17,8 +18,18 @@ use Rattle.dso_legal.specs.Agreement.{messages}
 use Rattle.dso_legal.specs.Lawful.{IsLawful}
 use Rattle.dso_legal.specs.Committed.{ended_blocks, committed}
 use Rattle.dso_legal.specs.Resolved.{AreResolved}
-use Rattle.dso_legal.specs.WaitsAndLosses.{WithoutWaits}
+use Rattle.dso_legal.specs.WithoutWaits.{WithoutWaits}
 use Rattle.dso_legal.specs.PendingBlocks.{joined, handed_in, taken_in, records_in, records_sent, no_locks, locks_through, privates_through, StaysOpen, AreRecordsOf}
+
+-- whether the event is an act of a thread of the client
+abbrev pub is_act_at : ℕ → Event → Bool
+is_act_at c (Act thread request reply woken) = eqb thread.client c
+is_act_at c (Lost client) = false
+
+-- the acts of the client's threads, in their order
+abbrev pub acts_at : ℕ → List Event → List Event
+acts_at c [] = []
+acts_at c (event ∷ events) = cond (is_act_at c event) (event ∷ acts_at c events) (acts_at c events)
 
 -- By a client's entries: the thread's events are those of the ended blocks and then its open block, in which none is an
 -- ending; its locks are those that its events make; its private objects are those that its blocks leave.
@@ -48,15 +59,32 @@ pub record IsHandedIn (c : ℕ) (es : List Entry) : Type 0 where
 
 -- Blocks are handed in, in every lawful journal, by each client that isn't lost.
 abbrev pub BlocksAreHandedIn : Type 0
-BlocksAreHandedIn = (p : Settings) (next : ThreadId → List Event → Option Request) (es : List Entry) → IsLawful p next es
+BlocksAreHandedIn = (p : Settings) (next : ThreadId → List Event → Option Request) (es : List Entry)
+    → IsLawful p next es
     → (c : ℕ) → is_lost c (entries_of Server es) ≡ false → IsHandedIn c es
 
--- The history has, of each thread of a client that isn't lost, the events of the blocks that the server took in, resolved.
+-- What the history has of a client: the blocks of its first endings, in their order and nothing else, each notification
+-- that left the choice to the server with whom it chose. A block ends with its thread's ending, so each thread is cut
+-- at its last one among these. They are as many as the server took records of the client; of a lost one it takes no
+-- more.
+pub record HasFirstEndings (c : ℕ) (es : List Entry) : Type 0 where
+  pub few : handed_in c es ≤ length (ended_blocks (entries_of (Client c) es))
+  pub blocks : AreResolved (joined (taken_in c es)) (acts_at c (committed es))
+
+-- Histories hold blocks: of each client, a lost one too, those of its first endings.
 abbrev pub HistoriesHoldBlocks : Type 0
-HistoriesHoldBlocks = (p : Settings) (next : ThreadId → List Event → Option Request) (es : List Entry) → IsLawful p next es
-    → (t : ThreadId) → is_lost t.client (entries_of Server es) ≡ false → AreResolved (events_of t (joined (taken_in t.client es))) (events_of t (committed es))
+HistoriesHoldBlocks = (p : Settings) (next : ThreadId → List Event → Option Request) (es : List Entry)
+    → IsLawful p next es
+    → (c : ℕ) → HasFirstEndings c es
+
+-- So of each thread the events of these.
+abbrev pub HistoriesHoldEvents : Type 0
+HistoriesHoldEvents = (p : Settings) (next : ThreadId → List Event → Option Request) (es : List Entry)
+    → IsLawful p next es
+    → (t : ThreadId) → AreResolved (events_of t (joined (taken_in t.client es))) (events_of t (committed es))
 
 -- In a journal without waits, just as the threads made them.
 abbrev pub HistoriesHoldBlocksAsMade : Type 0
-HistoriesHoldBlocksAsMade = (p : Settings) (next : ThreadId → List Event → Option Request) (es : List Entry) → IsLawful p next es → WithoutWaits es
-    → (t : ThreadId) → is_lost t.client (entries_of Server es) ≡ false → events_of t (committed es) ≡ events_of t (joined (taken_in t.client es))
+HistoriesHoldBlocksAsMade = (p : Settings) (next : ThreadId → List Event → Option Request) (es : List Entry)
+    → IsLawful p next es → WithoutWaits es
+    → (t : ThreadId) → events_of t (committed es) ≡ events_of t (joined (taken_in t.client es))

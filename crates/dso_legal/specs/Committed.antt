@@ -1,4 +1,5 @@
--- The history that a journal commits. Entries stand with the newest first, the events of a history with the first first.
+-- The history that a journal commits. Entries stand with the newest first, the events of a history with the first
+-- first.
 use Rattle.std.specs.Prelude.{ℕ, zero, suc, cond, Option, Some, None, List, [], ◌∷◌, ◌++◌, slice_get}
 use Rattle.dso_base.specs.declared.journal.Entry.{Entry}
 use Rattle.dso_base.specs.declared.journal.Input.{Input}
@@ -120,8 +121,8 @@ abbrev pub committed_at : Node → Input → List Entry → List Event
 committed_at Server input es = committed_by input es
 committed_at (Client c) input es = []
 
--- The committed history: for each entry of the server in order what it gives. So blocks stand where the server took their
--- records.
+-- The committed history: for each entry of the server in order what it gives. So blocks stand where the server took
+-- their records.
 abbrev pub committed : List Entry → List Event
 committed [] = []
 committed (e ∷ es) = committed es ++ committed_at e.node e.input es

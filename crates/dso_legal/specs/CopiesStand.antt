@@ -22,7 +22,8 @@ use Rattle.dso_legal.specs.AsMade.{as_made}
 use Rattle.dso_legal.specs.PendingBlocks.{joined, pending}
 use Rattle.dso_legal.specs.Residency.{is_set}
 
--- The state of the one heap as a client has it before its open blocks: after the history as made, and then its pending blocks.
+-- The state of the one heap as a client has it before its open blocks: after the history as made, and then its pending
+-- blocks.
 abbrev pub state_at : Settings → ℕ → List Entry → PlainState
 state_at p c es = end_of p.shape (joined (pending c es)) (last_state p.shape (as_made es))
 
@@ -46,7 +47,8 @@ speaks_of o m = false
 abbrev pub IsPastValue : ℕ → ℕ → ℕ → PlainState → Value → Type 0
 IsPastValue c o f s v = (t : ThreadId) → t.client ≡ c → StandsFrom (s.seen (t, o, f)) v (s.past (o, f))
 
--- a client's copy of a field: whether the object is resident, the value held for the field, and how the field's guard stands
+-- a client's copy of a field: whether the object is resident, the value held for the field, and how the field's guard
+-- stands
 pub record FieldCopy : Type 0 where
   pub resident : Bool
   pub value : Option Value
@@ -64,8 +66,8 @@ field_by_taken l o f m copy = record {
 abbrev pub IsPastCopy : ℕ → ℕ → ℕ → PlainState → FieldCopy → Type 0
 IsPastCopy c o f s copy = copy.resident ≡ true → (v : Value) → copy.value ≡ Some v → IsPastValue c o f s v
 
--- A message may come: the copy is a past value; no change of the field overtakes a lease of its guard; and no object comes that
--- is resident.
+-- A message may come: the copy is a past value; no change of the field overtakes a lease of its guard; and no object
+-- comes that is resident.
 pub record MayTake (c o f : ℕ) (s : PlainState) (m : Down) (copy : FieldCopy) : Type 0 where
   pub past : IsPastCopy c o f s copy
   pub unchanged : copy.guard.lease ≢ None → sets_field o f m ≡ false
@@ -76,7 +78,8 @@ pub record MayTake (c o f : ℕ) (s : PlainState) (m : Down) (copy : FieldCopy) 
 pub record FieldStands (l : LockName) (c o f : ℕ) (s : PlainState) (ms : List Down) (copy : FieldCopy) : Type 0 where
   pub along : EachMay (MayTake c o f s) (field_by_taken l o f) ms copy
   pub past : IsPastCopy c o f s (after (field_by_taken l o f) ms copy)
-  pub meets : (after (field_by_taken l o f) ms copy).resident ≡ true → (after (field_by_taken l o f) ms copy).value ≡ s.heap (o, f)
+  pub meets : (after (field_by_taken l o f) ms copy).resident ≡ true
+      → (after (field_by_taken l o f) ms copy).value ≡ s.heap (o, f)
 
 -- by a client's entries
 abbrev pub field_copy : LockName → ℕ → ℕ → List Entry → FieldCopy

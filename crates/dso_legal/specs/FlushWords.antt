@@ -16,8 +16,8 @@ use Rattle.dso_legal.specs.Lawful.{IsLawful}
 use Rattle.dso_legal.specs.OwnObjects.{has_in_hand}
 use Rattle.dso_legal.specs.Residency.{is_set}
 
--- Flushable, as a client keeps it: the object is resident; no record that isn't acknowledged changes it, no open block of
--- the client sets a field of it, and no thread's last act entry asked for it.
+-- Flushable, as a client keeps it: the object is resident; no record that isn't acknowledged changes it, no open block
+-- of the client sets a field of it, and no thread's last act entry asked for it.
 abbrev pub is_free_to_flush : Settings → ℕ → ℕ → List Entry → Bool
 is_free_to_flush p c o es = is_resident o es && (not (list_any (changes_object o) (unacked es))
     && (not (list_any (λ t. is_set o (work_of p.shape t es).sets) (threads_of p c))

@@ -14,10 +14,12 @@ use Rattle.dso_legal.specs.Lawful.{IsLawful}
 -- In a lawful journal the server gives no id to two clients.
 abbrev pub IdsAreGivenOnce : Type 0
 IdsAreGivenOnce = (p : Settings) (next : ThreadId → List Event → Option Request) (es : List Entry) → IsLawful p next es
-    → (c d o : ℕ) → is_given_to c o (counted (entries_of Server es)) ≡ true → is_given_to d o (counted (entries_of Server es)) ≡ true → c ≡ d
+    → (c d o : ℕ) → is_given_to c o (counted (entries_of Server es)) ≡ true
+    → is_given_to d o (counted (entries_of Server es)) ≡ true → c ≡ d
 
 -- In a lawful journal, for each client that isn't lost, the id that its next new object gets was given to it. So the
 -- objects that two clients make have different ids.
 abbrev pub IdsAreOfBatches : Type 0
 IdsAreOfBatches = (p : Settings) (next : ThreadId → List Event → Option Request) (es : List Entry) → IsLawful p next es
-    → (c o : ℕ) → is_lost c (entries_of Server es) ≡ false → next_id (entries_of (Client c) es) ≡ Some o → is_given_to c o (counted (entries_of Server es)) ≡ true
+    → (c o : ℕ) → is_lost c (entries_of Server es) ≡ false → next_id (entries_of (Client c) es) ≡ Some o
+    → is_given_to c o (counted (entries_of Server es)) ≡ true

@@ -1,4 +1,5 @@
--- The committed history by one pass over a journal: what is kept after some entries, and what one more entry makes of it.
+-- The committed history by one pass over a journal: what is kept after some entries, and what one more entry makes of
+-- it.
 use Rattle.std.specs.Prelude.{ℕ, suc, ◌-◌, ◌<◌, ◌^◌, Bool, true, false, cond, eqb, is_some, Option, Some, None, List, [], ◌∷◌, ◌++◌}
 use Rattle.std.specs.Option.{unwrap_or, option_map}
 use Rattle.dso_base.specs.declared.journal.Entry.{Entry}
@@ -28,7 +29,8 @@ use Rattle.dso_law.specs.ServerWaiters.{waiters_of, waiters_by, waiters_by_sent}
 use Rattle.dso_legal.specs.Committed.{ended_blocks, block_numbered, resolved, committed}
 use Rattle.dso_legal.specs.PendingBlocks.{no_locks}
 
--- What is kept of a thread: how often it holds each lock, the count that it is to have again after a wait, its open block.
+-- What is kept of a thread: how often it holds each lock, the count that it is to have again after a wait, its open
+-- block.
 pub record ThreadState : Type 0 where
   pub counts : LockName → Option ℕ
   pub waiting : Option ℕ
@@ -170,7 +172,8 @@ thread_state_after request reply event state = record (counts_after request repl
 abbrev pub client_state_after : Event → ClientState → ClientState
 client_state_after (Act thread request reply woken) threads = record {
   threads = written (writes (λ t. is_act_of t (Act thread request reply woken)) (λ _. thread_state_after request reply (Act thread request reply woken) (threads.threads thread))) threads.threads;
-  ended = threads.ended ++ block_ended (ends_block request reply (threads.threads thread)) (Act thread request reply woken) (threads.threads thread).block;
+  ended = threads.ended
+      ++ block_ended (ends_block request reply (threads.threads thread)) (Act thread request reply woken) (threads.threads thread).block;
 }
 client_state_after (Lost client) threads = threads
 

@@ -45,8 +45,8 @@ module _ (p : Settings) (next : ThreadId → List Event → Option Request) wher
   AllFollow [] = Unit {0}
   AllFollow (e ∷ es) = AllFollow es × MayFollow e es
 
-  -- Lawful: each entry follows those before it, and over the whole journal no client's connection is taken up more often
-  -- than it is broken.
+  -- Lawful: each entry follows those before it, and over the whole journal no client's connection is taken up more
+  -- often than it is broken.
   pub record IsLawful (es : List Entry) : Type 0 where
     pub follow : AllFollow es
     pub connections : AllByRecursion (λ c. CountsRejoins c es) (clients_of p)

@@ -28,12 +28,13 @@ pub mod LocksThere
 pub mod RecordsLeased
 pub mod NamesOut
 pub mod LostClients
+pub mod Settled
 pub mod WaysDown
 pub mod RecordsOwn
 pub mod Room
 pub mod MessagesFit
 pub mod SoundCode
-pub mod WaitsAndLosses
+pub mod WithoutWaits
 pub mod Works
 pub mod Blocks
 pub mod Names

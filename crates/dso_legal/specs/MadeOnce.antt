@@ -56,17 +56,20 @@ pub record IdsRise (own : List Entry) : Type 0 where
 abbrev pub is_made : ℕ → ℕ → List Entry → Bool
 is_made c o es = list_any (eqb o) (objects_made (entries_of (Client c) es))
 
--- The ids of each client rise; those of its objects, and its next one, were given to it; no object is made by two clients,
--- nor by two threads; and no object that was made has an id that comes next. So a thread's new object was made by nobody
--- before.
+-- The ids of each client rise; those of its objects, and its next one, were given to it; no object is made by two
+-- clients, nor by two threads; and no object that was made has an id that comes next. So a thread's new object was made
+-- by nobody before.
 pub record MadeOnce (es : List Entry) : Type 0 where
   pub rise : (c : ℕ) → IdsRise (entries_of (Client c) es)
   pub given : (c o : ℕ) → is_made c o es ≡ true → is_given_to c o (counted (entries_of Server es)) ≡ true
-  pub next_given : (c o : ℕ) → next_id (entries_of (Client c) es) ≡ Some o → is_given_to c o (counted (entries_of Server es)) ≡ true
+  pub next_given : (c o : ℕ) → next_id (entries_of (Client c) es) ≡ Some o
+      → is_given_to c o (counted (entries_of Server es)) ≡ true
   pub by_one : (c d o : ℕ) → is_made c o es ≡ true → is_made d o es ≡ true → c ≡ d
   pub next_is_new : (c d o : ℕ) → next_id (entries_of (Client c) es) ≡ Some o → is_made d o es ≡ false
-  pub apart : (t u : ThreadId) → is_thread t u ≡ false → NoCommonId (MakesIn (events_in t (entries_of (Client t.client) es))) (MakesIn (events_in u (entries_of (Client u.client) es)))
+  pub apart : (t u : ThreadId) → is_thread t u ≡ false
+      → NoCommonId (MakesIn (events_in t (entries_of (Client t.client) es))) (MakesIn (events_in u (entries_of (Client u.client) es)))
 
 -- Objects are made once, in every lawful journal, by lost clients too.
 abbrev pub ObjectsAreMadeOnce : Type 0
-ObjectsAreMadeOnce = (p : Settings) (next : ThreadId → List Event → Option Request) (es : List Entry) → IsLawful p next es → MadeOnce es
+ObjectsAreMadeOnce = (p : Settings) (next : ThreadId → List Event → Option Request) (es : List Entry)
+    → IsLawful p next es → MadeOnce es

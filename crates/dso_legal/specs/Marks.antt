@@ -30,7 +30,6 @@ use Rattle.dso_legal.specs.Lawful.{IsLawful}
 use Rattle.dso_legal.specs.Places.{Place, Away, Kept, Gone, place_with}
 use Rattle.dso_legal.specs.Resolved.{WaiterLists}
 use Rattle.dso_legal.specs.SoundProgram.{IsSound}
-use Rattle.dso_legal.specs.WaitsAndLosses.{WithoutLosses}
 
 -- who is kept in its client's list of each lock
 abbrev pub KeptThreads : Type 0
@@ -51,14 +50,16 @@ kept_at es l t = not (is_lost t.client (entries_of Server es))
 abbrev pub lists_at : List Entry → WaiterLists
 lists_at es l = waiters_of l (counted (entries_of Server es))
 
--- The unmarked waiters of a lock are those kept at their clients and those of the server's list, each in one of them and once.
+-- The unmarked waiters of a lock are those kept at their clients and those of the server's list, each in one of them
+-- and once.
 pub record MarksAreKnown (kept : KeptThreads) (lists : WaiterLists) (s : PlainState) : Type 0 where
-  pub known : (l : LockName) (t : ThreadId) → IsUnmarkedWaiter l t s ↔ ((kept l t ≡ true) ⊎ (list_any (is_thread t) (lists l) ≡ true))
+  pub known : (l : LockName) (t : ThreadId)
+      → IsUnmarkedWaiter l t s ↔ ((kept l t ≡ true) ⊎ (list_any (is_thread t) (lists l) ≡ true))
   pub apart : (l : LockName) (t : ThreadId) → kept l t ≡ true → list_any (is_thread t) (lists l) ≡ false
   pub once : (l : LockName) → AreDistinct (lists l)
 
--- who is kept after an act: a thread that waits comes, one that its client wakes or that times out leaves, and so do all that a
--- NotifyAll wakes
+-- who is kept after an act: a thread that waits comes, one that its client wakes or that times out leaves, and so do
+-- all that a NotifyAll wakes
 abbrev pub kept_by : ThreadId → Request → Reply → Option ThreadId → KeptThreads → KeptThreads
 kept_by t (New class n) reply woken kept k u = kept k u
 kept_by t (Look o) reply woken kept k u = kept k u
@@ -123,8 +124,9 @@ pub record IsAway (kept : KeptThreads) (lists : WaiterLists) (l : LockName) (t :
   pub unkept : kept l t ≡ false
   pub unlisted : list_any (is_thread t) (lists l) ≡ false
 
--- An act may wake so, as its client made it: a done Notify one that is kept, and nobody only where none is kept, so that the
--- server chooses; a thread that is told that it was woken, or goes on, is in no list; every other act wakes nobody.
+-- An act may wake so, as its client made it: a done Notify one that is kept, and nobody only where none is kept, so
+-- that the server chooses; a thread that is told that it was woken, or goes on, is in no list; every other act wakes
+-- nobody.
 abbrev pub MayWake : ThreadId → Request → Reply → Option ThreadId → KeptThreads → WaiterLists → Type 0
 MayWake t (New class n) reply woken kept lists = woken ≡ None
 MayWake t (Look o) reply woken kept lists = woken ≡ None
@@ -160,8 +162,8 @@ pub record KnowsWaiters (p : Settings) (es : List Entry) : Type 0 where
   pub leased : (l : LockName) (t : ThreadId) → kept_at es l t ≡ true
       → leased_to t.client l (counted (entries_of Server es)) ≡ Some Write
 
--- The waiters are known: so it is after a lawful journal without losses, of a sound program. The unmarked waiters of a
+-- The waiters are known: so it is after a lawful journal of a sound program. The unmarked waiters of a
 -- lock are those that the client with the lock at Write keeps, and those of the server's list.
 abbrev pub WaitersAreKnown : Type 0
 WaitersAreKnown = (p : Settings) (next : ThreadId → List Event → Option Request) → IsSound p.shape next
-    → (es : List Entry) → IsLawful p next es → WithoutLosses es → KnowsWaiters p es
+    → (es : List Entry) → IsLawful p next es → KnowsWaiters p es

@@ -25,8 +25,8 @@ abbrev pub NameOnlyTold : List Event → List Event → Type 0
 NameOnlyTold before [] = Unit {0}
 NameOnlyTold before (event ∷ events) = EventNamesTold event before × NameOnlyTold (before ++ event ∷ []) events
 
--- What a thread, after its events, can name is its own or shared: what it was told, and what its own objects hold; and what a
--- shared field holds or held is shared.
+-- What a thread, after its events, can name is its own or shared: what it was told, and what its own objects hold; and
+-- what a shared field holds or held is shared.
 pub record NamesAreKnown (t : ThreadId) (events : List Event) (s : PlainState) : Type 0 where
   pub told : (o : ℕ) → was_told o events ≡ true → IsKnown t o s
   pub own : (o f named : ℕ) → IsPrivate t o s → s.heap (o, f) ≡ Some (value.Ref named) → IsKnown t named s
@@ -34,9 +34,11 @@ pub record NamesAreKnown (t : ThreadId) (events : List Event) (s : PlainState) :
 
 -- Names are known: after a history in which each thread names only what it was told.
 abbrev pub NamesStayKnown : Type 0
-NamesStayKnown = (shape : Shape) (h : List Event) → RunsButMarks shape h (opening shape) → ((t : ThreadId) → NameOnlyTold [] (events_of t h))
+NamesStayKnown = (shape : Shape) (h : List Event) → RunsButMarks shape h (opening shape)
+    → ((t : ThreadId) → NameOnlyTold [] (events_of t h))
     → (t : ThreadId) → NamesAreKnown t (events_of t h) (last_state shape h)
 
 -- Each object but object 0 was made in the history.
 abbrev pub ObjectsAreMade : Type 0
-ObjectsAreMade = (shape : Shape) (h : List Event) → RunsButMarks shape h (opening shape) → (o : ℕ) → (last_state shape h).objects o ≢ None → (o ≡ 0) ⊎ MakesIn h o
+ObjectsAreMade = (shape : Shape) (h : List Event) → RunsButMarks shape h (opening shape) → (o : ℕ)
+    → (last_state shape h).objects o ≢ None → (o ≡ 0) ⊎ MakesIn h o

@@ -53,7 +53,8 @@ pub record RecordsInOrder (c : ℕ) (es : List Entry) : Type 0 where
 
 -- In a lawful journal the records of each client that isn't lost are so.
 abbrev pub RecordsStayInOrder : Type 0
-RecordsStayInOrder = (p : Settings) (next : ThreadId → List Event → Option Request) (es : List Entry) → IsLawful p next es
+RecordsStayInOrder = (p : Settings) (next : ThreadId → List Event → Option Request) (es : List Entry)
+    → IsLawful p next es
     → (c : ℕ) → is_lost c (entries_of Server es) ≡ false → RecordsInOrder c es
 
 -- the first message in flight in each direction, of a client, where it is a record or an acknowledgement, fits

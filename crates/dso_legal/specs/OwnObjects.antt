@@ -40,8 +40,8 @@ count_in_hand o work = count_bodies o work.privates + count_bodies o work.news
 abbrev pub has_in_hand : Settings → ThreadId → ℕ → List Entry → Bool
 has_in_hand p t o es = let work = work_of p.shape t (entries_of (Client t.client) es) in is_among o work.privates || is_among o work.news
 
--- An object that the thread has in hand: it made it, has it once, no client sent a record that publishes it, and no other
--- thread has it in hand.
+-- An object that the thread has in hand: it made it, has it once, no client sent a record that publishes it, and no
+-- other thread has it in hand.
 pub record IsOwn (p : Settings) (t : ThreadId) (o : ℕ) (es : List Entry) : Type 0 where
   pub made : list_any (eqb o) (objects_of t (entries_of (Client t.client) es)) ≡ true
   pub once : count_in_hand o (work_of p.shape t (entries_of (Client t.client) es)) ≡ 1
@@ -50,5 +50,6 @@ pub record IsOwn (p : Settings) (t : ThreadId) (o : ℕ) (es : List Entry) : Typ
 
 -- In a lawful journal, what a thread has in hand is so, a thread of a lost client too.
 abbrev pub ObjectsInHandAreOwn : Type 0
-ObjectsInHandAreOwn = (p : Settings) (next : ThreadId → List Event → Option Request) (es : List Entry) → IsLawful p next es
+ObjectsInHandAreOwn = (p : Settings) (next : ThreadId → List Event → Option Request) (es : List Entry)
+    → IsLawful p next es
     → (t : ThreadId) (o : ℕ) → has_in_hand p t o es ≡ true → IsOwn p t o es

@@ -96,5 +96,6 @@ pub record IsRecordOf (shape : Shape) (before : List (List Event)) (txn : Txn) (
 -- the records are those of the blocks, one for one, which stand behind the first ones
 abbrev pub AreRecordsOf : Shape → List (List Event) → List Txn → List (List Event) → Type 0
 AreRecordsOf shape before [] [] = Unit {0}
-AreRecordsOf shape before (txn ∷ txns) (block ∷ blocks) = IsRecordOf shape before txn block × AreRecordsOf shape (before ++ block ∷ []) txns blocks
+AreRecordsOf shape before (txn ∷ txns) (block ∷ blocks) = IsRecordOf shape before txn block
+    × AreRecordsOf shape (before ++ block ∷ []) txns blocks
 AreRecordsOf shape before txns blocks = ⊥

@@ -1,7 +1,7 @@
--- Waiters are tokens: where a thread stands among the waiters of a lock, as its client and the server both tell by the messages
--- between them.
+-- Waiters are tokens: where a thread stands among the waiters of a lock, as its client and the server both tell by the
+-- messages between them.
 use Rattle.std.specs.List.{list_any}
-use Rattle.std.specs.Prelude.{ℕ, ◌≡◌, ◌≢◌, ◌↔◌, true, cond, ◌&&◌, Option, List, [], ◌∷◌}
+use Rattle.std.specs.Prelude.{ℕ, ◌≡◌, ◌≢◌, ◌↔◌, true, false, cond, ◌&&◌, Option, List, [], ◌∷◌}
 use Rattle.dso_base.specs.declared.journal.Entry.{Entry}
 use Rattle.dso_base.specs.declared.journal.Node.TheVariants.{Server, Client}
 use Rattle.dso_base.specs.declared.lock.LockName.{LockName}
@@ -21,15 +21,14 @@ use Rattle.dso_base.specs.Following.{is_thread}
 use Rattle.dso_plain.specs.KeyTests.{is_lock}
 use Rattle.dso_law.specs.Channels.{up_in_flight, down_in_flight}
 use Rattle.dso_law.specs.Entries.{entries_of, by_taken_up, by_taken_down, by_sent_up, by_sent_down, if_to}
-use Rattle.dso_law.specs.ServerReadings.{counted}
+use Rattle.dso_law.specs.ServerReadings.{counted, is_lost}
 use Rattle.dso_law.specs.Settings.{Settings}
 use Rattle.dso_legal.specs.Agreement.{messages, Agree}
-use Rattle.dso_legal.specs.Lawful.{IsLawful}
+use Rattle.dso_legal.specs.Lawful.{AllFollow}
 use Rattle.dso_legal.specs.SoundProgram.{IsSound}
-use Rattle.dso_legal.specs.WaitsAndLosses.{WithoutLosses}
 
--- Where a thread stands among the waiters of a lock: in no list, since it is awake or waits and is marked; kept in its client's
--- list; gone to the server, where it stands in the list, or on its way there or back.
+-- Where a thread stands among the waiters of a lock: in no list, since it is awake or waits and is marked; kept in its
+-- client's list; gone to the server, where it stands in the list, or on its way there or back.
 pub data Place : Type 0 where
   Away : Place
   Kept : Place
@@ -83,7 +82,8 @@ MayChoose t All s = Unit {0}
 -- each of a record's notifications may come
 abbrev pub MayNote : LockName → ThreadId → List Note → Place → Type 0
 MayNote l t [] s = Unit {0}
-MayNote l t (note ∷ notes) s = (is_lock l note.lock ≡ true → MayChoose t note.choice s) × MayNote l t notes (place_noted l t note s)
+MayNote l t (note ∷ notes) s = (is_lock l note.lock ≡ true → MayChoose t note.choice s)
+    × MayNote l t notes (place_noted l t note s)
 
 -- whose record ends in anything but a timeout stood in no list
 abbrev pub MayEnd : ThreadId → ThreadId → Ending → Place → Type 0
@@ -113,15 +113,15 @@ abbrev pub place_with : ℕ → LockName → ThreadId → List Entry → Place
 place_with c l t [] = Away
 place_with c l t (e ∷ es) = by_sent_down (if_to c (place_down l t)) e.sent (by_taken_up (if_to c (place_up l t)) e.input (place_with c l t es))
 
--- The client and the server agree on the thread: each message in flight may come where it stands, and once all is taken both tell
--- the same place.
+-- The client and the server agree on the thread: each message in flight may come where it stands, and once all is taken
+-- both tell the same place.
 abbrev pub AgreeOnWaiter : ℕ → LockName → ThreadId → List Entry → Type 0
 AgreeOnWaiter c l t es = Agree (MayPlaceUp l t) (place_up l t) (MayPlaceDown l t) (place_down l t) (messages (up_in_flight c es)) (messages (down_in_flight c es))
     (place_with c l t (counted (entries_of Server es))) (place_of l t (entries_of (Client c) es))
 
--- Waiters are tokens: in a lawful journal without losses, of a sound program, each client and the server agree on each
--- of its threads, for each lock.
+-- Waiters are tokens: after entries each of which follows those before it, of a sound program, each client that isn't
+-- lost and the server agree on each of its threads, for each lock.
 abbrev pub WaitersAreTokens : Type 0
 WaitersAreTokens = (p : Settings) (next : ThreadId → List Event → Option Request) → IsSound p.shape next
-    → (es : List Entry) → IsLawful p next es → WithoutLosses es
-    → (l : LockName) (t : ThreadId) → AgreeOnWaiter t.client l t es
+    → (es : List Entry) → AllFollow p next es
+    → (l : LockName) (t : ThreadId) → is_lost t.client (entries_of Server es) ≡ false → AgreeOnWaiter t.client l t es

@@ -17,8 +17,7 @@ use Rattle.dso_law.specs.ServerReadings.{counted, is_ended, is_lost}
 use Rattle.dso_law.specs.Settings.{Settings, threads_of}
 use Rattle.dso_law.specs.Store.{holds_object, stored}
 use Rattle.dso_legal.specs.Lawful.{AllFollow}
-use Rattle.dso_legal.specs.SoundProgram.{GivesKnownTexts, IsSound}
-use Rattle.dso_legal.specs.WithinShape.{StaysWithinShape}
+use Rattle.dso_legal.specs.SoundProgram.{IsSound}
 
 -- the thread is one of the client's, and no record taken before ended it; and whom its notifications woke there are
 -- threads of the client
@@ -27,12 +26,12 @@ pub record IsOwnRecord (p : Settings) (c : ℕ) (server : List Entry) (txn : Txn
   pub going : is_ended txn.thread server ≡ false
   pub woken : AllByRecursion (λ note. FitsChoice p c note.choice) txn.notes
 
--- Records are own: after entries each of which follows those before it, of a sound program that gives only known
--- texts and stays within its shape, a record that comes of a client that isn't lost is.
+-- Records are own: after entries each of which follows those before it, of a sound program, a record that comes of a
+-- client that isn't lost is.
 abbrev pub RecordsAreOwn : Type 0
 RecordsAreOwn = (p : Settings) (next : ThreadId → List Event → Option Request)
-    → IsSound p.shape next → GivesKnownTexts p.shape next → StaysWithinShape p.shape next
-    → (es : List Entry) → AllFollow p next es → (c : ℕ) → is_lost c (entries_of Server es) ≡ false
+    → IsSound p.shape next → (es : List Entry) → AllFollow p next es → (c : ℕ)
+    → is_lost c (entries_of Server es) ≡ false
     → (txn : Txn) → IsFirst (Commit txn) (up_in_flight c es) → IsOwnRecord p c (counted (entries_of Server es)) txn
 
 -- Held objects are stored: after entries each of which follows those before it, each object that a client holds is

@@ -22,8 +22,8 @@ use Rattle.dso_legal.specs.Agreement.{messages, Agree}
 use Rattle.dso_legal.specs.Lawful.{IsLawful}
 use Rattle.dso_legal.specs.OwnObjects.{published_by, was_published}
 
--- how an object stands with a client: of an id of the client's own that no record of it published yet; else absent, asked
--- for or resident
+-- how an object stands with a client: of an id of the client's own that no record of it published yet; else absent,
+-- asked for or resident
 pub data Residency : Type 0 where
   Unpublished : Residency
   Absent : Residency
@@ -57,8 +57,8 @@ IsAway s = ⊥
 abbrev pub is_set : ℕ → List Set → Bool
 is_set o sets = list_any (λ set. eqb set.object o) sets
 
--- a fault may come where the object is away, a flush where it is resident, a record with it among the news where it isn't
--- published, and one that sets it where it is resident
+-- a fault may come where the object is away, a flush where it is resident, a record with it among the news where it
+-- isn't published, and one that sets it where it is resident
 abbrev pub MayMove : ℕ → Up → Residency → Type 0
 MayMove o (up.Fault x) s = eqb x o ≡ true → IsAway s
 MayMove o (up.Flushed x) s = eqb x o ≡ true → s ≡ Resident
@@ -109,8 +109,8 @@ abbrev pub ResidencyAgrees : Type 0
 ResidencyAgrees = (p : Settings) (next : ThreadId → List Event → Option Request) (es : List Entry) → IsLawful p next es
     → (c o : ℕ) → is_lost c (entries_of Server es) ≡ false → AgreeOnObject c o es
 
--- how a message fits, at the server: a fault is of an object that the client doesn't hold, a flush of one that it holds, and
--- so is each set of a record
+-- how a message fits, at the server: a fault is of an object that the client doesn't hold, a flush of one that it
+-- holds, and so is each set of a record
 abbrev pub ObjectFitsUp : ℕ → Up → List Entry → Type 0
 ObjectFitsUp c (up.Fault o) server = holds_object c o server ≡ false
 ObjectFitsUp c (up.Flushed o) server = holds_object c o server ≡ true
@@ -128,8 +128,8 @@ pub record ObjectsFirst (c : ℕ) (es : List Entry) : Type 0 where
   pub downs : (m : Down) → IsFirst m (down_in_flight c es) → ObjectFitsDown m (entries_of (Client c) es)
 
 -- Objects fit: in a lawful journal, for each client that isn't lost, a fault that comes is of an object that the client
--- doesn't hold, a flush that comes is of one that it holds, a record that comes sets what the client holds, and an object that
--- comes was asked for.
+-- doesn't hold, a flush that comes is of one that it holds, a record that comes sets what the client holds, and an
+-- object that comes was asked for.
 abbrev pub ObjectsFit : Type 0
 ObjectsFit = (p : Settings) (next : ThreadId → List Event → Option Request) (es : List Entry) → IsLawful p next es
     → (c : ℕ) → is_lost c (entries_of Server es) ≡ false → ObjectsFirst c es
@@ -137,4 +137,5 @@ ObjectsFit = (p : Settings) (next : ThreadId → List Event → Option Request) 
 -- Changed objects stay: in a lawful journal, what the open block of a thread sets is resident at its client.
 abbrev pub SetsAreResident : Type 0
 SetsAreResident = (p : Settings) (next : ThreadId → List Event → Option Request) (es : List Entry) → IsLawful p next es
-    → (t : ThreadId) (o : ℕ) → is_set o (work_of p.shape t (entries_of (Client t.client) es)).sets ≡ true → is_resident o (entries_of (Client t.client) es) ≡ true
+    → (t : ThreadId) (o : ℕ) → is_set o (work_of p.shape t (entries_of (Client t.client) es)).sets ≡ true
+    → is_resident o (entries_of (Client t.client) es) ≡ true

@@ -1,4 +1,5 @@
--- The events of a client as a history has them: each notification that left the choice to the server has the thread that it woke.
+-- The events of a client as a history has them: each notification that left the choice to the server has the thread
+-- that it woke.
 use Rattle.std.specs.Prelude.{◌≡◌, List, [], ◌∷◌}
 use Rattle.dso_base.specs.declared.lock.LockName.{LockName}
 use Rattle.dso_base.specs.declared.lock.ThreadId.{ThreadId}
@@ -10,8 +11,8 @@ use Rattle.dso_legal.specs.Committed.{resolved_event}
 abbrev pub WaiterLists : Type 0
 WaiterLists = LockName → List ThreadId
 
--- The event of the history is the client's, but that a done Notify which woke nobody there may wake whom the server chose,
--- by its lists.
+-- The event of the history is the client's, but that a done Notify which woke nobody there may wake whom the server
+-- chose, by its lists.
 pub record IsResolved (made event : Event) : Type 0 where
   pub lists : WaiterLists
   pub same : event ≡ resolved_event made lists

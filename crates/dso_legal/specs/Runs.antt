@@ -40,8 +40,8 @@ abbrev pub IdsRiseInRuns : Type 0
 IdsRiseInRuns = (p : Settings) (c : ℕ) (next : ThreadId → List Event → Option Request) (es : List Entry)
     → ClientRun p c next es → IdsRise es
 
--- what a thread has in hand, by its client's entries: each object once, the published ones by rising id, and none in a record
--- that was sent
+-- what a thread has in hand, by its client's entries: each object once, the published ones by rising id, and none in a
+-- record that was sent
 pub record HandIsOnce (p : Settings) (t : ThreadId) (es : List Entry) : Type 0 where
   pub once : (o : ℕ) → count_in_hand o (work_of p.shape t es) ≤ 1
   pub news : Rises (λ a b. ltb a.object b.object) (work_of p.shape t es).news

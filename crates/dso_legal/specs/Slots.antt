@@ -71,7 +71,8 @@ module _ (p : Settings) where
   -- The slots in their order: those of each client; then for each client the taking of its messages; then for each
   -- client its loss and the break of its connection.
   abbrev pub slots : List Slot
-  slots = flat_map client_slots (clients_of p) ++ map TakesUp (clients_of p) ++ flat_map (λ c. Loses c ∷ Breaks c ∷ []) (clients_of p)
+  slots = flat_map client_slots (clients_of p) ++ map TakesUp (clients_of p)
+      ++ flat_map (λ c. Loses c ∷ Breaks c ∷ []) (clients_of p)
 
   -- a client that isn't lost has no message in flight, up or down
   abbrev pub is_quiet : ℕ → List Entry → Bool

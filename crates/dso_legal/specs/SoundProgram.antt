@@ -18,7 +18,7 @@ use Rattle.dso_base.specs.declared.value.Value.{Value}
 use Rattle.dso_base.specs.declared.value.Value.TheVariants as value
 use Rattle.dso_base.specs.Following.{Listed, FollowsProgram}
 use Rattle.dso_plain.specs.Possible.{CanBeMade}
-use Rattle.dso_plain.specs.Rechoice.{AreSameActs}
+use Rattle.dso_plain.specs.SameActs.{AreSameActs}
 use Rattle.dso_plain.specs.Touches.{AreActsOf}
 use Rattle.dso_law.specs.FitsDown.{IsWaitingOn}
 use Rattle.dso_law.specs.RequestNeeds.{hold_level}
@@ -69,7 +69,8 @@ NamesOnlyTold (End fault) events = Unit {0}
 NamesOnlyTold Pause events = Unit {0}
 NamesOnlyTold Settle events = Unit {0}
 
--- It leaves only locks that it holds, ticks, times out and resumes only where it waits, and ends only where it holds none.
+-- It leaves only locks that it holds, ticks, times out and resumes only where it waits, and ends only where it holds
+-- none.
 abbrev pub KeepsLocks : Request → Locks → Type 0
 KeepsLocks (New class n) locks = Unit {0}
 KeepsLocks (Look o) locks = Unit {0}
@@ -169,13 +170,16 @@ abbrev pub WaitsAreHeld : ThreadId → List Event → Locks → Type 0
 WaitsAreHeld t [] locks = Unit {0}
 WaitsAreHeld t (event ∷ events) locks = WaitIsHeld event locks × WaitsAreHeld t events (locks_after t event locks)
 
--- Sound: wherever events of a thread follow the program, none told it of object 0, and it waited only on locks that it held
--- at Write, its next request keeps to this; and it goes by requests and replies alone: after the same acts it asks the same,
--- whomever they woke.
+-- Sound: wherever events of a thread follow the program, none told it of object 0, and it waited only on locks that it
+-- held at Write, its next request keeps to this; and it goes by requests and replies alone: after the same acts it asks
+-- the same, whomever they woke.
 pub record IsSound (shape : Shape) (next : ThreadId → List Event → Option Request) : Type 0 where
-  pub keeps : (t : ThreadId) (events : List Event) (request : Request) → AreActsOf t events → list_any (event_tells 0) events ≡ false
-      → WaitsAreHeld t events no_locks → FollowsProgram next (Listed next) t events → next t events ≡ Some request → KeepsTo shape t events request
-  pub goes_by_replies : (t : ThreadId) (events same : List Event) → AreSameActs events same → next t same ≡ next t events
+  pub keeps : (t : ThreadId) (events : List Event) (request : Request) → AreActsOf t events
+      → list_any (event_tells 0) events ≡ false
+      → WaitsAreHeld t events no_locks → FollowsProgram next (Listed next) t events → next t events ≡ Some request
+      → KeepsTo shape t events request
+  pub goes_by_replies : (t : ThreadId) (events same : List Event) → AreSameActs events same
+      → next t same ≡ next t events
 
 -- the event is an act whose reply tells the thread of the text: it read it
 abbrev pub event_tells_text : ℕ → Event → Bool
@@ -214,5 +218,6 @@ GivesTextsAmong MayBeNamed Settle = Unit {0}
 -- program and texts that it was told.
 abbrev pub GivesKnownTexts : Shape → (ThreadId → List Event → Option Request) → Type 0
 GivesKnownTexts shape next = (t : ThreadId) (events : List Event) (request : Request) → AreActsOf t events
-    → list_any (event_tells 0) events ≡ false → WaitsAreHeld t events no_locks → FollowsProgram next (Listed next) t events
+    → list_any (event_tells 0) events ≡ false → WaitsAreHeld t events no_locks
+    → FollowsProgram next (Listed next) t events
     → next t events ≡ Some request → GivesTextsAmong (IsToldText shape events) request

@@ -13,7 +13,6 @@ use Rattle.dso_law.specs.Entries.{entries_of}
 use Rattle.dso_law.specs.ServerReadings.{counted}
 use Rattle.dso_law.specs.Settings.{Settings}
 use Rattle.dso_law.specs.Store.{stored}
-use Rattle.dso_legal.specs.WaitsAndLosses.{WithoutLosses}
 use Rattle.dso_legal.specs.Committed.{committed}
 use Rattle.dso_legal.specs.Lawful.{IsLawful}
 use Rattle.dso_legal.specs.SoundProgram.{IsSound}
@@ -29,9 +28,9 @@ pub record IsHeapOf (o : ℕ) (at : Option Body) (s : PlainState) : Type 0 where
   pub each : (body : Body) → at ≡ Some body → IsHeapBody o body s
   pub all : IsShared o s → at ≢ None
 
--- The store is the heap: in a lawful journal without losses, of a sound program, the server has a body of exactly the
+-- The store is the heap: in a lawful journal of a sound program, the server has a body of exactly the
 -- objects that are shared after the history, with the values that they have there.
 abbrev pub StoreIsHeap : Type 0
 StoreIsHeap = (p : Settings) (next : ThreadId → List Event → Option Request) → IsSound p.shape next
-    → (es : List Entry) → IsLawful p next es → WithoutLosses es
+    → (es : List Entry) → IsLawful p next es
     → (o : ℕ) → IsHeapOf o (stored p.shape o (counted (entries_of Server es))) (last_state p.shape (committed es))

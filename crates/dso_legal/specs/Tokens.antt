@@ -56,10 +56,11 @@ abbrev pub LeasesAreTokens : Type 0
 LeasesAreTokens = (p : Settings) (next : ThreadId → List Event → Option Request) (es : List Entry) → IsLawful p next es
     → (c : ℕ) (l : LockName) → is_lost c (entries_of Server es) ≡ false → AgreeOnLock c l es
 
--- how a message fits, at the server, by its leases and queue: a request finds neither a lease nor a request of the client,
--- a return finds the lease
+-- how a message fits, at the server, by its leases and queue: a request finds neither a lease nor a request of the
+-- client, a return finds the lease
 abbrev pub LeaseFitsUp : ℕ → Up → List Entry → Type 0
-LeaseFitsUp c (up.Request l level) server = (leased_to c l server ≡ None) × (list_any (λ waiter. eqb waiter.client c) (queue_of l server) ≡ false)
+LeaseFitsUp c (up.Request l level) server = (leased_to c l server ≡ None)
+    × (list_any (λ waiter. eqb waiter.client c) (queue_of l server) ≡ false)
 LeaseFitsUp c (up.Return l threads) server = leased_to c l server ≢ None
 LeaseFitsUp c m server = Unit {0}
 
@@ -81,6 +82,8 @@ LeasesFit = (p : Settings) (next : ThreadId → List Event → Option Request) (
 
 -- Leases are compatible: in a lawful journal, of each lock the leases of two clients at the server don't conflict.
 abbrev pub LeasesAreCompatible : Type 0
-LeasesAreCompatible = (p : Settings) (next : ThreadId → List Event → Option Request) (es : List Entry) → IsLawful p next es
-    → (c d : ℕ) (l : LockName) (level : Level) → eqb c d ≡ false → leased_to c l (counted (entries_of Server es)) ≡ Some level
+LeasesAreCompatible = (p : Settings) (next : ThreadId → List Event → Option Request) (es : List Entry)
+    → IsLawful p next es
+    → (c d : ℕ) (l : LockName) (level : Level) → eqb c d ≡ false
+    → leased_to c l (counted (entries_of Server es)) ≡ Some level
     → conflicts level (leased_to d l (counted (entries_of Server es))) ≡ false

@@ -26,28 +26,31 @@ pub record ArePrivates (t : ThreadId) (bodies : List Body) (s : PlainState) : Ty
   pub each : (o : ℕ) (body : Body) → body_in o bodies ≡ Some body → IsPrivate t o s × HasBody body s
   pub all : (o : ℕ) → IsPrivate t o s → is_some (body_in o bodies) ≡ true
 
--- an object that was shared at the block's start is what it was, but for the fields that the block set; and where a field was
--- not set, its past is what it was
+-- an object that was shared at the block's start is what it was, but for the fields that the block set; and where a
+-- field was not set, its past is what it was
 pub record IsLeftBy (work : Work) (o : ℕ) (start_state s : PlainState) : Type 0 where
   pub object : s.objects o ≡ start_state.objects o
   pub heap : (f : ℕ) → s.heap (o, f) ≡ value_by_sets o f work.sets (start_state.heap (o, f))
   pub past : (f : ℕ) → value_by_sets o f work.sets None ≡ None → s.past (o, f) ≡ start_state.past (o, f)
 
--- What the thread has in hand tells what its block made of the state: its private objects; those published, which were not
--- shared before and are now; and the shared ones, which it left but for what it set.
+-- What the thread has in hand tells what its block made of the state: its private objects; those published, which were
+-- not shared before and are now; and the shared ones, which it left but for what it set.
 pub record TellsWork (t : ThreadId) (work : Work) (start_state s : PlainState) : Type 0 where
   pub privates : ArePrivates t work.privates s
   pub once : (o : ℕ) → count_bodies o work.news ≤ 1
-  pub news : (o : ℕ) (body : Body) → body_in o work.news ≡ Some body → IsShared o s × HasBody body s × (is_shared (start_state.objects o) ≡ false)
+  pub news : (o : ℕ) (body : Body) → body_in o work.news ≡ Some body
+      → IsShared o s × HasBody body s × (is_shared (start_state.objects o) ≡ false)
   pub shared : (o : ℕ) → IsShared o s → IsShared o start_state ⊎ (is_some (body_in o work.news) ≡ true)
   pub left : (o : ℕ) → IsShared o start_state → IsLeftBy work o start_state s
   pub sets : (o f : ℕ) → value_by_sets o f work.sets None ≡ None ⊎ IsShared o start_state
 
--- Works tell: where a run of the thread's events starts with its private objects in hand, the work that the events make of
--- them tells what the run made of the state.
+-- Works tell: where a run of the thread's events starts with its private objects in hand, the work that the events make
+-- of them tells what the run made of the state.
 abbrev pub WorksTell : Type 0
-WorksTell = (shape : Shape) (t : ThreadId) (privates : List Body) (events : List Event) (h : List Event) → RunsButMarks shape h (opening shape) → ArePrivates t privates (last_state shape h)
-    → AreActsOf t events → RunsButMarks shape events (last_state shape h) → TellsWork t (worked shape events (start privates)) (last_state shape h) (end_of shape events (last_state shape h))
+WorksTell = (shape : Shape) (t : ThreadId) (privates : List Body) (events : List Event) (h : List Event)
+    → RunsButMarks shape h (opening shape) → ArePrivates t privates (last_state shape h)
+    → AreActsOf t events → RunsButMarks shape events (last_state shape h)
+    → TellsWork t (worked shape events (start privates)) (last_state shape h) (end_of shape events (last_state shape h))
 
 -- the count of a wait on the lock, if the thread waits on it
 abbrev pub wait_count : LockName → Option Waiting → Option ℕ

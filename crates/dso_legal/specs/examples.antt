@@ -5,6 +5,8 @@ pub mod Recall
 pub mod Flush
 pub mod Broken
 pub mod LostClient
+pub mod LostWaiters
+pub mod SettledThenLost
 pub mod Waiting
 pub mod TimedOutHere
 pub mod TimedOutThere

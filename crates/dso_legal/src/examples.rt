@@ -15,7 +15,9 @@ ghost use Rattle.dso_legal.specs.examples.CrossedTimeout.{CrossedTimeoutJournal}
 ghost use Rattle.dso_legal.specs.examples.Settling.{SettlingJournal};
 ghost use Rattle.dso_legal.specs.examples.Broken.{BrokenJournal};
 ghost use Rattle.dso_legal.specs.examples.LostClient.{LostClientJournal};
-ghost use Rattle.dso_legal.specs.examples.Premises.{CounterMeets, RecallMeets, FlushMeets, SettlingMeets, TimedOutHereMeets, TimedOutThereMeets, CrossedTimeoutMeets};
+ghost use Rattle.dso_legal.specs.examples.LostWaiters.{LostWaitersJournal};
+ghost use Rattle.dso_legal.specs.examples.SettledThenLost.{SettledThenLostJournal};
+ghost use Rattle.dso_legal.specs.examples.Premises.{CounterMeets, RecallMeets, FlushMeets, SettlingMeets, TimedOutHereMeets, TimedOutThereMeets, CrossedTimeoutMeets, LostClientMeets, LostWaitersMeets, SettledThenLostMeets};
 
 /// One thread makes a counter, shares it, and adds to it under its monitor.
 pub fn counter()
@@ -68,6 +70,17 @@ pub fn lost_client()
     ensures { LostClientJournal }
 {}
 
+/// A client is lost while its thread stands first in the server's list, after another client's thread notified: the server takes the
+/// notification's record later, and wakes the next one.
+pub fn lost_waiters()
+    ensures { LostWaitersJournal }
+{}
+
+/// A thread settles after a release, and then its client is lost: the release is in the history, a later one isn't.
+pub fn settled_then_lost()
+    ensures { SettledThenLostJournal }
+{}
+
 /// Entries that break one rule each and so may not follow.
 pub fn refusals()
     ensures { Refusals }
@@ -96,9 +109,10 @@ pub fn near_misses()
     ensures { NearMisses }
 {}
 
-/// What the central law asks of a journal is met by the first three journals above, by that of a thread that settles, and by
-/// the three in which a thread times out, one of them with a notification that crosses; each with a program that asks what the
-/// journal's scripts do, goes by the replies, and is sound.
+/// What the central law asks of a journal is met by the first three journals above, by that of a thread that settles, by the
+/// three in which a thread times out, one of them with a notification that crosses, and by the three in which a client is lost:
+/// in the middle of a section, with a waiter in the server's list, after its thread settled; each with a program that asks what
+/// the journal's scripts do, goes by the replies, and is sound.
 pub fn law_applies()
     ensures counter { CounterMeets }
     ensures recall { RecallMeets }
@@ -107,4 +121,7 @@ pub fn law_applies()
     ensures timed_out_here { TimedOutHereMeets }
     ensures timed_out_there { TimedOutThereMeets }
     ensures crossed_timeout { CrossedTimeoutMeets }
+    ensures lost_client { LostClientMeets }
+    ensures lost_waiters { LostWaitersMeets }
+    ensures settled_then_lost { SettledThenLostMeets }
 {}

@@ -15,10 +15,10 @@ ghost use Rattle.dso_legal.specs.LocksThere.{LocksAreThere};
 ghost use Rattle.dso_legal.specs.OwnObjects.{ObjectsInHandAreOwn};
 ghost use Rattle.dso_legal.specs.NewsAreNew.{NewsAreNew};
 ghost use Rattle.dso_legal.specs.Sorted.{RecordsAreSorted};
-ghost use Rattle.dso_legal.specs.Blocks.{BlocksAreKept, BlocksAreHandedIn, HistoriesHoldBlocks, HistoriesHoldBlocksAsMade};
+ghost use Rattle.dso_legal.specs.Blocks.{BlocksAreKept, BlocksAreHandedIn, HistoriesHoldBlocks, HistoriesHoldEvents, HistoriesHoldBlocksAsMade};
 ghost use Rattle.dso_legal.specs.Works.{WorksTell};
 ghost use Rattle.dso_legal.specs.Names.{NamesStayKnown, ObjectsAreMade};
-ghost use Rattle.dso_legal.specs.Views.{ActsArePossible, ActsFindMarks};
+ghost use Rattle.dso_legal.specs.Views.{ActsArePossible};
 ghost use Rattle.dso_legal.specs.Central.{ClientsStand, CentralLaw, CommitsWhatWasMade};
 ghost use Rattle.dso_legal.specs.Places.{WaitersAreTokens};
 ghost use Rattle.dso_legal.specs.Marks.{WaitersAreKnown};
@@ -26,11 +26,12 @@ ghost use Rattle.dso_legal.specs.Store.{StoreIsHeap};
 ghost use Rattle.dso_legal.specs.SoundCode.{SoundCodeIsSoundProgram, SoundCodeGivesKnownTexts, SoundCodeStaysWithinShape};
 ghost use Rattle.dso_legal.specs.RecordsLeased.{RecordsAreLeased};
 ghost use Rattle.dso_legal.specs.NamesOut.{NamesAreOut};
-ghost use Rattle.dso_legal.specs.LostClients.{LostAreToldNothing};
+ghost use Rattle.dso_legal.specs.LostClients.{LostAreToldNothing, LostAreUnheard};
+ghost use Rattle.dso_legal.specs.Settled.{SettledAreCommitted};
 ghost use Rattle.dso_legal.specs.WaysDown.{WaysDownFit};
 ghost use Rattle.dso_legal.specs.RecordsOwn.{RecordsAreOwn, HeldAreStored};
 ghost use Rattle.dso_legal.specs.Room.{BatchesHaveRoom};
-ghost use Rattle.dso_legal.specs.MessagesFit.{MessagesFit, MessagesFitWithoutWaits};
+ghost use Rattle.dso_legal.specs.MessagesFit.{MessagesFit};
 
 /// For each client that isn't lost and each lock: each message in flight may come where it stands, and once all are taken the
 /// client and the server say the same of the lock's lease.
@@ -161,23 +162,16 @@ pub fn records_are_leased()
     ensures { RecordsAreLeased }
 {}
 
-/// In a journal of a sound program that stays within its shape, a record that comes of a client that isn't lost is of one of
-/// the client's threads, which no record taken before ended, and whom its notifications woke there are threads of the client.
+/// In a journal of a sound program, a record that comes of a client that isn't lost is of one of the client's threads, which no
+/// record taken before ended, and whom its notifications woke there are threads of the client.
 pub fn records_are_own()
     ensures { RecordsAreOwn }
 {}
 
 /// In a journal of a sound program that stays within its shape, of fewer than 2^54 entries: the first message in flight from
-/// each client that isn't lost fits at the server, and the first to each client, a lost one too, fits there, as far as the
-/// waiters that a return brings, a timeout ends and a waking marks fit.
+/// each client that isn't lost fits at the server, and the first to each client, a lost one too, fits there.
 pub fn messages_fit()
     ensures { MessagesFit }
-{}
-
-/// So in a journal in which no thread waits all of them fit: no return brings a waiter, no record ends by a timeout, and nobody
-/// is woken.
-pub fn messages_fit_without_waits()
-    ensures { MessagesFitWithoutWaits }
 {}
 
 /// Each object that a client holds, as the server sees it, is in the server's graph.
@@ -196,6 +190,18 @@ pub fn names_are_out()
 /// request there, holds no object, and none of its threads waits there.
 pub fn lost_are_told_nothing()
     ensures { LostAreToldNothing }
+{}
+
+/// A message that the server takes of a client that it lost before is answered by nothing, and changes nothing that the server's
+/// readings or the history tell.
+pub fn lost_are_unheard()
+    ensures { LostAreUnheard }
+{}
+
+/// Releases are synchronous: where a thread has settled, the history has each block that it ended before, of a lost client too,
+/// whatever client is lost later. So it is of every program.
+pub fn settled_are_committed()
+    ensures { SettledAreCommitted }
 {}
 
 /// What comes to a client, to a lost one too, finds it as it must: a grant was asked for; a batch of ids was asked for, and is
@@ -238,11 +244,12 @@ pub fn blocks_are_handed_in()
     ensures { BlocksAreHandedIn }
 {}
 
-/// The history has of each thread of a client that isn't lost the events of the blocks that the server took, each
-/// notification that left the choice to the server with whom it chose. Clause `as_made`: without waits just as the threads
-/// made them.
+/// The history has of each client, a lost one too, the blocks of its first endings, as many as the server took records of it, in
+/// order and nothing else, each notification that left the choice to the server with whom it chose. Clause `events`: of each
+/// thread the events of these. Clause `as_made`: without waits just as the threads made them.
 pub fn histories_hold_blocks()
-    ensures resolved { HistoriesHoldBlocks }
+    ensures blocks { HistoriesHoldBlocks }
+    ensures events { HistoriesHoldEvents }
     ensures as_made { HistoriesHoldBlocksAsMade }
 {}
 
@@ -259,14 +266,12 @@ pub fn names_stay_known()
     ensures made { ObjectsAreMade }
 {}
 
-/// What a client answers a thread, the one heap allows, whatever is marked, where the client's readings are true of it. Clause
-/// `marks`: an act of a thread that doesn't wait, which neither waits nor notifies, asks for no mark.
+/// What a client answers a thread, the one heap allows, whatever is marked, where the client's readings are true of it.
 pub fn acts_are_possible()
-    ensures possible { ActsArePossible }
-    ensures marks { ActsFindMarks }
+    ensures { ActsArePossible }
 {}
 
-/// After a journal without losses, of a sound program, whatever is marked: the history as made runs; of each client the blocks in
+/// After a journal of a sound program, whatever is marked: the history as made runs; of each client that isn't lost the blocks in
 /// flight to the server can run after it, with what they hold and touch within the client's leases there; each thread's open block
 /// can run behind them; and each copy is a past value, not older than what the client's threads have seen, and the heap's once all
 /// in flight is taken, where no change overtakes a lease of the field's guard.
@@ -274,15 +279,15 @@ pub fn clients_stand()
     ensures { ClientsStand }
 {}
 
-/// After such a journal, for each thread and each lock: each message in flight between its client and the server may come where
-/// the thread stands among the waiters of the lock, and once all are taken both ends say the same: it is kept in its client's
-/// list, gone to the server, or away.
+/// Of a sound program, whatever waits and is lost: for each thread of a client that isn't lost and each lock, each message in
+/// flight between its client and the server may come where the thread stands among the waiters of the lock, and once all are taken
+/// both ends say the same: it is kept in its client's list, gone to the server, or away.
 pub fn waiters_are_tokens()
     ensures { WaitersAreTokens }
 {}
 
-/// After such a journal the unmarked waiters of a lock in the one heap are those that the client with the lock at Write keeps in
-/// its list and those of the server's list, each in one of them and once.
+/// After a journal of a sound program the unmarked waiters of a lock in the one heap are those that the client with the lock at
+/// Write keeps in its list and those of the server's list, each in one of them and once; of a lost client there are none.
 pub fn waiters_are_known()
     ensures { WaitersAreKnown }
 {}
@@ -303,9 +308,10 @@ pub fn sound_code_is_sound_program()
     ensures within { SoundCodeStaysWithinShape }
 {}
 
-/// **The central law.** A lawful journal without losses, of a sound program, commits a legal history, in which each thread
-/// follows the program; the history has of each thread a prefix of its events, each once and in order, and all of them where the
-/// journal is finished, but for whom the server chose to wake. Clause `as_made`: without waits, just as the threads made them.
+/// **The central law.** A lawful journal of a sound program, whatever clients it loses, commits a legal history, in which each thread
+/// follows the program. Of each client, a lost one too, the history has the blocks of its first endings, in order and nothing else;
+/// of each thread a prefix of its events, each once and in order; and where the journal is finished, all events of each thread
+/// whose client isn't lost, but for whom the server chose to wake. Clause `as_made`: without waits, just as the threads made them.
 pub fn central_law()
     ensures legal { CentralLaw }
     ensures as_made { CommitsWhatWasMade }

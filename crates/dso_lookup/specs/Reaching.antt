@@ -14,4 +14,5 @@ ListsEach mine objects = (o : ℕ) → mine o ≡ true → IsListed o objects
 
 -- Reach: with a list of all private objects, the test tells exactly what is found.
 abbrev pub ReachTells : Type 0
-ReachTells = (mine : ℕ → Bool) (names : ℕ → ℕ → Bool) (objects : List ℕ) (v : Value) (o : ℕ) → ListsEach mine objects → (reach mine names objects v o ≡ true) ↔ Reached mine names v o
+ReachTells = (mine : ℕ → Bool) (names : ℕ → ℕ → Bool) (objects : List ℕ) (v : Value) (o : ℕ) → ListsEach mine objects
+    → (reach mine names objects v o ≡ true) ↔ Reached mine names v o

@@ -9,7 +9,8 @@ in_row cmp None key = None
 in_row cmp (Some row) key = get cmp row key
 
 -- a map of rows as a function: the value at each pair of keys
-abbrev pub look_in : {J K V : Type 0} → (J → J → Ordering) → (K → K → Ordering) → BTreeMap J (BTreeMap K V) → J × K → Option V
+abbrev pub look_in : {J K V : Type 0} → (J → J → Ordering) → (K → K → Ordering) → BTreeMap J (BTreeMap K V) → J × K
+    → Option V
 look_in outer inner m key = in_row inner (get outer m key.0) key.1
 
 -- the key is this pair

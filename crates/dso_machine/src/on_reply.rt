@@ -15,6 +15,7 @@ use crate::operators::{level_of, lookup, takes, within};
 use crate::stack::Stack;
 use crate::{Code, FieldRef};
 use dso_base::{ClassId, Fault, Grade, Kind, LockName, NoMemory, Reply, Request, Value};
+use dso_reply::{AfterExit, AfterWait, Binding, after_exit, after_tick, after_wait, binding_of};
 
 /// A reply that isn't the one that is wanted: a refusal is its fault.
 pub(crate) fn unwanted(reply: Reply) -> Step
@@ -95,13 +96,14 @@ fn element_seen(reply: Reply, object: u64, index: i64) -> Step
 }
 
 /// A root was read that is to be bound: one that is bound stays.
+#[tactic(auto, using(crate::proofs::steps::Replies::binds_by_reply))]
 fn bind(reply: Reply, root: u32, value: Value) -> Step
     ensures takes { (code : Code) (frame : Frame) → Takes code (OnReply.Bind root value) reply frame result }
 {
-    match reply {
-        Reply::Val(Value::Null) => Step::ask(Request::Put(0, root, value), OnReply::Done),
-        Reply::Val(_) => Step::give(Value::Null),
-        _ => unwanted(reply),
+    match binding_of(reply) {
+        Binding::Binds => Step::ask(Request::Put(0, root, value), OnReply::Done),
+        Binding::Stays => Step::give(Value::Null),
+        Binding::Unwanted => unwanted(reply),
     }
 }
 
@@ -124,24 +126,26 @@ fn tick(lock: LockName, ticks: u64) -> Step
 }
 
 /// The thread waits on a lock.
+#[tactic(auto, using(crate::proofs::steps::Replies::waits_by_reply))]
 fn waited(reply: Reply, lock: LockName, ticks: u64) -> Step
     ensures takes { (code : Code) (frame : Frame) → Takes code (OnReply.Waited lock ticks) reply frame result }
 {
-    match reply {
-        Reply::Done if ticks == 0 => resume(lock),
-        Reply::Done => tick(lock, ticks),
-        _ => unwanted(reply),
+    match after_wait(reply, ticks) {
+        AfterWait::Resumes => resume(lock),
+        AfterWait::Ticks => tick(lock, ticks),
+        AfterWait::Unwanted => unwanted(reply),
     }
 }
 
 /// A tick told a thread that waits on a lock whether it was woken.
+#[tactic(auto, using(crate::proofs::steps::Replies::ticks_by_reply))]
 fn ticked(reply: Reply, lock: LockName, ticks: u64) -> Step
     ensures takes { (code : Code) (frame : Frame) → Takes code (OnReply.Ticked lock ticks) reply frame result }
 {
-    match reply {
-        Reply::Val(Value::Bool(true)) => resume(lock),
-        Reply::Val(Value::Bool(false)) => tick(lock, ticks),
-        _ => unwanted(reply),
+    match after_tick(reply) {
+        AfterWait::Resumes => resume(lock),
+        AfterWait::Ticks => tick(lock, ticks),
+        AfterWait::Unwanted => unwanted(reply),
     }
 }
 
@@ -156,14 +160,14 @@ fn timed_out(reply: Reply, lock: LockName) -> Step
 }
 
 /// A lock was left that was entered at this grade, after a part that ended so.
-#[tactic(auto, using(crate::proofs::steps::Requests::settles_on))]
+#[tactic(auto, using(crate::proofs::steps::Requests::settles_on, crate::proofs::steps::Replies::exits_by_reply))]
 fn left(reply: Reply, grade: Grade, end: End) -> Step
     ensures takes { (code : Code) (frame : Frame) → Takes code (OnReply.Left grade end) reply frame result }
 {
-    match (reply, grade) {
-        (Reply::Done, Grade::Synchronous) => Step::ask(Request::Settle, OnReply::Settled(end)),
-        (Reply::Done, Grade::Read | Grade::Write) => Step::have(end),
-        _ => unwanted(reply),
+    match after_exit(reply, grade) {
+        AfterExit::Settles => Step::ask(Request::Settle, OnReply::Settled(end)),
+        AfterExit::GoesOn => Step::have(end),
+        AfterExit::Unwanted => unwanted(reply),
     }
 }
 

@@ -1,3 +1,2 @@
 -- Runs of other clients' threads after the loss of a client.
 pub mod RunsSurvive
-pub mod RunsRechosen

@@ -27,7 +27,8 @@ abbrev pub moved : LockName → (ThreadId → Option ℕ) → (LockName × Threa
 moved l row marked key = cond (is_lock l key.0) (either (row key.1) (marked key)) (marked key)
 
 -- a table by lock and thread, without what the thread has at the locks of a row
-abbrev pub dropped : {V : Type 0} → ThreadId → (LockName → Option (Unit {0})) → (LockName × ThreadId → Option V) → LockName × ThreadId → Option V
+abbrev pub dropped : {V : Type 0} → ThreadId → (LockName → Option (Unit {0})) → (LockName × ThreadId → Option V)
+    → LockName × ThreadId → Option V
 dropped t row table key = cond (is_thread t key.1 && is_some (row key.0)) None (table key)
 
 -- The state in which the threads that the test tells have left all monitors and waits.
@@ -41,9 +42,12 @@ without test s = record s {
 -- The tables by thread list exactly the locks that the thread holds, and those on which it waits, and no wait is both
 -- marked and not.
 pub record Mirrors (tables : Tables) : Type 0 where
-  pub held : (l : LockName) (t : ThreadId) → is_some (look_in thread_order lock_order tables.held (t, l)) ≡ is_some ((state_of tables).monitors (l, t))
-  pub waiting : (l : LockName) (t : ThreadId) → is_some (look_in thread_order lock_order tables.waiting (t, l)) ≡ is_some ((state_of tables).asleep (l, t))
-  pub apart : (l : LockName) (t : ThreadId) → (is_some (look_in lock_order thread_order tables.waits (l, t)) && is_some (look_in lock_order thread_order tables.marked (l, t))) ≡ false
+  pub held : (l : LockName) (t : ThreadId)
+      → is_some (look_in thread_order lock_order tables.held (t, l)) ≡ is_some ((state_of tables).monitors (l, t))
+  pub waiting : (l : LockName) (t : ThreadId)
+      → is_some (look_in thread_order lock_order tables.waiting (t, l)) ≡ is_some ((state_of tables).asleep (l, t))
+  pub apart : (l : LockName) (t : ThreadId)
+      → (is_some (look_in lock_order thread_order tables.waits (l, t)) && is_some (look_in lock_order thread_order tables.marked (l, t))) ≡ false
 
 -- The threads of a row that are the client's have left all monitors and waits, and no thread of another client.
 pub record ClearsRow (client : ℕ) (row : ThreadId → Option (Unit {0})) (old new : Tables) : Type 0 where

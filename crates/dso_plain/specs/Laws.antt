@@ -35,23 +35,28 @@ pub record CanSwap (shape : Shape) (others own : List Event) (s : PlainState) : 
   pub own_after : RunsButMarks shape own (end_of shape others s)
   pub others_after : RunsButMarks shape others (end_of shape own s)
   pub same_end : end_of shape own (end_of shape others s) ≡ end_of shape others (end_of shape own s)
-  pub own_touches : (l : LockName) (x : Level) → TouchesIn shape own (end_of shape others s) l x → TouchesIn shape own s l x
-  pub others_touch : (l : LockName) (x : Level) → TouchesIn shape others (end_of shape own s) l x → TouchesIn shape others s l x
+  pub own_touches : (l : LockName) (x : Level) → TouchesIn shape own (end_of shape others s) l x
+      → TouchesIn shape own s l x
+  pub others_touch : (l : LockName) (x : Level) → TouchesIn shape others (end_of shape own s) l x
+      → TouchesIn shape others s l x
 
 -- Diamond: two runs that are apart can swap, be the first of one thread or of several.
 abbrev pub Diamond : Type 0
-Diamond = (shape : Shape) (t : ThreadId) (others own : List Event) (s : PlainState) → AreApart shape t others own s → CanSwap shape others own s
+Diamond = (shape : Shape) (t : ThreadId) (others own : List Event) (s : PlainState) → AreApart shape t others own s
+    → CanSwap shape others own s
 
 -- Choices: where two runs are apart and nobody times out in them, each finds behind the other the marks that it asks
 -- for. A timeout marks its thread under no lock, and a notification of the other run could have chosen that thread.
 abbrev pub ChoicesSwap : Type 0
 ChoicesSwap = (shape : Shape) (t : ThreadId) (others own : List Event) (s : PlainState)
-    → AreApart shape t others own s → NobodyTimesOut others → NobodyTimesOut own → Runs shape others s → Runs shape own s
+    → AreApart shape t others own s → NobodyTimesOut others → NobodyTimesOut own → Runs shape others s
+    → Runs shape own s
     → Runs shape own (end_of shape others s) × Runs shape others (end_of shape own s)
 
 -- Parts: a run of two lists of events in order is a run of the first and, from where that ends, of the second.
 abbrev pub RunsInParts : Type 0
-RunsInParts = (shape : Shape) (first second : List Event) (s : PlainState) → Runs shape (first ++ second) s ↔ (Runs shape first s × Runs shape second (end_of shape first s))
+RunsInParts = (shape : Shape) (first second : List Event) (s : PlainState)
+    → Runs shape (first ++ second) s ↔ (Runs shape first s × Runs shape second (end_of shape first s))
 
 -- Parts: so it is of a run whatever is marked.
 abbrev pub RunsButMarksInParts : Type 0
@@ -60,7 +65,8 @@ RunsButMarksInParts = (shape : Shape) (first second : List Event) (s : PlainStat
 
 -- Parts: a run of two lists of events in order ends where the second does from the end of the first.
 abbrev pub EndsInParts : Type 0
-EndsInParts = (shape : Shape) (first second : List Event) (s : PlainState) → end_of shape (first ++ second) s ≡ end_of shape second (end_of shape first s)
+EndsInParts = (shape : Shape) (first second : List Event) (s : PlainState)
+    → end_of shape (first ++ second) s ≡ end_of shape second (end_of shape first s)
 
 -- Past: what is said of pasts holds in each state that a run from the opening state reaches, whatever is marked.
 abbrev pub Past : Type 0

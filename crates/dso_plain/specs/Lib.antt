@@ -8,7 +8,7 @@ pub mod Past
 pub mod StepInvariants
 pub mod Loss
 pub mod Monitors
-pub mod Rechoice
+pub mod SameActs
 pub mod Own
 pub mod Laws
 pub mod Tables

@@ -16,7 +16,8 @@ newest (v ∷ older) = Some v
 pub record KeepsPast (s : PlainState) : Type 0 where
   pub newest_is_heap : (o f : ℕ) → IsShared o s → newest (s.past (o, f)) ≡ s.heap (o, f)
   pub none_before : (o f : ℕ) → is_shared (s.objects o) ≡ false → s.past (o, f) ≡ []
-  pub seen_in_past : (t : ThreadId) (o f : ℕ) → IsShared o s → HasField o f s → s.seen (t, o, f) < length (s.past (o, f))
+  pub seen_in_past : (t : ThreadId) (o f : ℕ) → IsShared o s → HasField o f s
+      → s.seen (t, o, f) < length (s.past (o, f))
   pub unseen_before : (t : ThreadId) (o f : ℕ) → is_shared (s.objects o) ≡ false → s.seen (t, o, f) ≡ 0
   pub fields : (o f : ℕ) → is_some (s.heap (o, f)) ≡ ltb f (size_of (s.objects o))
   pub private_listed : (t : ThreadId) (o : ℕ) → IsPrivate t o s → IsListed o (s.made t)

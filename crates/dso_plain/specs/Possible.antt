@@ -65,7 +65,8 @@ ReadsGuarded shape t o f v s = IsShared o s × HoldsGuard shape t o f s × (s.he
 
 -- Get of a shared object without the guard: any value of the past from the place on that the thread has seen.
 abbrev pub ReadsUnguarded : Shape → ThreadId → ℕ → ℕ → Value → PlainState → Type 0
-ReadsUnguarded shape t o f v s = IsShared o s × (hold_on_guard shape t o f s ≡ None) × StandsFrom (s.seen (t, o, f)) v (s.past (o, f))
+ReadsUnguarded shape t o f v s = IsShared o s × (hold_on_guard shape t o f s ≡ None)
+    × StandsFrom (s.seen (t, o, f)) v (s.past (o, f))
 
 -- Get: one of the three.
 abbrev pub AnswersGet : Shape → ThreadId → ℕ → ℕ → Reply → PlainState → Type 0
@@ -79,7 +80,8 @@ abbrev pub MayPut : Shape → ThreadId → ℕ → ℕ → Reply → PlainState 
 MayPut shape t o f Done s = IsPrivate t o s ⊎ (IsShared o s × (level_of (hold_on_guard shape t o f s) ≡ Some Write))
 MayPut shape t o f (Refused UnlockedSharedObject) s = IsShared o s × HoldsNothing t s
 MayPut shape t o f (Refused ReadOnly) s = IsShared o s × (level_of (hold_on_guard shape t o f s) ≡ Some Read)
-MayPut shape t o f (Refused WrongLock) s = IsShared o s × ((l : LockName) × (s.monitors (l, t) ≢ None)) × (hold_on_guard shape t o f s ≡ None)
+MayPut shape t o f (Refused WrongLock) s = IsShared o s × ((l : LockName) × (s.monitors (l, t) ≢ None))
+    × (hold_on_guard shape t o f s ≡ None)
 MayPut shape t o f reply s = ⊥
 
 -- Put: the object has the field, and one of the four.
@@ -116,7 +118,8 @@ NoConflict t l level s = (other : ThreadId) → other ≢ t → IsCompatible lev
 abbrev pub AnswersEnter : ThreadId → LockName → Level → Reply → PlainState → Type 0
 AnswersEnter t l level Local s = IsPrivateMonitor t l s
 AnswersEnter t l level (Refused LockUpgrade) s = IsUpgrade level (s.monitors (l, t))
-AnswersEnter t l level Done s = IsClusterLock l s × (IsUpgrade level (s.monitors (l, t)) → ⊥) × ((s.monitors (l, t) ≢ None) ⊎ NoConflict t l level s)
+AnswersEnter t l level Done s = IsClusterLock l s × (IsUpgrade level (s.monitors (l, t)) → ⊥)
+    × ((s.monitors (l, t) ≢ None) ⊎ NoConflict t l level s)
 AnswersEnter t l level reply s = ⊥
 
 -- Exit: the thread holds the lock.

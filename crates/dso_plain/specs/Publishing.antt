@@ -14,7 +14,8 @@ use Rattle.dso_plain.specs.After.{shared, present, published, names}
 -- Published: where the thread's list has each object that is private to it (as in every state that is reached), what
 -- is published of a value is exactly what is found from it.
 abbrev pub PublishedIsReached : Type 0
-PublishedIsReached = (t : ThreadId) (v : Value) (s : PlainState) (o : ℕ) → ListsEach (is_mine t s) (s.made t) → (published t v s o ≡ true) ↔ Reached (is_mine t s) (names s) v o
+PublishedIsReached = (t : ThreadId) (v : Value) (s : PlainState) (o : ℕ) → ListsEach (is_mine t s) (s.made t)
+    → (published t v s o ≡ true) ↔ Reached (is_mine t s) (names s) v o
 
 -- The state in which the objects that the test tells are shared, each field of them with its present value as its past.
 abbrev pub with_shared : (ℕ → Bool) → PlainState → PlainState
@@ -29,6 +30,7 @@ pub record HasItsFields (o : ℕ) (s : PlainState) : Type 0 where
   pub no_other_past : (f : ℕ) → ltb f (size_of (s.objects o)) ≡ false → s.past (o, f) ≡ []
 
 -- what the tables have as private to a thread is there
-pub private_is_there : (t : ThreadId) (x : Option table.Object) → is_private_to t (option_map object_of x) ≡ true → is_some x ≡ true
+pub private_is_there : (t : ThreadId) (x : Option table.Object) → is_private_to t (option_map object_of x) ≡ true
+    → is_some x ≡ true
 private_is_there t None e = absurd (cc e)
 private_is_there t (Some object) e = refl

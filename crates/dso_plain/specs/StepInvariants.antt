@@ -28,7 +28,8 @@ HasLeft lost ended t = (lost t.client ≡ true) ⊎ (ended t ≢ None)
 
 -- What each step keeps of monitors and waits, said of the parts of a state that it speaks of.
 pub record MonitorInvariantOf (monitors : LockName × ThreadId → Option Hold) (asleep : LockName × ThreadId → Option ℕ) (marked : LockName × ThreadId → Bool) (ended : ThreadId → Option (Option Fault)) (lost : ℕ → Bool) : Type 0 where
-  pub compatible : (l : LockName) (t w : ThreadId) (x : Level) → t ≢ w → level_of (monitors (l, t)) ≡ Some x → IsCompatible x (level_of (monitors (l, w)))
+  pub compatible : (l : LockName) (t w : ThreadId) (x : Level) → t ≢ w → level_of (monitors (l, t)) ≡ Some x
+      → IsCompatible x (level_of (monitors (l, w)))
   pub counted : (l : LockName) (t : ThreadId) (hold : Hold) → monitors (l, t) ≡ Some hold → 1 ≤ hold.count
   pub counted_waits : (l : LockName) (t : ThreadId) (count : ℕ) → asleep (l, t) ≡ Some count → 1 ≤ count
   pub only_waiters : (l : LockName) (t : ThreadId) → marked (l, t) ≡ true → asleep (l, t) ≢ None

@@ -12,10 +12,15 @@ use Rattle.dso_plain.specs.Tables.{state_of}
 -- The tables by thread list exactly the locks that the thread holds, and those on which it waits; no wait is both
 -- marked and not; and each client's threads that hold or wait are listed by client.
 pub record IndexesAgree (tables : Tables) : Type 0 where
-  pub held : (l : LockName) (t : ThreadId) → is_some (look_in thread_order lock_order tables.held (t, l)) ≡ is_some ((state_of tables).monitors (l, t))
-  pub waiting : (l : LockName) (t : ThreadId) → is_some (look_in thread_order lock_order tables.waiting (t, l)) ≡ is_some ((state_of tables).asleep (l, t))
-  pub apart : (l : LockName) (t : ThreadId) → (is_some (look_in lock_order thread_order tables.waits (l, t)) && is_some (look_in lock_order thread_order tables.marked (l, t))) ≡ false
-  pub listed : (l : LockName) (t : ThreadId) → (is_some ((state_of tables).monitors (l, t)) || is_some ((state_of tables).asleep (l, t))) ≡ true → is_some (look_in nat_cmp thread_order tables.threads (t.client, t)) ≡ true
+  pub held : (l : LockName) (t : ThreadId)
+      → is_some (look_in thread_order lock_order tables.held (t, l)) ≡ is_some ((state_of tables).monitors (l, t))
+  pub waiting : (l : LockName) (t : ThreadId)
+      → is_some (look_in thread_order lock_order tables.waiting (t, l)) ≡ is_some ((state_of tables).asleep (l, t))
+  pub apart : (l : LockName) (t : ThreadId)
+      → (is_some (look_in lock_order thread_order tables.waits (l, t)) && is_some (look_in lock_order thread_order tables.marked (l, t))) ≡ false
+  pub listed : (l : LockName) (t : ThreadId)
+      → (is_some ((state_of tables).monitors (l, t)) || is_some ((state_of tables).asleep (l, t))) ≡ true
+      → is_some (look_in nat_cmp thread_order tables.threads (t.client, t)) ≡ true
 
 -- The state is one whose pasts and monitors are as steps keep them, and the tables agree.
 pub record TablesInvariant (tables : Tables) : Type 0 where

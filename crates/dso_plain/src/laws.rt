@@ -1,8 +1,7 @@
 //! The laws of one heap with plain monitors. Each is the contract of a function that does nothing.
-ghost use Rattle.dso_plain.specs.Loss.{Loss, WaitersLeft, ChoiceAfterLoss};
+ghost use Rattle.dso_plain.specs.Loss.{Loss, MarksAfterLoss, WaitersLeft, ChoiceAfterLoss};
 ghost use Rattle.dso_lookup.specs.Reaching.{ReachTells};
 ghost use Rattle.dso_plain.specs.Publishing.{PublishedIsReached};
-ghost use Rattle.dso_plain.specs.Rechoice.{Rechoice};
 ghost use Rattle.dso_plain.specs.Own.{Own, Guarded};
 ghost use Rattle.dso_plain.specs.Laws.{RunsAreChoices, Diamond, ChoicesSwap, RunsInParts, RunsButMarksInParts, EndsInParts, Past, Growth, LegalGoesOn, Monitors};
 
@@ -35,11 +34,12 @@ pub fn past()
     ensures grows { Growth }
 {}
 
-/// A run of other clients' threads that notifies no thread of a client survives that client's loss, and it does not
-/// matter whether the loss comes before or after it. A notification can choose, after the loss, among the waiters
-/// left: those of other clients; and nobody exactly where none is left.
+/// A run of other clients' threads that notifies no thread of a client survives that client's loss, whatever is marked, and it does
+/// not matter whether the loss comes before or after it; where it found the marks that it asks for, it still does. A notification
+/// can choose, after the loss, among the waiters left: those of other clients; and nobody exactly where none is left.
 pub fn loss()
     ensures runs { Loss }
+    ensures marks { MarksAfterLoss }
     ensures waiters { WaitersLeft }
     ensures choice { ChoiceAfterLoss }
 {}
@@ -59,13 +59,6 @@ pub fn legal_goes_on()
 /// have no part in any lock.
 pub fn monitors()
     ensures { Monitors }
-{}
-
-/// Where a client is lost, a run of other clients' threads runs again with whatever choices fit among the waiters
-/// left, where each thread that resumes, or is told that it was woken, is still marked; it ends in the same state but
-/// for the marks.
-pub fn rechoice()
-    ensures { Rechoice }
 {}
 
 /// Acts of other threads leave a thread's own parts as they were, and a run that does not touch a guard at Write leaves

@@ -16,7 +16,7 @@ use Rattle.dso_run.specs.declared.status.Refusal.TheVariants as refusal
 use Rattle.dso_run.specs.Accepted.{IsConfigRefusal}
 use Rattle.dso_run.specs.Headline.{CallInput, HasCause, IsAccepted, most_read}
 use Rattle.dso_run.specs.Verdict.{IsVerdictOnFiles, IsVerdictOnGiven, IsVerdictOnProgram, IsVerdictOnTexts}
-use Rattle.dso_run.specs.Words.{AreLawful, Sim, SimCall}
+use Rattle.dso_words.specs.Words.{AreLawful, Sim, SimCall}
 use Rattle.dso_run.proofs.ConfigFaults.{never_unbuilt}
 
 -- A configuration that has a fault is refused for it.

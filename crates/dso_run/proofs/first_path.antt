@@ -4,7 +4,6 @@ pub mod Answering
 pub mod Asking
 pub mod ByLaw
 pub mod CallAgain
-pub mod CallLists
 pub mod Calls
 pub mod CounterAsks
 pub mod CounterCode
@@ -28,10 +27,8 @@ pub mod Quiet
 pub mod Releasing
 pub mod Room
 pub mod Running
-pub mod RunsWithoutLosses
 pub mod SameSettings
 pub mod Storing
 pub mod Sums
 pub mod Turning
 pub mod Whole
-pub mod PlainLists

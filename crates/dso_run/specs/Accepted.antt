@@ -1,5 +1,5 @@
 -- Which texts of a configuration and of a program are taken, as which program, and why the others are refused.
-use Rattle.std.specs.Prelude.{◌≡◌, ◌≤◌, ℕ, Bool, true, false, ◌||◌, nat_lt, List, [], ◌∷◌, length}
+use Rattle.std.specs.Prelude.{◌≡◌, ◌≤◌, ℕ, true, false, List, length}
 use Rattle.dso_class.specs.declared.fault.NameFault.TheVariants as name
 use Rattle.dso_class.specs.declared.program.Program.{Program}
 use Rattle.dso_class.specs.NameFaults.{IsFirstFault}
@@ -19,8 +19,9 @@ use Rattle.dso_syntax.specs.SyntaxFaults.{IsText}
 use Rattle.dso_syntax.specs.TextLimits.{longest_text}
 use Rattle.dso_run.specs.declared.status.ProgramFault.{ProgramFault}
 use Rattle.dso_run.specs.declared.status.ProgramFault.TheVariants as fault
-use Rattle.dso_run.specs.first_path.Counter.{IsCounter}
-use Rattle.dso_run.specs.first_path.Spelling.{IsPlainlySpelled}
+pub use Rattle.dso_form.specs.Form.{IsOfForm, has_any, has_unbuilt}
+use Rattle.dso_form.specs.Counter.{IsCounter}
+use Rattle.dso_form.specs.Spelling.{IsPlainlySpelled}
 
 -- What the nodes of a run know of its program.
 abbrev pub settings_of : Program → Settings
@@ -43,24 +44,10 @@ pub record IsResolved (config : Config) (tree : Ast) (p : Program) : Type 0 wher
   pub program : IsProgramOf config tree p
   pub sound : IsSound p
 
--- A text of this tree and code is of the first path's form.
-pub record IsOfForm (text : List ℕ) (tree : Ast) (code : Code) : Type 0 where
-  pub counter : IsCounter code
-  pub spelled : IsPlainlySpelled text tree
-
 -- A tree is taken as this program: the configuration says nothing, and the code is that of the first path's form.
 pub record IsTaken (tree : Ast) (p : Program) : Type 0 where
   pub resolved : IsResolved empty tree p
   pub counter : IsCounter p.code
-
--- whether a list has an item
-abbrev pub has_any : {A : Type 0} → List A → Bool
-has_any [] = false
-has_any (first ∷ rest) = true
-
--- whether a configuration asks for what isn't built yet: a second client, or one that is lost or cut off
-abbrev pub has_unbuilt : Config → Bool
-has_unbuilt config = nat_lt 1 config.clients || has_any config.losses || has_any config.breaks
 
 -- UNDER A CONFIGURATION
 module _ (config : Config) where

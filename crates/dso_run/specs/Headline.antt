@@ -27,7 +27,7 @@ use Rattle.dso_run.specs.Accepted.{settings_of, AreTaken, IsConfigRefusal, IsPro
 use Rattle.dso_io.specs.Environment.{Told, MayGive, Rose, taken_after, TookPrefix}
 use Rattle.dso_run.specs.RoundRobin.{EndsFinished, EndsStuck, EndsOverBudget}
 use Rattle.dso_run.specs.Status.{line_of}
-use Rattle.dso_run.specs.Words.{AreLawful, AreUnlawful, Sim, SimCall}
+use Rattle.dso_words.specs.Words.{AreLawful, AreUnlawful, Sim, SimCall}
 
 -- how many bytes are read of a file at most: one more than a program's text may have
 abbrev pub most_read : ℕ

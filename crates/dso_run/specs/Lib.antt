@@ -1,11 +1,7 @@
 pub mod Accepted
-pub mod Given
 pub mod Headline
 pub mod RoundRobin
-pub mod Said
 pub mod Status
 pub mod Verdict
-pub mod WordReading
-pub mod Words
 pub mod Writing
 pub mod first_path

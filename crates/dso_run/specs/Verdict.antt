@@ -11,7 +11,7 @@ use Rattle.dso_run.specs.Accepted.{AreTaken, IsConfigRefusal, IsProgramRefusal, 
 use Rattle.dso_run.specs.Accepted.{IsTextFault, IsTreeFault, IsUnbuiltCluster}
 use Rattle.dso_io.specs.Environment.{Told, MayGive}
 use Rattle.dso_run.specs.Headline.{most_read}
-use Rattle.dso_run.specs.first_path.Spelling.{IsPlainlySpelled}
+use Rattle.dso_form.specs.Spelling.{IsPlainlySpelled}
 
 -- UNDER A CONFIGURATION
 module _ (config : Config) where

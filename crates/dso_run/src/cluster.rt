@@ -15,11 +15,12 @@ ghost use Rattle.dso_run.specs.RoundRobin.{slot_at};
 ghost use Rattle.dso_run.specs.first_path.Steps.{last_done, tried_after};
 
 use crate::known::{CLIENT, THREAD};
-use crate::weighing::{BUDGET, weight_of};
+use crate::weighing::weight_of;
 use crate::{client, server};
 use dso_base::{Entry, Input, Items, Journal, NoMemory, Node};
 use dso_law::{Entries, first_down, first_up, has_ended};
 use dso_machine::{Code, Thread};
+use dso_words::BUDGET;
 use std::alloc::Global;
 
 /// How a run ended.

@@ -1,7 +1,3 @@
 //! Laws of what the words ask for. Each is the contract of a function that does nothing.
-ghost use Rattle.dso_run.specs.Words.{WordsAskOnce};
 
-/// Whatever words there are, they ask for one thing at most.
-pub fn words_ask_once()
-    ensures { WordsAskOnce }
-{}
+pub use dso_words::words_ask_once;

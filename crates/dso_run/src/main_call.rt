@@ -6,22 +6,19 @@ ghost use Rattle.dso_io.specs.Environment.{Rose};
 ghost use Rattle.dso_run.specs.Headline.{StatusMeans, IsRunOf, IsUsage};
 ghost use Rattle.dso_run.specs.Status.{HasLine, line_of, status_of, status_of_run};
 ghost use Rattle.dso_run.specs.Verdict.{IsVerdictOnFiles};
-ghost use Rattle.dso_run.specs.Words.{AreLawful, AreUnlawful, Sim};
+ghost use Rattle.dso_words.specs.Words.{AreLawful, AreUnlawful, Sim};
 ghost use Rattle.dso_run.specs.Writing.{Wrote, WroteReport};
 
 use crate::cluster::{Outcome, Run, run_program};
-use crate::command::Command;
 use crate::refusal_lines::line_of;
 use crate::report::report;
 use crate::status::Refusal;
 use crate::verdict::{Verdict, judge_texts};
-use crate::weighing::BUDGET;
-use crate::words::command_of;
-use crate::writing::write_text;
 use crate::{Done, Status};
 use dso_base::{Items, Journal, NoMemory};
 use dso_class::Program;
-use dso_io::{FileFault, Files, Sink};
+use dso_io::{FileFault, Files, Sink, write_text};
+use dso_words::{BUDGET, Command, command_of};
 use std::alloc::Global;
 
 /// The most bytes that are read of a file: one more than a text may have.

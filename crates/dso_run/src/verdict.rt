@@ -1,22 +1,19 @@
 //! The judgement of a configuration's text and of a program's.
-ghost use Rattle.std.specs.Prelude.{◌≡◌, ◌↔◌, IfOk, IsTrue};
-ghost use Rattle.dso_config.specs.Config.{empty};
+ghost use Rattle.std.specs.Prelude.{◌≡◌, IfOk};
 ghost use Rattle.dso_config.specs.InRange.{IsInRange};
 ghost use Rattle.dso_syntax.specs.Grammar.{Tokens};
 ghost use Rattle.dso_syntax.specs.TextLimits.{most_levels};
 ghost use Rattle.dso_syntax.specs.ProgramGrammar.{IsProgram};
 ghost use Rattle.dso_run.specs.declared.status.Refusal.TheVariants as refusal;
-ghost use Rattle.dso_run.specs.Accepted.{HasTree, IsOfForm, IsResolved, has_unbuilt};
+ghost use Rattle.dso_run.specs.Accepted.{HasTree, IsResolved};
 ghost use Rattle.dso_run.specs.Verdict.{IsVerdictOnProgram, IsVerdictOnTexts, IsVerdictOnTree};
 
 use crate::ProgramFault;
-use crate::counter::is_counter;
-use crate::spelling::is_plainly_spelled;
 use crate::status::Refusal;
 use dso_base::NoMemory;
 use dso_class::{NameFault, Program, resolve};
 use dso_config::{Config, ConfigFault, read_config};
-use dso_machine::Code;
+use dso_form::{has_unbuilt, is_of_form, says_nothing};
 use dso_syntax::{Ast, SyntaxFault, parse};
 use std::alloc::Global;
 
@@ -79,34 +76,6 @@ fn judge_code(config: &Config, text: &[u8], tree: &Ast, program: Program) -> Ver
     } else {
         refused(ProgramFault::NotBuilt)
     }
-}
-
-/// Whether a configuration asks for what isn't built yet: a second client, or one that is lost or cut off.
-fn has_unbuilt(config: &Config) -> bool
-    ensures { result ≡ has_unbuilt config.now }
-{
-    1 < config.clients || config.losses.len() > 0 || config.breaks.len() > 0
-}
-
-/// Whether a configuration says nothing: one client, 4096 resident objects, and no section.
-fn says_nothing(config: &Config) -> bool
-    ensures { IsTrue result ↔ (config.now ≡ empty) }
-{
-    config.clients == 1
-        && config.resident == 4096
-        && config.roots.is_none()
-        && config.autolocks.is_none()
-        && config.named.is_none()
-        && config.guards.len() == 0
-        && config.losses.len() == 0
-        && config.breaks.len() == 0
-}
-
-/// Whether a text of this tree and code is of the first path's form: its code is the counter's, and it is spelled so.
-fn is_of_form(text: &[u8], tree: &Ast, code: &Code) -> bool
-    ensures { IsTrue result ↔ IsOfForm text.now tree.now code.now }
-{
-    is_counter(code) && is_plainly_spelled(text, tree)
 }
 
 /// A program that is refused.

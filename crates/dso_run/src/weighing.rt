@@ -3,9 +3,7 @@ ghost use Rattle.std.specs.Prelude.{◌≡◌, min};
 ghost use Rattle.dso_base.specs.Weight.{entry_weight_of, sent_values_of, txn_values_of};
 
 use dso_base::{Down, Entry, Sent, Txn, Up};
-
-/// The most that the journal of a run may weigh.
-pub(crate) const BUDGET: u64 = 4_000_000;
+use dso_words::BUDGET;
 
 /// What the entry weighs, up to the whole budget.
 pub(crate) fn weight_of(entry: &Entry) -> u64

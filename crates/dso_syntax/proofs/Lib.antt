@@ -1,4 +1,3 @@
-pub mod tokens
 pub mod completeness
 pub mod soundness
 pub mod lockstep

@@ -1,17 +1,10 @@
 pub mod TextLimits
-pub mod Bytes
-pub mod ByteClasses
-pub mod Spelling
-pub mod Token
-pub mod Scan
-pub mod Reading
 pub mod Grammar
 pub mod ProgramGrammar
 pub mod SyntaxFaults
 pub mod ExpressionReader
 pub mod ProgramReader
 pub mod ParseAnswer
-pub mod Gives
 pub mod OperandReader
 pub mod ExpressionLevels
 pub mod StatementLevels

@@ -1,10 +1,10 @@
 -- The parts of an expression that hold no whole expression, as readers: what stands before one and behind it.
 use Rattle.std.specs.Prelude.{ℕ, Bool, ◌||◌, if◌then◌else◌, List, Option, Some, None, Ok, Err}
 use Rattle.dso_base.specs.declared.value.Kind.{Kind}
-use Rattle.dso_syntax.specs.declared.token.Keyword.TheVariants as k
-use Rattle.dso_syntax.specs.declared.token.Mark.{Mark}
-use Rattle.dso_syntax.specs.declared.token.Mark.TheVariants as m
-use Rattle.dso_syntax.specs.declared.token.Token.{Token}
+use Rattle.dso_tokens.specs.declared.token.Keyword.TheVariants as k
+use Rattle.dso_tokens.specs.declared.token.Mark.{Mark}
+use Rattle.dso_tokens.specs.declared.token.Mark.TheVariants as m
+use Rattle.dso_tokens.specs.declared.token.Token.{Token}
 use Rattle.dso_syntax.specs.declared.tree.Ident.{Ident}
 use Rattle.dso_syntax.specs.declared.tree.ExprTree.{ExprTree}
 use Rattle.dso_syntax.specs.declared.tree.ExprForm.{ExprForm}

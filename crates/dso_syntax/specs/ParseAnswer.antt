@@ -1,15 +1,15 @@
 -- What is answered of a text: its tree, or its fault, by what the reader answers of its tokens and by how they end.
 use Rattle.std.specs.Prelude.{◌≡◌, ◌<◌, ◌≤◌, ◌∷◌, [], List, Option, Some, None, Result, Ok, Err, ℕ, length}
-use Rattle.dso_syntax.specs.declared.token.Token.{Token}
-use Rattle.dso_syntax.specs.declared.token.Ending.{Ending}
-use Rattle.dso_syntax.specs.declared.token.Ending.TheVariants as ending
+use Rattle.dso_tokens.specs.declared.token.Token.{Token}
+use Rattle.dso_tokens.specs.declared.token.Ending.{Ending}
+use Rattle.dso_tokens.specs.declared.token.Ending.TheVariants as ending
 use Rattle.dso_syntax.specs.declared.tree.Ast.{Ast}
 use Rattle.dso_syntax.specs.declared.tree.Item.{Item}
-use Rattle.dso_syntax.specs.declared.stop.Stop.{Stop}
-use Rattle.dso_syntax.specs.declared.stop.Stop.TheVariants as stop
+use Rattle.dso_tokens.specs.declared.stop.Stop.{Stop}
+use Rattle.dso_tokens.specs.declared.stop.Stop.TheVariants as stop
 use Rattle.dso_syntax.specs.declared.fault.SyntaxFault.{SyntaxFault}
 use Rattle.dso_syntax.specs.declared.fault.SyntaxFault.TheVariants as fault
-use Rattle.dso_syntax.specs.Bytes.{Text}
+use Rattle.dso_tokens.specs.Bytes.{Text}
 use Rattle.dso_syntax.specs.Grammar.{Tokens}
 use Rattle.dso_syntax.specs.TextLimits.{longest_text, most_levels}
 use Rattle.dso_syntax.specs.SyntaxFaults.{IsText, HasFault}

@@ -1,20 +1,20 @@
 -- What is wrong with a text: where its tokens stop being those of a program.
 use Rattle.std.specs.Prelude.{◌≡◌, ℕ, Bool, true, [], ◌∷◌, ◌++◌, Some, None, is_some, pos}
-use Rattle.dso_syntax.specs.declared.token.Mark.{Mark}
-use Rattle.dso_syntax.specs.declared.token.Mark.TheVariants as m
-use Rattle.dso_syntax.specs.declared.token.Form.{Form}
-use Rattle.dso_syntax.specs.declared.token.Form.TheVariants as form
-use Rattle.dso_syntax.specs.declared.token.Token.{Token}
-use Rattle.dso_syntax.specs.declared.token.Ending.{Ending}
-use Rattle.dso_syntax.specs.declared.token.Ending.TheVariants as ending
+use Rattle.dso_tokens.specs.declared.token.Mark.{Mark}
+use Rattle.dso_tokens.specs.declared.token.Mark.TheVariants as m
+use Rattle.dso_tokens.specs.declared.token.Form.{Form}
+use Rattle.dso_tokens.specs.declared.token.Form.TheVariants as form
+use Rattle.dso_tokens.specs.declared.token.Token.{Token}
+use Rattle.dso_tokens.specs.declared.token.Ending.{Ending}
+use Rattle.dso_tokens.specs.declared.token.Ending.TheVariants as ending
 use Rattle.dso_syntax.specs.declared.tree.Ast.{Ast}
 use Rattle.dso_syntax.specs.declared.fault.SyntaxFault.{SyntaxFault}
 use Rattle.dso_syntax.specs.declared.fault.SyntaxFault.TheVariants as fault
-use Rattle.dso_syntax.specs.Bytes.{Text}
+use Rattle.dso_tokens.specs.Bytes.{Text}
 use Rattle.dso_syntax.specs.Grammar.{Tokens, IsMark, operator_of}
 use Rattle.dso_syntax.specs.TextLimits.{most_levels}
 use Rattle.dso_syntax.specs.ProgramGrammar.{IsProgram}
-use Rattle.dso_syntax.specs.Reading.{Reads}
+use Rattle.dso_tokens.specs.Reading.{Reads}
 
 -- some program of so many levels of nesting at most begins with these tokens
 abbrev pub IsPrefix : ℕ → Tokens → Type 0

@@ -5,18 +5,17 @@ ghost use Rattle.dso_syntax.specs.StatementLevels as blocks;
 ghost use Rattle.dso_syntax.specs.ProgramGrammar as program;
 ghost use Rattle.dso_syntax.specs.ProgramReader as reader;
 ghost use Rattle.dso_syntax.specs.declared.tree.ExprForm.{out-ExprForm};
-ghost use Rattle.dso_syntax.specs.Gives.{Gives, input};
+ghost use Rattle.dso_tokens.specs.Gives.{Gives, input};
 
-use crate::cursor::{
-    Rest, close_mark, enter, is_keyword, is_mark, open_mark, take_any, take_keyword, take_mark,
-    take_name,
-};
 use crate::expression::whole;
 use crate::limits::{MOST_LEVELS, PARSER_LEVELS};
-use crate::stop::Stop;
-use crate::token::{Keyword, Mark, Token};
+use crate::names::take_name;
 use crate::tree::{ExprForm, ExprTree, StmtForm, StmtTree};
 use dso_base::Items;
+use dso_tokens::{
+    Keyword, Mark, Rest, Stop, Token, close_mark, enter, is_keyword, is_mark, open_mark, take_any,
+    take_keyword, take_mark,
+};
 use std::alloc::{AllocFailed, Global};
 
 /// A statement of one word and an expression in parentheses.

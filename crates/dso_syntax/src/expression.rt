@@ -5,19 +5,16 @@
 ghost use Rattle.std.specs.Prelude.{◌≡◌, ◌+◌, ◌<◌, ◌≤◌, length, IfOk};
 ghost use Rattle.dso_syntax.specs.ExpressionLevels as parser;
 ghost use Rattle.dso_syntax.specs.ExpressionReader as reader;
-ghost use Rattle.dso_syntax.specs.Gives.{Gives, input};
+ghost use Rattle.dso_tokens.specs.Gives.{Gives, input};
 
-use crate::cursor::{Rest, is_mark, take_any};
 use crate::limits::{MOST_LEVELS, PARSER_LEVELS};
 use crate::operand::{
     Part, Suffix, begins_suffix, binary, called, closed, entered, field, indexed, opened, signed,
     take_suffix,
 };
-use crate::operators::{operator_at, sign_at};
-use crate::stop::Stop;
-use crate::token::Mark;
 use crate::tree::ExprTree;
 use dso_base::Items;
+use dso_tokens::{Mark, Rest, Stop, is_mark, operator_at, sign_at, take_any};
 use std::alloc::Global;
 
 const TOP_RANK: u32 = 6;

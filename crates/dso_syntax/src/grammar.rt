@@ -1,7 +1,7 @@
 //! What the definitions of the grammar say: which texts are programs, of which tree.
 
 ghost use Rattle.std.specs.Prelude.{◌≡◌, ◌↔◌, ℕ, [], Ok};
-ghost use Rattle.dso_syntax.specs.Bytes.{Text};
+ghost use Rattle.dso_tokens.specs.Bytes.{Text};
 ghost use Rattle.dso_syntax.specs.Grammar.{Tokens};
 ghost use Rattle.dso_syntax.specs.ProgramGrammar.{IsProgram};
 ghost use Rattle.dso_syntax.specs.SyntaxFaults.{IsText, HasFault};

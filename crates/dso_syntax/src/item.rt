@@ -3,15 +3,14 @@
 ghost use Rattle.std.specs.Prelude.{◌≡◌, ◌≤◌, length, IfOk};
 ghost use Rattle.dso_syntax.specs.StatementLevels as blocks;
 ghost use Rattle.dso_syntax.specs.ProgramReader as reader;
-ghost use Rattle.dso_syntax.specs.Gives.{Gives, input};
+ghost use Rattle.dso_tokens.specs.Gives.{Gives, input};
 
-use crate::cursor::{Rest, is_keyword, take_any, take_keyword, take_name};
 use crate::limits::MOST_LEVELS;
 use crate::member::{body, members};
-use crate::stop::Stop;
-use crate::token::{Form, Keyword};
+use crate::names::take_name;
 use crate::tree::Item;
 use dso_base::Items;
+use dso_tokens::{Form, Keyword, Rest, Stop, is_keyword, take_any, take_keyword};
 use std::alloc::Global;
 
 /// A number that is not too wide, with its line.

@@ -1,24 +1,18 @@
-//! The grammar of the method language: the tokens of a program text, and its tree.
+//! The grammar of the method language: the tree of a program text, over its tokens.
 #![tactic(auto)]
 
 mod blockless;
-mod bytes;
-mod cursor;
 mod expression;
 mod fault;
 mod grammar;
 mod item;
-mod lex;
 mod limits;
-mod literal;
 mod member;
+mod names;
 mod operand;
-mod operators;
-mod scan;
+mod plain;
 mod statement;
-mod stop;
 mod text;
-mod token;
 mod tree;
 
 pub use fault::SyntaxFault;

@@ -3,18 +3,17 @@
 ghost use Rattle.std.specs.Prelude.{◌≡◌, ◌≤◌, length, IfOk};
 ghost use Rattle.dso_syntax.specs.StatementLevels as blocks;
 ghost use Rattle.dso_syntax.specs.ProgramReader as reader;
-ghost use Rattle.dso_syntax.specs.Gives.{Gives, input};
+ghost use Rattle.dso_tokens.specs.Gives.{Gives, input};
 
-use crate::cursor::{
-    Rest, close_mark, is_mark, next_keyword, open_mark, take_any, take_keyword, take_mark,
-    take_name,
-};
 use crate::limits::{MOST_LEVELS, PARSER_LEVELS};
+use crate::names::take_name;
 use crate::statement::block;
-use crate::stop::Stop;
-use crate::token::{Keyword, Mark, Token};
 use crate::tree::{Ident, Member, StmtTree};
 use dso_base::{Items, Kind};
+use dso_tokens::{
+    Keyword, Mark, Rest, Stop, Token, close_mark, is_mark, next_keyword, open_mark, take_any,
+    take_keyword, take_mark,
+};
 use std::alloc::Global;
 
 /// A block of a method or a thread.

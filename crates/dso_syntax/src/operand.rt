@@ -5,17 +5,16 @@ ghost use Rattle.dso_syntax.specs.Grammar as grammar;
 ghost use Rattle.dso_syntax.specs.OperandReader as operand;
 ghost use Rattle.dso_syntax.specs.ExpressionReader as reader;
 ghost use Rattle.dso_syntax.specs.declared.tree.ExprForm.TheVariants as e;
-ghost use Rattle.dso_syntax.specs.Gives.{Gives, input};
+ghost use Rattle.dso_tokens.specs.Gives.{Gives, input};
 
-use crate::cursor::{
-    Rest, close_mark, enter, is_mark, is_wide, open_mark, take_any, take_keyword, take_mark,
-    take_name,
-};
-use crate::operators::{kind_at, plain_at};
-use crate::stop::Stop;
-use crate::token::{Keyword, Mark, Token};
+use crate::names::take_name;
+use crate::plain::plain_at;
 use crate::tree::{ExprForm, ExprTree, Ident};
 use dso_base::{Boxed, Items, Kind, Op};
+use dso_tokens::{
+    Keyword, Mark, Rest, Stop, Token, close_mark, enter, is_mark, is_wide, kind_at, open_mark,
+    take_any, take_keyword, take_mark,
+};
 use std::alloc::{AllocFailed, Global};
 
 /// A bracket that a primary expression opened, with the line where it begins.

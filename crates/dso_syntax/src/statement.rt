@@ -5,18 +5,16 @@
 ghost use Rattle.std.specs.Prelude.{◌≡◌, ◌≤◌, length, IfOk};
 ghost use Rattle.dso_syntax.specs.StatementLevels as parser;
 ghost use Rattle.dso_syntax.specs.ProgramReader as reader;
-ghost use Rattle.dso_syntax.specs.Gives.{Gives, input};
+ghost use Rattle.dso_tokens.specs.Gives.{Gives, input};
 
 use crate::blockless::{
     Command, Else, Guarding, alone, command_statement, condition, else_part, guard,
     led_by_expression, returned, variable, waiting,
 };
-use crate::cursor::{Rest, close_mark, is_mark, next_keyword, open_mark};
 use crate::limits::{MOST_LEVELS, PARSER_LEVELS};
-use crate::stop::Stop;
-use crate::token::{Keyword, Mark};
 use crate::tree::{StmtForm, StmtTree};
 use dso_base::Items;
+use dso_tokens::{Keyword, Mark, Rest, Stop, close_mark, is_mark, next_keyword, open_mark};
 use std::alloc::Global;
 
 /// Statements in braces.

@@ -6,14 +6,11 @@ ghost use Rattle.dso_syntax.specs.TextLimits.{longest_text};
 ghost use Rattle.dso_syntax.specs.SyntaxFaults.{IsText};
 ghost use Rattle.dso_syntax.specs.declared.fault.SyntaxFault.TheVariants as fault;
 
-use crate::cursor::Rest;
 use crate::fault::SyntaxFault;
 use crate::item::items;
-use crate::lex::{Lexed, tokens_of};
-use crate::limits::{LONGEST_TEXT, MOST_LEVELS};
-use crate::stop::Stop;
-use crate::token::{Ending, Token};
+use crate::limits::MOST_LEVELS;
 use crate::tree::Ast;
+use dso_tokens::{Ending, LONGEST_TEXT, Lexed, Rest, Stop, Token, tokens_of};
 use std::alloc::Global;
 
 /// What is wrong behind all tokens.

@@ -23,19 +23,24 @@ pub fn entry_of(alloc: Global, clock: u64, text: &str) -> Result<Option<Entry>, 
     let Some((node, input, event)) = input_of(alloc, taken)? else {
         return Ok(None);
     };
-    let mut sent = Items::new(alloc);
-    for message in sends.split(" and ") {
-        if let Some(message) = sent_of(alloc, message)? {
-            sent.push(message)?;
-        }
-    }
     Ok(Some(Entry {
         clock,
         node,
         input,
-        sent,
+        sent: messages_of(alloc, sends)?,
         event,
     }))
+}
+
+/// The messages that are sent.
+fn messages_of(alloc: Global, text: &str) -> Result<Items<Sent>, NoMemory> {
+    let mut sent = Items::new(alloc);
+    for message in text.split(" and ") {
+        if let Some(message) = sent_of(alloc, message)? {
+            sent.push(message)?;
+        }
+    }
+    Ok(sent)
 }
 
 /// The node, what it takes in, and the event.

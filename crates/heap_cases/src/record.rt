@@ -88,9 +88,17 @@ fn of_work(alloc: Global, work: &Work, word: &str, what: &str) -> Result<String,
         ("private", Some(object), _) => shown(alloc, work.is_private(object)),
         ("own", Some(object), _) => shown(alloc, work.own(object).is_some()),
         ("set", Some(object), Some(field)) => debugged(alloc, work.set_value(object, field)),
-        ("first-new", ..) => debugged(alloc, work.news.get(0).map(|body| body.object)),
+        ("first-new", ..) => debugged(alloc, first_new(work)),
         ("sizes", ..) => debugged(alloc, (work.news.len(), work.sets.len(), work.outs.len())),
         _ => shown(alloc, "no such question"),
+    }
+}
+
+/// The first new object.
+fn first_new(work: &Work) -> Option<u64> {
+    match work.news.get(0) {
+        Some(body) => Some(body.object),
+        None => None,
     }
 }
 

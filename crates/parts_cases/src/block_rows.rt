@@ -180,10 +180,16 @@ impl Hand {
 
     /// The record from the block.
     fn close(&mut self, alloc: Global, seq: u64, ending: Ending) -> Result<String, NoMemory> {
-        let txn = self.block.close(alloc, seq, ending)?;
-        let text = record_text(alloc, &txn)?;
-        self.closed = Some(txn);
-        Ok(text)
+        self.closed = Some(self.block.close(alloc, seq, ending)?);
+        self.last_record(alloc)
+    }
+
+    /// The last record closed.
+    fn last_record(&self, alloc: Global) -> Result<String, NoMemory> {
+        match &self.closed {
+            Some(txn) => record_text(alloc, txn),
+            None => shown(alloc, "no record"),
+        }
     }
 
     /// What is in hand.

@@ -70,17 +70,20 @@ fn agrees(
         level,
         is_recalled: false,
     };
-    let lease = lease_of(lists.leases.as_slice(), row);
-    if locks.lease(client, lock) != lease
-        || locks.waits(client, lock) != is_listed(lists.requests.as_slice(), row)
-    {
+    if !reads_agree(locks, lists, row) {
         return Ok(false);
     }
-    match lease {
+    match lease_of(lists.leases.as_slice(), row) {
         _ if drawn / 100 % 50 == 0 => loses(alloc, locks, lists, row),
         Some(_) => returns(alloc, locks, lists, row),
         None => requests(alloc, locks, lists, row),
     }
+}
+
+/// Whether the table tells of the row's client and lock what the lists tell.
+fn reads_agree(locks: &LockTable, lists: &Lists, row: Row) -> bool {
+    locks.lease(row.client, row.lock) == lease_of(lists.leases.as_slice(), row)
+        && locks.waits(row.client, row.lock) == is_listed(lists.requests.as_slice(), row)
 }
 
 /// One of four locks.

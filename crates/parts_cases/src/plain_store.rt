@@ -199,21 +199,33 @@ fn others_agree(alloc: Global, store: &Store, lists: &Lists, drawn: u64) -> Resu
     let set = drawn_set(drawn);
     let txn = setting(alloc, client, 1, set)?;
     let others = store.others_holding(alloc, client, &txn)?;
-    let mut holders = Vec::new(alloc);
+    Ok(are_for_holders(others.as_slice(), lists.holders.as_slice(), client, set))
+}
+
+/// Whether the changes are the set for each holder of its object but the client, by rising client.
+fn are_for_holders(
+    changes: &[(u8, Vec<Set>)],
+    holders: &[(u8, u64)],
+    client: u8,
+    set: Set,
+) -> bool {
+    let mut at = 0;
     for number in 0..5 {
         let other = drawn_client(number);
-        if other != client
-            && lists
-                .holders
-                .iter()
-                .any(|held| *held == (other, set.object))
-        {
-            holders.push(other)?;
+        if other != client && holders.iter().any(|held| *held == (other, set.object)) {
+            if !is_change_for(changes.get(at), other, set) {
+                return false;
+            }
+            at = at.saturating_add(1);
         }
     }
-    let told = others.len() == holders.len();
-    Ok(
-        told && others.iter().zip(holders.iter()).all(|(change, other)| change.0 == *other
-            && change.1.as_slice() == [set].as_slice()),
-    )
+    at == changes.len()
+}
+
+/// Whether the change is the set, for the client.
+fn is_change_for(change: Option<&(u8, Vec<Set>)>, client: u8, set: Set) -> bool {
+    match change {
+        Some(change) => change.0 == client && change.1.as_slice() == [set].as_slice(),
+        None => false,
+    }
 }

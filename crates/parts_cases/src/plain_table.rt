@@ -58,17 +58,31 @@ fn agreement(alloc: Global, seed: u64, calls: u32) -> Result<String, NoMemory> {
         before_last: None,
         records: 0,
     };
+    match all_agree(alloc, &mut table, &mut plain, seed, calls)? {
+        true => shown(alloc, "all calls agree"),
+        false => shown(alloc, "a call differs"),
+    }
+}
+
+/// Whether so many calls that are drawn from the number agree, and what is dropped next after each.
+fn all_agree(
+    alloc: Global,
+    table: &mut Table,
+    plain: &mut Plain,
+    seed: u64,
+    calls: u32,
+) -> Result<bool, NoMemory> {
     let mut drawn = seed;
     for _ in 0..calls {
         drawn = drawn
             .wrapping_mul(6364136223846793005)
             .wrapping_add(1442695040888963407);
-        let is_same = agrees(alloc, &mut table, &mut plain, drawn >> 33)?;
-        if !is_same || table.victim() != plain_victim(&plain) {
-            return shown(alloc, "a call differs");
+        let is_same = agrees(alloc, table, plain, drawn >> 33)?;
+        if !is_same || table.victim() != plain_victim(plain) {
+            return Ok(false);
         }
     }
-    shown(alloc, "all calls agree")
+    Ok(true)
 }
 
 /// The id of a row's object.

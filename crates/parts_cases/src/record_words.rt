@@ -78,10 +78,20 @@ fn barred(alloc: Global, text: String) -> Result<String, NoMemory> {
 pub fn record_text(alloc: Global, txn: &Txn) -> Result<String, NoMemory> {
     let (seq, thread, ending) = (txn.seq, txn.thread, txn.ending);
     let text = format!(in alloc; "record {seq} of {}.{} |", thread.client, thread.index)?;
-    let text = barred(alloc, with_bodies(alloc, text, txn.news.as_slice())?)?;
-    let text = barred(alloc, with_sets(alloc, text, txn.sets.as_slice())?)?;
-    let text = barred(alloc, with_values(alloc, text, txn.outs.as_slice())?)?;
-    let text = barred(alloc, with_notes(alloc, text, txn.notes.as_slice())?)?;
+    let text = with_changes(alloc, text, txn)?;
+    let text = with_acts(alloc, text, txn)?;
     let text = format!(in alloc; "{text} {ending:?}")?;
     Ok(text)
+}
+
+/// The text with the news and the sets behind it, and a bar behind each.
+fn with_changes(alloc: Global, text: String, txn: &Txn) -> Result<String, NoMemory> {
+    let text = barred(alloc, with_bodies(alloc, text, txn.news.as_slice())?)?;
+    barred(alloc, with_sets(alloc, text, txn.sets.as_slice())?)
+}
+
+/// The text with the printed values and the notifications behind it, and a bar behind each.
+fn with_acts(alloc: Global, text: String, txn: &Txn) -> Result<String, NoMemory> {
+    let text = barred(alloc, with_values(alloc, text, txn.outs.as_slice())?)?;
+    barred(alloc, with_notes(alloc, text, txn.notes.as_slice())?)
 }

@@ -5,7 +5,7 @@
 use crate::plain_store;
 use crate::store_records::{publishing, setting};
 use crate::words::{count, debugged, first_of, number, shown, small};
-use dso_base::{Items, NoMemory, Set, Shape, Value};
+use dso_base::{Items, NoMemory, Set, Shape, Txn, Value};
 use dso_store::Store;
 use std::alloc::Global;
 
@@ -98,22 +98,28 @@ fn of_record(
     let (first, rest) = first_of(text);
     match (word, number(first), set_of(text)) {
         ("publish", Some(object), _) if rest.is_empty() => {
-            let txn = publishing(alloc, client, seq, object)?;
-            store.apply(alloc, client, &txn)?;
-            shown(alloc, "applied")
+            applied(
+                alloc,
+                store,
+                client,
+                publishing(alloc, client, seq, object)?,
+            )
         }
-        ("set", _, Some(set)) => {
-            let txn = setting(alloc, client, seq, set)?;
-            store.apply(alloc, client, &txn)?;
-            shown(alloc, "applied")
-        }
-        ("others", _, Some(set)) => {
-            let txn = setting(alloc, client, seq, set)?;
-            let others = store.others_holding(alloc, client, &txn)?;
-            debugged(alloc, others)
-        }
+        ("set", _, Some(set)) => applied(alloc, store, client, setting(alloc, client, seq, set)?),
+        ("others", _, Some(set)) => others(alloc, store, client, setting(alloc, client, seq, set)?),
         _ => shown(alloc, "no such call"),
     }
+}
+
+/// The client's record is applied.
+fn applied(alloc: Global, store: &mut Store, client: u8, txn: Txn) -> Result<String, NoMemory> {
+    store.apply(alloc, client, &txn)?;
+    shown(alloc, "applied")
+}
+
+/// Who is told of the client's record.
+fn others(alloc: Global, store: &Store, client: u8, txn: Txn) -> Result<String, NoMemory> {
+    debugged(alloc, store.others_holding(alloc, client, &txn)?)
 }
 
 /// A set as `5 0 9`: the object, the field, and the number that it is given.

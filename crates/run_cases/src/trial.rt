@@ -115,21 +115,55 @@ impl<'a> Trial<'a> {
         unescaped(alloc, self.config)
     }
 
-    /// Calls the program.
-    fn answer(&self, alloc: Global) -> Result<Answer, NoMemory> {
+    /// The words of the command line behind the program's name.
+    fn words(&self, alloc: Global) -> Result<Vec<String>, AllocError> {
         let mut words = Vec::new(alloc);
         for word in self.line.split(' ').skip(1) {
             words.push(String::from_str(alloc, word)?)?;
         }
-        let config = self.config_text(alloc)?;
-        let program = self.text(alloc)?;
+        Ok(words)
+    }
+
+    /// Adds the file of the configuration.
+    fn add_config(&self, alloc: Global, files: &mut MemFiles) -> Result<(), NoMemory> {
+        let text = self.config_text(alloc)?;
+        files.add(alloc, "c", text.as_bytes())?;
+        Ok(())
+    }
+
+    /// Adds the file of the program.
+    fn add_program(&self, alloc: Global, files: &mut MemFiles) -> Result<(), NoMemory> {
+        let text = self.text(alloc)?;
+        files.add(alloc, "p", text.as_bytes())?;
+        Ok(())
+    }
+
+    /// The files.
+    fn files(&self, alloc: Global) -> Result<MemFiles, NoMemory> {
         let mut files = MemFiles::new(alloc, &[self.failing_read])?;
-        files.add(alloc, "c", config.as_bytes())?;
-        files.add(alloc, "p", program.as_bytes())?;
+        self.add_config(alloc, &mut files)?;
+        self.add_program(alloc, &mut files)?;
+        Ok(files)
+    }
+
+    /// Calls the program with these words over these files.
+    fn called(
+        &self,
+        alloc: Global,
+        words: &[String],
+        files: &mut MemFiles,
+    ) -> Result<Answer, NoMemory> {
         let mut out = MemSink::new(alloc, self.piece.max(1), ROOM, &[self.failing_put])?;
-        let done = dso_main(alloc, words.as_slice(), &mut files, &mut out);
+        let done = dso_main(alloc, words, files, &mut out);
         let taken = Vec::from_slice(alloc, out.taken())?;
         Ok(Answer { done, taken })
+    }
+
+    /// Calls the program.
+    fn answer(&self, alloc: Global) -> Result<Answer, NoMemory> {
+        let words = self.words(alloc)?;
+        let mut files = self.files(alloc)?;
+        self.called(alloc, words.as_slice(), &mut files)
     }
 }
 

@@ -6,7 +6,7 @@ use Rattle.std.proofs.lemmas.List.Elements.{All-contains, Contains-append_left, 
 use Rattle.std.proofs.Math.Dec.{eqb-suc-zero}
 use Rattle.std.specs.Borrow.{Bor}
 use Rattle.dso_syntax.specs.declared.tree.Ast.{Ast}
-use Rattle.dso_class.specs.Words.{Word}
+use Rattle.dso_entries.specs.Words.{Word}
 use Rattle.dso_class.specs.Declarations.{MethodTree, all_methods}
 use Rattle.dso_class.specs.NameFaults.{TakesArguments}
 use Rattle.dso_class.specs.NameFaults as faults
@@ -15,11 +15,11 @@ use Rattle.dso_class.specs.Gathered.{by_name, is_name, only, declared_at, declar
 use Rattle.dso_class.specs.Multimap.{row_of}
 use Rattle.dso_class.specs.Tables.{AreTables}
 use Rattle.dso_class.specs.declared.tables.Tables.{Tables}
-use Rattle.dso_class.proofs.lists.Last.{taken}
+use Rattle.dso_entries.proofs.lists.Last.{taken}
 use Rattle.dso_class.specs.Numbers.{IsNumber, HasMethod, AreThePairs}
 use Rattle.dso_class.proofs.lists.NumberedItems.{made_of, each_there, each_pairs, only_true, only_same, only_there, only_pairs, each_push, nothing_there, stands_at}
 use Rattle.dso_class.proofs.gathering.FieldsAndMethods.{declared_tells, declared_there, capped_small, same_name}
-use Rattle.dso_class.proofs.lists.Places.{nowhere, stands_there}
+use Rattle.dso_entries.proofs.lists.Places.{nowhere, stands_there}
 
 -- a callee, by the method that it is
 pub record IsCallee (methods : List MethodTree) (name : Word) (count : ℕ) (pair : ℕ × ℕ) : Type 0 where

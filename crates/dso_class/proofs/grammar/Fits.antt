@@ -4,12 +4,12 @@ use Rattle.std.specs.List.{list_all}
 use Rattle.std.proofs.lemmas.List.Elements.{All-nil, All-cons, All-append}
 use Rattle.std.proofs.lemmas.Option.{none-some, same_Some}
 use Rattle.dso_base.specs.declared.op.Op.{Op}
-use Rattle.dso_syntax.specs.declared.token.Form.{Form}
-use Rattle.dso_syntax.specs.declared.token.Form.TheVariants as form
-use Rattle.dso_syntax.specs.declared.token.Keyword.{Keyword}
-use Rattle.dso_syntax.specs.declared.token.Keyword.TheVariants as k
-use Rattle.dso_syntax.specs.declared.token.Mark.{Mark}
-use Rattle.dso_syntax.specs.declared.token.Mark.TheVariants as mark
+use Rattle.dso_tokens.specs.declared.token.Form.{Form}
+use Rattle.dso_tokens.specs.declared.token.Form.TheVariants as form
+use Rattle.dso_tokens.specs.declared.token.Keyword.{Keyword}
+use Rattle.dso_tokens.specs.declared.token.Keyword.TheVariants as k
+use Rattle.dso_tokens.specs.declared.token.Mark.{Mark}
+use Rattle.dso_tokens.specs.declared.token.Mark.TheVariants as mark
 use Rattle.dso_syntax.specs.declared.tree.ExprTree.{ExprTree}
 use Rattle.dso_syntax.specs.declared.tree.ExprForm.{ExprForm}
 use Rattle.dso_syntax.specs.declared.tree.ExprForm.TheVariants as e
@@ -25,7 +25,7 @@ use Rattle.dso_syntax.specs.ProgramGrammar as p
 use Rattle.dso_syntax.specs.ProgramGrammar.{statement, command_of, guarded_of, Parenthesized, Waited, Body, Block, Statement, Conditional, Members, Tops}
 use Rattle.dso_syntax.proofs.prefixes.OneLevelMore.{lift_block}
 use Rattle.dso_machine.specs.Sound.{is_unary}
-use Rattle.dso_class.specs.Words.{Word}
+use Rattle.dso_entries.specs.Words.{Word}
 use Rattle.dso_class.specs.Declarations.{MethodTree, ThreadTree, classes_of, methods_of, methods_from, threads_of}
 use Rattle.dso_class.proofs.grammar.Operators.{operators_of, operators, fits_of, fits, block_fits, join}
 use Rattle.dso_class.proofs.mentions.TreeFolds as folds

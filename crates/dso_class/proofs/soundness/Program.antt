@@ -22,7 +22,7 @@ use Rattle.dso_syntax.specs.declared.tree.Ident.{Ident}
 use Rattle.dso_syntax.specs.declared.tree.StmtTree.{StmtTree}
 use Rattle.dso_syntax.specs.TextLimits.{most_levels}
 use Rattle.dso_class.specs.declared.program.Program.{Program}
-use Rattle.dso_class.specs.Words.{Word}
+use Rattle.dso_entries.specs.Words.{Word}
 use Rattle.dso_class.specs.Mentions.{Owner, thread_owner, block, on, parameter, statement}
 use Rattle.dso_class.specs.Declarations.{ClassTree, MethodTree, ThreadTree, classes_of, fields_of, class_names, all_methods, threads_of}
 use Rattle.dso_class.specs.ValidInput.{IsValidInput}

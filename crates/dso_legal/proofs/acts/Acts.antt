@@ -1,5 +1,5 @@
 -- What a client answers, the one heap allows.
-use Rattle.std.proofs.Common.{◌≡◌, ◌⊎◌, inl, inr, refl, sym, ◌∙◌, ap, subst, false, Option, Some, None, List}
+use Rattle.std.proofs.Common.{◌≡◌, ◌⊎◌, inl, inr, refl, sym, ◌∙◌, ap, subst, Option, Some, None, List}
 use Rattle.dso_base.specs.declared.journal.Entry.{Entry}
 use Rattle.dso_base.specs.declared.lock.ThreadId.{ThreadId}
 use Rattle.dso_base.specs.declared.request.Reply.{Reply}
@@ -7,36 +7,18 @@ use Rattle.dso_base.specs.declared.request.Reply.TheVariants.{Done}
 use Rattle.dso_base.specs.declared.request.Request.{Request}
 use Rattle.dso_base.specs.declared.request.Request.TheVariants.{New, Look, Get, Put, Enter, Exit, Wait, Tick, Timeout, Resume, Notify, NotifyAll, Print, End, Pause, Settle}
 use Rattle.dso_plain.specs.State.{PlainState}
-use Rattle.dso_plain.specs.Possible.{Answers, AnswersExit, AnswersResume, AnswersEnd, AnswersDone, FindsMark, IsAwake, IsAwakeFor, Wakes, IsPossibleButMarks}
+use Rattle.dso_plain.specs.Possible.{Answers, AnswersExit, AnswersResume, AnswersEnd, AnswersDone, IsAwake, IsAwakeFor, IsPossibleButMarks}
 use Rattle.dso_law.specs.Settings.{Settings}
 use Rattle.dso_law.specs.Entries.{events_in}
 use Rattle.dso_law.specs.RequestNeeds.{unmet}
-use Rattle.dso_law.specs.Replies.{reply_of, woken_by}
+use Rattle.dso_law.specs.Replies.{reply_of}
 use Rattle.dso_law.specs.Threads.{Locks, Waiting, locks_of}
-use Rattle.dso_legal.specs.WaitsAndLosses.{waits_or_notifies}
 use Rattle.dso_legal.specs.SoundProgram.{IsOfWaiter, KeepsTo}
-use Rattle.dso_legal.specs.Views.{IsOrderly, ActsArePossible, ActsFindMarks, Sees}
+use Rattle.dso_legal.specs.Views.{IsOrderly, ActsArePossible, Sees}
 use Rattle.dso_legal.specs.Works.{wait_count}
 use Rattle.dso_legal.proofs.blocks.SameLocks.{same_locks}
 use Rattle.dso_legal.proofs.acts.ActsOnObjects.{may_make, may_look, may_read, may_put}
-use Rattle.dso_legal.proofs.acts.ActsOnLocks.{may_enter, may_exit, may_end, may_tick, may_time_out, may_resume, may_monitor, never_resumes}
-
--- A thread that doesn't wait finds its mark where it asks for one, as it never does,
-finds_mark : (p : Settings) (t : ThreadId) (client : List Entry) → (locks_of t client).waiting ≡ None → (s : PlainState) (request : Request) (reply : Reply)
-    → KeepsTo p.shape t (events_in t client) request → waits_or_notifies request ≡ false → FindsMark request reply t s
-finds_mark p t client awake s (Tick l) reply keeps calm = absurd (cc calm)
-finds_mark p t client awake s (Timeout l) reply keeps calm = absurd (cc calm)
-finds_mark p t client awake s (Resume l) reply keeps calm = never_resumes t client (same_locks t client) l awake keeps.locks
-finds_mark p t client awake s request reply keeps calm = tt
-
--- an act that doesn't notify wakes nobody,
-wakes_nobody : (client : List Entry) (t : ThreadId) (s : PlainState) (request : Request) (reply : Reply) → waits_or_notifies request ≡ false → Wakes request reply (woken_by request reply client) s
-wakes_nobody client t s (Notify l) reply calm = absurd (cc calm)
-wakes_nobody client t s request reply calm = refl
-
--- so its act asks for no mark.
-pub acts_find_marks : ActsFindMarks
-acts_find_marks p t request reply client s awake keeps calm = (finds_mark p t client awake s request reply keeps calm, wakes_nobody client t s request reply calm)
+use Rattle.dso_legal.proofs.acts.ActsOnLocks.{may_enter, may_exit, may_end, may_tick, may_time_out, may_resume, may_monitor}
 
 module _ (p : Settings) (next : ThreadId → Option Request) (t : ThreadId) (client : List Entry) (start_state s : PlainState) (sees : Sees p t client start_state s) (orderly : IsOrderly p t client) where
   -- the reply is possible

@@ -31,6 +31,11 @@ pub waits_before : (t : ThreadId) (xs ys : List Event) (locks : Locks) → Waits
 waits_before t [] ys locks held = tt
 waits_before t (x ∷ xs) ys locks held = (held.0, waits_before t xs ys (locks_after t x locks) held.1)
 
+-- a prefix of what follows the program follows it
+pub first_follows : (next : ThreadId → List Event → Option Request) (t : ThreadId) (before first second : List Event) → FollowsFrom next (Listed next) t before (first ++ second) → FollowsFrom next (Listed next) t before first
+first_follows next t before [] second follows = tt
+first_follows next t before (event ∷ first) second follows = (follows.0, first_follows next t (before ++ event ∷ []) first second follows.1)
+
 module _ (next : ThreadId → List Event → Option Request) (listed : ThreadId → List Event → Reply → Type 0) (t : ThreadId) where
   -- events that follow the program, with one more that is next
   pub follows_one_more : (before events : List Event) (e : Event) → FollowsFrom next listed t before events → IsNext next listed t (before ++ events) e → FollowsFrom next listed t before (events ++ e ∷ [])

@@ -1,10 +1,7 @@
 -- What each kind of entry does to a client's blocks, and to the state that the client stands at.
-use Rattle.std.specs.List.{list_any}
-use Rattle.std.proofs.Common.{ℕ, ◌≡◌, refl, sym, ◌∙◌, ap, false, ◌||◌, Option, List, [], ◌∷◌, ◌++◌}
+use Rattle.std.proofs.Common.{ℕ, ◌≡◌, sym, ◌∙◌, ap, false, Option, List, [], ◌∷◌, ◌++◌}
 use Rattle.std.proofs.lemmas.List.{append-nil}
 use Rattle.dso_base.specs.declared.journal.Entry.{Entry}
-use Rattle.dso_base.specs.declared.journal.Input.{Input}
-use Rattle.dso_base.specs.declared.journal.Input.TheVariants as input
 use Rattle.dso_base.specs.declared.journal.Node.{Node}
 use Rattle.dso_base.specs.declared.journal.Node.TheVariants.{Server, Client}
 use Rattle.dso_base.specs.declared.lock.ThreadId.{ThreadId}
@@ -16,8 +13,7 @@ use Rattle.dso_plain.specs.History.{end_of, last_state}
 use Rattle.dso_plain.proofs.independence.RunsSwap.{ends_in_parts}
 use Rattle.dso_law.specs.Settings.{Settings}
 use Rattle.dso_law.specs.Entries.{entries_of}
-use Rattle.dso_law.specs.ServerReadings.{loses, is_lost}
-use Rattle.dso_legal.specs.WaitsAndLosses.{is_loss, WithoutLosses}
+use Rattle.dso_law.specs.ServerReadings.{is_lost}
 use Rattle.dso_legal.specs.AsMade.{made_at, as_made}
 use Rattle.dso_legal.specs.CopiesStand.{state_at}
 use Rattle.dso_legal.specs.Lawful.{MayFollow, AllFollow}
@@ -27,7 +23,6 @@ use Rattle.dso_legal.proofs.records.ClientRecords.{EndsNone, EndsBlock, block_en
 use Rattle.dso_legal.proofs.records.Handing.{says_its_own}
 use Rattle.dso_legal.proofs.records.HandedIn.{TakesBlock, KeepsBoth, ends_none, pending_ended}
 use Rattle.dso_legal.proofs.blocks.Histories.{history_takes}
-use Rattle.dso_legal.proofs.blocks.EachEvent.{each_of_node}
 
 module _ (p : Settings) (next : ThreadId → List Event → Option Request) (c : ℕ) (es : List Entry) (follow : AllFollow p next es) (alive : is_lost c (entries_of Server es) ≡ false) (e : Entry) (follows : MayFollow p next e es) where
   -- An entry of the client that ends no block leaves them.
@@ -56,17 +51,3 @@ module _ (p : Settings) (next : ThreadId → List Event → Option Request) (c :
     where
       stays : (node : Node) → node ≡ Client c → as_made es ++ made_at node e.input es ≡ as_made es
       stays node at = ap (λ node. as_made es ++ made_at node e.input es) at ∙ append-nil (as_made es)
-
--- who loses nobody doesn't lose the client
-loses_not : (c : ℕ) (i : Input) → is_loss i ≡ false → loses c i ≡ false
-loses_not c (input.Lose d) none = absurd (cc none)
-loses_not c other none = refl
-
--- by all of these entries
-lost_by_none : (c : ℕ) (es : List Entry) → WithoutLosses es → is_lost c es ≡ false
-lost_by_none c [] none = refl
-lost_by_none c (e ∷ es) none = ap (λ b. b || list_any (λ e. loses c e.input) es) (loses_not c e.input none.0) ∙ lost_by_none c es none.1
-
--- In a journal without losses no client is lost.
-pub none_is_lost : (c : ℕ) (es : List Entry) → WithoutLosses es → is_lost c (entries_of Server es) ≡ false
-none_is_lost c es none = lost_by_none c (entries_of Server es) (each_of_node (λ e. is_loss e.input ≡ false) Server es none)

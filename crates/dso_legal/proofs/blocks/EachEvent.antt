@@ -35,15 +35,6 @@ each_dropped P zero xs each = each
 each_dropped P (suc n) [] each = tt
 each_dropped P (suc n) (x ∷ xs) each = each_dropped P n xs each.1
 
--- a node's entries are some of the journal's
-pub each_of_node : (P : Entry → Type 0) (node : Node) (es : List Entry) → AllByRecursion P es → AllByRecursion P (entries_of node es)
-each_of_node P node [] each = tt
-each_of_node P node (e ∷ es) each = by (is_node node e.node) (each_of_node P node es each.1)
-  where
-    by : (b : Bool) → AllByRecursion P (entries_of node es) → AllByRecursion P (cond b (e ∷ entries_of node es) (entries_of node es))
-    by true later = (each.0, later)
-    by false later = later
-
 -- there is no event, or it is such
 abbrev pub IfEvent : (Event → Type 0) → Option Event → Type 0
 IfEvent P None = Unit {0}

@@ -35,12 +35,12 @@ use Rattle.dso_legal.proofs.blocks.OpenBlocksHold.{OpensFrom, locks_before, lock
 use Rattle.dso_legal.proofs.line.LineElsewhere.{IsElsewhere, stands_still}
 
 -- an entry elsewhere is none of the client's
-pub own_still : (c : ℕ) (node : Node) (e : Entry) (es : List Entry) → IsElsewhere c node e.input → client_with c node e es ≡ entries_of (Client c) es
-own_still c Server e es still = refl
+pub own_still : (c : ℕ) (node : Node) (e : Entry) (es : List Entry) → IsElsewhere c node e.input es → client_with c node e es ≡ entries_of (Client c) es
+own_still c Server e es leaves = refl
 own_still c (Client d) e es other = unless_true (eqb c d) (e ∷ entries_of (Client c) es) (entries_of (Client c) es) other
 
 -- The open blocks run again after an entry elsewhere.
-pub opens_still : (p : Settings) (c : ℕ) (t : ThreadId) (e : Entry) (es : List Entry) → IsElsewhere c e.node e.input → RunsButMarks p.shape (open_block t (entries_of (Client c) es)) (state_at p c es)
+pub opens_still : (p : Settings) (c : ℕ) (t : ThreadId) (e : Entry) (es : List Entry) → IsElsewhere c e.node e.input es → RunsButMarks p.shape (open_block t (entries_of (Client c) es)) (state_at p c es)
     → RunsButMarks p.shape (open_block t (entries_of (Client c) (e ∷ es))) (state_at p c (e ∷ es))
 opens_still p c t e es elsewhere runs = subst (λ own. RunsButMarks p.shape (open_block t own) (state_at p c (e ∷ es))) (sym (own_still c e.node e es elsewhere))
     (subst (λ s. RunsButMarks p.shape (open_block t (entries_of (Client c) es)) s) (sym (stands_still p c e es elsewhere).state) runs)

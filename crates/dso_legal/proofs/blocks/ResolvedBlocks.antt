@@ -1,7 +1,7 @@
 -- The history is the one that was made, each notification that left the choice to the server with whom it chose; and in a journal
 -- without waits it is just the one that was made.
 use Rattle.std.specs.List.{AllByRecursion}
-use Rattle.std.proofs.Common.{◌≡◌, refl, sym, ◌∙◌, ap, subst, Bool, true, false, cond, Option, Some, None, List, [], ◌∷◌, ◌++◌}
+use Rattle.std.proofs.Common.{ℕ, ◌≡◌, refl, sym, ◌∙◌, ap, subst, Bool, true, false, cond, Option, Some, None, List, [], ◌∷◌, ◌++◌}
 use Rattle.dso_base.specs.declared.journal.Entry.{Entry}
 use Rattle.dso_base.specs.declared.journal.Input.{Input}
 use Rattle.dso_base.specs.declared.journal.Input.TheVariants as input
@@ -20,12 +20,15 @@ use Rattle.dso_law.specs.Entries.{entries_of}
 use Rattle.dso_law.specs.ServerReadings.{is_lost, counted}
 use Rattle.dso_law.specs.ServerWaiters.{waiters_of}
 use Rattle.dso_legal.specs.AsMade.{made_by, made_at, as_made}
-use Rattle.dso_legal.specs.Blocks.{HistoriesHoldBlocks, HistoriesHoldBlocksAsMade}
+use Rattle.dso_law.specs.Settings.{Settings}
+use Rattle.dso_legal.specs.Blocks.{is_act_at, acts_at, HasFirstEndings, HistoriesHoldBlocks, HistoriesHoldEvents, HistoriesHoldBlocksAsMade}
+use Rattle.dso_legal.specs.Lawful.{AllFollow}
 use Rattle.dso_legal.specs.Committed.{ended_blocks, block_numbered, block_taken, woken_there, lists_after_event, resolved_event, resolved, committed_by, committed_at, committed}
 use Rattle.dso_legal.specs.Resolved.{IsResolved, AreResolved}
-use Rattle.dso_legal.specs.WaitsAndLosses.{waits_or_notifies, is_wait, HasNoWait, WithoutWaits}
+use Rattle.dso_legal.specs.WithoutWaits.{waits_or_notifies, is_wait, HasNoWait, WithoutWaits}
 use Rattle.dso_legal.proofs.blocks.EachEvent.{AtClient, each_follows, each_made}
-use Rattle.dso_legal.proofs.blocks.Histories.{holds_blocks}
+use Rattle.dso_legal.proofs.blocks.Histories.{history_holds, holds_blocks}
+use Rattle.dso_legal.proofs.records.HandedIn.{few_taken}
 
 -- a block that the server resolves is resolved event by event
 pub are_resolved : (block : List Event) (lists : LockName → List ThreadId) → AreResolved block (resolved block lists)
@@ -56,6 +59,22 @@ resolved_of t (made ∷ mades) (event ∷ events) are = subst (λ b. AreResolved
     (by (is_act_of t made) (resolved_of t mades events are.1))
   where
     by : (b : Bool) → AreResolved (events_of t mades) (events_of t events) → AreResolved (cond b (made ∷ events_of t mades) (events_of t mades)) (cond b (event ∷ events_of t events) (events_of t events))
+    by true later = (are.0, later)
+    by false later = later
+
+-- and those of a client
+resolved_at : (c : ℕ) (mades events : List Event) → AreResolved mades events → AreResolved (acts_at c mades) (acts_at c events)
+resolved_at c [] [] are = tt
+resolved_at c [] (event ∷ events) are = absurd are
+resolved_at c (made ∷ mades) [] are = absurd are
+resolved_at c (made ∷ mades) (event ∷ events) are = subst (λ b. AreResolved (acts_at c (made ∷ mades)) (cond b (event ∷ acts_at c events) (acts_at c events))) (sym (ap (is_act_at c) are.0.same ∙ same made))
+    (by (is_act_at c made) (resolved_at c mades events are.1))
+  where
+    same : (made : Event) → is_act_at c (resolved_event made are.0.lists) ≡ is_act_at c made
+    same (Act u request reply woken) = refl
+    same (Lost client) = refl
+
+    by : (b : Bool) → AreResolved (acts_at c mades) (acts_at c events) → AreResolved (cond b (made ∷ acts_at c mades) (acts_at c mades)) (cond b (event ∷ acts_at c events) (acts_at c events))
     by true later = (are.0, later)
     by false later = later
 
@@ -110,11 +129,21 @@ history_calm es calm = resolved_calm (as_made es) (committed es)
     (each_made (λ event. is_wait event ≡ false) (λ c. refl) es (each_follows (λ e. HasNoWait e.event) (λ e. AtClient (λ event. is_wait event ≡ false) e.node e.event) (λ e. no_wait e.node e.event) es calm))
     (history_resolved es)
 
--- The history has, of each thread of a client that isn't lost, the events of the blocks that the server took in, resolved;
+-- The history has of each client, a lost one too, the blocks of its first endings, resolved:
+pub first_endings : (p : Settings) (next : ThreadId → List Event → Option Request) (es : List Entry) → AllFollow p next es → (c : ℕ) → HasFirstEndings c es
+first_endings p next es follow c = record {
+  few = few_taken p next c es follow;
+  blocks = subst (λ acts. AreResolved acts (acts_at c (committed es))) (history_holds p next c es follow) (resolved_at c (as_made es) (committed es) (history_resolved es));
+}
+
 pub histories_hold_blocks : HistoriesHoldBlocks
-histories_hold_blocks p next es lawful t alive = subst (λ events. AreResolved events (events_of t (committed es))) (holds_blocks p next t es lawful.follow alive)
+histories_hold_blocks p next es lawful c = first_endings p next es lawful.follow c
+
+-- of each thread the events of these;
+pub histories_hold_events : HistoriesHoldEvents
+histories_hold_events p next es lawful t = subst (λ events. AreResolved events (events_of t (committed es))) (holds_blocks p next t es lawful.follow)
     (resolved_of t (as_made es) (committed es) (history_resolved es))
 
 -- without waits, just as they were made.
 pub histories_hold_blocks_as_made : HistoriesHoldBlocksAsMade
-histories_hold_blocks_as_made p next es lawful calm t alive = ap (events_of t) (history_calm es calm) ∙ holds_blocks p next t es lawful.follow alive
+histories_hold_blocks_as_made p next es lawful calm t = ap (events_of t) (history_calm es calm) ∙ holds_blocks p next t es lawful.follow

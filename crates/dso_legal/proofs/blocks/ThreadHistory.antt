@@ -20,10 +20,9 @@ use Rattle.dso_plain.proofs.histories.LegalGoesOn.{events_in_parts}
 use Rattle.dso_law.specs.Entries.{entries_of, events_in}
 use Rattle.dso_law.specs.Prefixes.{IsPrefix}
 use Rattle.dso_law.specs.Records.{next_id}
-use Rattle.dso_law.specs.ServerReadings.{Batch, is_in_batch, batches_given, counted}
+use Rattle.dso_law.specs.ServerReadings.{Batch, is_in_batch, batches_given, is_lost, counted}
 use Rattle.dso_law.specs.Settings.{Settings}
 use Rattle.dso_law.specs.Threads.{open_block, ends_thread}
-use Rattle.dso_legal.specs.WaitsAndLosses.{WithoutLosses}
 use Rattle.dso_legal.specs.Committed.{ended_blocks}
 use Rattle.dso_legal.specs.AsMade.{as_made}
 use Rattle.dso_legal.specs.CopiesStand.{state_at}
@@ -31,28 +30,27 @@ use Rattle.dso_legal.specs.Lawful.{AllFollow}
 use Rattle.dso_legal.specs.MadeOnce.{is_made, objects_made, objects_of}
 use Rattle.dso_legal.specs.Names.{NameOnlyTold, NamesAreKnown}
 use Rattle.dso_legal.specs.PendingBlocks.{joined, pending, taken_in, handed_in}
-use Rattle.dso_legal.specs.SoundProgram.{event_tells, IsSound}
-use Rattle.dso_legal.proofs.blocks.BlockSteps.{none_is_lost}
+use Rattle.dso_legal.specs.SoundProgram.{IsSound}
 use Rattle.dso_legal.proofs.blocks.EachEvent.{each_dropped}
 use Rattle.dso_legal.proofs.blocks.ClientBlocks.{keeps_thread, own_events, no_events, joined_parts}
 use Rattle.dso_legal.proofs.copies.FieldMoves.{apart}
 use Rattle.dso_legal.proofs.ids.GivenOnce.{gives, InTurn, in_turn}
 use Rattle.dso_legal.proofs.ids.GivenOnce as given_once
-use Rattle.dso_legal.proofs.central.ThreadEnds.{LoseNone, lose_none_joined, connected, goes_on}
-use Rattle.dso_legal.proofs.blocks.Histories.{thread_in_parts}
+use Rattle.dso_legal.proofs.central.ThreadEnds.{connected, goes_on}
+use Rattle.dso_legal.proofs.blocks.Histories.{first_in_history, thread_in_parts}
 use Rattle.dso_legal.proofs.acts.WorkInHand.{no_losses_joined, no_losses_parts}
-use Rattle.dso_legal.proofs.blocks.LocksOfEvents.{NoLossOf, NoLosses}
+use Rattle.dso_legal.proofs.blocks.LocksOfEvents.{NoLossOf, NoLosses, no_loss_of}
 use Rattle.dso_legal.proofs.ids.MadeOnce.{made_once}
-use Rattle.dso_legal.proofs.leases.LeaseSteps.{if_true}
+use Rattle.dso_legal.proofs.leases.LeaseSteps.{if_true, no_both}
 use Rattle.dso_legal.proofs.line.LineForeign.{makes_first}
 use Rattle.dso_legal.proofs.objects.Makers.{makes_counts, within, listed_if, at_least, count_listed}
 use Rattle.dso_legal.proofs.acts.Names.{names_stay_known}
-use Rattle.dso_legal.proofs.acts.NoRoots.{NoRoots, opening_names_none, puts_none, run_names_none}
 use Rattle.dso_legal.proofs.objects.ObjectsMade.{objects_are_made}
 use Rattle.dso_legal.proofs.blocks.OwnActs.{threads_follow, threads_wait, own_acts}
 use Rattle.dso_legal.proofs.blocks.OwnThreads.{of_client, no_events_in}
 use Rattle.dso_legal.proofs.acts.SoundNames.{sound_names}
-use Rattle.dso_legal.proofs.blocks.SparedHistory.{history_spared, open_spared, ended_blocks_spared}
+use Rattle.dso_legal.proofs.fitting.Untold.{AllUntold}
+use Rattle.dso_legal.proofs.blocks.SparedHistory.{history_spared, open_spared, ended_blocks_spared, no_loss_parts}
 
 -- lists that are empty together
 empty_first : {X : Type 0} (xs ys : List X) → xs ++ ys ≡ [] → xs ≡ []
@@ -92,18 +90,7 @@ given_positive c o (b ∷ given) turn is = by (gives c o b) refl is (given_posit
     by true here is later = positive (length given) (given_once.within o b.first (length given) turn.0 (both (eqb b.client c) (is_in_batch o b) here).1).0
     by false here is later = later is
 
--- a list of acts loses nobody; and so a list that loses no client
-lose_none_acts : (events : List Event) → NoLosses events → LoseNone events
-lose_none_acts [] h = tt
-lose_none_acts (Act t request reply woken ∷ events) h = lose_none_acts events h
-lose_none_acts (Lost client ∷ events) h = absurd h
-
-lose_none : (events : List Event) → ((c : ℕ) → NoLossOf c events) → LoseNone events
-lose_none [] h = tt
-lose_none (Act t request reply woken ∷ events) h = lose_none events h
-lose_none (Lost client ∷ events) h = apart (number_self client) (h client).0
-
-module _ (p : Settings) (next : ThreadId → List Event → Option Request) (es : List Entry) (follow : AllFollow p next es) (none : WithoutLosses es) (t : ThreadId) where
+module _ (p : Settings) (next : ThreadId → List Event → Option Request) (es : List Entry) (follow : AllFollow p next es) (t : ThreadId) (alive : is_lost t.client (entries_of Server es) ≡ false) where
   abbrev own : List Entry
   own = entries_of (Client t.client) es
 
@@ -128,7 +115,7 @@ module _ (p : Settings) (next : ThreadId → List Event → Option Request) (es 
   -- Of each thread it has a prefix of its events: of the thread itself all.
   all_own : events_of t thread_history ≡ events_in t own
   all_own = in_three t ∙ (ap (λ events. events_of t (as_made es) ++ (events_of t waiting ++ events)) (own_events t (open_block t own) (keeps_thread p.shape t own).acts)
-      ∙ thread_in_parts p next t t.client refl es follow (none_is_lost t.client es none))
+      ∙ thread_in_parts p next t t.client refl es follow)
 
   others_open : (u : ThreadId) → is_thread u t ≡ false → events_of u (open_block t own) ≡ []
   others_open u other = no_events u t (open_block t own) other (keeps_thread p.shape t own).acts
@@ -136,7 +123,7 @@ module _ (p : Settings) (next : ThreadId → List Event → Option Request) (es 
   first_of_mate : (u : ThreadId) → is_thread u t ≡ false → t.client ≡ u.client → IsPrefix (events_of u thread_history) (events_in u (entries_of (Client u.client) es))
   first_of_mate u other mate = record {
     rest = open_block u (entries_of (Client u.client) es);
-    whole = sym (thread_in_parts p next u u.client refl es follow (none_is_lost u.client es none))
+    whole = sym (thread_in_parts p next u u.client refl es follow)
         ∙ (sym (append_assoc (events_of u (as_made es)) (events_of u (joined (pending u.client es))) (open_block u (entries_of (Client u.client) es)))
         ∙ ap (λ events. events ++ open_block u (entries_of (Client u.client) es)) (sym parts));
   }
@@ -145,22 +132,24 @@ module _ (p : Settings) (next : ThreadId → List Event → Option Request) (es 
       parts = in_three u ∙ (ap (λ events. events_of u (as_made es) ++ (events_of u waiting ++ events)) (others_open u other)
           ∙ (ap (λ events. events_of u (as_made es) ++ events) (append-nil (events_of u waiting)) ∙ ap (λ c. events_of u (as_made es) ++ events_of u (joined (pending c es))) mate))
 
-  first_of_stranger : (u : ThreadId) → is_thread u t ≡ false → eqb t.client u.client ≡ false → IsPrefix (events_of u thread_history) (events_in u (entries_of (Client u.client) es))
-  first_of_stranger u other stranger = record {
-    rest = events_of u (joined (pending u.client es)) ++ open_block u (entries_of (Client u.client) es);
-    whole = sym (thread_in_parts p next u u.client refl es follow (none_is_lost u.client es none)) ∙ ap (λ events. events ++ (events_of u (joined (pending u.client es)) ++ open_block u (entries_of (Client u.client) es))) (sym parts);
-  }
+  -- Of another client's thread it has what the history has.
+  of_stranger : (u : ThreadId) → eqb t.client u.client ≡ false → events_of u thread_history ≡ events_of u (as_made es)
+  of_stranger u stranger = in_three u ∙ (ap (λ events. events_of u (as_made es) ++ (events_of u waiting ++ events)) (others_open u (apart (is_thread u t) refl))
+      ∙ (ap (λ events. events_of u (as_made es) ++ (events ++ [])) (none_waiting u stranger) ∙ append-nil (events_of u (as_made es))))
     where
-      parts : events_of u thread_history ≡ events_of u (as_made es)
-      parts = in_three u ∙ (ap (λ events. events_of u (as_made es) ++ (events_of u waiting ++ events)) (others_open u other)
-          ∙ (ap (λ events. events_of u (as_made es) ++ (events ++ [])) (none_waiting u stranger) ∙ append-nil (events_of u (as_made es))))
+      apart : (b : Bool) → is_thread u t ≡ b → b ≡ false
+      apart true same = no_both (eqb t.client u.client) (subst (λ (w : ThreadId). eqb t.client w.client ≡ true) (same_thread u t same) (number_self t.client)) stranger
+      apart false same = refl
+
+  first_of_stranger : (u : ThreadId) → eqb t.client u.client ≡ false → IsPrefix (events_of u thread_history) (events_in u (entries_of (Client u.client) es))
+  first_of_stranger u stranger = subst (λ events. IsPrefix events (events_in u (entries_of (Client u.client) es))) (sym (of_stranger u stranger)) (first_in_history p next u es follow)
 
   first_part : (u : ThreadId) → IsPrefix (events_of u thread_history) (events_in u (entries_of (Client u.client) es))
   first_part u = by (is_thread u t) refl
     where
       by_client : is_thread u t ≡ false → (b : Bool) → eqb t.client u.client ≡ b → IsPrefix (events_of u thread_history) (events_in u (entries_of (Client u.client) es))
       by_client other true mate = first_of_mate u other (same_number t.client u.client mate)
-      by_client other false stranger = first_of_stranger u other stranger
+      by_client other false stranger = first_of_stranger u stranger
 
       itself : (w : ThreadId) → w ≡ t → IsPrefix (events_of w thread_history) (events_in w (entries_of (Client w.client) es))
       itself w same = subst (λ x. IsPrefix (events_of x thread_history) (events_in x (entries_of (Client x.client) es))) (sym same) (record { rest = []; whole = sym all_own ∙ sym (append-nil (events_of t thread_history)) })
@@ -169,10 +158,10 @@ module _ (p : Settings) (next : ThreadId → List Event → Option Request) (es 
       by true same = itself u (sym (same_thread u t same))
       by false other = by_client other (eqb t.client u.client) refl
 
-  -- it loses nobody
-  loses_nobody : LoseNone thread_history
-  loses_nobody = lose_none_joined (as_made es) (waiting ++ open_block t own) (lose_none (as_made es) (λ c. history_spared c es (none_is_lost c es none)))
-      (lose_none_acts (waiting ++ open_block t own) (no_losses_parts waiting (open_block t own) (no_losses_joined (pending t.client es) (each_dropped NoLosses (handed_in t.client es) (ended_blocks own) (ended_blocks_spared own))) (open_spared t own)))
+  -- it doesn't lose the thread's client
+  keeps_client : NoLossOf t.client thread_history
+  keeps_client = no_loss_parts t.client (as_made es) (waiting ++ open_block t own) (history_spared t.client es alive)
+      (no_loss_of t.client (waiting ++ open_block t own) (no_losses_parts waiting (open_block t own) (no_losses_joined (pending t.client es) (each_dropped NoLosses (handed_in t.client es) (ended_blocks own) (ended_blocks_spared own))) (open_spared t own)))
 
   -- The state behind the history as the thread has it.
   abbrev pub acting_state : PlainState
@@ -187,7 +176,7 @@ module _ (p : Settings) (next : ThreadId → List Event → Option Request) (es 
     history_runs = (runs_but_marks_in_parts p.shape (as_made es) (waiting ++ open_block t own) (opening p.shape)).1 (runs, (runs_but_marks_in_parts p.shape waiting (open_block t own) (last_state p.shape (as_made es))).1 (line, opened))
 
     -- where nothing told a thread of object 0
-    module _ (sound : IsSound p.shape next) (untold : (u : ThreadId) → list_any (event_tells 0) (events_in u (entries_of (Client u.client) es)) ≡ false) where
+    module _ (sound : IsSound p.shape next) (untold : AllUntold es) where
       -- each thread names only what it was told
       all_told : (u : ThreadId) → NameOnlyTold [] (events_of u thread_history)
       all_told u = first_told [] (events_of u thread_history) (first_part u).rest (subst (NameOnlyTold []) (first_part u).whole
@@ -196,10 +185,6 @@ module _ (p : Settings) (next : ThreadId → List Event → Option Request) (es 
       -- What the thread may name is known.
       pub names_known : NamesAreKnown t (events_in t own) acting_state
       names_known = subst (NamesAreKnown t (events_in t own)) same_state (subst (λ events. NamesAreKnown t events (last_state p.shape thread_history)) all_own (names_stay_known p.shape thread_history history_runs all_told t))
-
-      -- No field names object 0.
-      pub names_no_root : NoRoots acting_state
-      names_no_root = subst NoRoots same_state (run_names_none p.shape thread_history (opening p.shape) (puts_none thread_history all_told) (opening_names_none p.shape))
 
     -- The next id is new.
     pub fresh : (o : ℕ) → next_id own ≡ Some o → (1 ≤ o) × (acting_state.objects o ≡ None)
@@ -239,4 +224,4 @@ module _ (p : Settings) (next : ThreadId → List Event → Option Request) (es 
     going open_still = ap (λ (s : PlainState). s.ended t) (sym same_state) ∙ goes_on p.shape thread_history t (ap (list_any ends_thread) all_own ∙ open_still)
 
     pub not_lost : acting_state.lost t.client ≡ false
-    not_lost = ap (λ (s : PlainState). s.lost t.client) (sym same_state) ∙ connected p.shape thread_history history_runs loses_nobody t.client
+    not_lost = ap (λ (s : PlainState). s.lost t.client) (sym same_state) ∙ connected p.shape thread_history t.client history_runs keeps_client

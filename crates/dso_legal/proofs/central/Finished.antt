@@ -15,7 +15,7 @@ use Rattle.dso_base.specs.declared.request.Reply.TheVariants.{Done}
 use Rattle.dso_base.specs.declared.request.Request.{Request}
 use Rattle.dso_base.specs.declared.request.Request.TheVariants.{End}
 use Rattle.dso_base.specs.declared.shape.Shape.{Shape}
-use Rattle.dso_base.specs.Following.{is_thread, FollowsFrom, FollowsProgram, IsListed, Listed}
+use Rattle.dso_base.specs.Following.{is_thread, FollowsProgram, IsListed, Listed}
 use Rattle.dso_plain.specs.State.{opening}
 use Rattle.dso_plain.specs.History.{Runs, is_act_of, events_of}
 use Rattle.dso_plain.proofs.keys.SameKeys.{same_number, same_thread}
@@ -28,28 +28,24 @@ use Rattle.dso_law.specs.Replies.{woken_by}
 use Rattle.dso_law.specs.ServerReadings.{is_lost}
 use Rattle.dso_law.specs.Threads.{Locks, locks_of, ending_by, block_after, open_block, ends_thread}
 use Rattle.dso_legal.specs.Agreement.{messages}
-use Rattle.dso_legal.specs.WaitsAndLosses.{WithoutWaits, WithoutLosses}
+use Rattle.dso_legal.specs.WithoutWaits.{WithoutWaits}
 use Rattle.dso_legal.specs.Central.{CommitsLegally, CommitsAsMade}
 use Rattle.dso_legal.specs.Resolved.{AreResolved}
-use Rattle.dso_legal.proofs.blocks.ResolvedBlocks.{resolved_of, history_resolved, history_calm}
+use Rattle.dso_legal.proofs.blocks.ResolvedBlocks.{resolved_of, history_resolved, history_calm, first_endings}
 use Rattle.dso_legal.proofs.central.ResolvedFollows.{resolved_follows}
 use Rattle.dso_legal.specs.Committed.{committed, ended_blocks}
 use Rattle.dso_legal.specs.AsMade.{as_made}
 use Rattle.dso_legal.specs.Lawful.{next_after, ClientFollows, NodeFollows, AllFollow, IsLawful}
 use Rattle.dso_legal.specs.PendingBlocks.{joined, taken_in, pending, records_in, handed_in, AreRecordsOf}
-use Rattle.dso_legal.specs.SoundProgram.{event_tells, IsSound}
+use Rattle.dso_legal.specs.SoundProgram.{IsSound}
+use Rattle.dso_legal.proofs.fitting.Untold.{keeps_to}
 use Rattle.dso_legal.specs.Slots.{is_any, is_end, ends, has_ended, is_quiet, is_over, is_due, is_finished}
-use Rattle.dso_legal.proofs.blocks.BlockSteps.{none_is_lost}
+use Rattle.dso_legal.proofs.acts.SoundNames.{first_follows}
 use Rattle.dso_legal.proofs.records.BothEnds.{client_with}
 use Rattle.dso_legal.proofs.records.HandedIn.{are_records_split}
-use Rattle.dso_legal.proofs.blocks.Histories.{thread_in_parts}
+use Rattle.dso_legal.proofs.blocks.Histories.{first_in_history, thread_in_parts}
 use Rattle.dso_legal.proofs.leases.LeaseSteps.{no_both}
-use Rattle.dso_legal.proofs.blocks.OwnActs.{IsNextAct, next_act, reply_listed, threads_follow, threads_wait, own_acts}
-
--- a prefix of what follows the program follows it
-pub first_follows : (next : ThreadId → List Event → Option Request) (t : ThreadId) (before first second : List Event) → FollowsFrom next (Listed next) t before (first ++ second) → FollowsFrom next (Listed next) t before first
-first_follows next t before [] second follows = tt
-first_follows next t before (event ∷ first) second follows = (follows.0, first_follows next t (before ++ event ∷ []) first second follows.1)
+use Rattle.dso_legal.proofs.blocks.OwnActs.{IsNextAct, next_act, reply_listed, threads_follow}
 
 -- tests of booleans
 neither_fails : (a b : Bool) → not (not a || b) ≡ true → (a ≡ true) × (not b ≡ true)
@@ -120,17 +116,12 @@ end_is_ending (End fault) Done locks is listed = refl
 end_is_ending (End fault) reply locks is listed = absurd listed
 end_is_ending request reply locks is listed = absurd (cc is)
 
--- In front of each entry, nothing told the thread of object 0.
-abbrev pub UntoldAlong : ThreadId → List Entry → Type 0
-UntoldAlong t [] = Unit {0}
-UntoldAlong t (e ∷ es) = UntoldAlong t es × (list_any (event_tells 0) (events_in t (entries_of (Client t.client) es)) ≡ false)
-
 module _ (p : Settings) (next : ThreadId → List Event → Option Request) (sound : IsSound p.shape next) (t : ThreadId) where
   -- a thread that has ended has no open block
   abbrev EndsClosed : List Entry → Type 0
   EndsClosed own = list_any ends (events_in t own) ≡ true → open_block t own ≡ []
 
-  module _ (e : Entry) (es : List Entry) (follow : AllFollow p next es) (untold : list_any (event_tells 0) (events_in t (entries_of (Client t.client) es)) ≡ false) (before : EndsClosed (entries_of (Client t.client) es)) where
+  module _ (e : Entry) (es : List Entry) (follow : AllFollow p next es) (before : EndsClosed (entries_of (Client t.client) es)) where
     abbrev own : List Entry
     own = entries_of (Client t.client) es
 
@@ -140,7 +131,7 @@ module _ (p : Settings) (next : ThreadId → List Event → Option Request) (sou
         → cond b (block_after (Act it.thread it.request it.reply (woken_by it.request it.reply own)) (locks_of t own) (open_block t own)) (open_block t own) ≡ []
     act_closed it true is ended =
         let asked : next t (events_in t own) ≡ Some it.request = subst (λ u. next_after next es u ≡ Some it.request) (same_thread t it.thread is) it.asked in
-        let goes : list_any ends (events_in t own) ≡ false = same_ends (events_in t own) ∙ (sound.keeps t (events_in t own) it.request (own_acts t own) untold (threads_wait p next t es follow) (threads_follow p next t es follow) asked).goes in
+        let goes : list_any ends (events_in t own) ≡ false = same_ends (events_in t own) ∙ (keeps_to p next sound es follow t it.request asked).goes in
         let act : Event = Act it.thread it.request it.reply (woken_by it.request it.reply own) in
         ap (λ b. cond b [] (open_block t own ++ act ∷ []))
         (end_is_ending it.request it.reply (locks_of t own) (last_found ends (events_in t own) act ended goes) (reply_listed p it.thread own it.request it.reply it.answered))
@@ -163,9 +154,9 @@ module _ (p : Settings) (next : ThreadId → List Event → Option Request) (sou
         by false is = before
 
   -- A thread that has ended has no open block.
-  pub ended_is_closed : (es : List Entry) → AllFollow p next es → UntoldAlong t es → has_ended t es ≡ true → open_block t (entries_of (Client t.client) es) ≡ []
-  ended_is_closed [] follow untold ended = refl
-  ended_is_closed (e ∷ es) follow untold ended = closed_at e es follow.0 untold.1 (ended_is_closed es follow.0 untold.0) e.node follow.1.rule ended
+  pub ended_is_closed : (es : List Entry) → AllFollow p next es → has_ended t es ≡ true → open_block t (entries_of (Client t.client) es) ≡ []
+  ended_is_closed [] follow ended = refl
+  ended_is_closed (e ∷ es) follow ended = closed_at e es follow.0 (ended_is_closed es follow.0) e.node follow.1.rule ended
 
 module _ (p : Settings) (next : ThreadId → List Event → Option Request) (c : ℕ) where
   -- what isn't a client of the cluster has no entries
@@ -196,56 +187,50 @@ module _ (p : Settings) (next : ThreadId → List Event → Option Request) (c :
           (passes (λ c. is_quiet p c es) (eqb c) c (λ d same. sym (same_number c d same)) (clients_of p) quiet is) alive))
       by false is = nothing_left (handed_in c es) (ended_blocks (entries_of (Client c) es)) (ap ended_blocks (no_entries es follow is))
 
-module _ (p : Settings) (next : ThreadId → List Event → Option Request) (es : List Entry) (follow : AllFollow p next es) (t : ThreadId) (alive : is_lost t.client (entries_of Server es) ≡ false) where
+module _ (p : Settings) (next : ThreadId → List Event → Option Request) (es : List Entry) (follow : AllFollow p next es) (t : ThreadId) where
   abbrev client : List Entry
   client = entries_of (Client t.client) es
 
-  -- The history has a prefix of the thread's events,
-  pub is_first_part : IsPrefix (events_of t (as_made es)) (events_in t client)
-  is_first_part = record {
-    rest = events_of t (joined (pending t.client es)) ++ open_block t client;
-    whole = sym (thread_in_parts p next t t.client refl es follow alive);
-  }
-
-  -- which follow the program,
+  -- The history has a prefix of the thread's events, which follow the program,
   pub part_follows : FollowsProgram next (Listed next) t (events_of t (as_made es))
-  part_follows = first_follows next t [] (events_of t (as_made es)) (events_of t (joined (pending t.client es)) ++ open_block t client)
-      (subst (FollowsProgram next (Listed next) t) (sym (thread_in_parts p next t t.client refl es follow alive)) (threads_follow p next t es follow))
+  part_follows =
+      let part : IsPrefix (events_of t (as_made es)) (events_in t client) = first_in_history p next t es follow in
+      first_follows next t [] (events_of t (as_made es)) part.rest (subst (FollowsProgram next (Listed next) t) part.whole (threads_follow p next t es follow))
 
-  -- and all of them where the journal is finished.
-  pub is_whole : IsSound p.shape next → UntoldAlong t es → list_any (is_thread t) p.threads ≡ true → is_finished p es ≡ true → events_of t (as_made es) ≡ events_in t client
-  is_whole sound untold its finished =
+  -- and all of them where the journal is finished and its client isn't lost.
+  pub is_whole : is_lost t.client (entries_of Server es) ≡ false → IsSound p.shape next → list_any (is_thread t) p.threads ≡ true → is_finished p es ≡ true → events_of t (as_made es) ≡ events_in t client
+  is_whole alive sound its finished =
       let over = both (not (list_any (λ t. not (is_over p es t)) p.threads)) (not (list_any (λ c. not (is_quiet p c es)) (clients_of p)) && not (list_any (λ c. is_due p c es) (clients_of p))) finished in
       let quiet = both (not (list_any (λ c. not (is_quiet p c es)) (clients_of p))) (not (list_any (λ c. is_due p c es) (clients_of p))) over.1 in
       let ended : has_ended t es ≡ true = the_other (is_lost t.client (entries_of Server es)) (has_ended t es) (passes (is_over p es) (is_thread t) t (λ u same. same_thread t u same) p.threads over.0 its) alive in
       sym (append-nil (events_of t (as_made es)))
       ∙ ap (λ blocks. events_of t (as_made es) ++ (events_of t (joined blocks) ++ [])) (sym (quiet_pending p next t.client es follow alive quiet.0))
-      ∙ ap (λ block. events_of t (as_made es) ++ (events_of t (joined (pending t.client es)) ++ block)) (sym (ended_is_closed p next sound t es follow untold ended))
-      ∙ thread_in_parts p next t t.client refl es follow alive
+      ∙ ap (λ block. events_of t (as_made es) ++ (events_of t (joined (pending t.client es)) ++ block)) (sym (ended_is_closed p next sound t es follow ended))
+      ∙ thread_in_parts p next t t.client refl es follow
 
-module _ (p : Settings) (next : ThreadId → List Event → Option Request) (sound : IsSound p.shape next) (es : List Entry) (lawful : IsLawful p next es) (none : WithoutLosses es)
-    (untold : (t : ThreadId) → UntoldAlong t es) where
+module _ (p : Settings) (next : ThreadId → List Event → Option Request) (sound : IsSound p.shape next) (es : List Entry) (lawful : IsLawful p next es) where
   -- each thread's events in the history, as they were made
   resolved_here : (t : ThreadId) → AreResolved (events_of t (as_made es)) (events_of t (committed es))
   resolved_here t = resolved_of t (as_made es) (committed es) (history_resolved es)
 
   whole_here : is_finished p es ≡ true → (t : ThreadId) → list_any (is_thread t) p.threads ≡ true → is_lost t.client (entries_of Server es) ≡ false → events_of t (as_made es) ≡ events_in t (entries_of (Client t.client) es)
-  whole_here finished t its alive = is_whole p next es lawful.follow t alive sound (untold t) its finished
+  whole_here finished t its alive = is_whole p next es lawful.follow t alive sound its finished
 
-  -- A lawful journal without losses, of a sound program, commits legally where its history runs.
+  -- A lawful journal of a sound program commits legally where its history runs.
   pub commits_where_it_runs : Runs p.shape (committed es) (opening p.shape) → CommitsLegally p next es
   commits_where_it_runs runs = record {
     legal = record {
       runs = runs;
-      follows = λ t. resolved_follows next t (sound.goes_by_replies t) (events_of t (as_made es)) (events_of t (committed es)) (resolved_here t) (part_follows p next es lawful.follow t (none_is_lost t.client es none));
+      follows = λ t. resolved_follows next t (sound.goes_by_replies t) (events_of t (as_made es)) (events_of t (committed es)) (resolved_here t) (part_follows p next es lawful.follow t);
     };
-    parts = λ t. record { first = events_of t (as_made es); begins = is_first_part p next es lawful.follow t (none_is_lost t.client es none); resolved = resolved_here t };
+    endings = first_endings p next es lawful.follow;
+    parts = λ t. record { first = events_of t (as_made es); begins = first_in_history p next t es lawful.follow; resolved = resolved_here t };
     whole = λ finished t its alive. subst (λ events. AreResolved events (events_of t (committed es))) (whole_here finished t its alive) (resolved_here t);
   }
 
   -- And without waits just what its threads made.
   pub commits_as_made : WithoutWaits es → CommitsAsMade p es
   commits_as_made calm = record {
-    parts = λ t. subst (λ history. IsPrefix (events_of t history) (events_in t (entries_of (Client t.client) es))) (sym (history_calm es calm)) (is_first_part p next es lawful.follow t (none_is_lost t.client es none));
+    parts = λ t. subst (λ history. IsPrefix (events_of t history) (events_in t (entries_of (Client t.client) es))) (sym (history_calm es calm)) (first_in_history p next t es lawful.follow);
     whole = λ finished t its alive. ap (events_of t) (history_calm es calm) ∙ whole_here finished t its alive;
   }

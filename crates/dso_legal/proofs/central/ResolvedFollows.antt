@@ -5,7 +5,7 @@ use Rattle.dso_base.specs.declared.request.Event.{Event}
 use Rattle.dso_base.specs.declared.request.Event.TheVariants.{Act, Lost}
 use Rattle.dso_base.specs.declared.request.Request.{Request}
 use Rattle.dso_base.specs.Following.{IsListedFor, Listed, FollowsFrom, FollowsProgram}
-use Rattle.dso_plain.specs.Rechoice.{IsSameAct, AreSameActs}
+use Rattle.dso_plain.specs.SameActs.{IsSameAct, AreSameActs}
 use Rattle.dso_legal.specs.Resolved.{AreResolved}
 
 -- the same acts, with one more that is the same

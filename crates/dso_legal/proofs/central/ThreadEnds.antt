@@ -1,6 +1,6 @@
--- A thread goes on until its end, and a client is connected where no event loses one.
+-- A thread goes on until its end, and a client is connected where no event loses it.
 use Rattle.std.specs.List.{list_any}
-use Rattle.std.proofs.Common.{ℕ, ◌≡◌, ◌≢◌, ◌⊎◌, inl, inr, refl, sym, ◌∙◌, ap, subst, Bool, true, false, cond, ◌&&◌, ◌||◌, Option, Some, None, List, [], ◌∷◌, ◌++◌}
+use Rattle.std.proofs.Common.{ℕ, ◌≡◌, ◌≢◌, ◌⊎◌, inl, inr, refl, sym, ◌∙◌, ap, subst, Bool, true, false, cond, ◌&&◌, ◌||◌, Option, Some, None, List, [], ◌∷◌}
 use Rattle.std.proofs.lemmas.Bool.{and_from}
 use Rattle.dso_base.specs.declared.lock.ThreadId.{ThreadId}
 use Rattle.dso_base.specs.declared.request.Event.{Event}
@@ -20,6 +20,7 @@ use Rattle.dso_plain.specs.History.{RunsButMarks, end_of, last_state, events_of,
 use Rattle.dso_plain.proofs.independence.RunsSwap.{quiet_act}
 use Rattle.dso_plain.proofs.keys.SameKeys.{same_thread, thread_self}
 use Rattle.dso_law.specs.Threads.{ends_thread}
+use Rattle.dso_legal.proofs.blocks.LocksOfEvents.{NoLossOf}
 
 -- the thread has not ended, or the event is its end
 abbrev pub WasOrEnds : ThreadId → Event → PlainState → Type 0
@@ -116,24 +117,12 @@ goes_on shape h t without = by ((last_state shape h).ended t) refl
     by None is = is
     by (Some fault) is = absurd (cc (sym without ∙ ended_by_events shape h t (λ none. absurd (cc (sym none ∙ is)))))
 
--- none of the events loses a client
-abbrev pub LoseNone : List Event → Type 0
-LoseNone [] = Unit {0}
-LoseNone (Act t request reply woken ∷ es) = LoseNone es
-LoseNone (Lost client ∷ es) = ⊥
+-- a run without a loss of the client leaves whether it is lost
+loses_not : (shape : Shape) (c : ℕ) (es : List Event) (s : PlainState) → RunsButMarks shape es s → NoLossOf c es → (end_of shape es s).lost c ≡ s.lost c
+loses_not shape c [] s m none = refl
+loses_not shape c (Act t request reply woken ∷ es) s m none = loses_not shape c es (after shape (Act t request reply woken) s) m.1 none ∙ (quiet_act shape t request reply woken s m.0).lost c
+loses_not shape c (Lost client ∷ es) s m none = loses_not shape c es (after shape (Lost client) s) m.1 none.1 ∙ ap (λ b. or_old (cond b (Some true) None) (s.lost c)) none.0
 
--- a run that loses no client leaves the lost ones
-pub loses_none : (shape : Shape) (es : List Event) (s : PlainState) → RunsButMarks shape es s → LoseNone es → (c : ℕ) → (end_of shape es s).lost c ≡ s.lost c
-loses_none shape [] s m none c = refl
-loses_none shape (Act t request reply woken ∷ es) s m none c = loses_none shape es (after shape (Act t request reply woken) s) m.1 none c ∙ (quiet_act shape t request reply woken s m.0).lost c
-loses_none shape (Lost client ∷ es) s m none c = absurd none
-
--- Connected: after a history that loses no client, each client is connected.
-pub connected : (shape : Shape) (h : List Event) → RunsButMarks shape h (opening shape) → LoseNone h → (c : ℕ) → (last_state shape h).lost c ≡ false
-connected shape h m none c = loses_none shape h (opening shape) m none c
-
--- joined lists that lose none lose none
-pub lose_none_joined : (first second : List Event) → LoseNone first → LoseNone second → LoseNone (first ++ second)
-lose_none_joined [] second h k = k
-lose_none_joined (Act t request reply woken ∷ first) second h k = lose_none_joined first second h k
-lose_none_joined (Lost client ∷ first) second h k = absurd h
+-- Connected: after a history without a loss of the client, it is connected.
+pub connected : (shape : Shape) (h : List Event) (c : ℕ) → RunsButMarks shape h (opening shape) → NoLossOf c h → (last_state shape h).lost c ≡ false
+connected shape h c m none = loses_not shape c h (opening shape) m none

@@ -1,5 +1,5 @@
 -- A client's copies stand again after an entry of its own.
-use Rattle.std.proofs.Common.{ℕ, ◌≡◌, ◌⊎◌, inl, inr, refl, sym, ◌∙◌, ap, subst, List, [], ◌∷◌, ◌++◌}
+use Rattle.std.proofs.Common.{ℕ, ◌≡◌, ◌⊎◌, inl, inr, refl, sym, ◌∙◌, ap, subst, false, List, [], ◌∷◌, ◌++◌}
 use Rattle.std.specs.Prelude.{Option}
 use Rattle.std.proofs.lemmas.List.{append-nil}
 use Rattle.dso_base.specs.declared.journal.Entry.{Entry}
@@ -18,16 +18,15 @@ use Rattle.dso_plain.specs.State.{PlainState}
 use Rattle.dso_plain.proofs.independence.RunsSwap.{runs_but_marks_in_parts}
 use Rattle.dso_law.specs.Channels.{Letter, IsFirst, TakesFirst, down_in_flight, up_in_flight}
 use Rattle.dso_law.specs.Entries.{entries_of}
-use Rattle.dso_law.specs.ServerReadings.{counted}
+use Rattle.dso_law.specs.ServerReadings.{is_lost, counted}
 use Rattle.dso_law.specs.Granting.{standing_with}
 use Rattle.dso_law.specs.Settings.{Settings}
 use Rattle.dso_legal.specs.Agreement.{messages}
-use Rattle.dso_legal.specs.WaitsAndLosses.{WithoutLosses}
 use Rattle.dso_legal.specs.AsMade.{as_made}
 use Rattle.dso_legal.specs.CopiesStand.{state_at, CopiesStand}
 use Rattle.dso_legal.specs.Lawful.{next_after, ClientFollows, NodeFollows, AllFollow}
 use Rattle.dso_legal.specs.PendingBlocks.{joined, pending, records_in}
-use Rattle.dso_legal.proofs.blocks.BlockSteps.{none_is_lost, own_keeps, own_ends, state_ended}
+use Rattle.dso_legal.proofs.blocks.BlockSteps.{own_keeps, own_ends, state_ended}
 use Rattle.dso_legal.proofs.blocks.ClientBlocks.{joined_more}
 use Rattle.dso_legal.proofs.records.ClientRecords.{records_in_parts, EndsNone, EndsBlock, block_ended, record_ended, client_ends}
 use Rattle.dso_legal.proofs.records.ClientWords.{EachQuiet, Word, Silent, Records, AsksFor, Flushes, spoken, IsAct, IsWord, ClientWord, client_word}
@@ -89,8 +88,8 @@ act_behind : (i : Input) (ms : List Down) → IsAct i → behind i ms ≡ ms
 act_behind (input.Act index) ms is = refl
 act_behind other ms is = absurd is
 
-module _ (p : Settings) (next : ThreadId → List Event → Option Request) (e : Entry) (es : List Entry) (follow : AllFollow p next (e ∷ es)) (safe : WithoutLosses (e ∷ es)) (stand : AllStand p es) (stand_now : AllStand p (e ∷ es))
-    (c : ℕ) (at : e.node ≡ Client c) (h : CopiesStand p.shape c (state_at p c es) (messages (down_in_flight c es)) (entries_of (Client c) es)) where
+module _ (p : Settings) (next : ThreadId → List Event → Option Request) (e : Entry) (es : List Entry) (follow : AllFollow p next (e ∷ es)) (stand : AllStand p es) (stand_now : AllStand p (e ∷ es))
+    (c : ℕ) (at : e.node ≡ Client c) (alive : is_lost c (entries_of Server es) ≡ false) (h : CopiesStand p.shape c (state_at p c es) (messages (down_in_flight c es)) (entries_of (Client c) es)) where
   abbrev own : List Entry
   own = entries_of (Client c) es
 
@@ -123,7 +122,7 @@ module _ (p : Settings) (next : ThreadId → List Event → Option Request) (e :
 
   -- an entry that ends no block leaves the state
   state_same : EndsNone e own → state_at p c (e ∷ es) ≡ s
-  state_same none = ap (λ blocks. end_of p.shape (joined blocks) (last_state p.shape (as_made (e ∷ es)))) (own_keeps p next c es follow.0 (none_is_lost c es safe.1) e follow.1 at none).pending_stays
+  state_same none = ap (λ blocks. end_of p.shape (joined blocks) (last_state p.shape (as_made (e ∷ es)))) (own_keeps p next c es follow.0 alive e follow.1 at none).pending_stays
       ∙ ap (λ history. end_of p.shape (joined (pending c es)) (last_state p.shape history)) (own_turn c e es at).history
 
   -- after an entry that ends no block
@@ -137,12 +136,12 @@ module _ (p : Settings) (next : ThreadId → List Event → Option Request) (e :
       where
         -- the blocks in flight after the entry
         now_run : RunsButMarks p.shape (joined (pending c (e ∷ es))) (last_state p.shape (as_made (e ∷ es)))
-        now_run = line_runs p.shape c (messages (up_in_flight c (e ∷ es))) (pending c (e ∷ es)) (λ l. standing_with c l (counted (entries_of Server (e ∷ es)))) (last_state p.shape (as_made (e ∷ es))) (stand_now.lines c).line
+        now_run = line_runs p.shape c (messages (up_in_flight c (e ∷ es))) (pending c (e ∷ es)) (λ l. standing_with c l (counted (entries_of Server (e ∷ es)))) (last_state p.shape (as_made (e ∷ es))) (stand_now.lines c (ap (is_lost c) (own_turn c e es at).server ∙ alive)).line
 
         both_run : RunsButMarks p.shape (joined (pending c es) ++ block_ended it) (last_state p.shape (as_made es))
         both_run = subst (λ history. RunsButMarks p.shape (joined (pending c es) ++ block_ended it) (last_state p.shape history)) (own_turn c e es at).history
             (subst (λ events. RunsButMarks p.shape events (last_state p.shape (as_made (e ∷ es))))
-            (ap joined (own_ends p next c es follow.0 (none_is_lost c es safe.1) e follow.1 at it) ∙ joined_more (pending c es) (block_ended it)) now_run)
+            (ap joined (own_ends p next c es follow.0 alive e follow.1 at it) ∙ joined_more (pending c es) (block_ended it)) now_run)
 
     -- the word is its record
     word_is : word.word ≡ Records (record_ended it)
@@ -150,9 +149,9 @@ module _ (p : Settings) (next : ThreadId → List Event → Option Request) (e :
 
     -- after an entry that ends a block
     after_block : CopiesStand p.shape c (state_at p c (e ∷ es)) (messages (down_in_flight c (e ∷ es))) (entries_of (Client c) (e ∷ es))
-    after_block = copies_now (end_of p.shape (block_ended it) s) (state_ended p next c es follow.0 (none_is_lost c es safe.1) e follow.1 at it)
+    after_block = copies_now (end_of p.shape (block_ended it) s) (state_ended p next c es follow.0 alive e follow.1 at it)
         (subst (λ down. CopiesStand p.shape c (end_of p.shape (block_ended it) s) down (e ∷ own)) (sym (act_behind e.input ms (subst (IsWord p c e own e.input) word_is word.is).0))
-        (copies_after_ending p c it.thread _ s (end_of p.shape (block_ended it) s) ms e own (ends_stand p next e es follow safe stand c at it block_runs word word_is) h))
+        (copies_after_ending p c it.thread _ s (end_of p.shape (block_ended it) s) ms e own (ends_stand p next e es follow stand c at alive it block_runs word word_is) h))
 
   -- by whether it ends a block
   after_either : EndsNone e own ⊎ EndsBlock p e own → CopiesStand p.shape c (state_at p c (e ∷ es)) (messages (down_in_flight c (e ∷ es))) (entries_of (Client c) (e ∷ es))
@@ -160,8 +159,8 @@ module _ (p : Settings) (next : ThreadId → List Event → Option Request) (e :
   after_either (inr it) = after_block it
 
 -- A client's copies stand again after an entry of its own.
-pub own_copies : (p : Settings) (next : ThreadId → List Event → Option Request) (e : Entry) (es : List Entry) → AllFollow p next (e ∷ es) → WithoutLosses (e ∷ es) → AllStand p es → AllStand p (e ∷ es)
-    → (c : ℕ) → e.node ≡ Client c → CopiesStand p.shape c (state_at p c es) (messages (down_in_flight c es)) (entries_of (Client c) es)
+pub own_copies : (p : Settings) (next : ThreadId → List Event → Option Request) (e : Entry) (es : List Entry) → AllFollow p next (e ∷ es) → AllStand p es → AllStand p (e ∷ es)
+    → (c : ℕ) → e.node ≡ Client c → is_lost c (entries_of Server es) ≡ false → CopiesStand p.shape c (state_at p c es) (messages (down_in_flight c es)) (entries_of (Client c) es)
     → CopiesStand p.shape c (state_at p c (e ∷ es)) (messages (down_in_flight c (e ∷ es))) (entries_of (Client c) (e ∷ es))
-own_copies p next e es follow safe stand stand_now c at h = after_either p next e es follow safe stand stand_now c at h
+own_copies p next e es follow stand stand_now c at alive h = after_either p next e es follow stand stand_now c at alive h
     (client_ends p next c e es (subst (λ node. NodeFollows p next node e es) at follow.1.rule))

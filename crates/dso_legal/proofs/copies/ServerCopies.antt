@@ -1,7 +1,7 @@
 -- A client's copies stand again after an entry of the server.
 use Rattle.std.specs.List.{list_any}
-use Rattle.std.proofs.Common.{ℕ, ◌≡◌, ◌≢◌, refl, sym, ◌∙◌, ap, subst, Bool, true, false, cond, eqb, Option, Some, None, List, [], ◌∷◌, ◌++◌, filter, length}
-use Rattle.std.proofs.lemmas.List.{append_assoc}
+use Rattle.std.proofs.Common.{ℕ, ◌≡◌, ◌≢◌, inl, inr, refl, sym, ◌∙◌, ap, subst, Bool, true, false, cond, eqb, Option, Some, None, List, [], ◌∷◌, ◌++◌, filter, length}
+use Rattle.std.proofs.lemmas.List.{append_assoc, append-nil}
 use Rattle.dso_base.specs.Shape.{guard_of}
 use Rattle.dso_base.specs.declared.journal.Entry.{Entry}
 use Rattle.dso_base.specs.declared.journal.Input.{Input}
@@ -23,28 +23,30 @@ use Rattle.dso_plain.specs.Possible.{IsOf}
 use Rattle.dso_plain.specs.State.{PlainState, Object, IsShared, is_shared, guard_in, guard_of_object}
 use Rattle.dso_plain.proofs.keys.SameKeys.{same_number, number_self}
 use Rattle.dso_plain.proofs.independence.LeftAlone.{leaves_own}
+use Rattle.dso_plain.proofs.loss.RunsSurvive.{left}
 use Rattle.dso_plain.proofs.invariants.PastsHold.{kept_past}
 use Rattle.dso_plain.proofs.invariants.PastsHold.{run_kept, pasts_grow}
 use Rattle.dso_law.specs.Channels.{up_in_flight, down_in_flight}
 use Rattle.dso_law.specs.Copies.{is_resident, resident_by_taken, is_set_of, value_by_sets}
 use Rattle.dso_law.specs.Entries.{entries_of}
 use Rattle.dso_law.specs.Leases.{standing, standing_down}
-use Rattle.dso_law.specs.ServerReadings.{is_lost, counted}
-use Rattle.dso_law.specs.ServerStep.{sets_for}
+use Rattle.dso_law.specs.ServerReadings.{is_lost, is_of_lost, counted}
+use Rattle.dso_law.specs.ServerStep.{sets_for, ServerStepOn}
 use Rattle.dso_law.specs.Granting.{standing_with}
 use Rattle.dso_law.specs.Settings.{Settings}
 use Rattle.dso_law.specs.Store.{stored, holds_object}
 use Rattle.dso_legal.specs.Agreement.{messages, after}
-use Rattle.dso_legal.specs.WaitsAndLosses.{WithoutLosses, is_loss}
 use Rattle.dso_legal.specs.AsMade.{as_made}
 use Rattle.dso_legal.specs.CopiesStand.{state_at, CopiesStand}
 use Rattle.dso_legal.specs.Lawful.{ServerFollows, AllFollow}
 use Rattle.dso_legal.specs.PendingBlocks.{joined, pending, taken_in, records_in}
 use Rattle.dso_legal.specs.Residency.{is_set}
-use Rattle.dso_legal.proofs.line.AllStandOn.{takes, passes}
+use Rattle.dso_legal.proofs.copies.CopiesLost.{copies_lost}
+use Rattle.dso_legal.proofs.line.AllStandOn.{takes, passes, unlike_lost}
+use Rattle.dso_legal.proofs.line.LossTaken.{at_client_lost}
+use Rattle.dso_legal.proofs.records.BothEnds.{not_lost_before, skipped_silent}
 use Rattle.dso_legal.proofs.objects.BodiesHeld.{set_of_object}
 use Rattle.dso_legal.proofs.blocks.BlockSteps as steps
-use Rattle.dso_legal.proofs.blocks.BlockSteps.{none_is_lost}
 use Rattle.dso_legal.proofs.copies.CopiesForeign.{IsForeign, copies_after_foreign}
 use Rattle.dso_legal.proofs.copies.ChangesSent.{changes_down}
 use Rattle.dso_legal.proofs.channels.InFlight.{told_to}
@@ -66,7 +68,7 @@ use Rattle.dso_legal.proofs.line.StandsOn.{AllStand}
 use Rattle.dso_legal.specs.Store.{IsHeapBody}
 use Rattle.dso_legal.proofs.objects.StoreIsHeap.{store_is_heap}
 use Rattle.dso_legal.proofs.channels.AfterEntry.{ServerTurn, server_turn}
-use Rattle.dso_legal.proofs.line.LineElsewhere.{IsElsewhere, moves, stands_still}
+use Rattle.dso_legal.proofs.line.LineElsewhere.{LeavesHistory, IsElsewhere, moves, stands_still}
 use Rattle.dso_legal.proofs.copies.ServerMessages as messages_to
 use Rattle.dso_legal.proofs.copies.ServerMessages.{IsElse, told_silent}
 use Rattle.dso_legal.proofs.objects.WorksTell.{works_tell, history_kept}
@@ -81,12 +83,16 @@ guard_is : (shape : Shape) (o f : ℕ) (class : ClassId) (n : ℕ) (object : Opt
 guard_is shape o f class n None is = absurd is
 guard_is shape o f class n (Some object) is = ap (λ x. guard_of shape x o f) is.0
 
-module _ (p : Settings) (next : ThreadId → List Event → Option Request) (e : Entry) (es : List Entry) (follow : AllFollow p next (e ∷ es)) (safe : WithoutLosses (e ∷ es)) (stand : AllStand p es) (copies : AllCopies p es) (at : e.node ≡ Server) (c : ℕ) where
+module _ (p : Settings) (next : ThreadId → List Event → Option Request) (e : Entry) (es : List Entry) (follow : AllFollow p next (e ∷ es)) (stand : AllStand p es) (copies : AllCopies p es) (at : e.node ≡ Server) (c : ℕ) (alive_now : is_lost c (entries_of Server (e ∷ es)) ≡ false) where
   rule : ServerFollows p next e es
   rule = server_rule p next e es at follow.1
 
-  alive : (d : ℕ) → is_lost d (entries_of Server es) ≡ false
-  alive d = none_is_lost d es safe.1
+  alive : is_lost c (entries_of Server es) ≡ false
+  alive = not_lost_before c e.node e es alive_now
+
+  -- its copies before
+  before : CopiesStand p.shape c (state_at p c es) (messages (down_in_flight c es)) (entries_of (Client c) es)
+  before = copies c alive
 
   turn : ServerTurn c e es
   turn = server_turn c e es at
@@ -105,7 +111,7 @@ module _ (p : Settings) (next : ThreadId → List Event → Option Request) (e :
 
   -- the client's blocks in flight run
   pends : RunsButMarks p.shape (joined (pending c es)) history_state
-  pends = line_runs p.shape c (messages (up_in_flight c es)) (pending c es) (λ l. standing_with c l (counted (entries_of Server es))) history_state (stand.lines c).line
+  pends = line_runs p.shape c (messages (up_in_flight c es)) (pending c es) (λ l. standing_with c l (counted (entries_of Server es))) history_state (stand.lines c alive).line
 
   kept_here : PastInvariant s
   kept_here = run_kept p.shape (joined (pending c es)) history_state pends (history_kept p.shape (as_made es) stand.runs)
@@ -113,23 +119,28 @@ module _ (p : Settings) (next : ThreadId → List Event → Option Request) (e :
   -- what is told speaks of no object, and the state stays
   silent_copies : IsElse c e.input → state_at p c (e ∷ es) ≡ s → CopiesStand p.shape c (state_at p c (e ∷ es)) (messages (down_in_flight c (e ∷ es))) (entries_of (Client c) (e ∷ es))
   silent_copies quiet same = moved p c s (state_at p c (e ∷ es)) (ms ++ told_to c e.sent) (messages (down_in_flight c (e ∷ es))) own (entries_of (Client c) (e ∷ es)) same turn.down turn.own
-      (copies_go_on p.shape c s ms (told_to c e.sent) own (told_silent p next c e es follow.0 rule quiet) (copies c))
+      (copies_go_on p.shape c s ms (told_to c e.sent) own (told_silent p next c e es follow.0 rule quiet) before)
 
-  -- the state stays where the input takes no record and is no loss
-  still : moves e.input ≡ false → state_at p c (e ∷ es) ≡ s
-  still stays = (stands_still p c e es (subst (λ node. IsElsewhere c node e.input) (sym at) stays)).state
+  -- the state stays where the input leaves the history
+  still : LeavesHistory e.input es → state_at p c (e ∷ es) ≡ s
+  still leaves = (stands_still p c e es (subst (λ node. IsElsewhere c node e.input es) (sym at) leaves)).state
+
+  -- a message of a lost client is answered by nothing
+  skipped_copies : is_of_lost e.input (entries_of Server es) ≡ true → CopiesStand p.shape c (state_at p c (e ∷ es)) (messages (down_in_flight c (e ∷ es))) (entries_of (Client c) (e ∷ es))
+  skipped_copies skipped = moved p c s (state_at p c (e ∷ es)) ms (messages (down_in_flight c (e ∷ es))) own (entries_of (Client c) (e ∷ es)) (still (inl skipped))
+      (turn.down ∙ ap (λ out. ms ++ told_to c out) (skipped_silent p e (entries_of Server es) e.input rule.step skipped) ∙ append-nil ms) turn.own before
 
   -- the server sends the object that the client asked for
   module _ (o : ℕ) (asks : e.input ≡ input.TookUp c (up.Fault o)) where
     sent : ObjectSent p c o e es
-    sent = object_sent p next c o e es follow.0 (alive c) rule asks
+    sent = object_sent p next c o e es follow.0 alive rule asks
 
     heap_body : IsHeapBody o sent.body history_state
     heap_body = (store_is_heap works_tell p next es follow.0 stand.runs o).each sent.body sent.is_stored
 
     leaves : LeavesObject o history_state s
-    leaves = pending_leaves p.shape c o (taken_in c es) (records_in (messages (up_in_flight c es))) (pending c es) (as_made es) stand.runs pends (are_records_split p next c es follow.0 (alive c)) (way_of_client p next c es follow.0 (alive c))
-        (λ t its. privates_taken_of works_tell p next t c its es follow.0 (alive c) stand.runs) sent.untouched heap_body.shared
+    leaves = pending_leaves p.shape c o (taken_in c es) (records_in (messages (up_in_flight c es))) (pending c es) (as_made es) stand.runs pends (are_records_split p next c es follow.0 alive) (way_of_client p next c es follow.0 alive)
+        (λ t its. privates_taken_of works_tell p next t c its es follow.0 alive stand.runs) sent.untouched heap_body.shared
 
     brings_it : Brings c sent.body s ms own
     brings_it = record {
@@ -142,23 +153,23 @@ module _ (p : Settings) (next : ThreadId → List Event → Option Request) (e :
 
     object_copies : CopiesStand p.shape c (state_at p c (e ∷ es)) (messages (down_in_flight c (e ∷ es))) (entries_of (Client c) (e ∷ es))
     object_copies = moved p c s (state_at p c (e ∷ es)) (ms ++ down.Object sent.body ∷ []) (messages (down_in_flight c (e ∷ es))) own (entries_of (Client c) (e ∷ es))
-        (still (ap moves asks)) (turn.down ∙ ap (λ more. ms ++ more) sent.tells) turn.own
-        (copies_after_object p.shape c sent.body s ms own brings_it (copies c))
+        (still (inr (ap moves asks))) (turn.down ∙ ap (λ more. ms ++ more) sent.tells) turn.own
+        (copies_after_object p.shape c sent.body s ms own brings_it before)
 
-  -- the server takes a record
-  module _ (d : ℕ) (txn : Txn) (took : e.input ≡ input.TookUp d (up.Commit txn)) where
+  -- the server takes a record of a client that isn't lost
+  module _ (d : ℕ) (txn : Txn) (took : e.input ≡ input.TookUp d (up.Commit txn)) (alive_then : is_lost d (entries_of Server es) ≡ false) where
     abbrev taken : TakesBlock p d txn e es
-    taken = takes p next e es follow safe stand at d txn took
+    taken = takes p next e es follow stand at d txn took alive_then
 
     -- of the client itself
     own_record : c ≡ d → CopiesStand p.shape c (state_at p c (e ∷ es)) (messages (down_in_flight c (e ∷ es))) (entries_of (Client c) (e ∷ es))
     own_record same = silent_copies (subst (IsElse c) (sym took) (subst (λ n. eqb c n ≡ true) same (number_self c)))
-        (subst (λ n. state_at p n (e ∷ es) ≡ state_at p n es) (sym same) (steps.state_taken p next d es follow.0 (alive d) e follow.1 txn taken))
+        (subst (λ n. state_at p n (e ∷ es) ≡ state_at p n es) (sym same) (steps.state_taken p next d es follow.0 alive_then e follow.1 txn taken))
 
     -- of another client
     module _ (other : eqb c d ≡ false) where
       passed : RecordPasses p c txn taken.block e es
-      passed = passes p next e es follow safe stand at d txn took c other
+      passed = passes p next e es follow stand at d txn took alive_then c other alive
 
       abbrev r : PlainState
       r = end_of p.shape taken.block s
@@ -171,14 +182,14 @@ module _ (p : Settings) (next : ThreadId → List Event → Option Request) (e :
           by false unlike = unlike
 
       tells : TellsRecord txn s r
-      tells = tells_elsewhere works_tell p next es follow.0 stand.runs e follow.1 d (alive d) txn taken c apart_too (alive c) pends passed.runs
+      tells = tells_elsewhere works_tell p next es follow.0 stand.runs e follow.1 d alive_then txn taken c apart_too alive pends passed.runs
 
       -- where the record sets a field of a shared object, its guard isn't leased to the client
       unleased : (o f : ℕ) → IsShared o s → value_by_sets o f tells.work.sets None ≢ None → (after (standing_down (guard_in p.shape s o f)) ms (standing (guard_in p.shape s o f) own)).lease ≡ None
       unleased o f shared gives = by (list_any (is_set_of o f) tells.work.sets) refl
         where
           from_body : list_any (is_set_of o f) tells.work.sets ≡ true → (body : Body) → stored p.shape o (counted (entries_of Server es)) ≡ Some body → (after (standing_down (guard_in p.shape s o f)) ms (standing (guard_in p.shape s o f) own)).lease ≡ None
-          from_body set body is = subst (λ l. (after (standing_down l) ms (standing l own)).lease ≡ None) (sym guard) (set_is_unleased_behind p next d txn e es follow.0 rule took (alive d) c (alive c) apart_too o f body is (subst (λ sets. list_any (is_set_of o f) sets ≡ true) tells.sets set))
+          from_body set body is = subst (λ l. (after (standing_down l) ms (standing l own)).lease ≡ None) (sym guard) (set_is_unleased_behind p next d txn e es follow.0 rule took alive_then c alive apart_too o f body is (subst (λ sets. list_any (is_set_of o f) sets ≡ true) tells.sets set))
             where
               heap_body : IsHeapBody o body history_state
               heap_body = (store_is_heap works_tell p next es follow.0 stand.runs o).each body is
@@ -187,7 +198,7 @@ module _ (p : Settings) (next : ThreadId → List Event → Option Request) (e :
               guard = ap (λ object. guard_of_object p.shape object o f) (shared_stays p.shape (joined (pending c es)) history_state o pends heap_body.shared) ∙ guard_is p.shape o f body.class (length body.values) (history_state.objects o) heap_body.class
 
           there : list_any (is_set_of o f) tells.work.sets ≡ true → (body : Option Body) → stored p.shape o (counted (entries_of Server es)) ≡ body → (after (standing_down (guard_in p.shape s o f)) ms (standing (guard_in p.shape s o f) own)).lease ≡ None
-          there set None is = absurd (set_is_stored p next d txn e es follow.0 rule took (alive d) o (subst (λ sets. is_set o sets ≡ true) tells.sets (set_of_object o f tells.work.sets set)) is)
+          there set None is = absurd (set_is_stored p next d txn e es follow.0 rule took alive_then o (subst (λ sets. is_set o sets ≡ true) tells.sets (set_of_object o f tells.work.sets set)) is)
           there set (Some body) is = from_body set body is
 
           by : (b : Bool) → list_any (is_set_of o f) tells.work.sets ≡ b → (after (standing_down (guard_in p.shape s o f)) ms (standing (guard_in p.shape s o f) own)).lease ≡ None
@@ -200,13 +211,13 @@ module _ (p : Settings) (next : ThreadId → List Event → Option Request) (e :
         tells = tells.tells;
         grows = pasts_grow p.shape taken.block s passed.runs;
         seen = λ t o f its. (leaves_own p.shape t taken.block s passed.runs (acts_of_other t txn.thread taken.block (clients_apart c t txn.thread its passed.other) passed.acts)).seen o f;
-        held = λ o f set here. set_is_held p next d txn e es follow.0 rule took (alive d) c (alive c) o (subst (λ sets. is_set o sets ≡ true) tells.sets (set_of_object o f tells.work.sets set)) here;
+        held = λ o f set here. set_is_held p next d txn e es follow.0 rule took alive_then c alive o (subst (λ sets. is_set o sets ≡ true) tells.sets (set_of_object o f tells.work.sets set)) here;
         unleased = unleased;
       }
 
       -- what it is told: the changes, and then who is woken
       told : messages_to.TellsRecord c d txn (counted (entries_of Server es)) (told_to c e.sent)
-      told = messages_to.record_is_told p next c e es follow.0 rule d txn took (alive d)
+      told = messages_to.record_is_told p next c e es follow.0 rule d txn took alive_then
 
       abbrev changes : List Down
       changes = changes_down (filter (λ set. holds_object c set.object (counted (entries_of Server es))) tells.work.sets)
@@ -219,22 +230,32 @@ module _ (p : Settings) (next : ThreadId → List Event → Option Request) (e :
       foreign_copies = moved p c r (state_at p c (e ∷ es)) ((ms ++ changes) ++ told.woken) (messages (down_in_flight c (e ∷ es))) own (entries_of (Client c) (e ∷ es))
           passed.state (turn.down ∙ ap (λ more. ms ++ more) sends ∙ sym (append_assoc ms changes told.woken)) turn.own
           (copies_go_on p.shape c r (ms ++ changes) told.woken own (messages_to.each_so messages_to.wake_silent told.woken told.wake)
-          (copies_after_foreign p.shape c txn.thread tells.work (λ o. holds_object c o (counted (entries_of Server es))) s r ms own foreign (copies c)))
+          (copies_after_foreign p.shape c txn.thread tells.work (λ o. holds_object c o (counted (entries_of Server es))) s r ms own foreign before))
+
+  -- the server loses a client: what it tells others is of leases
+  loss_copies : (d : ℕ) → e.input ≡ input.Lose d → CopiesStand p.shape c (state_at p c (e ∷ es)) (messages (down_in_flight c (e ∷ es))) (entries_of (Client c) (e ∷ es))
+  loss_copies d lose = moved p c (left d s) (state_at p c (e ∷ es)) (ms ++ told_to c e.sent) (messages (down_in_flight c (e ∷ es))) own (entries_of (Client c) (e ∷ es))
+      (at_client_lost p next e es follow at d lose c (unlike_lost p next e es follow stand at d lose (subst (λ i. ServerStepOn p i e (entries_of Server es)) lose rule.step).due c alive_now) (stand.lines c alive).line) turn.down turn.own
+      (copies_go_on p.shape c (left d s) ms (told_to c e.sent) own (told_silent p next c e es follow.0 rule (subst (IsElse c) (sym lose) tt)) (copies_lost c d s p.shape ms own before))
 
   -- The copies stand again.
   server_by : (i : Input) → e.input ≡ i → CopiesStand p.shape c (state_at p c (e ∷ es)) (messages (down_in_flight c (e ∷ es))) (entries_of (Client c) (e ∷ es))
-  server_by (input.TookUp d (up.Commit txn)) took = by (eqb c d) refl
+  server_by (input.TookUp d (up.Commit txn)) took = of_lost (is_lost d (entries_of Server es)) refl
     where
-      by : (b : Bool) → eqb c d ≡ b → CopiesStand p.shape c (state_at p c (e ∷ es)) (messages (down_in_flight c (e ∷ es))) (entries_of (Client c) (e ∷ es))
-      by true same = own_record d txn took (same_number c d same)
-      by false other = foreign_copies d txn took other
+      by : is_lost d (entries_of Server es) ≡ false → (b : Bool) → eqb c d ≡ b → CopiesStand p.shape c (state_at p c (e ∷ es)) (messages (down_in_flight c (e ∷ es))) (entries_of (Client c) (e ∷ es))
+      by alive_then true same = own_record d txn took alive_then (same_number c d same)
+      by alive_then false other = foreign_copies d txn took alive_then other
+
+      of_lost : (b : Bool) → is_lost d (entries_of Server es) ≡ b → CopiesStand p.shape c (state_at p c (e ∷ es)) (messages (down_in_flight c (e ∷ es))) (entries_of (Client c) (e ∷ es))
+      of_lost true lost = skipped_copies (ap (λ i. is_of_lost i (entries_of Server es)) took ∙ lost)
+      of_lost false alive_then = by alive_then (eqb c d) refl
   server_by (input.TookUp d (up.Fault o)) took = by (eqb c d) refl
     where
       by : (b : Bool) → eqb c d ≡ b → CopiesStand p.shape c (state_at p c (e ∷ es)) (messages (down_in_flight c (e ∷ es))) (entries_of (Client c) (e ∷ es))
       by true same = object_copies o (took ∙ ap (λ n. input.TookUp n (up.Fault o)) (sym (same_number c d same)))
-      by false other = silent_copies (subst (IsElse c) (sym took) other) (still (ap moves took))
-  server_by (input.Lose d) took = absurd (cc (sym safe.0 ∙ ap is_loss took))
-  server_by i took = silent_copies (subst (IsElse c) (sym took) tt) (still (ap moves took))
+      by false other = silent_copies (subst (IsElse c) (sym took) other) (still (inr (ap moves took)))
+  server_by (input.Lose d) took = loss_copies d took
+  server_by i took = silent_copies (subst (IsElse c) (sym took) tt) (still (inr (ap moves took)))
 
   pub server_copies : CopiesStand p.shape c (state_at p c (e ∷ es)) (messages (down_in_flight c (e ∷ es))) (entries_of (Client c) (e ∷ es))
   server_copies = server_by e.input refl

@@ -84,52 +84,53 @@ abbrev asked_class : (request : Request) → IsNew request → ClassId × ℕ
 asked_class (New class n) is = (class, n)
 asked_class request is = absurd is
 
-module _ (p : Settings) (next : ThreadId → List Event → Option Request) (F : List Entry → ℕ → ℕ → Value → Type 0) (V : List Entry → Value → Type 0) where
+module _ (p : Settings) (next : ThreadId → List Event → Option Request) (F : List Entry → ℕ → ℕ → Value → Type 0) (V O : List Entry → Value → Type 0) where
   -- the object was made so
   abbrev pub C : List Entry → ℕ → ClassId → ℕ → Type 0
   C now o class n = class_made p.shape o now ≡ Some (class, n)
 
   abbrev pub EventHas : List Entry → Event → Type 0
-  EventHas now (Act t request reply woken) = ReplyHas (C now) (F now) (V now) request reply
+  EventHas now (Act t request reply woken) = ReplyHas (C now) (F now) (V now) (O now) request reply
   EventHas now (Lost client) = Unit {0}
 
   abbrev pub BodyNow : List Entry → Body → Type 0
-  BodyNow now = BodyHas (C now) (F now) (V now)
+  BodyNow now = BodyHas (C now) (F now) (V now) (O now)
 
   abbrev pub UpNow : List Entry → Up → Type 0
-  UpNow now = UpHas (C now) (F now) (V now)
+  UpNow now = UpHas (C now) (F now) (V now) (O now)
 
   abbrev pub DownNow : List Entry → Down → Type 0
-  DownNow now = DownHas (C now) (F now) (V now)
+  DownNow now = DownHas (C now) (F now) (V now) (O now)
 
   abbrev pub WorkNow : List Entry → Work → Type 0
-  WorkNow now = WorkHas (C now) (F now) (V now)
+  WorkNow now = WorkHas (C now) (F now) (V now) (O now)
 
   -- so of a client: what its threads have in hand and were told, its copies, and what is in flight from it and to it
   pub record ClientHas (now own : List Entry) (ups : List Up) (downs : List Down) : Type 0 where
     pub works : (t : ThreadId) → WorkNow now (work_of p.shape t own)
     pub told : (t : ThreadId) → AllByRecursion (EventHas now) (events_in t own)
-    pub copies : CopiesHave (C now) (F now) (V now) own
+    pub copies : CopiesHave (C now) (F now) (V now) (O now) own
     pub up : AllByRecursion (UpNow now) ups
     pub down : AllByRecursion (DownNow now) downs
 
   -- so of all clients, and of the server's graph
   pub record AllHave (es : List Entry) : Type 0 where
     pub clients : (c : ℕ) → ClientHas es (entries_of (Client c) es) (messages (up_in_flight c es)) (messages (down_in_flight c es))
-    pub graph : (o : ℕ) → StoredHas (C es) (F es) (V es) o (stored p.shape o (counted (entries_of Server es)))
+    pub graph : (o : ℕ) → StoredHas (C es) (F es) (V es) (O es) o (stored p.shape o (counted (entries_of Server es)))
 
   -- what an act must bring besides the class
   abbrev pub Brings : List Entry → Request → Reply → Type 0
   Brings now (New class n) (Made o) = (f : ℕ) → f < n → F now o f (opening_value (kind_of p.shape class f))
   Brings now (Put o f v) Done = F now o f v
-  Brings now (Print v) Done = V now v
+  Brings now (Print v) Done = O now v
   Brings now request reply = Unit {0}
 
-  -- What is asked of fields and values: they hold on; what is read may be told; the roots have theirs; and each act brings its own.
+  -- What is asked of fields, of values told and of values printed: they hold on; what is read may be told; the roots have theirs; and each act brings its own.
   pub record Keeps : Type 0 where
     pub fields : (e : Entry) (es : List Entry) → AllFollow p next (e ∷ es) → (o f : ℕ) (v : Value) → F es o f v → F (e ∷ es) o f v
     pub values : (e : Entry) (es : List Entry) → AllFollow p next (e ∷ es) → (v : Value) → V es v → V (e ∷ es) v
-    pub tells : (es : List Entry) → MayTell (C es) (F es) (V es)
+    pub outs : (e : Entry) (es : List Entry) → AllFollow p next (e ∷ es) → (v : Value) → O es v → O (e ∷ es) v
+    pub tells : (es : List Entry) → MayTell (C es) (F es) (V es) (O es)
     pub roots : (r : ℕ) → r < p.shape.roots → F [] 0 r value.Null
     pub acts : (e : Entry) (es : List Entry) → AllFollow p next (e ∷ es) → AllHave es → (c : ℕ) (it : IsNextAct p c (next_after next es) e (entries_of (Client c) es)) → Brings (e ∷ es) it.request it.reply
 
@@ -152,10 +153,10 @@ module _ (p : Settings) (next : ThreadId → List Event → Option Request) (F :
           subst (F [] 0 f) at.1 (keeps.roots f at.0);
     }
 
-    opening_has : (o : ℕ) → StoredHas (C []) (F []) (V []) o (stored p.shape o [])
+    opening_has : (o : ℕ) → StoredHas (C []) (F []) (V []) (O []) o (stored p.shape o [])
     opening_has o = by (eqb o 0) refl
       where
-        by : (b : Bool) → eqb o 0 ≡ b → StoredHas (C []) (F []) (V []) o (cond b (Some (opening_roots p.shape)) None)
+        by : (b : Bool) → eqb o 0 ≡ b → StoredHas (C []) (F []) (V []) (O []) o (cond b (Some (opening_roots p.shape)) None)
         by true is = (sym (same_number o 0 is), roots_have)
         by false is = tt
 
@@ -168,11 +169,11 @@ module _ (p : Settings) (next : ThreadId → List Event → Option Request) (F :
       class_more : (o : ℕ) (class : ClassId) (n : ℕ) → C es o class n → C now o class n
       class_more o class n h = class_stays p.shape p next e es follow o (class, n) h
 
-      saw_more : (request : Request) (class : ClassId) (n : ℕ) → SawHas (C es) (F es) (V es) request class n → SawHas (C now) (F now) (V now) request class n
+      saw_more : (request : Request) (class : ClassId) (n : ℕ) → SawHas (C es) (F es) (V es) (O es) request class n → SawHas (C now) (F now) (V now) (O now) request class n
       saw_more (Look o) class n h = class_more o class n h
       saw_more request class n h = tt
 
-      reply_more : (request : Request) (reply : Reply) → ReplyHas (C es) (F es) (V es) request reply → ReplyHas (C now) (F now) (V now) request reply
+      reply_more : (request : Request) (reply : Reply) → ReplyHas (C es) (F es) (V es) (O es) request reply → ReplyHas (C now) (F now) (V now) (O now) request reply
       reply_more request (Seen class n) h = saw_more request class n h
       reply_more request (Made o) h = record { real = h.real; class = h.class; size = h.size; made = class_more o h.class h.size h.made }
       reply_more request (Val v) h = keeps.values e es follow v h
@@ -183,35 +184,35 @@ module _ (p : Settings) (next : ThreadId → List Event → Option Request) (F :
       event_more (Lost client) h = tt
 
       each_body_more : (bodies : List Body) → AllByRecursion (BodyNow es) bodies → AllByRecursion (BodyNow now) bodies
-      each_body_more = each_so (BodyNow es) (BodyNow now) (body_more (C es) (C now) (F es) (F now) (V es) (V now) class_more (keeps.fields e es follow) (keeps.values e es follow))
+      each_body_more = each_so (BodyNow es) (BodyNow now) (body_more (C es) (C now) (F es) (F now) (V es) (V now) (O es) (O now) class_more (keeps.fields e es follow) (keeps.values e es follow) (keeps.outs e es follow))
 
-      each_set_more : (sets : List Set) → AllByRecursion (SetHas (C es) (F es) (V es)) sets → AllByRecursion (SetHas (C now) (F now) (V now)) sets
-      each_set_more = each_so (SetHas (C es) (F es) (V es)) (SetHas (C now) (F now) (V now)) (λ set it. keeps.fields e es follow set.object set.field set.value it)
+      each_set_more : (sets : List Set) → AllByRecursion (SetHas (C es) (F es) (V es) (O es)) sets → AllByRecursion (SetHas (C now) (F now) (V now) (O now)) sets
+      each_set_more = each_so (SetHas (C es) (F es) (V es) (O es)) (SetHas (C now) (F now) (V now) (O now)) (λ set it. keeps.fields e es follow set.object set.field set.value it)
 
       up_more : (m : Up) → UpNow es m → UpNow now m
-      up_more (up.Commit txn) h = (each_body_more txn.news h.0, each_set_more txn.sets h.1, each_so (V es) (V now) (keeps.values e es follow) txn.outs h.2)
+      up_more (up.Commit txn) h = (each_body_more txn.news h.0, each_set_more txn.sets h.1, each_so (O es) (O now) (keeps.outs e es follow) txn.outs h.2)
       up_more m h = tt
 
       down_more : (m : Down) → DownNow es m → DownNow now m
-      down_more (down.Object body) h = body_more (C es) (C now) (F es) (F now) (V es) (V now) class_more (keeps.fields e es follow) (keeps.values e es follow) body h
+      down_more (down.Object body) h = body_more (C es) (C now) (F es) (F now) (V es) (V now) (O es) (O now) class_more (keeps.fields e es follow) (keeps.values e es follow) (keeps.outs e es follow) body h
       down_more (down.Changes sets) h = each_set_more sets h
       down_more m h = tt
 
-      held_class_more : (o : ℕ) (class : Option (ClassId × ℕ)) → ClassHas (C es) (F es) (V es) o class → ClassHas (C now) (F now) (V now) o class
+      held_class_more : (o : ℕ) (class : Option (ClassId × ℕ)) → ClassHas (C es) (F es) (V es) (O es) o class → ClassHas (C now) (F now) (V now) (O now) o class
       held_class_more o None h = tt
       held_class_more o (Some class) h = class_more o class.0 class.1 h
 
-      held_value_more : (o f : ℕ) (v : Option Value) → ValueHas (C es) (F es) (V es) o f v → ValueHas (C now) (F now) (V now) o f v
+      held_value_more : (o f : ℕ) (v : Option Value) → ValueHas (C es) (F es) (V es) (O es) o f v → ValueHas (C now) (F now) (V now) (O now) o f v
       held_value_more o f None h = tt
       held_value_more o f (Some v) h = keeps.fields e es follow o f v h
 
-      stored_more : (o : ℕ) (body : Option Body) → StoredHas (C es) (F es) (V es) o body → StoredHas (C now) (F now) (V now) o body
+      stored_more : (o : ℕ) (body : Option Body) → StoredHas (C es) (F es) (V es) (O es) o body → StoredHas (C now) (F now) (V now) (O now) o body
       stored_more o None h = tt
-      stored_more o (Some body) h = (h.0, body_more (C es) (C now) (F es) (F now) (V es) (V now) class_more (keeps.fields e es follow) (keeps.values e es follow) body h.1)
+      stored_more o (Some body) h = (h.0, body_more (C es) (C now) (F es) (F now) (V es) (V now) (O es) (O now) class_more (keeps.fields e es follow) (keeps.values e es follow) (keeps.outs e es follow) body h.1)
 
       client_more : (own : List Entry) (ups : List Up) (downs : List Down) → ClientHas es own ups downs → ClientHas now own ups downs
       client_more own ups downs h = record {
-        works = λ t. work_more (C es) (C now) (F es) (F now) (V es) (V now) class_more (keeps.fields e es follow) (keeps.values e es follow) (work_of p.shape t own) (h.works t);
+        works = λ t. work_more (C es) (C now) (F es) (F now) (V es) (V now) (O es) (O now) class_more (keeps.fields e es follow) (keeps.values e es follow) (keeps.outs e es follow) (work_of p.shape t own) (h.works t);
         told = λ t. each_so (EventHas es) (EventHas now) event_more (events_in t own) (h.told t);
         copies = record { class = λ o. held_class_more o (class_held o own) (h.copies.class o); value = λ o f. held_value_more o f (value_held o f own) (h.copies.value o f) };
         up = each_so (UpNow es) (UpNow now) up_more ups h.up;
@@ -231,8 +232,8 @@ module _ (p : Settings) (next : ThreadId → List Event → Option Request) (F :
 
       -- what an act brings: what its work must have, and of a new object that it is one
       record Brought (request : Request) (reply : Reply) : Type 0 where
-        work : ActHas (C now) (F now) (V now) p.shape request reply
-        made : (o : ℕ) → reply ≡ Made o → IsReal (C now) (F now) (V now) o
+        work : ActHas (C now) (F now) (V now) (O now) p.shape request reply
+        made : (o : ℕ) → reply ≡ Made o → IsReal (C now) (F now) (V now) (O now) o
 
       module _ (own : List Entry) (ups : List Up) (downs : List Down) (has : ClientHas now own ups downs) where
         module _ (it : HasEvent p e own) (brought : Brought it.request it.reply) where
@@ -241,7 +242,7 @@ module _ (p : Settings) (next : ThreadId → List Event → Option Request) (F :
 
           -- the work in hand after the event
           later_has : WorkNow now (work_after p.shape event (work_of p.shape it.thread own))
-          later_has = act_has (C now) (F now) (V now) p.shape it.request it.reply (woken_by it.request it.reply own) (work_of p.shape it.thread own) (has.works it.thread) brought.work
+          later_has = act_has (C now) (F now) (V now) (O now) p.shape it.request it.reply (woken_by it.request it.reply own) (work_of p.shape it.thread own) (has.works it.thread) brought.work
 
           goes : WorkAfter p.shape it.thread event e own
           goes = work_goes_on p.shape it.thread event e own (record { event_is = it.event; its = thread_self it.thread })
@@ -249,7 +250,7 @@ module _ (p : Settings) (next : ThreadId → List Event → Option Request) (F :
           own_work : (ending : Option Ending) → ending_of event (locks_of it.thread own) ≡ ending → WorkNow now (work_of p.shape it.thread (e ∷ own))
           own_work None is = subst (WorkNow now) (sym (goes.goes_on is)) later_has
           own_work (Some ending) is = subst (WorkNow now) (sym (goes.ends (λ none. some_ending (sym is ∙ none))))
-              (start_has (C now) (F now) (V now) (work_after p.shape event (work_of p.shape it.thread own)).privates later_has.privates)
+              (start_has (C now) (F now) (V now) (O now) (work_after p.shape event (work_of p.shape it.thread own)).privates later_has.privates)
             where
               some_ending : Some ending ≡ None → ⊥
               some_ending none = cc none
@@ -276,7 +277,7 @@ module _ (p : Settings) (next : ThreadId → List Event → Option Request) (F :
           event_told : (t : ThreadId) → AllByRecursion (EventHas now) (events_in t (e ∷ own))
           event_told t = subst (λ event. AllByRecursion (EventHas now) (by_event (add_event t) event (events_in t own))) (sym it.event)
               (event_added (EventHas now) t event (events_in t own)
-              (reply_has (C now) (F now) (V now) p it.thread own (has.works it.thread) has.copies (keeps.tells now) it.request it.reply brought.made it.answered) (has.told t))
+              (reply_has (C now) (F now) (V now) (O now) p it.thread own (has.works it.thread) has.copies (keeps.tells now) it.request it.reply brought.made it.answered) (has.told t))
 
         -- what an entry of the client says, and what its threads have then
         record Says : Type 0 where
@@ -293,20 +294,20 @@ module _ (p : Settings) (next : ThreadId → List Event → Option Request) (F :
         says (inr it) brings = record { said = event_said it (brings it); works = event_works it (brings it); told = event_told it (brings it) }
 
         -- what it takes in
-        class_in : (i : Input) (o : ℕ) → ((m : Down) → i ≡ input.TookDown m → DownNow now m) → ClassHas (C now) (F now) (V now) o (by_taken_down (class_by_taken o) i (class_held o own))
-        class_in (input.TookDown m) o took = class_taken (C now) (F now) (V now) o m (class_held o own) (took m refl) (has.copies.class o)
+        class_in : (i : Input) (o : ℕ) → ((m : Down) → i ≡ input.TookDown m → DownNow now m) → ClassHas (C now) (F now) (V now) (O now) o (by_taken_down (class_by_taken o) i (class_held o own))
+        class_in (input.TookDown m) o took = class_taken (C now) (F now) (V now) (O now) o m (class_held o own) (took m refl) (has.copies.class o)
         class_in i o took = has.copies.class o
 
-        value_in : (i : Input) (o f : ℕ) → ((m : Down) → i ≡ input.TookDown m → DownNow now m) → ValueHas (C now) (F now) (V now) o f (by_taken_down (value_by_taken o f) i (value_held o f own))
-        value_in (input.TookDown m) o f took = value_taken (C now) (F now) (V now) o f m (value_held o f own) (took m refl) (has.copies.value o f)
+        value_in : (i : Input) (o f : ℕ) → ((m : Down) → i ≡ input.TookDown m → DownNow now m) → ValueHas (C now) (F now) (V now) (O now) o f (by_taken_down (value_by_taken o f) i (value_held o f own))
+        value_in (input.TookDown m) o f took = value_taken (C now) (F now) (V now) (O now) o f m (value_held o f own) (took m refl) (has.copies.value o f)
         value_in i o f took = has.copies.value o f
 
-        copies_have : ((m : Down) → e.input ≡ input.TookDown m → DownNow now m) → AllByRecursion (UpNow now) (said_of e.sent) → CopiesHave (C now) (F now) (V now) (e ∷ own)
+        copies_have : ((m : Down) → e.input ≡ input.TookDown m → DownNow now m) → AllByRecursion (UpNow now) (said_of e.sent) → CopiesHave (C now) (F now) (V now) (O now) (e ∷ own)
         copies_have took said = record {
-          class = λ o. subst (ClassHas (C now) (F now) (V now) o) (sym (said_status (class_by_sent o) e.sent (by_taken_down (class_by_taken o) e.input (class_held o own))))
-              (kept_after (ClassHas (C now) (F now) (V now) o) (UpNow now) (class_by_sent o) (class_sent (C now) (F now) (V now) o) (said_of e.sent) (by_taken_down (class_by_taken o) e.input (class_held o own)) said (class_in e.input o took));
-          value = λ o f. subst (ValueHas (C now) (F now) (V now) o f) (sym (said_status (value_by_sent o f) e.sent (by_taken_down (value_by_taken o f) e.input (value_held o f own))))
-              (kept_after (ValueHas (C now) (F now) (V now) o f) (UpNow now) (value_by_sent o f) (value_sent (C now) (F now) (V now) o f) (said_of e.sent) (by_taken_down (value_by_taken o f) e.input (value_held o f own)) said (value_in e.input o f took));
+          class = λ o. subst (ClassHas (C now) (F now) (V now) (O now) o) (sym (said_status (class_by_sent o) e.sent (by_taken_down (class_by_taken o) e.input (class_held o own))))
+              (kept_after (ClassHas (C now) (F now) (V now) (O now) o) (UpNow now) (class_by_sent o) (class_sent (C now) (F now) (V now) (O now) o) (said_of e.sent) (by_taken_down (class_by_taken o) e.input (class_held o own)) said (class_in e.input o took));
+          value = λ o f. subst (ValueHas (C now) (F now) (V now) (O now) o f) (sym (said_status (value_by_sent o f) e.sent (by_taken_down (value_by_taken o f) e.input (value_held o f own))))
+              (kept_after (ValueHas (C now) (F now) (V now) (O now) o f) (UpNow now) (value_by_sent o f) (value_sent (C now) (F now) (V now) (O now) o f) (said_of e.sent) (by_taken_down (value_by_taken o f) e.input (value_held o f own)) said (value_in e.input o f took));
         }
 
         client_goes : IsQuiet e ⊎ HasEvent p e own → ((it : HasEvent p e own) → Brought it.request it.reply) → ((m : Down) → e.input ≡ input.TookDown m → DownNow now m)
@@ -332,7 +333,7 @@ module _ (p : Settings) (next : ThreadId → List Event → Option Request) (F :
       class_asked_for t (New class n) o woken is happens = class_new t class n o woken happens
       class_asked_for t request o woken is happens = absurd is
 
-      brings_all : (t : ThreadId) (request : Request) (reply : Reply) (woken : Option ThreadId) → e.event ≡ Some (Act t request reply woken) → Brings now request reply → ActHas (C now) (F now) (V now) p.shape request reply
+      brings_all : (t : ThreadId) (request : Request) (reply : Reply) (woken : Option ThreadId) → e.event ≡ Some (Act t request reply woken) → Brings now request reply → ActHas (C now) (F now) (V now) (O now) p.shape request reply
       brings_all t (New class n) (Made o) woken is h = (class_new t class n o woken is, h)
       brings_all t (Put o f v) Done woken is h = h
       brings_all t (Print v) Done woken is h = h
@@ -350,7 +351,7 @@ module _ (p : Settings) (next : ThreadId → List Event → Option Request) (F :
         client_now : (c : ℕ) → ClientHas now (entries_of (Client c) es) (messages (up_in_flight c es)) (messages (down_in_flight c es))
         client_now c = client_more (entries_of (Client c) es) (messages (up_in_flight c es)) (messages (down_in_flight c es)) (before.clients c)
 
-        graph_now : (o : ℕ) → StoredHas (C now) (F now) (V now) o (stored p.shape o (counted (entries_of Server es)))
+        graph_now : (o : ℕ) → StoredHas (C now) (F now) (V now) (O now) o (stored p.shape o (counted (entries_of Server es)))
         graph_now o = stored_more o (stored p.shape o (counted (entries_of Server es))) (before.graph o)
 
         -- the client itself
@@ -372,7 +373,7 @@ module _ (p : Settings) (next : ThreadId → List Event → Option Request) (F :
             no_event : {event : Event} → e.event ≡ None → e.event ≡ Some event → ⊥
             no_event none some = cc (sym none ∙ some)
 
-            new_object : (act : IsNextAct p c (next_after next es) e (entries_of (Client c) es)) (o : ℕ) → act.reply ≡ Made o → IsReal (C now) (F now) (V now) o
+            new_object : (act : IsNextAct p c (next_after next es) e (entries_of (Client c) es)) (o : ℕ) → act.reply ≡ Made o → IsReal (C now) (F now) (V now) (O now) o
             new_object act o is = record {
               real = (fresh p next e es follow.0 (record { client = c; node = node; act = act }) o is).real;
               class = (asked_class act.request fair).0;
@@ -424,7 +425,7 @@ module _ (p : Settings) (next : ThreadId → List Event → Option Request) (F :
             one (down.Wake l t) h = tt
             one m h = absurd h
 
-        changes_have : (sets : List Set) → AllByRecursion (SetHas (C now) (F now) (V now)) sets → AllByRecursion (DownNow now) (changes_down sets)
+        changes_have : (sets : List Set) → AllByRecursion (SetHas (C now) (F now) (V now) (O now)) sets → AllByRecursion (DownNow now) (changes_down sets)
         changes_have [] h = tt
         changes_have (set ∷ sets) h = (h, tt)
 
@@ -436,7 +437,7 @@ module _ (p : Settings) (next : ThreadId → List Event → Option Request) (F :
         one_has true m h = (h, tt)
         one_has false m h = tt
 
-        body_there : (o : ℕ) (found : Body) (body : Option Body) → StoredHas (C now) (F now) (V now) o body → body ≡ Some found → BodyNow now found
+        body_there : (o : ℕ) (found : Body) (body : Option Body) → StoredHas (C now) (F now) (V now) (O now) o body → body ≡ Some found → BodyNow now found
         body_there o found None h is = absurd (cc is)
         body_there o found (Some body) h is =
             let same : body ≡ found = cc is in
@@ -458,7 +459,7 @@ module _ (p : Settings) (next : ThreadId → List Event → Option Request) (F :
             where
               by : (b : Bool) → AllByRecursion (DownNow now) (cond b (down.Ack txn.seq ∷ []) (changes_down (sets_for c txn server)))
               by true = (tt, tt)
-              by false = changes_have (sets_for c txn server) (each_filtered (SetHas (C now) (F now) (V now)) _ txn.sets took.1)
+              by false = changes_have (sets_for c txn server) (each_filtered (SetHas (C now) (F now) (V now) (O now)) _ txn.sets took.1)
 
           -- and for anything that the server takes in
           told_on : (i : Input) (lost : Bool) (ms : List Down) → e.input ≡ i → IsToldOn p c i lost server ms → AllByRecursion (DownNow now) ms
@@ -485,14 +486,14 @@ module _ (p : Settings) (next : ThreadId → List Event → Option Request) (F :
               (subst (λ entries. ClientHas now entries (cond (takes_up c e.input) (drop 1 (messages (up_in_flight c es))) (messages (up_in_flight c es))) (messages (down_in_flight c es) ++ told_to c e.sent)) (sym turn.own) goes_on))
 
         -- the graph with what the server takes in
-        graph_in : (i : Input) (o : ℕ) → ((d : ℕ) (m : Up) → i ≡ input.TookUp d m → UpNow now m) → StoredHas (C now) (F now) (V now) o (by_taken_up (body_by o) i (stored p.shape o (counted (entries_of Server es))))
-        graph_in (input.TookUp d m) o took = stored_taken (C now) (F now) (V now) o d m (stored p.shape o (counted (entries_of Server es))) (took d m refl) (graph_now o)
+        graph_in : (i : Input) (o : ℕ) → ((d : ℕ) (m : Up) → i ≡ input.TookUp d m → UpNow now m) → StoredHas (C now) (F now) (V now) (O now) o (by_taken_up (body_by o) i (stored p.shape o (counted (entries_of Server es))))
+        graph_in (input.TookUp d m) o took = stored_taken (C now) (F now) (V now) (O now) o d m (stored p.shape o (counted (entries_of Server es))) (took d m refl) (graph_now o)
         graph_in i o took = graph_now o
 
-        server_graph : e.node ≡ Server → (o : ℕ) → StoredHas (C now) (F now) (V now) o (stored p.shape o (counted (entries_of Server now)))
-        server_graph node o = subst (λ entries. StoredHas (C now) (F now) (V now) o (stored p.shape o (counted entries))) (sym (server_turn 0 e es node).server) (by (is_of_lost e.input (entries_of Server es)))
+        server_graph : e.node ≡ Server → (o : ℕ) → StoredHas (C now) (F now) (V now) (O now) o (stored p.shape o (counted (entries_of Server now)))
+        server_graph node o = subst (λ entries. StoredHas (C now) (F now) (V now) (O now) o (stored p.shape o (counted entries))) (sym (server_turn 0 e es node).server) (by (is_of_lost e.input (entries_of Server es)))
           where
-            by : (lost : Bool) → StoredHas (C now) (F now) (V now) o (stored p.shape o (cond lost (counted (entries_of Server es)) (e ∷ counted (entries_of Server es))))
+            by : (lost : Bool) → StoredHas (C now) (F now) (V now) (O now) o (stored p.shape o (cond lost (counted (entries_of Server es)) (e ∷ counted (entries_of Server es))))
             by true = graph_now o
             by false = graph_in e.input o (λ d m is. up_taken d m node is)
 
@@ -500,7 +501,7 @@ module _ (p : Settings) (next : ThreadId → List Event → Option Request) (F :
         all_more Server is = record { clients = λ c. server_client is c; graph = server_graph is }
         all_more (Client d) is = record {
           clients = λ c. by c (eqb c d) refl;
-          graph = λ o. subst (λ entries. StoredHas (C now) (F now) (V now) o (stored p.shape o (counted entries))) (sym (own_turn d e es is).server) (graph_now o);
+          graph = λ o. subst (λ entries. StoredHas (C now) (F now) (V now) (O now) o (stored p.shape o (counted entries))) (sym (own_turn d e es is).server) (graph_now o);
         }
           where
             by : (c : ℕ) (b : Bool) → eqb c d ≡ b → ClientHas now (entries_of (Client c) now) (messages (up_in_flight c now)) (messages (down_in_flight c now))

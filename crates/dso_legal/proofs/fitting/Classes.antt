@@ -39,62 +39,63 @@ module _ (p : Settings) (next : ThreadId → List Event → Option Request) wher
   abbrev AnyValue : List Entry → Value → Type 0
   AnyValue now v = Unit {0}
 
-  brings_any : (now : List Entry) (request : Request) (reply : Reply) → Brings p next AnyField AnyValue now request reply
+  brings_any : (now : List Entry) (request : Request) (reply : Reply) → Brings p next AnyField AnyValue AnyValue now request reply
   brings_any now (New class n) (Made o) = λ f less. tt
   brings_any now (Put o f v) Done = tt
   brings_any now (Print v) Done = tt
   brings_any now request reply = tt
 
-  keeps_any : Keeps p next AnyField AnyValue
+  keeps_any : Keeps p next AnyField AnyValue AnyValue
   keeps_any = record {
     fields = λ e es follow o f v h. tt;
     values = λ e es follow v h. tt;
+    outs = λ e es follow v h. tt;
     tells = λ es. record { read = λ o f v h. tt; woken = λ b. tt };
     roots = λ r less. tt;
     acts = λ e es follow have c it. brings_any (e ∷ es) it.request it.reply;
   }
 
-  as_made : (now : List Entry) (body : Body) → BodyNow p next AnyField AnyValue now body → IsAsMade p.shape now body
+  as_made : (now : List Entry) (body : Body) → BodyNow p next AnyField AnyValue AnyValue now body → IsAsMade p.shape now body
   as_made now body h = h.class
 
-  up_as_made : (now : List Entry) (m : Up) → UpNow p next AnyField AnyValue now m → CarriesUpAsMade p.shape now m
-  up_as_made now (up.Commit txn) h = each_so (BodyNow p next AnyField AnyValue now) (IsAsMade p.shape now) (as_made now) txn.news h.0
+  up_as_made : (now : List Entry) (m : Up) → UpNow p next AnyField AnyValue AnyValue now m → CarriesUpAsMade p.shape now m
+  up_as_made now (up.Commit txn) h = each_so (BodyNow p next AnyField AnyValue AnyValue now) (IsAsMade p.shape now) (as_made now) txn.news h.0
   up_as_made now m h = tt
 
-  down_as_made : (now : List Entry) (m : Down) → DownNow p next AnyField AnyValue now m → CarriesDownAsMade p.shape now m
+  down_as_made : (now : List Entry) (m : Down) → DownNow p next AnyField AnyValue AnyValue now m → CarriesDownAsMade p.shape now m
   down_as_made now (down.Object body) h = h.class
   down_as_made now m h = tt
 
-  saw_as_made : (now : List Entry) (request : Request) (reply : Reply) → ReplyHas (C p next AnyField AnyValue now) (AnyField now) (AnyValue now) request reply → SawAsMade p.shape now request reply
+  saw_as_made : (now : List Entry) (request : Request) (reply : Reply) → ReplyHas (C p next AnyField AnyValue AnyValue now) (AnyField now) (AnyValue now) (AnyValue now) request reply → SawAsMade p.shape now request reply
   saw_as_made now (Look o) (Seen class n) h = h
   saw_as_made now request reply h = tt
 
-  looks_as_made : (now : List Entry) (event : Event) → EventHas p next AnyField AnyValue now event → LooksAsMade p.shape now event
+  looks_as_made : (now : List Entry) (event : Event) → EventHas p next AnyField AnyValue AnyValue now event → LooksAsMade p.shape now event
   looks_as_made now (Act t request reply woken) h = saw_as_made now request reply h
   looks_as_made now (Lost client) h = tt
 
   -- after entries each of which follows those before it
   pub keeps_classes : (es : List Entry) → AllFollow p next es → KeepsClasses p.shape es
   keeps_classes es follow = record {
-    privates = λ t. each_so (BodyNow p next AnyField AnyValue es) (IsAsMade p.shape es) (as_made es) (work_of p.shape t (entries_of (Client t.client) es)).privates ((have.clients t.client).works t).privates;
-    news = λ t. each_so (BodyNow p next AnyField AnyValue es) (IsAsMade p.shape es) (as_made es) (work_of p.shape t (entries_of (Client t.client) es)).news ((have.clients t.client).works t).news;
-    seen = λ t. each_so (EventHas p next AnyField AnyValue es) (LooksAsMade p.shape es) (looks_as_made es) (events_in t (entries_of (Client t.client) es)) ((have.clients t.client).told t);
+    privates = λ t. each_so (BodyNow p next AnyField AnyValue AnyValue es) (IsAsMade p.shape es) (as_made es) (work_of p.shape t (entries_of (Client t.client) es)).privates ((have.clients t.client).works t).privates;
+    news = λ t. each_so (BodyNow p next AnyField AnyValue AnyValue es) (IsAsMade p.shape es) (as_made es) (work_of p.shape t (entries_of (Client t.client) es)).news ((have.clients t.client).works t).news;
+    seen = λ t. each_so (EventHas p next AnyField AnyValue AnyValue es) (LooksAsMade p.shape es) (looks_as_made es) (events_in t (entries_of (Client t.client) es)) ((have.clients t.client).told t);
     copies = λ c o class size is. held o class size (class_held o (entries_of (Client c) es)) ((have.clients c).copies.class o) is;
-    ups = λ c. each_so (UpNow p next AnyField AnyValue es) (CarriesUpAsMade p.shape es) (up_as_made es) (messages (up_in_flight c es)) (have.clients c).up;
-    downs = λ c. each_so (DownNow p next AnyField AnyValue es) (CarriesDownAsMade p.shape es) (down_as_made es) (messages (down_in_flight c es)) (have.clients c).down;
+    ups = λ c. each_so (UpNow p next AnyField AnyValue AnyValue es) (CarriesUpAsMade p.shape es) (up_as_made es) (messages (up_in_flight c es)) (have.clients c).up;
+    downs = λ c. each_so (DownNow p next AnyField AnyValue AnyValue es) (CarriesDownAsMade p.shape es) (down_as_made es) (messages (down_in_flight c es)) (have.clients c).down;
     graph = λ o body is. in_graph o body (stored p.shape o (counted (entries_of Server es))) (have.graph o) is;
   }
     where
-      have : AllHave p next AnyField AnyValue es
-      have = carried p next AnyField AnyValue keeps_any es follow
+      have : AllHave p next AnyField AnyValue AnyValue es
+      have = carried p next AnyField AnyValue AnyValue keeps_any es follow
 
-      held : (o : ℕ) (class : ClassId) (size : ℕ) (at : Option (ClassId × ℕ)) → ClassHas (C p next AnyField AnyValue es) (AnyField es) (AnyValue es) o at → at ≡ Some (class, size) → class_made p.shape o es ≡ Some (class, size)
+      held : (o : ℕ) (class : ClassId) (size : ℕ) (at : Option (ClassId × ℕ)) → ClassHas (C p next AnyField AnyValue AnyValue es) (AnyField es) (AnyValue es) (AnyValue es) o at → at ≡ Some (class, size) → class_made p.shape o es ≡ Some (class, size)
       held o class size None h is = absurd (cc is)
       held o class size (Some at) h is =
           let same : at ≡ (class, size) = cc is in
           subst (λ (x : ClassId × ℕ). class_made p.shape o es ≡ Some (x.0, x.1)) same h
 
-      in_graph : (o : ℕ) (body : Body) (at : Option Body) → StoredHas (C p next AnyField AnyValue es) (AnyField es) (AnyValue es) o at → at ≡ Some body → IsAsMade p.shape es body
+      in_graph : (o : ℕ) (body : Body) (at : Option Body) → StoredHas (C p next AnyField AnyValue AnyValue es) (AnyField es) (AnyValue es) (AnyValue es) o at → at ≡ Some body → IsAsMade p.shape es body
       in_graph o body None h is = absurd (cc is)
       in_graph o body (Some at) h is =
           let same : at ≡ body = cc is in

@@ -164,8 +164,8 @@ put_at_write None [] answered = absurd (cc answered)
 put_at_write None (held ∷ holds) answered = absurd (cc answered)
 
 module _ (p : Settings) (next : ThreadId → List Event → Option Request) where
-  module _ (es own_entries : List Entry) (t : ThreadId) (works : WorkNow p next (F p next) (V p next) es (work_of p.shape t own_entries)) (copies : CopiesHave (C p next (F p next) (V p next) es) (F p next es) (V p next es) own_entries) where
-    put_guarded : (o f : ℕ) (class : Option (ClassId × ℕ)) → ClassHas (C p next (F p next) (V p next) es) (F p next es) (V p next es) o class → answer_put p t o f class own_entries ≡ Some Done
+  module _ (es own_entries : List Entry) (t : ThreadId) (works : WorkNow p next (F p next) (V p next) (V p next) es (work_of p.shape t own_entries)) (copies : CopiesHave (C p next (F p next) (V p next) (V p next) es) (F p next es) (V p next es) (V p next es) own_entries) where
+    put_guarded : (o f : ℕ) (class : Option (ClassId × ℕ)) → ClassHas (C p next (F p next) (V p next) (V p next) es) (F p next es) (V p next es) (V p next es) o class → answer_put p t o f class own_entries ≡ Some Done
         → is_private p.shape t o own_entries ≡ false → IsGuarded p.shape es (locks_of t own_entries) o f
     put_guarded o f None made answered shared = absurd (cc answered)
     put_guarded o f (Some class) made answered shared = record { class = class.0; size = class.1; made = made; held = by (ltb f class.1) (is_private p.shape t o own_entries) answered shared }
@@ -178,7 +178,7 @@ module _ (p : Settings) (next : ThreadId → List Event → Option Request) wher
 
     -- an act that is answered brings what it must
     holding : (request : Request) (reply : Reply) → reply_of p t request own_entries ≡ Some reply → Holding p.shape es (locks_of t own_entries) (work_of p.shape t own_entries) request reply
-    holding (Put o f v) Done answered = put_guarded o f (class_known p t o own_entries) (known_has (C p next (F p next) (V p next) es) (F p next es) (V p next es) p t own_entries works copies o) answered
+    holding (Put o f v) Done answered = put_guarded o f (class_known p t o own_entries) (known_has (C p next (F p next) (V p next) (V p next) es) (F p next es) (V p next es) (V p next es) p t own_entries works copies o) answered
     holding (Notify l) Done answered = done_at_write (hold_level (hold_of t l own_entries)) answered
     holding (NotifyAll l) Done answered = done_at_write (hold_level (hold_of t l own_entries)) answered
     holding request reply answered = tt

@@ -89,7 +89,7 @@ opening_is shape class k (suc n) (suc f) v is = placed_more shape class k n f v 
 
 -- ---- bodies, sets and the work in hand
 
-module _ (C : ℕ → ClassId → ℕ → Type 0) (F : ℕ → ℕ → Value → Type 0) (V : Value → Type 0) where
+module _ (C : ℕ → ClassId → ℕ → Type 0) (F : ℕ → ℕ → Value → Type 0) (V O : Value → Type 0) where
   -- so of the body's class and size, and of each of its values in its field
   pub record BodyHas (body : Body) : Type 0 where
     pub class : C body.object body.class (length body.values)
@@ -104,13 +104,13 @@ module _ (C : ℕ → ClassId → ℕ → Type 0) (F : ℕ → ℕ → Value →
     pub privates : AllByRecursion BodyHas work.privates
     pub news : AllByRecursion BodyHas work.news
     pub sets : AllByRecursion SetHas work.sets
-    pub outs : AllByRecursion V work.outs
+    pub outs : AllByRecursion O work.outs
 
   -- what an act must bring: the class and the opening values of a new object, what is written, what is printed
   abbrev pub ActHas : Shape → Request → Reply → Type 0
   ActHas shape (New class n) (Made o) = C o class n × ((f : ℕ) → f < n → F o f (opening_value (kind_of shape class f)))
   ActHas shape (Put o f v) Done = F o f v
-  ActHas shape (Print v) Done = V v
+  ActHas shape (Print v) Done = O v
   ActHas shape request reply = Unit {0}
 
   -- the only private objects at a block's start
@@ -186,21 +186,21 @@ module _ (C : ℕ → ClassId → ℕ → Type 0) (F : ℕ → ℕ → Value →
   pub act_has : (shape : Shape) (request : Request) (reply : Reply) (woken : Option ThreadId) (work : Work) → WorkHas work → ActHas shape request reply → WorkHas (work_by shape request reply woken work)
   act_has shape (New class n) (Made o) woken work h it = record { privates = (new_has shape class n o it, h.privates); news = h.news; sets = h.sets; outs = h.outs }
   act_has shape (Put o f v) Done woken work h it = put_has o f v work h it
-  act_has shape (Print v) Done woken work h it = record { privates = h.privates; news = h.news; sets = h.sets; outs = each_of_two V work.outs (v ∷ []) h.outs (it, tt) }
+  act_has shape (Print v) Done woken work h it = record { privates = h.privates; news = h.news; sets = h.sets; outs = each_of_two O work.outs (v ∷ []) h.outs (it, tt) }
   act_has shape (Notify l) Done woken work h it = record { privates = h.privates; news = h.news; sets = h.sets; outs = h.outs }
   act_has shape (NotifyAll l) Done woken work h it = record { privates = h.privates; news = h.news; sets = h.sets; outs = h.outs }
   act_has shape request reply woken work h it = h
 
-module _ (C C' : ℕ → ClassId → ℕ → Type 0) (F F' : ℕ → ℕ → Value → Type 0) (V V' : Value → Type 0)
-    (more_c : (o : ℕ) (class : ClassId) (n : ℕ) → C o class n → C' o class n) (more_f : (o f : ℕ) (v : Value) → F o f v → F' o f v) (more_v : (v : Value) → V v → V' v) where
+module _ (C C' : ℕ → ClassId → ℕ → Type 0) (F F' : ℕ → ℕ → Value → Type 0) (V V' O O' : Value → Type 0)
+    (more_c : (o : ℕ) (class : ClassId) (n : ℕ) → C o class n → C' o class n) (more_f : (o f : ℕ) (v : Value) → F o f v → F' o f v) (more_v : (v : Value) → V v → V' v) (more_o : (v : Value) → O v → O' v) where
   -- what tells more of classes, fields and values tells more of bodies and of the work in hand
-  pub body_more : (body : Body) → BodyHas C F V body → BodyHas C' F' V' body
+  pub body_more : (body : Body) → BodyHas C F V O body → BodyHas C' F' V' O' body
   body_more body h = record { class = more_c body.object body.class (length body.values) h.class; values = λ f v is. more_f body.object f v (h.values f v is) }
 
-  pub work_more : (work : Work) → WorkHas C F V work → WorkHas C' F' V' work
+  pub work_more : (work : Work) → WorkHas C F V O work → WorkHas C' F' V' O' work
   work_more work h = record {
-    privates = each_so (BodyHas C F V) (BodyHas C' F' V') body_more work.privates h.privates;
-    news = each_so (BodyHas C F V) (BodyHas C' F' V') body_more work.news h.news;
-    sets = each_so (SetHas C F V) (SetHas C' F' V') (λ set it. more_f set.object set.field set.value it) work.sets h.sets;
-    outs = each_so V V' more_v work.outs h.outs;
+    privates = each_so (BodyHas C F V O) (BodyHas C' F' V' O') body_more work.privates h.privates;
+    news = each_so (BodyHas C F V O) (BodyHas C' F' V' O') body_more work.news h.news;
+    sets = each_so (SetHas C F V O) (SetHas C' F' V' O') (λ set it. more_f set.object set.field set.value it) work.sets h.sets;
+    outs = each_so O O' more_o work.outs h.outs;
   }

@@ -116,7 +116,7 @@ module _ (p : Settings) (next : ThreadId → List Event → Option Request) wher
   lock_still e es follow (Mon o) h = fine_still p next e es follow (value.Ref o) h
 
   -- a lock that was told, and is there by name
-  lock_told : (es : List Entry) (events : List Event) → AllByRecursion (EventHas p next (F p next) (V p next) es) events → (l : LockName) → IsToldLock l events → IsLockThere p.shape l → LockMade es l
+  lock_told : (es : List Entry) (events : List Event) → AllByRecursion (EventHas p next (F p next) (V p next) (V p next) es) events → (l : LockName) → IsToldLock l events → IsLockThere p.shape l → LockMade es l
   lock_told es events all (Name n) told there = there
   lock_told es events all (Mon o) told there = value_fine p next es events all (value.Ref o) told tt
 
@@ -124,14 +124,14 @@ module _ (p : Settings) (next : ThreadId → List Event → Option Request) wher
     -- a lock that a thread asks to enter is there
     pub entered_made : (es : List Entry) → AllFollow p next es → (t : ThreadId) (l : LockName) (level : Level) → next_after next es t ≡ Some (Enter l level) → LockMade es l
     entered_made es follow t l level asked =
-        let have : AllHave p next (F p next) (V p next) es = all_fine p next sound known within es follow in
+        let have : AllHave p next (F p next) (V p next) (V p next) es = all_fine p next sound known within es follow in
         let may : Asked p next t (events_in t (entries_of (Client t.client) es)) (Enter l level) = what_is_asked p next sound known within es follow have t (Enter l level) asked in
         lock_told es (events_in t (entries_of (Client t.client) es)) ((have.clients t.client).told t) l may.keeps.names may.uses
 
     -- where it resumes, it waits on the lock
     pub resumed_waits : (es : List Entry) → AllFollow p next es → (t : ThreadId) (l : LockName) → next_after next es t ≡ Some (Resume l) → IsWaitingOn l (locks_of t (entries_of (Client t.client) es)).waiting
     resumed_waits es follow t l asked =
-        let have : AllHave p next (F p next) (V p next) es = all_fine p next sound known within es follow in
+        let have : AllHave p next (F p next) (V p next) (V p next) es = all_fine p next sound known within es follow in
         let may : Asked p next t (events_in t (entries_of (Client t.client) es)) (Resume l) = what_is_asked p next sound known within es follow have t (Resume l) asked in
         subst (λ (locks : Locks). IsWaitingOn l locks.waiting) (sym (same_locks t (entries_of (Client t.client) es))) may.keeps.locks
 

@@ -91,7 +91,7 @@ none_to_each c m test (d ∷ clients) fails = by (test d) refl (none_to_each c m
 -- ---- threads of a client
 
 -- none of the threads is one of the client's
-abbrev IsNoneOf : ℕ → List ThreadId → Type 0
+abbrev pub IsNoneOf : ℕ → List ThreadId → Type 0
 IsNoneOf c threads = list_any (λ t. eqb t.client c) threads ≡ false
 
 none_of_both : (c : ℕ) (xs ys : List ThreadId) → IsNoneOf c xs → IsNoneOf c ys → IsNoneOf c (xs ++ ys)
@@ -125,7 +125,7 @@ none_left c d (t ∷ threads) same = by (eqb t.client d) refl (none_left c d thr
     by false apart rest = ap (λ b. b || list_any (λ t. eqb t.client c) (without_client d threads)) (other (eqb t.client c) apart refl) ∙ rest
 
 -- a thread of a list that has none of the client's isn't the client's
-isnt_its : (c : ℕ) (t : ThreadId) (threads : List ThreadId) → IsNoneOf c threads → list_any (is_thread t) threads ≡ true → eqb t.client c ≡ false
+pub isnt_its : (c : ℕ) (t : ThreadId) (threads : List ThreadId) → IsNoneOf c threads → list_any (is_thread t) threads ≡ true → eqb t.client c ≡ false
 isnt_its c t [] none there = absurd (cc there)
 isnt_its c t (u ∷ threads) none there =
     let no = neither (eqb u.client c) (list_any (λ t. eqb t.client c) threads) none in

@@ -21,15 +21,15 @@ pub kept_after : {M S : Type 0} (P : S → Type 0) (Q : M → Type 0) (step : M 
 kept_after P Q step keeps [] s all h = h
 kept_after P Q step keeps (m ∷ ms) s all h = kept_after P Q step keeps ms (step m s) all.1 (keeps m s all.0 h)
 
-module _ (C : ℕ → ClassId → ℕ → Type 0) (F : ℕ → ℕ → Value → Type 0) (V : Value → Type 0) where
+module _ (C : ℕ → ClassId → ℕ → Type 0) (F : ℕ → ℕ → Value → Type 0) (V O : Value → Type 0) where
   -- so of what a record carries, and of an object and changes
   abbrev pub UpHas : Up → Type 0
-  UpHas (up.Commit txn) = AllByRecursion (BodyHas C F V) txn.news × AllByRecursion (SetHas C F V) txn.sets × AllByRecursion V txn.outs
+  UpHas (up.Commit txn) = AllByRecursion (BodyHas C F V O) txn.news × AllByRecursion (SetHas C F V O) txn.sets × AllByRecursion O txn.outs
   UpHas m = Unit {0}
 
   abbrev pub DownHas : Down → Type 0
-  DownHas (down.Object body) = BodyHas C F V body
-  DownHas (down.Changes sets) = AllByRecursion (SetHas C F V) sets
+  DownHas (down.Object body) = BodyHas C F V O body
+  DownHas (down.Changes sets) = AllByRecursion (SetHas C F V O) sets
   DownHas m = Unit {0}
 
   -- ---- copies
@@ -44,7 +44,7 @@ module _ (C : ℕ → ClassId → ℕ → Type 0) (F : ℕ → ℕ → Value →
   ValueHas o f None = Unit {0}
   ValueHas o f (Some v) = F o f v
 
-  class_of_bodies : (o : ℕ) (bodies : List Body) (before : Option (ClassId × ℕ)) → AllByRecursion (BodyHas C F V) bodies → ClassHas o before → ClassHas o (class_by_bodies o bodies before)
+  class_of_bodies : (o : ℕ) (bodies : List Body) (before : Option (ClassId × ℕ)) → AllByRecursion (BodyHas C F V O) bodies → ClassHas o before → ClassHas o (class_by_bodies o bodies before)
   class_of_bodies o [] before all h = h
   class_of_bodies o (body ∷ bodies) before all h = class_of_bodies o bodies (cond (eqb body.object o) (Some (body.class, length body.values)) before) all.1 (by (eqb body.object o) refl)
     where
@@ -52,7 +52,7 @@ module _ (C : ℕ → ClassId → ℕ → Type 0) (F : ℕ → ℕ → Value →
       by true is = subst (λ n. C n body.class (length body.values)) (same_number body.object o is) all.0.class
       by false is = h
 
-  value_of_body : (o f : ℕ) (body : Body) (before : Option Value) → BodyHas C F V body → ValueHas o f before → ValueHas o f (value_by_body o f before body)
+  value_of_body : (o f : ℕ) (body : Body) (before : Option Value) → BodyHas C F V O body → ValueHas o f before → ValueHas o f (value_by_body o f before body)
   value_of_body o f body before has h = by (eqb body.object o) refl
     where
       there : (v : Option Value) → slice_get body.values f ≡ v → eqb body.object o ≡ true → ValueHas o f v
@@ -63,11 +63,11 @@ module _ (C : ℕ → ClassId → ℕ → Type 0) (F : ℕ → ℕ → Value →
       by true is = there (slice_get body.values f) refl is
       by false is = h
 
-  value_of_bodies : (o f : ℕ) (bodies : List Body) (before : Option Value) → AllByRecursion (BodyHas C F V) bodies → ValueHas o f before → ValueHas o f (value_by_bodies o f bodies before)
+  value_of_bodies : (o f : ℕ) (bodies : List Body) (before : Option Value) → AllByRecursion (BodyHas C F V O) bodies → ValueHas o f before → ValueHas o f (value_by_bodies o f bodies before)
   value_of_bodies o f [] before all h = h
   value_of_bodies o f (body ∷ bodies) before all h = value_of_bodies o f bodies (value_by_body o f before body) all.1 (value_of_body o f body before all.0 h)
 
-  value_of_set : (o f : ℕ) (set : Set) (before : Option Value) → SetHas C F V set → ValueHas o f before → ValueHas o f (value_by_set o f before set)
+  value_of_set : (o f : ℕ) (set : Set) (before : Option Value) → SetHas C F V O set → ValueHas o f before → ValueHas o f (value_by_set o f before set)
   value_of_set o f set before has h = by (is_set_of o f set) refl
     where
       by : (b : Bool) → is_set_of o f set ≡ b → ValueHas o f (cond b (Some set.value) before)
@@ -76,7 +76,7 @@ module _ (C : ℕ → ClassId → ℕ → Type 0) (F : ℕ → ℕ → Value →
           subst (λ n. F o n set.value) (same_number set.field f its.1) (subst (λ n. F n set.field set.value) (same_number set.object o its.0) has)
       by false is = h
 
-  pub value_of_sets : (o f : ℕ) (sets : List Set) (before : Option Value) → AllByRecursion (SetHas C F V) sets → ValueHas o f before → ValueHas o f (value_by_sets o f sets before)
+  pub value_of_sets : (o f : ℕ) (sets : List Set) (before : Option Value) → AllByRecursion (SetHas C F V O) sets → ValueHas o f before → ValueHas o f (value_by_sets o f sets before)
   value_of_sets o f [] before all h = h
   value_of_sets o f (set ∷ sets) before all h = value_of_sets o f sets (value_by_set o f before set) all.1 (value_of_set o f set before all.0 h)
 
@@ -104,9 +104,9 @@ module _ (C : ℕ → ClassId → ℕ → Type 0) (F : ℕ → ℕ → Value →
   -- the body of the object that is stored, if one is
   abbrev pub StoredHas : ℕ → Option Body → Type 0
   StoredHas o None = Unit {0}
-  StoredHas o (Some body) = (body.object ≡ o) × BodyHas C F V body
+  StoredHas o (Some body) = (body.object ≡ o) × BodyHas C F V O body
 
-  stored_by_news : (o : ℕ) (bodies : List Body) (before : Option Body) → AllByRecursion (BodyHas C F V) bodies → StoredHas o before → StoredHas o (body_by_news o bodies before)
+  stored_by_news : (o : ℕ) (bodies : List Body) (before : Option Body) → AllByRecursion (BodyHas C F V O) bodies → StoredHas o before → StoredHas o (body_by_news o bodies before)
   stored_by_news o [] before all h = h
   stored_by_news o (body ∷ bodies) before all h = stored_by_news o bodies (cond (eqb body.object o) (Some body) before) all.1 (by (eqb body.object o) refl)
     where
@@ -114,11 +114,11 @@ module _ (C : ℕ → ClassId → ℕ → Type 0) (F : ℕ → ℕ → Value →
       by true is = (same_number body.object o is, all.0)
       by false is = h
 
-  stored_with : (o : ℕ) (set : Set) (before : Option Body) → SetHas C F V set → eqb set.object o ≡ true → StoredHas o before → StoredHas o (body_with set before)
+  stored_with : (o : ℕ) (set : Set) (before : Option Body) → SetHas C F V O set → eqb set.object o ≡ true → StoredHas o before → StoredHas o (body_with set before)
   stored_with o set None has is h = tt
-  stored_with o set (Some body) has is h = (h.0, body_set C F V set.field set.value body h.1 (subst (λ n. F n set.field set.value) (same_number set.object o is ∙ sym h.0) has))
+  stored_with o set (Some body) has is h = (h.0, body_set C F V O set.field set.value body h.1 (subst (λ n. F n set.field set.value) (same_number set.object o is ∙ sym h.0) has))
 
-  stored_by_sets : (o : ℕ) (sets : List Set) (before : Option Body) → AllByRecursion (SetHas C F V) sets → StoredHas o before → StoredHas o (body_by_sets o sets before)
+  stored_by_sets : (o : ℕ) (sets : List Set) (before : Option Body) → AllByRecursion (SetHas C F V O) sets → StoredHas o before → StoredHas o (body_by_sets o sets before)
   stored_by_sets o [] before all h = h
   stored_by_sets o (set ∷ sets) before all h = stored_by_sets o sets (cond (eqb set.object o) (body_with set before) before) all.1 (by (eqb set.object o) refl)
     where

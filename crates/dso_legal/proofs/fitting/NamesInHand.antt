@@ -150,7 +150,7 @@ module _ (x : ℕ) where
   AnyValue v = Unit {0}
 
   abbrev pub BodyNames : Bool → Body → Type 0
-  BodyNames known = BodyHas AnyClass (InField known) AnyValue
+  BodyNames known = BodyHas AnyClass (InField known) AnyValue AnyValue
 
   abbrev pub SetNames : Bool → Set → Type 0
   SetNames known set = NamesKnown known set.value
@@ -159,7 +159,7 @@ module _ (x : ℕ) where
   names_on a b on v h names = on (h names)
 
   pub body_on : (a b : Bool) → (a ≡ true → b ≡ true) → (body : Body) → BodyNames a body → BodyNames b body
-  body_on a b on = body_more AnyClass AnyClass (InField a) (InField b) AnyValue AnyValue (λ o class n h. tt) (λ o f v. names_on a b on v) (λ v h. h)
+  body_on a b on = body_more AnyClass AnyClass (InField a) (InField b) AnyValue AnyValue AnyValue AnyValue (λ o class n h. tt) (λ o f v. names_on a b on v) (λ v h. h) (λ v h. h)
 
   pub bodies_on : (a b : Bool) → (a ≡ true → b ≡ true) → (bodies : List Body) → AllByRecursion (BodyNames a) bodies → AllByRecursion (BodyNames b) bodies
   bodies_on a b on = each_so (BodyNames a) (BodyNames b) (body_on a b on)
@@ -365,7 +365,7 @@ module _ (x : ℕ) where
           ap (λ b. (b || is_among x work.news) || known) (sym (among_valued o f v work.privates)) in
           record {
             privates = subst (λ b. AllByRecursion (BodyNames b) (with_value o f v work.privates)) same
-                (valued AnyClass (InField (in_hand work || known)) AnyValue o f v work.privates h.privates it);
+                (valued AnyClass (InField (in_hand work || known)) AnyValue AnyValue o f v work.privates h.privates it);
             news = h.news;
             sets = h.sets;
           }
@@ -378,7 +378,7 @@ module _ (x : ℕ) where
           let on : (is_among x work.news || known) ≡ true → shared ≡ true = λ is. news_on work.privates v news known (subst (λ b. (b || known) ≡ true) same is) in
           published_names v known work news work.sets once
           (subst (λ b. AllByRecursion (BodyNames ((is_among x work.privates || b) || known)) work.privates) same h.privates)
-          (valued AnyClass (InField shared) AnyValue o f v work.news (bodies_on (is_among x work.news || known) shared on work.news h.news)
+          (valued AnyClass (InField shared) AnyValue AnyValue o f v work.news (bodies_on (is_among x work.news || known) shared on work.news h.news)
           (value_on work.privates v news known (subst (λ b. NamesKnown ((is_among x work.privates || b) || known) v) same it)))
           (sets_on (is_among x work.news || known) shared on work.sets h.sets)
 

@@ -89,7 +89,7 @@ module _ (x : ℕ) where
 
   -- and a record that names it where it is known or among the news
   abbrev pub CarriesNames : Bool → Up → Type 0
-  CarriesNames known = UpHas (AnyClass x) (InField x known) (AnyValue x)
+  CarriesNames known = UpHas (AnyClass x) (InField x known) (AnyValue x) (AnyValue x)
 
   abbrev pub CommitNames : Up → Bool → Type 0
   CommitNames m known = CarriesNames (published_by x m known) m
@@ -98,13 +98,13 @@ module _ (x : ℕ) where
   MayName m known = FaultNames m known × CommitNames m known
 
   abbrev pub DownNames : Bool → Down → Type 0
-  DownNames known = DownHas (AnyClass x) (InField x known) (AnyValue x)
+  DownNames known = DownHas (AnyClass x) (InField x known) (AnyValue x) (AnyValue x)
 
   abbrev pub HeldNames : Bool → ℕ → ℕ → Option Value → Type 0
-  HeldNames known = ValueHas (AnyClass x) (InField x known) (AnyValue x)
+  HeldNames known = ValueHas (AnyClass x) (InField x known) (AnyValue x) (AnyValue x)
 
   abbrev pub StoredNames : Bool → ℕ → Option Body → Type 0
-  StoredNames known = StoredHas (AnyClass x) (InField x known) (AnyValue x)
+  StoredNames known = StoredHas (AnyClass x) (InField x known) (AnyValue x) (AnyValue x)
 
   -- ---- where more is known
 

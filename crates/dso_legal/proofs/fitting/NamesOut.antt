@@ -215,7 +215,7 @@ module _ (p : Settings) (next : ThreadId → List Event → Option Request) (sou
         abbrev seen : Bool
         seen = in_hand x work || now_out
 
-        sees : WorkHas (AnyClass x) (InField x seen) (AnyValue x) work
+        sees : WorkHas (AnyClass x) (InField x seen) (AnyValue x) (AnyValue x) work
         sees =
             let on : (is_among x work.news || now_out) ≡ true → seen ≡ true = or_on x (is_among x work.news) now_out (in_hand x work) now_out (right_so (is_among x work.privates) (is_among x work.news)) (λ is. is) in
             record {
@@ -225,10 +225,10 @@ module _ (p : Settings) (next : ThreadId → List Event → Option Request) (sou
               outs = all_so (AnyValue x) (λ v. tt) work.outs;
             }
 
-        sees_copies : CopiesHave (AnyClass x) (InField x seen) (AnyValue x) mine
+        sees_copies : CopiesHave (AnyClass x) (InField x seen) (AnyValue x) (AnyValue x) mine
         sees_copies = record { class = λ o. any o (class_held o mine); value = λ o f. held_on x now_out seen (right_so (in_hand x work) now_out) o f (value_held o f mine) (have.copies o f) }
           where
-            any : (o : ℕ) (class : Option (ClassId × ℕ)) → ClassHas (AnyClass x) (InField x seen) (AnyValue x) o class
+            any : (o : ℕ) (class : Option (ClassId × ℕ)) → ClassHas (AnyClass x) (InField x seen) (AnyValue x) (AnyValue x) o class
             any o None = tt
             any o (Some class) = tt
 
@@ -261,7 +261,7 @@ module _ (p : Settings) (next : ThreadId → List Event → Option Request) (sou
 
         reply_tells : (request : Request) (reply : Reply) → reply_of p t request mine ≡ Some reply → tells x reply ≡ true → (seen ≡ true) ⊎ (reply ≡ Made x)
         reply_tells (Get o f) reply answered is = inl (got o f (value_in p (own p.shape t o mine) f (value_seen p t o f mine)) reply
-            (seen_has (AnyClass x) (InField x seen) (AnyValue x) p t mine sees sees_copies o f) answered is)
+            (seen_has (AnyClass x) (InField x seen) (AnyValue x) (AnyValue x) p t mine sees sees_copies o f) answered is)
         reply_tells (Look o) reply answered is = inr (listed_tells (Look o) reply (reply_listed p t mine (Look o) reply answered) (λ o f same. cc same) is)
         reply_tells request reply answered is = inr (listed_tells request reply (reply_listed p t mine request reply answered) (λ o f same. cc same) is)
 
@@ -375,7 +375,7 @@ module _ (p : Settings) (next : ThreadId → List Event → Option Request) (sou
       says (inr acts) = record { names = (act_later acts).said_names; carries = (act_later acts).carries; works = act_works acts; told = act_told acts }
 
       value_in_now : (i : Input) (o f : ℕ) → ((m : Down) → i ≡ input.TookDown m → DownNames x later_out m) → HeldNames x later_out o f (by_taken_down (value_by_taken o f) i (value_held o f mine))
-      value_in_now (input.TookDown m) o f took = value_taken (AnyClass x) (InField x later_out) (AnyValue x) o f m (value_held o f mine) (took m refl)
+      value_in_now (input.TookDown m) o f took = value_taken (AnyClass x) (InField x later_out) (AnyValue x) (AnyValue x) o f m (value_held o f mine) (took m refl)
           (held_on x now_out later_out (still_out x said now_out) o f (value_held o f mine) (have.copies o f))
       value_in_now i o f took = held_on x now_out later_out (still_out x said now_out) o f (value_held o f mine) (have.copies o f)
 
@@ -392,7 +392,7 @@ module _ (p : Settings) (next : ThreadId → List Event → Option Request) (sou
             told = λ u is. subst (λ b. (in_hand x (work_of p.shape u (e ∷ mine)) || b) ≡ true) (sym all_out) (s.told u is);
             copies = λ o f. subst (λ b. HeldNames x b o f (value_held o f (e ∷ mine))) (sym all_out)
                 (subst (HeldNames x later_out o f) (sym (said_status (value_by_sent o f) e.sent (by_taken_down (value_by_taken o f) e.input (value_held o f mine))))
-                (kept_after (HeldNames x later_out o f) (CarriesNames x later_out) (value_by_sent o f) (value_sent (AnyClass x) (InField x later_out) (AnyValue x) o f) said
+                (kept_after (HeldNames x later_out o f) (CarriesNames x later_out) (value_by_sent o f) (value_sent (AnyClass x) (InField x later_out) (AnyValue x) (AnyValue x) o f) said
                 (by_taken_down (value_by_taken o f) e.input (value_held o f mine)) s.carries
                 (value_in_now e.input o f (λ m is. down_on x (is_stored es) later_out known_later m (first_of (DownNames x (is_stored es)) m (down_in_flight c es) (subst (λ i. TakesFirst i (Client c) es) is first) have.down)))));
             up = may_append (MayName x) (published_by x) ups said (is_stored es) have.up (each_both (FaultNames x) (CommitNames x) (published_by x) said now_out (faults_known rule) s.names);
@@ -565,7 +565,7 @@ module _ (p : Settings) (next : ThreadId → List Event → Option Request) (sou
           (subst (λ entries. ClientNames x p (later_known lost_now) entries (cond (takes_up c e.input) (drop 1 (messages (up_in_flight c es))) (messages (up_in_flight c es))) (messages (down_in_flight c es) ++ told_to c e.sent)) (sym turn.own) goes)))
 
       graph_in : (i : Input) (o : ℕ) (later : Bool) → (known ≡ true → later ≡ true) → ((d : ℕ) (m : Up) → i ≡ input.TookUp d m → CarriesNames x later m) → StoredNames x later o (by_taken_up (body_by o) i (stored p.shape o server))
-      graph_in (input.TookUp d m) o later on took = stored_taken (AnyClass x) (InField x later) (AnyValue x) o d m (stored p.shape o server) (took d m refl) (stored_on x known later on o (stored p.shape o server) (before.graph o))
+      graph_in (input.TookUp d m) o later on took = stored_taken (AnyClass x) (InField x later) (AnyValue x) (AnyValue x) o d m (stored p.shape o server) (took d m refl) (stored_on x known later on o (stored p.shape o server) (before.graph o))
       graph_in i o later on took = stored_on x known later on o (stored p.shape o server) (before.graph o)
 
       graph_names : (o : ℕ) (lost : Bool) → is_of_lost e.input (entries_of Server es) ≡ lost → StoredNames x (later_known lost) o (stored_with lost o)

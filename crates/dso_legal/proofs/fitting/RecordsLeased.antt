@@ -309,7 +309,7 @@ module _ (p : Settings) (next : ThreadId → List Event → Option Request) wher
       stored_class : (o : ℕ) (body : Body) → stored p.shape o server ≡ Some body → class_made p.shape o es ≡ Some (body.class, length body.values)
       stored_class o body is = by (stored p.shape o server) ((all_fine p next sound texts within es follow).graph o) is
         where
-          by : (at : Option Body) → StoredHas (C p next (F p next) (V p next) es) (F p next es) (V p next es) o at → at ≡ Some body → class_made p.shape o es ≡ Some (body.class, length body.values)
+          by : (at : Option Body) → StoredHas (C p next (F p next) (V p next) (V p next) es) (F p next es) (V p next es) (V p next es) o at → at ≡ Some body → class_made p.shape o es ≡ Some (body.class, length body.values)
           by None there is = absurd (cc is)
           by (Some at) there is =
               let same : at ≡ body = cc is in

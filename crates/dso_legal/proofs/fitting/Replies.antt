@@ -23,7 +23,7 @@ use Rattle.dso_legal.proofs.objects.FoundBodies.{found_is}
 use Rattle.dso_legal.proofs.fitting.InHand.{BodyHas, WorkHas, found_has}
 use Rattle.dso_legal.proofs.fitting.Messages.{ClassHas, ValueHas, value_of_sets}
 
-module _ (C : ℕ → ClassId → ℕ → Type 0) (F : ℕ → ℕ → Value → Type 0) (V : Value → Type 0) where
+module _ (C : ℕ → ClassId → ℕ → Type 0) (F : ℕ → ℕ → Value → Type 0) (V O : Value → Type 0) where
   -- what a look saw
   abbrev pub SawHas : Request → ClassId → ℕ → Type 0
   SawHas (Look o) class n = C o class n
@@ -50,53 +50,53 @@ module _ (C : ℕ → ClassId → ℕ → Type 0) (F : ℕ → ℕ → Value →
 
   -- so of a client's copies
   pub record CopiesHave (own : List Entry) : Type 0 where
-    pub class : (o : ℕ) → ClassHas C F V o (class_held o own)
-    pub value : (o f : ℕ) → ValueHas C F V o f (value_held o f own)
+    pub class : (o : ℕ) → ClassHas C F V O o (class_held o own)
+    pub value : (o f : ℕ) → ValueHas C F V O o f (value_held o f own)
 
-  module _ (p : Settings) (t : ThreadId) (es : List Entry) (work : WorkHas C F V (work_of p.shape t es)) (copies : CopiesHave es) where
+  module _ (p : Settings) (t : ThreadId) (es : List Entry) (work : WorkHas C F V O (work_of p.shape t es)) (copies : CopiesHave es) where
     -- the thread's own body of an object, if there is one
     abbrev OwnHas : ℕ → Option Body → Type 0
     OwnHas o None = Unit {0}
-    OwnHas o (Some body) = (body.object ≡ o) × BodyHas C F V body
+    OwnHas o (Some body) = (body.object ≡ o) × BodyHas C F V O body
 
     own_has : (o : ℕ) → OwnHas o (own p.shape t o es)
     own_has o = by (body_in o (work_of p.shape t es).privates) (body_in o (work_of p.shape t es).news) refl refl
       where
         by : (private new : Option Body) → body_in o (work_of p.shape t es).privates ≡ private → body_in o (work_of p.shape t es).news ≡ new → OwnHas o (or_else private new)
-        by (Some body) new is other = (found_is o (work_of p.shape t es).privates body is, found_has C F V o (work_of p.shape t es).privates body work.privates is)
-        by None (Some body) is other = (found_is o (work_of p.shape t es).news body other, found_has C F V o (work_of p.shape t es).news body work.news other)
+        by (Some body) new is other = (found_is o (work_of p.shape t es).privates body is, found_has C F V O o (work_of p.shape t es).privates body work.privates is)
+        by None (Some body) is other = (found_is o (work_of p.shape t es).news body other, found_has C F V O o (work_of p.shape t es).news body work.news other)
         by None None is other = tt
 
     -- a copy
-    copy_has : (o f : ℕ) → ValueHas C F V o f (copy_of o f es)
+    copy_has : (o f : ℕ) → ValueHas C F V O o f (copy_of o f es)
     copy_has o f = by (is_resident o es)
       where
-        by : (b : Bool) → ValueHas C F V o f (cond b (value_held o f es) None)
+        by : (b : Bool) → ValueHas C F V O o f (cond b (value_held o f es) None)
         by true = copies.value o f
         by false = tt
 
     -- the class that the thread knows
-    pub known_has : (o : ℕ) → ClassHas C F V o (class_known p t o es)
+    pub known_has : (o : ℕ) → ClassHas C F V O o (class_known p t o es)
     known_has o = by (own p.shape t o es) (own_has o)
       where
-        by : (body : Option Body) → OwnHas o body → ClassHas C F V o (or_else (option_map class_of_body body) (class_held o es))
+        by : (body : Option Body) → OwnHas o body → ClassHas C F V O o (or_else (option_map class_of_body body) (class_held o es))
         by None h = copies.class o
         by (Some body) h = subst (λ n. C n body.class (length body.values)) h.0 h.1.class
 
     -- the value of a field that it sees
-    pub seen_has : (o f : ℕ) → ValueHas C F V o f (value_in p (own p.shape t o es) f (value_seen p t o f es))
+    pub seen_has : (o f : ℕ) → ValueHas C F V O o f (value_in p (own p.shape t o es) f (value_seen p t o f es))
     seen_has o f = by (own p.shape t o es) (own_has o)
       where
-        at : (body : Body) (v : Option Value) → slice_get body.values f ≡ v → OwnHas o (Some body) → ValueHas C F V o f v
+        at : (body : Body) (v : Option Value) → slice_get body.values f ≡ v → OwnHas o (Some body) → ValueHas C F V O o f v
         at body None is h = tt
         at body (Some v) is h = subst (λ n. F n f v) h.0 (h.1.values f v is)
 
-        by : (body : Option Body) → OwnHas o body → ValueHas C F V o f (value_in p body f (value_seen p t o f es))
-        by None h = value_of_sets C F V o f (work_of p.shape t es).sets (copy_of o f es) work.sets (copy_has o f)
+        by : (body : Option Body) → OwnHas o body → ValueHas C F V O o f (value_in p body f (value_seen p t o f es))
+        by None h = value_of_sets C F V O o f (work_of p.shape t es).sets (copy_of o f es) work.sets (copy_has o f)
         by (Some body) h = at body (slice_get body.values f) refl h
 
     -- a look
-    looked : (o : ℕ) (class : Option (ClassId × ℕ)) (reply : Reply) → ClassHas C F V o class → option_map (λ (class : ClassId × ℕ). Seen class.0 class.1) class ≡ Some reply → ReplyHas (Look o) reply
+    looked : (o : ℕ) (class : Option (ClassId × ℕ)) (reply : Reply) → ClassHas C F V O o class → option_map (λ (class : ClassId × ℕ). Seen class.0 class.1) class ≡ Some reply → ReplyHas (Look o) reply
     looked o None reply h is = absurd (cc is)
     looked o (Some class) reply h is =
         let same : Seen class.0 class.1 ≡ reply = cc is in
@@ -104,7 +104,7 @@ module _ (C : ℕ → ClassId → ℕ → Type 0) (F : ℕ → ℕ → Value →
 
     module _ (may : MayTell) where
       -- a value read
-      got : (o f : ℕ) (v : Option Value) (reply : Reply) → ValueHas C F V o f v → option_map Val v ≡ Some reply → ReplyHas (Get o f) reply
+      got : (o f : ℕ) (v : Option Value) (reply : Reply) → ValueHas C F V O o f v → option_map Val v ≡ Some reply → ReplyHas (Get o f) reply
       got o f None reply h is = absurd (cc is)
       got o f (Some v) reply h is =
           let same : Val v ≡ reply = cc is in

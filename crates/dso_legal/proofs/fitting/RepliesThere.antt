@@ -63,7 +63,7 @@ place_below p (Array kind) size f has there = there
 place_below p Roots size f has there = subst (λ n. f < n) (sym has) there
 
 module _ (p : Settings) (next : ThreadId → List Event → Option Request) (sound : IsSound p.shape next) (known : GivesKnownTexts p.shape next) (within : StaysWithinShape p.shape next) (es : List Entry) (follow : AllFollow p next es) where
-  have : AllHave p next (F p next) (V p next) es
+  have : AllHave p next (F p next) (V p next) (V p next) es
   have = all_fine p next sound known within es follow
 
   -- the object was made with a size that is above the place
@@ -84,7 +84,7 @@ module _ (p : Settings) (next : ThreadId → List Event → Option Request) (sou
     place_known o f place = elim place.known [
       | inl first ↦ below_made o f Roots p.shape.roots (ap (λ n. class_made p.shape n es) first.0 ∙ roots_stay p next es follow) (subst (λ class. HasPlace p.shape class place.size f) first.1 place.there)
       | inr looked ↦
-          let look = one_of_all (IsLookAt o place.class place.size) (EventHas p next (F p next) (V p next) es) (events_in t mine) ((have.clients t.client).told t) looked in
+          let look = one_of_all (IsLookAt o place.class place.size) (EventHas p next (F p next) (V p next) (V p next) es) (events_in t mine) ((have.clients t.client).told t) looked in
           below_made o f place.class place.size (look_made p next es o place.class place.size look.0 look.1 look.2) place.there
     ]
 
@@ -109,8 +109,8 @@ module _ (p : Settings) (next : ThreadId → List Event → Option Request) (sou
 
     -- which is that with which it was made
     class_is : (o : ℕ) (class : ClassId × ℕ) → class_known p t o mine ≡ Some class → class_made p.shape o es ≡ Some (class.0, class.1)
-    class_is o class is = subst (ClassHas (C p next (F p next) (V p next) es) (F p next es) (V p next es) o) is
-        (known_has (C p next (F p next) (V p next) es) (F p next es) (V p next es) p t mine ((have.clients t.client).works t) (have.clients t.client).copies o)
+    class_is o class is = subst (ClassHas (C p next (F p next) (V p next) (V p next) es) (F p next es) (V p next es) (V p next es) o) is
+        (known_has (C p next (F p next) (V p next) (V p next) es) (F p next es) (V p next es) (V p next es) p t mine ((have.clients t.client).works t) (have.clients t.client).copies o)
 
     -- and a value in each field below its size
     value_there : (o f : ℕ) → IsBelow o f → IsHere o → value_in p (own p.shape t o mine) f (value_seen p t o f mine) ≢ None
@@ -122,7 +122,7 @@ module _ (p : Settings) (next : ThreadId → List Event → Option Request) (sou
             copied : (class : Option (ClassId × ℕ)) → class_held o mine ≡ class → class ≢ None → copy_of o f mine ≢ None
             copied None held there = absurd (there refl)
             copied (Some class) held there =
-                let made : class_made p.shape o es ≡ Some (class.0, class.1) = subst (ClassHas (C p next (F p next) (V p next) es) (F p next es) (V p next es) o) held ((have.clients t.client).copies.class o) in
+                let made : class_made p.shape o es ≡ Some (class.0, class.1) = subst (ClassHas (C p next (F p next) (V p next) (V p next) es) (F p next es) (V p next es) (V p next es) o) held ((have.clients t.client).copies.class o) in
                 λ none. field_held o mine class f held (same_size o f class below made) (sym (ap (λ b. cond b (value_held o f mine) None) is) ∙ none)
 
         by : (body : Option Body) → own p.shape t o mine ≡ body → (is_some body || is_resident o mine) ≡ true → value_in p body f (value_seen p t o f mine) ≢ None

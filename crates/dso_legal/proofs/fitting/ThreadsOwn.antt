@@ -133,7 +133,8 @@ module _ (p : Settings) (c : ℕ) where
   first_its [] h = tt
   first_its (t ∷ list) h = h.0
 
-  woken_its : (request : Request) (reply : Reply) (own_entries : List Entry) → ((l : LockName) → AreIts (client_list l own_entries)) → WakesIts (woken_by request reply own_entries)
+  -- So whom a notification of the client wakes.
+  pub woken_its : (request : Request) (reply : Reply) (own_entries : List Entry) → ((l : LockName) → AreIts (client_list l own_entries)) → WakesIts (woken_by request reply own_entries)
   woken_its (Notify l) Done own_entries h = first_its (client_list l own_entries) (h l)
   woken_its request reply own_entries h = tt
 

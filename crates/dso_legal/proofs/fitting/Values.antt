@@ -46,17 +46,10 @@ use Rattle.dso_legal.proofs.fitting.InHand.{each_so}
 use Rattle.dso_legal.proofs.fitting.Messages.{ValueHas, StoredHas}
 use Rattle.dso_legal.proofs.fitting.Replies.{ReplyHas}
 use Rattle.dso_legal.proofs.fitting.ClassesMade.{IsActOf, what_acts, class_of_new, class_stays}
+use Rattle.dso_legal.proofs.fitting.Untold.{all_untold, apart_from_zero}
 use Rattle.dso_legal.proofs.fitting.Carried.{C, EventHas, UpNow, DownNow, BodyNow, WorkNow, Brings, Keeps, AllHave, carried}
 
--- ---- numbers and lists
-
--- a number that isn't 0
-apart_from_zero : (o : ℕ) → o ≢ 0 → eqb o 0 ≡ false
-apart_from_zero o other = by (eqb o 0) refl
-  where
-    by : (b : Bool) → eqb o 0 ≡ b → b ≡ false
-    by true is = absurd (other (same_number o 0 is))
-    by false is = refl
+-- ---- lists
 
 -- one of a list of which all are so is so
 pub one_of_all : {X : Type 0} (P Q : X → Type 0) (xs : List X) → AllByRecursion Q xs → Any P xs → (x : X) × P x × Q x
@@ -113,28 +106,7 @@ module _ (p : Settings) (next : ThreadId → List Event → Option Request) wher
   -- ---- what a thread was told
 
   module _ (es : List Entry) where
-    real_reply : (request : Request) (reply : Reply) → ReplyHas (C p next F V es) (F es) (V es) request reply → tells 0 reply ≡ false
-    real_reply request (Made o) h = apart_from_zero o h.real
-    real_reply request (Val v) h = by v h
-      where
-        by : (v : Value) → V es v → tells 0 (Val v) ≡ false
-        by (value.Ref o) h = apart_from_zero o h.0
-        by (value.Text t) h = refl
-        by value.Null h = refl
-        by (value.Long n) h = refl
-        by (value.Bool b) h = refl
-    real_reply request (Seen class n) h = refl
-    real_reply request Done h = refl
-    real_reply request Local h = refl
-    real_reply request (Refused fault) h = refl
-
-    -- none told of object 0
-    untold : (events : List Event) → AllByRecursion (EventHas p next F V es) events → list_any (event_tells 0) events ≡ false
-    untold [] all = refl
-    untold (Act t request reply woken ∷ events) all = ap (λ b. b || list_any (event_tells 0) events) (real_reply request reply all.0) ∙ untold events all.1
-    untold (Lost client ∷ events) all = untold events all.1
-
-    made_reply : (o : ℕ) (request : Request) (reply : Reply) → ReplyHas (C p next F V es) (F es) (V es) request reply → tells o reply ≡ true → class_made p.shape o es ≢ None
+    made_reply : (o : ℕ) (request : Request) (reply : Reply) → ReplyHas (C p next F V V es) (F es) (V es) (V es) request reply → tells o reply ≡ true → class_made p.shape o es ≢ None
     made_reply o request (Made x) h is = λ none. cc (sym h.made ∙ ap (λ n. class_made p.shape n es) (same_number x o is) ∙ none)
     made_reply o request (Val v) h is = by v h is
       where
@@ -150,7 +122,7 @@ module _ (p : Settings) (next : ThreadId → List Event → Option Request) wher
     made_reply o request (Refused fault) h is = absurd (cc is)
 
     -- an object that was told was made
-    told_made : (o : ℕ) (events : List Event) → AllByRecursion (EventHas p next F V es) events → list_any (event_tells o) events ≡ true → class_made p.shape o es ≢ None
+    told_made : (o : ℕ) (events : List Event) → AllByRecursion (EventHas p next F V V es) events → list_any (event_tells o) events ≡ true → class_made p.shape o es ≢ None
     told_made o [] all is = absurd (cc is)
     told_made o (Act t request reply woken ∷ events) all is = by (tells o reply) refl is (told_made o events all.1)
       where
@@ -159,13 +131,13 @@ module _ (p : Settings) (next : ThreadId → List Event → Option Request) wher
         by false other rest later = later rest
     told_made o (Lost client ∷ events) all is = told_made o events all.1 is
 
-    text_reply : (text : ℕ) (t : ThreadId) (request : Request) (reply : Reply) (woken : Option ThreadId) → ReplyHas (C p next F V es) (F es) (V es) request reply
+    text_reply : (text : ℕ) (t : ThreadId) (request : Request) (reply : Reply) (woken : Option ThreadId) → ReplyHas (C p next F V V es) (F es) (V es) (V es) request reply
         → event_tells_text text (Act t request reply woken) ≡ true → text < p.shape.texts
     text_reply text t request (Val (value.Text n)) woken h is = subst (λ m. m < p.shape.texts) (same_number n text is) h
     text_reply text t request reply woken h is = absurd (cc is)
 
     -- a text that was told is one of the program's
-    told_text : (text : ℕ) (events : List Event) → AllByRecursion (EventHas p next F V es) events → list_any (event_tells_text text) events ≡ true → text < p.shape.texts
+    told_text : (text : ℕ) (events : List Event) → AllByRecursion (EventHas p next F V V es) events → list_any (event_tells_text text) events ≡ true → text < p.shape.texts
     told_text text [] all is = absurd (cc is)
     told_text text (Act t request reply woken ∷ events) all is = by (event_tells_text text (Act t request reply woken)) refl is (told_text text events all.1)
       where
@@ -175,11 +147,11 @@ module _ (p : Settings) (next : ThreadId → List Event → Option Request) wher
     told_text text (Lost client ∷ events) all is = told_text text events all.1 is
 
     -- what a look saw is so
-    pub look_made : (o : ℕ) (class : ClassId) (size : ℕ) (event : Event) → IsLookAt o class size event → EventHas p next F V es event → class_made p.shape o es ≡ Some (class, size)
+    pub look_made : (o : ℕ) (class : ClassId) (size : ℕ) (event : Event) → IsLookAt o class size event → EventHas p next F V V es event → class_made p.shape o es ≡ Some (class, size)
     look_made o class size (Act t (Look x) (Seen seen n) woken) look h = ap (λ m. class_made p.shape m es) (sym look.0) ∙ h ∙ ap (λ c. Some (c, n)) look.1 ∙ ap (λ m. Some (class, m)) look.2
     look_made o class size event look h = absurd look
 
-    module _ (events : List Event) (all : AllByRecursion (EventHas p next F V es) events) where
+    module _ (events : List Event) (all : AllByRecursion (EventHas p next F V V es) events) where
       -- a value that was told, and whose text is known, is fine
       pub value_fine : (v : Value) → IsToldValue v events → IsTextAmong (IsToldText p.shape events) v → V es v
       value_fine (value.Ref o) told text = (told.0, told_made o events all (by (eqb o 0) (apart_from_zero o told.0) told.1))
@@ -226,7 +198,7 @@ module _ (p : Settings) (next : ThreadId → List Event → Option Request) wher
   opening_fine now kind.Text = tt
   opening_fine now kind.Ref = tt
 
-  module _ (e : Entry) (es : List Entry) (follow : AllFollow p next (e ∷ es)) (events : List Event) (all : AllByRecursion (EventHas p next F V es) events) where
+  module _ (e : Entry) (es : List Entry) (follow : AllFollow p next (e ∷ es)) (events : List Event) (all : AllByRecursion (EventHas p next F V V es) events) where
     -- the place of a put
     put_fits : (o f : ℕ) (v : Value) (place : KnowsPlace p.shape o f events) → Fits (kind_of p.shape place.class f) v → V es v → F (e ∷ es) o f v
     put_fits o f v place fits fine = elim place.known [
@@ -242,7 +214,7 @@ module _ (p : Settings) (next : ThreadId → List Event → Option Request) wher
         class = place.class;
         size = place.size;
         made =
-            let look = one_of_all (IsLookAt o place.class place.size) (EventHas p next F V es) events all looked in
+            let look = one_of_all (IsLookAt o place.class place.size) (EventHas p next F V V es) events all looked in
             class_stays p.shape p next e es follow o (place.class, place.size) (look_made es o place.class place.size look.0 look.1 look.2);
         there = place.there;
         fits = fits;
@@ -250,7 +222,7 @@ module _ (p : Settings) (next : ThreadId → List Event → Option Request) wher
       }
     ]
 
-    brings_by : (t : ThreadId) (request : Request) (reply : Reply) (woken : Option ThreadId) → e.event ≡ Some (Act t request reply woken) → Asked t events request → Brings p next F V (e ∷ es) request reply
+    brings_by : (t : ThreadId) (request : Request) (reply : Reply) (woken : Option ThreadId) → e.event ≡ Some (Act t request reply woken) → Asked t events request → Brings p next F V V (e ∷ es) request reply
     brings_by t (New class n) (Made o) woken is asked = λ f less. record {
       class = class;
       size = n;
@@ -264,28 +236,29 @@ module _ (p : Settings) (next : ThreadId → List Event → Option Request) wher
     brings_by t request reply woken is asked = tt
 
   module _ (sound : IsSound p.shape next) (known : GivesKnownTexts p.shape next) (within : StaysWithinShape p.shape next) where
-    pub what_is_asked : (es : List Entry) → AllFollow p next es → AllHave p next F V es → (t : ThreadId) (request : Request) → next_after next es t ≡ Some request → Asked t (events_in t (entries_of (Client t.client) es)) request
+    pub what_is_asked : (es : List Entry) → AllFollow p next es → AllHave p next F V V es → (t : ThreadId) (request : Request) → next_after next es t ≡ Some request → Asked t (events_in t (entries_of (Client t.client) es)) request
     what_is_asked es follow have t request asked =
         let own : List Entry = entries_of (Client t.client) es in
-        let real : list_any (event_tells 0) (events_in t own) ≡ false = untold es (events_in t own) ((have.clients t.client).told t) in
+        let real : list_any (event_tells 0) (events_in t own) ≡ false = all_untold p next sound es follow t in
         record {
           keeps = sound.keeps t (events_in t own) request (own_acts t own) real (threads_wait p next t es follow) (threads_follow p next t es follow) asked;
           uses = within t (events_in t own) request (own_acts t own) real (threads_wait p next t es follow) (threads_follow p next t es follow) asked;
           gives = known t (events_in t own) request (own_acts t own) real (threads_wait p next t es follow) (threads_follow p next t es follow) asked;
         }
 
-    keeps_fine : Keeps p next F V
+    keeps_fine : Keeps p next F V V
     keeps_fine = record {
       fields = field_still;
       values = fine_still;
+      outs = fine_still;
       tells = λ es. record { read = λ o f v h. h.fine; woken = λ b. tt };
       roots = λ r less. record { class = Roots; size = p.shape.roots; made = refl; there = less; fits = tt; fine = tt };
       acts = λ e es follow have c it. brings_by e es follow (events_in it.thread (entries_of (Client it.thread.client) es)) ((have.clients it.thread.client).told it.thread)
           it.thread it.request it.reply _ it.event (what_is_asked es follow.0 have it.thread it.request it.asked);
     }
 
-    pub all_fine : (es : List Entry) → AllFollow p next es → AllHave p next F V es
-    all_fine es follow = carried p next F V keeps_fine es follow
+    pub all_fine : (es : List Entry) → AllFollow p next es → AllHave p next F V V es
+    all_fine es follow = carried p next F V V keeps_fine es follow
 
     -- ---- sizes
 
@@ -342,30 +315,30 @@ module _ (p : Settings) (next : ThreadId → List Event → Option Request) wher
 
     -- ---- in the words of the law
 
-    body_fine : (now : List Entry) (body : Body) → BodyNow p next F V now body → IsFineBody p.shape now body
+    body_fine : (now : List Entry) (body : Body) → BodyNow p next F V V now body → IsFineBody p.shape now body
     body_fine now body h = h.values
 
-    each_body_fine : (now : List Entry) (bodies : List Body) → AllByRecursion (BodyNow p next F V now) bodies → AllByRecursion (IsFineBody p.shape now) bodies
-    each_body_fine now = each_so (BodyNow p next F V now) (IsFineBody p.shape now) (body_fine now)
+    each_body_fine : (now : List Entry) (bodies : List Body) → AllByRecursion (BodyNow p next F V V now) bodies → AllByRecursion (IsFineBody p.shape now) bodies
+    each_body_fine now = each_so (BodyNow p next F V V now) (IsFineBody p.shape now) (body_fine now)
 
-    work_fine : (now : List Entry) (work : Work) → WorkNow p next F V now work → IsFineWork p.shape now work
+    work_fine : (now : List Entry) (work : Work) → WorkNow p next F V V now work → IsFineWork p.shape now work
     work_fine now work h = record { privates = each_body_fine now work.privates h.privates; news = each_body_fine now work.news h.news; sets = h.sets; outs = h.outs }
 
-    up_fine : (now : List Entry) (m : Up) → UpNow p next F V now m → CarriesUpFine p.shape now m
+    up_fine : (now : List Entry) (m : Up) → UpNow p next F V V now m → CarriesUpFine p.shape now m
     up_fine now (up.Commit txn) h = record { news = each_body_fine now txn.news h.0; sets = h.1; outs = h.2 }
     up_fine now m h = tt
 
-    down_fine : (now : List Entry) (m : Down) → DownNow p next F V now m → CarriesDownFine p.shape now m
+    down_fine : (now : List Entry) (m : Down) → DownNow p next F V V now m → CarriesDownFine p.shape now m
     down_fine now (down.Object body) h = h.values
     down_fine now (down.Changes sets) h = h
     down_fine now m h = tt
 
-    reply_fine : (now : List Entry) (request : Request) (reply : Reply) → ReplyHas (C p next F V now) (F now) (V now) request reply → TellsFine p.shape now reply
+    reply_fine : (now : List Entry) (request : Request) (reply : Reply) → ReplyHas (C p next F V V now) (F now) (V now) (V now) request reply → TellsFine p.shape now reply
     reply_fine now request (Made o) h = (h.real, λ none. cc (sym h.made ∙ none))
     reply_fine now request (Val v) h = h
     reply_fine now request reply h = tt
 
-    event_fine : (now : List Entry) (event : Event) → EventHas p next F V now event → EventTellsFine p.shape now event
+    event_fine : (now : List Entry) (event : Event) → EventHas p next F V V now event → EventTellsFine p.shape now event
     event_fine now (Act t request reply woken) h = reply_fine now request reply h
     event_fine now (Lost client) h = tt
 
@@ -374,23 +347,23 @@ module _ (p : Settings) (next : ThreadId → List Event → Option Request) wher
     keeps_values es follow = record {
       sizes = sizes es follow;
       works = λ t. work_fine es (work_of p.shape t (entries_of (Client t.client) es)) ((have.clients t.client).works t);
-      told = λ t. each_so (EventHas p next F V es) (EventTellsFine p.shape es) (event_fine es) (events_in t (entries_of (Client t.client) es)) ((have.clients t.client).told t);
+      told = λ t. each_so (EventHas p next F V V es) (EventTellsFine p.shape es) (event_fine es) (events_in t (entries_of (Client t.client) es)) ((have.clients t.client).told t);
       copies = λ c o f v is. held o f v (value_held o f (entries_of (Client c) es)) ((have.clients c).copies.value o f) is;
-      ups = λ c. each_so (UpNow p next F V es) (CarriesUpFine p.shape es) (up_fine es) (messages (up_in_flight c es)) (have.clients c).up;
-      downs = λ c. each_so (DownNow p next F V es) (CarriesDownFine p.shape es) (down_fine es) (messages (down_in_flight c es)) (have.clients c).down;
+      ups = λ c. each_so (UpNow p next F V V es) (CarriesUpFine p.shape es) (up_fine es) (messages (up_in_flight c es)) (have.clients c).up;
+      downs = λ c. each_so (DownNow p next F V V es) (CarriesDownFine p.shape es) (down_fine es) (messages (down_in_flight c es)) (have.clients c).down;
       graph = λ o body is. in_graph o body (stored p.shape o (counted (entries_of Server es))) (have.graph o) is;
     }
       where
-        have : AllHave p next F V es
+        have : AllHave p next F V V es
         have = all_fine es follow
 
-        held : (o f : ℕ) (v : Value) (at : Option Value) → ValueHas (C p next F V es) (F es) (V es) o f at → at ≡ Some v → FitsField p.shape es o f v
+        held : (o f : ℕ) (v : Value) (at : Option Value) → ValueHas (C p next F V V es) (F es) (V es) (V es) o f at → at ≡ Some v → FitsField p.shape es o f v
         held o f v None h is = absurd (cc is)
         held o f v (Some at) h is =
             let same : at ≡ v = cc is in
             subst (FitsField p.shape es o f) same h
 
-        in_graph : (o : ℕ) (body : Body) (at : Option Body) → StoredHas (C p next F V es) (F es) (V es) o at → at ≡ Some body → IsFineBody p.shape es body
+        in_graph : (o : ℕ) (body : Body) (at : Option Body) → StoredHas (C p next F V V es) (F es) (V es) (V es) o at → at ≡ Some body → IsFineBody p.shape es body
         in_graph o body None h is = absurd (cc is)
         in_graph o body (Some at) h is =
             let same : at ≡ body = cc is in

@@ -89,7 +89,7 @@ given_out c o (batch ∷ given) is = by (eqb batch.client c) (is_in_batch o batc
     by false false is later = later is
 
 module _ (p : Settings) (next : ThreadId → List Event → Option Request) (sound : IsSound p.shape next) (known : GivesKnownTexts p.shape next) (within : StaysWithinShape p.shape next) (es : List Entry) (follow : AllFollow p next es) where
-  have : AllHave p next (F p next) (V p next) es
+  have : AllHave p next (F p next) (V p next) (V p next) es
   have = all_fine p next sound known within es follow
 
   abbrev server : List Entry
@@ -101,7 +101,7 @@ module _ (p : Settings) (next : ThreadId → List Event → Option Request) (sou
   one_class : (o : ℕ) (class other : ClassId) (size n : ℕ) → class_made p.shape o es ≡ Some (class, size) → class_made p.shape o es ≡ Some (other, n) → (class ≡ other) × (size ≡ n)
   one_class o class other size n is as_well = same_pair (class, size) (other, n) (sym is ∙ as_well)
 
-  shaped : (body : Body) → BodyNow p next (F p next) (V p next) es body → FitsShape p.shape body
+  shaped : (body : Body) → BodyNow p next (F p next) (V p next) (V p next) es body → FitsShape p.shape body
   shaped body h = (
     sizes p next sound known within es follow body.object body.class (length body.values) h.class,
     fit_from p.shape body.class 0 body.values (λ f v is.
@@ -112,17 +112,17 @@ module _ (p : Settings) (next : ThreadId → List Event → Option Request) (sou
   )
 
   -- it is of the roots exactly where it is object 0
-  roots_only : (body : Body) → BodyNow p next (F p next) (V p next) es body → body.class ≡ Roots → body.object ≡ 0
+  roots_only : (body : Body) → BodyNow p next (F p next) (V p next) (V p next) es body → body.class ≡ Roots → body.object ≡ 0
   roots_only body h is = elim (made_as p next sound known within es follow body.object body.class (length body.values) h.class) [
     | inl first ↦ first.0
     | inr made ↦ absurd (subst (λ class. CanBeMade p.shape class (length body.values)) is made)
   ]
 
-  zero_roots : (body : Body) → BodyNow p next (F p next) (V p next) es body → body.object ≡ 0 → body.class ≡ Roots
+  zero_roots : (body : Body) → BodyNow p next (F p next) (V p next) (V p next) es body → body.object ≡ 0 → body.class ≡ Roots
   zero_roots body h is = (one_class body.object body.class Roots (length body.values) p.shape.roots h.class (ap (λ n. class_made p.shape n es) is ∙ roots_stay p next es follow)).0
 
   -- a set of an object of this class
-  set_fits : (set : Set) (class : ClassId) (size : ℕ) → SetHas (C p next (F p next) (V p next) es) (F p next es) (V p next es) set → class_made p.shape set.object es ≡ Some (class, size)
+  set_fits : (set : Set) (class : ClassId) (size : ℕ) → SetHas (C p next (F p next) (V p next) (V p next) es) (F p next es) (V p next es) (V p next es) set → class_made p.shape set.object es ≡ Some (class, size)
       → (set.field < size) × Fits (kind_of p.shape class set.field) set.value
   set_fits set class size h made =
       let same = one_class set.object h.class class h.size size h.made made in (
@@ -150,55 +150,55 @@ module _ (p : Settings) (next : ThreadId → List Event → Option Request) (sou
   -- ---- messages
 
   module _ (c : ℕ) where
-    news_shaped : (bodies : List Body) → AllByRecursion (BodyNow p next (F p next) (V p next) es) bodies → AllByRecursion (IsUnknown p c server) bodies → AllByRecursion (IsShapedNews p.shape) bodies
+    news_shaped : (bodies : List Body) → AllByRecursion (BodyNow p next (F p next) (V p next) (V p next) es) bodies → AllByRecursion (IsUnknown p c server) bodies → AllByRecursion (IsShapedNews p.shape) bodies
     news_shaped [] h unknown = tt
     news_shaped (body ∷ bodies) h unknown = ((λ is. none_is_zero (given_from_one c body.object (batches_given server) (in_turn p next es follow) unknown.0.given) (roots_only body h.0 is), shaped body h.0), news_shaped bodies h.1 unknown.1)
       where
         none_is_zero : {n : ℕ} → 1 ≤ n → n ≡ 0 → ⊥
         none_is_zero le zero_is = omega (arith, le, zero_is)
 
-    stored_fits : (set : Set) → SetHas (C p next (F p next) (V p next) es) (F p next es) (V p next es) set → FitsStoredField p.shape server set
+    stored_fits : (set : Set) → SetHas (C p next (F p next) (V p next) (V p next) es) (F p next es) (V p next es) (V p next es) set → FitsStoredField p.shape server set
     stored_fits set h body is = set_fits set body.class (length body.values) h (by (stored p.shape set.object server) (have.graph set.object) is)
       where
-        by : (at : Option Body) → StoredHas (C p next (F p next) (V p next) es) (F p next es) (V p next es) set.object at → at ≡ Some body → class_made p.shape set.object es ≡ Some (body.class, length body.values)
+        by : (at : Option Body) → StoredHas (C p next (F p next) (V p next) (V p next) es) (F p next es) (V p next es) (V p next es) set.object at → at ≡ Some body → class_made p.shape set.object es ≡ Some (body.class, length body.values)
         by None there is = absurd (cc is)
         by (Some at) there is =
             let same : at ≡ body = cc is in
             subst (λ (x : Body). class_made p.shape set.object es ≡ Some (x.class, length x.values)) same (ap (λ n. class_made p.shape n es) (sym there.0) ∙ there.1.class)
 
-    record_fits : (txn : Txn) → UpNow p next (F p next) (V p next) es (up.Commit txn) → AllByRecursion (IsUnknown p c server) txn.news → FitsValues p server txn
+    record_fits : (txn : Txn) → UpNow p next (F p next) (V p next) (V p next) es (up.Commit txn) → AllByRecursion (IsUnknown p c server) txn.news → FitsValues p server txn
     record_fits txn h unknown = record {
       news = news_shaped txn.news h.0 unknown;
-      sets = each_so (SetHas (C p next (F p next) (V p next) es) (F p next es) (V p next es)) (FitsStoredField p.shape server) stored_fits txn.sets h.1;
+      sets = each_so (SetHas (C p next (F p next) (V p next) (V p next) es) (F p next es) (V p next es) (V p next es)) (FitsStoredField p.shape server) stored_fits txn.sets h.1;
       printed = each_so (V p next es) (IsPrinted server) printed txn.outs h.2;
       texts = each_of_two (IsLiteral p) (stored_values txn) txn.outs
           (each_of_two (IsLiteral p) (flat_map (λ body. body.values) txn.news) (map (λ set. set.value) txn.sets)
-          (all_flat (IsLiteral p) txn.news (each_so (BodyNow p next (F p next) (V p next) es) (λ body. AllByRecursion (IsLiteral p) body.values)
+          (all_flat (IsLiteral p) txn.news (each_so (BodyNow p next (F p next) (V p next) (V p next) es) (λ body. AllByRecursion (IsLiteral p) body.values)
           (λ body has. all_values (IsLiteral p) body.values (λ f v is. literal v (has.values f v is).fine)) txn.news h.0))
-          (all_set (IsLiteral p) txn.sets (each_so (SetHas (C p next (F p next) (V p next) es) (F p next es) (V p next es)) (λ set. IsLiteral p set.value) (λ set has. literal set.value has.fine) txn.sets h.1)))
+          (all_set (IsLiteral p) txn.sets (each_so (SetHas (C p next (F p next) (V p next) (V p next) es) (F p next es) (V p next es) (V p next es)) (λ set. IsLiteral p set.value) (λ set has. literal set.value has.fine) txn.sets h.1)))
           (each_so (V p next es) (IsLiteral p) literal txn.outs h.2);
     }
 
-    up_fits : (m : Up) → UpNow p next (F p next) (V p next) es m → PublishesUnknown p c m server → ValuesFitUp p server m
+    up_fits : (m : Up) → UpNow p next (F p next) (V p next) (V p next) es m → PublishesUnknown p c m server → ValuesFitUp p server m
     up_fits (up.Commit txn) h unknown = record_fits txn h unknown
     up_fits m h unknown = tt
 
-    change_fits : (set : Set) → SetHas (C p next (F p next) (V p next) es) (F p next es) (V p next es) set → FitsChange p.shape (entries_of (Client c) es) set
+    change_fits : (set : Set) → SetHas (C p next (F p next) (V p next) (V p next) es) (F p next es) (V p next es) (V p next es) set → FitsChange p.shape (entries_of (Client c) es) set
     change_fits set h resident = by (class_held set.object (entries_of (Client c) es)) ((have.clients c).copies.class set.object) (resident_classed set.object (entries_of (Client c) es) resident)
       where
-        by : (class : Option (ClassId × ℕ)) → ClassHas (C p next (F p next) (V p next) es) (F p next es) (V p next es) set.object class → class ≢ None → FitsClass p.shape set class
+        by : (class : Option (ClassId × ℕ)) → ClassHas (C p next (F p next) (V p next) (V p next) es) (F p next es) (V p next es) (V p next es) set.object class → class ≢ None → FitsClass p.shape set class
         by None has there = there refl
         by (Some class) has there = set_fits set class.0 class.1 h has
 
-    down_fits : (m : Down) → DownNow p next (F p next) (V p next) es m → ValuesFitDown p (entries_of (Client c) es) m
+    down_fits : (m : Down) → DownNow p next (F p next) (V p next) (V p next) es m → ValuesFitDown p (entries_of (Client c) es) m
     down_fits (down.Object body) h = ((roots_only body h, zero_roots body h), shaped body h)
-    down_fits (down.Changes sets) h = each_so (SetHas (C p next (F p next) (V p next) es) (F p next es) (V p next es)) (FitsChange p.shape (entries_of (Client c) es)) change_fits sets h
+    down_fits (down.Changes sets) h = each_so (SetHas (C p next (F p next) (V p next) (V p next) es) (F p next es) (V p next es) (V p next es)) (FitsChange p.shape (entries_of (Client c) es)) change_fits sets h
     down_fits m h = tt
 
 pub values_fit : ValuesFit
 values_fit p next sound known within es follow c = record {
   ups = λ m first. up_fits p next sound known within es follow c m
-      (first_of (UpNow p next (F p next) (V p next) es) m (up_in_flight c es) first ((all_fine p next sound known within es follow).clients c).up) (news_unknown p next es follow c m first);
+      (first_of (UpNow p next (F p next) (V p next) (V p next) es) m (up_in_flight c es) first ((all_fine p next sound known within es follow).clients c).up) (news_unknown p next es follow c m first);
   downs = λ m first. down_fits p next sound known within es follow c m
-      (first_of (DownNow p next (F p next) (V p next) es) m (down_in_flight c es) first ((all_fine p next sound known within es follow).clients c).down);
+      (first_of (DownNow p next (F p next) (V p next) (V p next) es) m (down_in_flight c es) first ((all_fine p next sound known within es follow).clients c).down);
 }

@@ -56,7 +56,7 @@ use Rattle.dso_law.specs.Threads.{Waiting, locks_of}
 use Rattle.dso_law.specs.ClientWaiters.{client_list, is_marked}
 use Rattle.dso_law.specs.ServerWaiters.{waiters_of}
 use Rattle.dso_legal.proofs.journals.Facts.{is_there, isnt_roots, isnt_roots_array, not_read}
-use Rattle.dso_legal.specs.WaitsAndLosses.{is_wait, HasNoWait, WithoutWaits, is_loss, WithoutLosses}
+use Rattle.dso_legal.specs.WithoutWaits.{is_wait, HasNoWait, WithoutWaits}
 
 -- ---- tests, and how they are put together
 
@@ -364,6 +364,3 @@ has_no_wait (Some event) = is_false (is_wait event)
 
 abbrev pub without_waits : (es : List Entry) → Checked (WithoutWaits es)
 without_waits es = each (λ e. has_no_wait e.event) es
-
-abbrev pub without_losses : (es : List Entry) → Checked (WithoutLosses es)
-without_losses es = each (λ e. is_false (is_loss e.input)) es

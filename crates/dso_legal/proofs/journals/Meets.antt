@@ -1,4 +1,4 @@
--- That seven of the example journals meet the premises of the central law, each with a program of courses that go by the replies.
+-- That ten of the example journals meet the premises of the central law, each with a program of courses that go by the replies.
 use Rattle.std.specs.List.{list_any}
 use Rattle.std.specs.Prelude.{ℕ, suc, ◌≢◌, not, map}
 use Rattle.std.proofs.Common.{◌≡◌, refl, sym, ◌∙◌, ap, subst, Bool, true, false, cond, ◌||◌, Option, Some, None, List, [], ◌∷◌, ◌++◌}
@@ -19,16 +19,19 @@ use Rattle.dso_law.specs.Threads.{Held, Locks, hold_in, with_hold, locks_after, 
 use Rattle.dso_legal.specs.PendingBlocks.{no_locks, locks_through}
 use Rattle.dso_base.specs.declared.journal.Entry.{Entry}
 use Rattle.dso_legal.specs.examples.Courses.{Course, program_of, course_of}
-use Rattle.dso_legal.specs.examples.Premises.{MeetsPremises, MeetsCalmly, goes_on, ticks_then, one_tick, counter_courses, recall_courses, flush_courses, settling_courses, two_ticks_courses, passing_courses, notifying_courses, CounterMeets, RecallMeets, FlushMeets, SettlingMeets, TimedOutHereMeets, TimedOutThereMeets, CrossedTimeoutMeets}
+use Rattle.dso_legal.specs.examples.Premises.{MeetsPremises, MeetsCalmly, goes_on, ticks_then, one_tick, counter_courses, recall_courses, flush_courses, settling_courses, two_ticks_courses, passing_courses, notifying_courses, puts_root, two_puts_courses, waits_on, two_waits_courses, two_sections_courses, CounterMeets, RecallMeets, FlushMeets, SettlingMeets, TimedOutHereMeets, TimedOutThereMeets, CrossedTimeoutMeets, LostClientMeets, LostWaitersMeets, SettledThenLostMeets}
 use Rattle.dso_legal.specs.examples.Counter as counter
 use Rattle.dso_legal.specs.examples.Flush as flush
+use Rattle.dso_legal.specs.examples.LostClient as lost
+use Rattle.dso_legal.specs.examples.LostWaiters as lost_waiters
 use Rattle.dso_legal.specs.examples.Recall as recall
+use Rattle.dso_legal.specs.examples.SettledThenLost as settled_then_lost
 use Rattle.dso_legal.specs.examples.CrossedTimeout as crossed
 use Rattle.dso_legal.specs.examples.Settling as settling
 use Rattle.dso_legal.specs.examples.TimedOutHere as here
 use Rattle.dso_legal.specs.examples.TimedOutThere as there
 use Rattle.dso_legal.specs.examples.Words.{thread}
-use Rattle.dso_legal.proofs.journals.Checks.{each, counts_rejoins, without_waits, without_losses}
+use Rattle.dso_legal.proofs.journals.Checks.{each, counts_rejoins, without_waits}
 use Rattle.dso_legal.proofs.journals.CourseKeeps.{step, keeps, keeps_waiting, told_first, told_second}
 use Rattle.dso_legal.proofs.journals.Facts.{is_there, not_zero}
 use Rattle.dso_legal.proofs.journals.Replay.{replayed, lawful_by_replay}
@@ -192,37 +195,91 @@ notifying_sound =
     step (keeps refl refl tt (is_there _ refl) tt) (λ w.
     step (keeps refl refl tt refl tt) (λ w. tt))))
 
+-- the courses of two threads that put what they make into the root
+first_puts_sound : StaysSound lost.settings.shape (thread 1 1) [] puts_root
+first_puts_sound =
+    step (keeps refl refl tt tt refl) (λ o w.
+    step (keeps refl refl tt tt tt) (λ w.
+    step (keeps refl refl refl tt tt) (λ v w.
+    step (keeps refl refl (refl, (not_zero, told_first (suc o) _ _)) tt tt) (λ w.
+    step (keeps refl refl tt (is_there _ refl) tt) (λ w.
+    step (keeps refl refl tt refl tt) (λ w. tt))))))
+
+second_puts_sound : StaysSound lost.settings.shape (thread 2 1) [] puts_root
+second_puts_sound =
+    step (keeps refl refl tt tt refl) (λ o w.
+    step (keeps refl refl tt tt tt) (λ w.
+    step (keeps refl refl refl tt tt) (λ v w.
+    step (keeps refl refl (refl, (not_zero, told_first (suc o) _ _)) tt tt) (λ w.
+    step (keeps refl refl tt (is_there _ refl) tt) (λ w.
+    step (keeps refl refl tt refl tt) (λ w. tt))))))
+
+-- of two that wait until they are woken,
+first_waits_sound : StaysSound lost_waiters.settings.shape (thread 1 1) [] waits_on
+first_waits_sound =
+    step (keeps refl refl tt tt tt) (λ w.
+    step (keeps refl refl tt tt tt) (λ w.
+    step (keeps_waiting refl tt tt refl tt tt) (λ w.
+    step (keeps refl refl tt (is_there _ refl) tt) (λ w.
+    step (keeps refl refl tt refl tt) (λ w. tt)))))
+
+third_waits_sound : StaysSound lost_waiters.settings.shape (thread 3 1) [] waits_on
+third_waits_sound =
+    step (keeps refl refl tt tt tt) (λ w.
+    step (keeps refl refl tt tt tt) (λ w.
+    step (keeps_waiting refl tt tt refl tt tt) (λ w.
+    step (keeps refl refl tt (is_there _ refl) tt) (λ w.
+    step (keeps refl refl tt refl tt) (λ w. tt)))))
+
+-- and of one that settles between two sections
+two_sections_sound : StaysSound settled_then_lost.settings.shape (thread 1 1) [] (course_of (thread 1 1) two_sections_courses)
+two_sections_sound =
+    step (keeps refl refl tt tt tt) (λ w.
+    step (keeps refl refl tt (is_there _ refl) tt) (λ w.
+    step (keeps refl refl tt tt tt) (λ w.
+    step (keeps refl refl tt tt tt) (λ w.
+    step (keeps refl refl tt (is_there _ refl) tt) (λ w.
+    step (keeps refl refl tt refl tt) (λ w. tt))))))
+
 -- A journal meets the premises where its courses are sound; the rest is computed.
 meets : (p : Settings) (courses : List (ThreadId × Course)) (es : List Entry) → AllSound p.shape courses → replayed p (program_of courses) es ≡ map Some es
-    → (each (counts_rejoins es) (clients_of p)).passes ≡ true → (without_losses es).passes ≡ true → MeetsPremises p (program_of courses) es
-meets p courses es sound same counted whole = record {
+    → (each (counts_rejoins es) (clients_of p)).passes ≡ true → MeetsPremises p (program_of courses) es
+meets p courses es sound same counted = record {
   sound = sound_program p.shape courses sound;
   lawful = lawful_by_replay p (program_of courses) es same counted;
-  whole = (without_losses es).holds whole;
 }
 
 -- and calmly where it has no waits
 meets_calmly : (p : Settings) (courses : List (ThreadId × Course)) (es : List Entry) → AllSound p.shape courses → replayed p (program_of courses) es ≡ map Some es
-    → (each (counts_rejoins es) (clients_of p)).passes ≡ true → (without_waits es).passes ≡ true → (without_losses es).passes ≡ true → MeetsCalmly p (program_of courses) es
-meets_calmly p courses es sound same counted calm whole = record { premises = meets p courses es sound same counted whole; calm = (without_waits es).holds calm }
+    → (each (counts_rejoins es) (clients_of p)).passes ≡ true → (without_waits es).passes ≡ true → MeetsCalmly p (program_of courses) es
+meets_calmly p courses es sound same counted calm = record { premises = meets p courses es sound same counted; calm = (without_waits es).holds calm }
 
 pub counter_meets : CounterMeets
-counter_meets = meets_calmly counter.settings counter_courses counter.entries (counter_sound, tt) refl refl refl refl
+counter_meets = meets_calmly counter.settings counter_courses counter.entries (counter_sound, tt) refl refl refl
 
 pub recall_meets : RecallMeets
-recall_meets = meets_calmly recall.settings recall_courses recall.entries (first_sound, (second_sound, tt)) refl refl refl refl
+recall_meets = meets_calmly recall.settings recall_courses recall.entries (first_sound, (second_sound, tt)) refl refl refl
 
 pub flush_meets : FlushMeets
-flush_meets = meets_calmly flush.settings flush_courses flush.entries (flush_sound, tt) refl refl refl refl
+flush_meets = meets_calmly flush.settings flush_courses flush.entries (flush_sound, tt) refl refl refl
 
 pub settling_meets : SettlingMeets
-settling_meets = meets_calmly settling.settings settling_courses settling.entries (settling_sound, tt) refl refl refl refl
+settling_meets = meets_calmly settling.settings settling_courses settling.entries (settling_sound, tt) refl refl refl
 
 pub timed_out_here_meets : TimedOutHereMeets
-timed_out_here_meets = meets here.settings two_ticks_courses here.entries (two_ticks_sound, tt) refl refl refl
+timed_out_here_meets = meets here.settings two_ticks_courses here.entries (two_ticks_sound, tt) refl refl
 
 pub timed_out_there_meets : TimedOutThereMeets
-timed_out_there_meets = meets there.settings passing_courses there.entries (one_tick_sound there.settings.shape, (passing_sound, tt)) refl refl refl
+timed_out_there_meets = meets there.settings passing_courses there.entries (one_tick_sound there.settings.shape, (passing_sound, tt)) refl refl
 
 pub crossed_timeout_meets : CrossedTimeoutMeets
-crossed_timeout_meets = meets crossed.settings notifying_courses crossed.entries (one_tick_sound crossed.settings.shape, (notifying_sound, tt)) refl refl refl
+crossed_timeout_meets = meets crossed.settings notifying_courses crossed.entries (one_tick_sound crossed.settings.shape, (notifying_sound, tt)) refl refl
+
+pub lost_client_meets : LostClientMeets
+lost_client_meets = meets_calmly lost.settings two_puts_courses lost.entries (first_puts_sound, (second_puts_sound, tt)) refl refl refl
+
+pub lost_waiters_meets : LostWaitersMeets
+lost_waiters_meets = meets lost_waiters.settings two_waits_courses lost_waiters.entries (first_waits_sound, (notifying_sound, (third_waits_sound, tt))) refl refl
+
+pub settled_then_lost_meets : SettledThenLostMeets
+settled_then_lost_meets = meets_calmly settled_then_lost.settings two_sections_courses settled_then_lost.entries (two_sections_sound, (passing_sound, tt)) refl refl refl

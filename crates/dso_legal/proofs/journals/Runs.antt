@@ -4,6 +4,8 @@ use Rattle.dso_legal.specs.examples.Broken as broken
 use Rattle.dso_legal.specs.examples.Counter as counter
 use Rattle.dso_legal.specs.examples.Flush as flush
 use Rattle.dso_legal.specs.examples.LostClient as lost
+use Rattle.dso_legal.specs.examples.LostWaiters as lost_waiters
+use Rattle.dso_legal.specs.examples.SettledThenLost as settled_then_lost
 use Rattle.dso_legal.specs.examples.Recall as recall
 use Rattle.dso_legal.specs.examples.Settling as settling
 use Rattle.dso_legal.specs.examples.TimedOutHere as here
@@ -41,3 +43,9 @@ broken_runs = record { lawful = lawful_by_replay broken.settings broken.next bro
 
 pub lost_client_runs : lost.LostClientJournal
 lost_client_runs = record { lawful = lawful_by_replay lost.settings lost.next lost.entries refl refl; finished = refl; opens = refl; commits = refl; weighs = refl }
+
+pub lost_waiters_runs : lost_waiters.LostWaitersJournal
+lost_waiters_runs = record { lawful = lawful_by_replay lost_waiters.settings lost_waiters.next lost_waiters.entries refl refl; finished = refl; opens = refl; commits = refl; weighs = refl }
+
+pub settled_then_lost_runs : settled_then_lost.SettledThenLostJournal
+settled_then_lost_runs = record { lawful = lawful_by_replay settled_then_lost.settings settled_then_lost.next settled_then_lost.entries refl refl; finished = refl; opens = refl; commits = refl; weighs = refl }

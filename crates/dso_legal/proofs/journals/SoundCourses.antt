@@ -15,7 +15,7 @@ use Rattle.dso_base.specs.declared.value.Value.{Value}
 use Rattle.dso_base.specs.declared.value.Value.TheVariants as value
 use Rattle.dso_base.specs.Following.{is_thread, FollowsFrom, Listed}
 use Rattle.dso_plain.proofs.keys.SameKeys.{same_thread, thread_self}
-use Rattle.dso_plain.specs.Rechoice.{AreSameActs}
+use Rattle.dso_plain.specs.SameActs.{AreSameActs}
 use Rattle.dso_legal.specs.SoundProgram.{KeepsTo, IsSound}
 use Rattle.dso_legal.specs.examples.Courses.{Course, Stops, Makes, Looks, Reads, Ticks, TimesOut, Does, asked_first, after_reply, asks_after, course_of, program_of}
 

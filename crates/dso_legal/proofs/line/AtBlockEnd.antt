@@ -30,20 +30,18 @@ use Rattle.dso_plain.proofs.invariants.PastsHold.{run_kept}
 use Rattle.dso_law.specs.Copies.{is_resident, is_set_of}
 use Rattle.dso_law.specs.Entries.{entries_of}
 use Rattle.dso_law.specs.Leases.{standing, leased}
-use Rattle.dso_law.specs.ServerReadings.{counted}
+use Rattle.dso_law.specs.ServerReadings.{is_lost, counted}
 use Rattle.dso_law.specs.Channels.{up_in_flight}
 use Rattle.dso_law.specs.Granting.{standing_with}
 use Rattle.dso_law.specs.Settings.{Settings}
 use Rattle.dso_law.specs.Threads.{Locks, ending_by, locks_of, open_block, privates_before, work_of}
 use Rattle.dso_legal.specs.Agreement.{messages}
-use Rattle.dso_legal.specs.WaitsAndLosses.{WithoutLosses}
 use Rattle.dso_legal.specs.AsMade.{as_made}
 use Rattle.dso_legal.specs.CopiesStand.{state_at}
 use Rattle.dso_legal.specs.Lawful.{AllFollow}
 use Rattle.dso_legal.specs.PendingBlocks.{joined, pending}
 use Rattle.dso_legal.specs.Residency.{is_set}
 use Rattle.dso_legal.specs.Works.{ArePrivates}
-use Rattle.dso_legal.proofs.blocks.BlockSteps.{none_is_lost}
 use Rattle.dso_legal.proofs.blocks.ClientBlocks.{block_acts, keeps_thread}
 use Rattle.dso_legal.proofs.records.ClientRecords.{EndsBlock, block_ended, record_ended}
 use Rattle.dso_legal.proofs.records.ClientWords.{ClientWord, IsWord, Records}
@@ -67,8 +65,8 @@ ending_work shape (Timeout l) reply woken work locks ending ends = refl
 ending_work shape (End fault) reply woken work locks ending ends = refl
 ending_work shape request reply woken work locks ending ends = absurd (cc ends)
 
-module _ (p : Settings) (next : ThreadId → List Event → Option Request) (e : Entry) (es : List Entry) (follow : AllFollow p next (e ∷ es)) (safe : WithoutLosses (e ∷ es)) (stand : AllStand p es)
-    (c : ℕ) (at : e.node ≡ Client c) (it : EndsBlock p e (entries_of (Client c) es)) (runs : RunsButMarks p.shape (block_ended it) (state_at p c es)) where
+module _ (p : Settings) (next : ThreadId → List Event → Option Request) (e : Entry) (es : List Entry) (follow : AllFollow p next (e ∷ es)) (stand : AllStand p es)
+    (c : ℕ) (at : e.node ≡ Client c) (alive : is_lost c (entries_of Server es) ≡ false) (it : EndsBlock p e (entries_of (Client c) es)) (runs : RunsButMarks p.shape (block_ended it) (state_at p c es)) where
   abbrev own : List Entry
   own = entries_of (Client c) es
 
@@ -91,7 +89,7 @@ module _ (p : Settings) (next : ThreadId → List Event → Option Request) (e :
   its_client = ending_thread p next c e es follow.0 follow.1 at it
 
   opens : OpensFrom p.shape it.thread own s
-  opens = opens_from p next es follow.0 safe.1 stand c it.thread its_client
+  opens = opens_from p next es follow.0 stand c alive it.thread its_client
 
   acts : AreActsOf it.thread (block_ended it)
   acts = block_acts it.thread it.request it.reply it.woken own
@@ -103,7 +101,7 @@ module _ (p : Settings) (next : ThreadId → List Event → Option Request) (e :
 
   -- the blocks in flight run
   pends : RunsButMarks p.shape (joined (pending c es)) (last_state p.shape (as_made es))
-  pends = line_runs p.shape c (messages (up_in_flight c es)) (pending c es) (λ l. standing_with c l (counted (entries_of Server es))) (last_state p.shape (as_made es)) (stand.lines c).line
+  pends = line_runs p.shape c (messages (up_in_flight c es)) (pending c es) (λ l. standing_with c l (counted (entries_of Server es))) (last_state p.shape (as_made es)) (stand.lines c alive).line
 
   -- pasts are kept where the client stands
   kept : PastInvariant s
@@ -112,7 +110,7 @@ module _ (p : Settings) (next : ThreadId → List Event → Option Request) (e :
   -- the private objects are those of the state
   are : ArePrivates it.thread privates s
   are = subst (λ bodies. ArePrivates it.thread bodies s) (sym (keeps_thread p.shape it.thread own).privates)
-      (privates_at_of works_tell p next it.thread c its_client es follow.0 (none_is_lost c es safe.1) stand.runs pends)
+      (privates_at_of works_tell p next it.thread c its_client es follow.0 alive stand.runs pends)
 
   -- what the block sets is of leased guards
   sets_leased : (o f : ℕ) → list_any (is_set_of o f) work.sets ≡ true → (standing (guard_in p.shape s o f) own).lease ≢ None

@@ -1,7 +1,7 @@
--- A client's line at an entry that is none of its own and moves no history: a message of any client that the server takes and
--- that is no record, a break or rejoin, an entry of another client. The line stands again, with the same history and the same
+-- A client's line at an entry that is none of its own and moves no history: a message that the server takes and that is no record,
+-- or of a lost client, a break or rejoin, an entry of another client. The line stands again, with the same history and the same
 -- pending blocks.
-use Rattle.std.proofs.Common.{ℕ, ◌≡◌, inl, inr, refl, sym, ◌∙◌, ap, subst, Bool, true, false, cond, eqb, List, [], ◌∷◌, ◌++◌}
+use Rattle.std.proofs.Common.{ℕ, ◌≡◌, ◌⊎◌, inl, inr, refl, sym, ◌∙◌, ap, subst, Bool, true, false, cond, eqb, List, [], ◌∷◌, ◌++◌}
 use Rattle.std.specs.Prelude.{Option, Some, drop}
 use Rattle.std.proofs.lemmas.List.{append-nil}
 use Rattle.dso_base.specs.declared.journal.Entry.{Entry}
@@ -32,7 +32,7 @@ use Rattle.dso_law.specs.RequestNeeds.{is_enough}
 use Rattle.dso_law.specs.ServerReadings.{is_lost, is_of_lost, counted, number_by, last_number}
 use Rattle.dso_law.specs.Granting.{standing_by, standing_with}
 use Rattle.dso_legal.specs.Agreement.{messages, after, EachMay}
-use Rattle.dso_legal.specs.Committed.{ended_blocks}
+use Rattle.dso_legal.specs.Committed.{ended_blocks, block_numbered}
 use Rattle.dso_legal.specs.AsMade.{as_made, made_by, made_at}
 use Rattle.dso_legal.specs.CopiesStand.{state_at}
 use Rattle.dso_legal.specs.Lawful.{ServerFollows, NodeFollows, AllFollow}
@@ -56,17 +56,28 @@ moves (input.TookUp d (up.Commit txn)) = true
 moves (input.Lose d) = true
 moves other = false
 
--- the entry is the server's and doesn't move the history, or another client's
-abbrev pub IsElsewhere : ℕ → Node → Input → Type 0
-IsElsewhere c Server input = moves input ≡ false
-IsElsewhere c (Client d) input = eqb c d ≡ false
+-- the server's input leaves the history: it is a message of a lost client, or moves nothing
+abbrev pub LeavesHistory : Input → List Entry → Type 0
+LeavesHistory input es = (is_of_lost input (entries_of Server es) ≡ true) ⊎ (moves input ≡ false)
 
--- an input that doesn't move the history gives it nothing
-pub gives_none : (input : Input) (es : List Entry) → moves input ≡ false → made_by input es ≡ []
-gives_none (input.TookUp d (up.Commit txn)) es still = absurd (cc still)
-gives_none (input.TookUp d m) es still = refl
-gives_none (input.Lose d) es still = absurd (cc still)
-gives_none other es still = refl
+-- the entry is the server's and leaves the history, or another client's
+abbrev pub IsElsewhere : ℕ → Node → Input → List Entry → Type 0
+IsElsewhere c Server input es = LeavesHistory input es
+IsElsewhere c (Client d) input es = eqb c d ≡ false
+
+-- an input that leaves the history gives it nothing
+pub gives_none : (input : Input) (es : List Entry) → LeavesHistory input es → made_by input es ≡ []
+gives_none (input.TookUp d (up.Commit txn)) es (inl skipped) = if_true (is_lost d (entries_of Server es)) [] (block_numbered txn.seq (ended_blocks (entries_of (Client d) es))) skipped
+gives_none (input.TookUp d (up.Commit txn)) es (inr still) = absurd (cc still)
+gives_none (input.TookUp d m) es leaves = refl
+gives_none (input.Lose d) es (inl skipped) = absurd (cc skipped)
+gives_none (input.Lose d) es (inr still) = absurd (cc still)
+gives_none other es leaves = refl
+
+-- where it counts, it moves nothing
+counts_still : (input : Input) (es : List Entry) → LeavesHistory input es → is_of_lost input (entries_of Server es) ≡ false → moves input ≡ false
+counts_still input es (inl skipped) counts = no_both (is_of_lost input (entries_of Server es)) skipped counts
+counts_still input es (inr still) counts = still
 
 -- and no number
 pub number_still : (c : ℕ) (input : Input) (n : ℕ) → moves input ≡ false → by_taken_up (number_by c) input n ≡ n
@@ -136,19 +147,19 @@ module _ (c : ℕ) (e : Entry) (es : List Entry) where
   standings_with node l = standing_with c l (counted (server_with node e es))
 
   -- how the server's number of the client's records stays
-  number_by_server : (b : Bool) → is_of_lost e.input (entries_of Server es) ≡ b → moves e.input ≡ false → last_number c (counted (e ∷ entries_of Server es)) ≡ last_number c (counted (entries_of Server es))
-  number_by_server true skipped still = ap (last_number c) (if_true (is_of_lost e.input (entries_of Server es)) (counted (entries_of Server es)) (e ∷ counted (entries_of Server es)) skipped)
-  number_by_server false counts still = ap (last_number c) (unless_true (is_of_lost e.input (entries_of Server es)) (counted (entries_of Server es)) (e ∷ counted (entries_of Server es)) counts)
-      ∙ number_still c e.input (last_number c (counted (entries_of Server es))) still
+  number_by_server : (b : Bool) → is_of_lost e.input (entries_of Server es) ≡ b → LeavesHistory e.input es → last_number c (counted (e ∷ entries_of Server es)) ≡ last_number c (counted (entries_of Server es))
+  number_by_server true skipped leaves = ap (last_number c) (if_true (is_of_lost e.input (entries_of Server es)) (counted (entries_of Server es)) (e ∷ counted (entries_of Server es)) skipped)
+  number_by_server false counts leaves = ap (last_number c) (unless_true (is_of_lost e.input (entries_of Server es)) (counted (entries_of Server es)) (e ∷ counted (entries_of Server es)) counts)
+      ∙ number_still c e.input (last_number c (counted (entries_of Server es))) (counts_still e.input es leaves counts)
 
   -- The pending blocks stay.
-  pub pending_still : (node : Node) → IsElsewhere c node e.input → pending_with node ≡ pending c es
-  pending_still Server still = ap (λ n. drop n (ended_blocks (entries_of (Client c) es))) (number_by_server (is_of_lost e.input (entries_of Server es)) refl still)
+  pub pending_still : (node : Node) → IsElsewhere c node e.input es → pending_with node ≡ pending c es
+  pending_still Server leaves = ap (λ n. drop n (ended_blocks (entries_of (Client c) es))) (number_by_server (is_of_lost e.input (entries_of Server es)) refl leaves)
   pending_still (Client d) other = ap (λ own. drop (last_number c (counted (entries_of Server es))) (ended_blocks own)) (unless_true (eqb c d) (e ∷ entries_of (Client c) es) (entries_of (Client c) es) other)
 
   -- The history stays.
-  pub committed_still : (node : Node) → IsElsewhere c node e.input → committed_with node ≡ as_made es
-  committed_still Server still = ap (λ more. as_made es ++ more) (gives_none e.input es still) ∙ append-nil (as_made es)
+  pub committed_still : (node : Node) → IsElsewhere c node e.input es → committed_with node ≡ as_made es
+  committed_still Server leaves = ap (λ more. as_made es ++ more) (gives_none e.input es leaves) ∙ append-nil (as_made es)
   committed_still (Client d) other = append-nil (as_made es)
 
 module _ (p : Settings) (next : ThreadId → List Event → Option Request) (c : ℕ) (e : Entry) (es : List Entry) where
@@ -183,19 +194,19 @@ module _ (p : Settings) (next : ThreadId → List Event → Option Request) (c :
       (subst (λ w. Line p.shape c (messages w) (pending c es) (λ l. standing_with c l (counted (entries_of Server es))) (last_state p.shape (as_made es))) (sym way) line)
 
   -- by whether it counts
-  line_by_server : (b : Bool) → is_of_lost e.input (entries_of Server es) ≡ b → AllFollow p next es → TakesFirst e.input Server es → ServerFollows p next e es → is_lost c (entries_of Server es) ≡ false → moves e.input ≡ false → LineStands p c es
+  line_by_server : (b : Bool) → is_of_lost e.input (entries_of Server es) ≡ b → AllFollow p next es → TakesFirst e.input Server es → ServerFollows p next e es → is_lost c (entries_of Server es) ≡ false → LeavesHistory e.input es → LineStands p c es
       → Line p.shape c (messages (in_flight_after (to_server c) e Server (up_in_flight c es))) (pending c es) (standings_with c e es Server) (last_state p.shape (as_made es))
-  line_by_server true skipped follow first h alive still line = line_skipped skipped alive line
-  line_by_server false counts follow first h alive still line = line_counted follow first h counts still line
+  line_by_server true skipped follow first h alive leaves line = line_skipped skipped alive line
+  line_by_server false counts follow first h alive leaves line = line_counted follow first h counts (counts_still e.input es leaves counts) line
 
   -- the line, with the pending blocks and the history that were before
-  line_at : (node : Node) → AllFollow p next es → TakesFirst e.input node es → NodeFollows p next node e es → is_lost c (entries_of Server es) ≡ false → IsElsewhere c node e.input → LineStands p c es
+  line_at : (node : Node) → AllFollow p next es → TakesFirst e.input node es → NodeFollows p next node e es → is_lost c (entries_of Server es) ≡ false → IsElsewhere c node e.input es → LineStands p c es
       → Line p.shape c (messages (in_flight_after (to_server c) e node (up_in_flight c es))) (pending c es) (standings_with c e es node) (last_state p.shape (as_made es))
-  line_at Server follow first h alive still line = line_by_server (is_of_lost e.input (entries_of Server es)) refl follow first h alive still line
+  line_at Server follow first h alive leaves line = line_by_server (is_of_lost e.input (entries_of Server es)) refl follow first h alive leaves line
   line_at (Client d) follow first h alive other line = subst (λ w. Line p.shape c (messages w) (pending c es) (standings_with c e es (Client d)) (last_state p.shape (as_made es)))
       (sym (unless_true (eqb c d) _ (up_in_flight c es) other)) line
 
-  line_with : (node : Node) → AllFollow p next es → TakesFirst e.input node es → NodeFollows p next node e es → is_lost c (entries_of Server es) ≡ false → IsElsewhere c node e.input → LineStands p c es → Line p.shape c (messages (in_flight_after (to_server c) e node (up_in_flight c es))) (pending_with c e es node) (standings_with c e es node) (last_state p.shape (committed_with c e es node))
+  line_with : (node : Node) → AllFollow p next es → TakesFirst e.input node es → NodeFollows p next node e es → is_lost c (entries_of Server es) ≡ false → IsElsewhere c node e.input es → LineStands p c es → Line p.shape c (messages (in_flight_after (to_server c) e node (up_in_flight c es))) (pending_with c e es node) (standings_with c e es node) (last_state p.shape (committed_with c e es node))
   line_with node follow first h alive elsewhere line =
       subst (λ blocks. Line p.shape c (messages (in_flight_after (to_server c) e node (up_in_flight c es))) blocks (standings_with c e es node) (last_state p.shape (committed_with c e es node))) (sym (pending_still c e es node elsewhere))
       (subst (λ h. Line p.shape c (messages (in_flight_after (to_server c) e node (up_in_flight c es))) (pending c es) (standings_with c e es node) (last_state p.shape h)) (sym (committed_still c e es node elsewhere))
@@ -208,7 +219,7 @@ pub record StandsStill (p : Settings) (c : ℕ) (e : Entry) (es : List Entry) : 
   pub state : state_at p c (e ∷ es) ≡ state_at p c es
 
 -- The pending blocks, the history and so the state at the client stay at an entry elsewhere.
-pub stands_still : (p : Settings) (c : ℕ) (e : Entry) (es : List Entry) → IsElsewhere c e.node e.input → StandsStill p c e es
+pub stands_still : (p : Settings) (c : ℕ) (e : Entry) (es : List Entry) → IsElsewhere c e.node e.input es → StandsStill p c e es
 stands_still p c e es elsewhere =
     let blocks : pending c (e ∷ es) ≡ pending c es = pending_still c e es e.node elsewhere in
     let history : as_made (e ∷ es) ≡ as_made es = committed_still c e es e.node elsewhere in
@@ -219,6 +230,6 @@ stands_still p c e es elsewhere =
     }
 
 -- The line of a client that isn't lost stands again at an entry elsewhere.
-pub line_still : (p : Settings) (next : ThreadId → List Event → Option Request) (c : ℕ) (e : Entry) (es : List Entry) → AllFollow p next (e ∷ es) → is_lost c (entries_of Server es) ≡ false → IsElsewhere c e.node e.input
+pub line_still : (p : Settings) (next : ThreadId → List Event → Option Request) (c : ℕ) (e : Entry) (es : List Entry) → AllFollow p next (e ∷ es) → is_lost c (entries_of Server es) ≡ false → IsElsewhere c e.node e.input es
     → LineStands p c es → LineStands p c (e ∷ es)
 line_still p next c e es follow alive elsewhere line = line_with p next c e es e.node follow.0 follow.1.channels follow.1.rule alive elsewhere line

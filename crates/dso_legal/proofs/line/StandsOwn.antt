@@ -19,17 +19,15 @@ use Rattle.dso_law.specs.Settings.{Settings}
 use Rattle.dso_law.specs.Entries.{entries_of, by_event, events_in}
 use Rattle.dso_law.specs.ServerReadings.{is_lost}
 use Rattle.dso_law.specs.Threads.{ending_of, locks_of, open_block}
-use Rattle.dso_legal.specs.WaitsAndLosses.{WithoutLosses}
 use Rattle.dso_legal.specs.Committed.{block_if, ended_by, ended_blocks}
 use Rattle.dso_legal.specs.CopiesStand.{state_at}
 use Rattle.dso_legal.specs.Lawful.{next_after, ClientFollows, NodeFollows, AllFollow}
 use Rattle.dso_legal.specs.PendingBlocks.{joined, handed_in, no_locks, locks_through}
 use Rattle.dso_legal.specs.Works.{HaveLocks}
-use Rattle.dso_legal.proofs.blocks.BlockSteps.{none_is_lost}
 use Rattle.dso_legal.proofs.acts.ClientActs.{IsQuiet, HasEvent, client_acted}
 use Rattle.dso_legal.proofs.blocks.ClientBlocks.{joined_more, block_acts, keeps_thread}
 use Rattle.dso_legal.proofs.records.ClientRecords.{quiet_ends_none, goes_on}
-use Rattle.dso_legal.proofs.records.HandedIn.{hands_in}
+use Rattle.dso_legal.proofs.records.HandedIn.{few_taken}
 use Rattle.dso_legal.proofs.line.LineOwn.{thread_is_its, event_it, block_it, own_quiet, own_goes_on, own_ends}
 use Rattle.dso_legal.proofs.line.LineSent.{HoldsLeased}
 use Rattle.dso_legal.proofs.blocks.LocksOfEvents.{own_no_losses, locks_of_acts}
@@ -51,8 +49,8 @@ thread_of (Lost client) = record { client = client; index = 0 }
 abbrev OpensAfter : Settings → ℕ → Entry → List Entry → PlainState → Type 0
 OpensAfter p c e es r = (t : ThreadId) → t.client ≡ c → OpensFrom p.shape t (e ∷ entries_of (Client c) es) r
 
-module _ (p : Settings) (next : ThreadId → List Event → Option Request) (e : Entry) (es : List Entry) (follow : AllFollow p next (e ∷ es)) (safe : WithoutLosses (e ∷ es)) (stand : AllStand p es)
-    (c : ℕ) (is : e.node ≡ Client c) where
+module _ (p : Settings) (next : ThreadId → List Event → Option Request) (e : Entry) (es : List Entry) (follow : AllFollow p next (e ∷ es)) (stand : AllStand p es)
+    (c : ℕ) (is : e.node ≡ Client c) (alive : is_lost c (entries_of Server es) ≡ false) where
   abbrev own : List Entry
   own = entries_of (Client c) es
 
@@ -63,18 +61,15 @@ module _ (p : Settings) (next : ThreadId → List Event → Option Request) (e :
   rule : ClientFollows p next c e es
   rule = subst (λ node. NodeFollows p next node e es) is follow.1.rule
 
-  alive : is_lost c (entries_of Server es) ≡ false
-  alive = none_is_lost c es safe.1
-
   few : handed_in c es ≤ length (ended_blocks own)
-  few = (hands_in p next c es follow.0 alive).few
+  few = few_taken p next c es follow.0
 
   own_now : entries_of (Client c) (e ∷ es) ≡ e ∷ own
   own_now = (own_turn c e es is).own
 
   -- the open blocks before the entry
   opens : (t : ThreadId) → t.client ≡ c → OpensFrom p.shape t own s
-  opens t its = opens_from p next es follow.0 safe.1 stand c t its
+  opens t its = opens_from p next es follow.0 stand c alive t its
 
   -- an open block after an entry that ends no block
   opens_same : ended_blocks (e ∷ own) ≡ ended_blocks own → (t : ThreadId) → t.client ≡ c → RunsButMarks p.shape (open_block t (e ∷ own)) s → OpensFrom p.shape t (e ∷ own) s
@@ -116,7 +111,7 @@ module _ (p : Settings) (next : ThreadId → List Event → Option Request) (e :
 
   stands_quiet : IsQuiet e → LinesStand p c (e ∷ es)
   stands_quiet quiet =
-      let sends = own_quiet p next e es follow c is alive few (stand.lines c).line quiet (held_from s (after_quiet quiet)) in
+      let sends = own_quiet p next e es follow c is alive few (stand.lines c alive).line quiet (held_from s (after_quiet quiet)) in
       stands_from s (after_quiet quiet) sends.line sends.state
 
   module _ (it : HasEvent p e own) where
@@ -139,7 +134,7 @@ module _ (p : Settings) (next : ThreadId → List Event → Option Request) (e :
 
         by : (e.event ≡ None) ⊎ IsNextAct p c (next_after next es) e own → MayButMarks p.shape event (end_of p.shape (open_block it.thread own) s)
         by (inl none) = absurd (cc (sym none ∙ it.event))
-        by (inr act) = subst (λ event. MayButMarks p.shape event (end_of p.shape (open_block (thread_of event) own) s)) (same_event _ event (sym act.event ∙ it.event)) (can c is act)
+        by (inr act) = subst (λ event. MayButMarks p.shape event (end_of p.shape (open_block (thread_of event) own) s)) (same_event _ event (sym act.event ∙ it.event)) (can c is alive act)
 
     module _ (may : MayButMarks p.shape event (end_of p.shape (open_block it.thread own) s)) where
       -- the block runs with the event behind it
@@ -157,7 +152,7 @@ module _ (p : Settings) (next : ThreadId → List Event → Option Request) (e :
 
       stands_act : ending_of event (locks_of it.thread own) ≡ None → LinesStand p c (e ∷ es)
       stands_act none =
-          let sends = own_goes_on p next e es follow c is alive few (stand.lines c).line it none (held_from s (after_act none)) in
+          let sends = own_goes_on p next e es follow c is alive few (stand.lines c alive).line it none (held_from s (after_act none)) in
           stands_from s (after_act none) sends.line sends.state
 
       module _ (ending : Ending) (ends : ending_of event (locks_of it.thread own) ≡ Some ending) where
@@ -188,7 +183,7 @@ module _ (p : Settings) (next : ThreadId → List Event → Option Request) (e :
 
         stands_ending : LinesStand p c (e ∷ es)
         stands_ending =
-            let sends = own_ends p next e es follow c is alive few (stand.lines c).line it ending ends its_client (opens it.thread its_client) block_runs (held_from (end_of p.shape block s) after_ending) in
+            let sends = own_ends p next e es follow c is alive few (stand.lines c alive).line it ending ends its_client (opens it.thread its_client) block_runs (held_from (end_of p.shape block s) after_ending) in
             stands_from (end_of p.shape block s) after_ending sends.line sends.state
 
       -- by whether it is an ending

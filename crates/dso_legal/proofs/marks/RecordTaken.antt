@@ -50,8 +50,6 @@ use Rattle.dso_legal.specs.Marks.{MarksAreKnown, is_kept, kept_at, lists_at, kep
 use Rattle.dso_legal.specs.PendingBlocks.{no_locks, joined, taken_in, locks_through}
 use Rattle.dso_legal.specs.Places.{Place, Away, Kept, Gone, places_noted, place_ended, place_up, place_down, MayNote, MayEnd, MayPlaceUp, MayPlaceDown, place_of, place_with}
 use Rattle.dso_legal.specs.SoundProgram.{IsSound}
-use Rattle.dso_legal.specs.WaitsAndLosses.{WithoutLosses}
-use Rattle.dso_legal.proofs.blocks.BlockSteps.{none_is_lost}
 use Rattle.dso_legal.proofs.blocks.EachEvent.{AtClient, IfEvent, EachEvent, each_follows, each_taken}
 use Rattle.dso_legal.proofs.blocks.Histories.{client_of_thread, taken_of_client}
 use Rattle.dso_legal.proofs.blocks.OwnActs.{next_act}
@@ -59,7 +57,8 @@ use Rattle.dso_legal.proofs.blocks.ResolvedBlocks.{history_resolved}
 use Rattle.dso_legal.proofs.channels.AfterEntry.{server_turn}
 use Rattle.dso_legal.proofs.channels.InFlight.{told_to, told_status}
 use Rattle.dso_legal.proofs.central.AllHold.{all_holds}
-use Rattle.dso_legal.proofs.leases.LeaseSteps.{unless_true}
+use Rattle.dso_legal.proofs.fitting.Untold.{all_untold}
+use Rattle.dso_legal.proofs.leases.LeaseSteps.{no_both, unless_true}
 use Rattle.dso_legal.proofs.leases.LeasesCompatible.{all_lent}
 use Rattle.dso_legal.proofs.marks.BlockMarks.{KnowsMarks, LateLast, block_knows}
 use Rattle.dso_legal.proofs.marks.RecordMarks.{EventWakes, wakes_only, IsOf, own_or_other, FitsHere, MayAsk, Walks, CanWalk, walk, late_last, exit_is}
@@ -123,13 +122,10 @@ module _ (p : Settings) (next : ThreadId → List Event → Option Request) (sou
   each_wakes [] follow = tt
   each_wakes (e ∷ es) follow = (each_wakes_at e.node e es follow.1.rule, each_wakes es follow.0)
 
-  -- The server takes a record.
-  module _ (e : Entry) (es : List Entry) (follow : AllFollow p next (e ∷ es)) (safe : WithoutLosses (e ∷ es)) (at : e.node ≡ Server) (d : ℕ) (txn : Txn) (took : e.input ≡ input.TookUp d (up.Commit txn)) where
-    alive : (c : ℕ) → is_lost c (entries_of Server es) ≡ false
-    alive c = none_is_lost c es safe.1
-
+  -- The server takes a record of a client that isn't lost.
+  module _ (e : Entry) (es : List Entry) (follow : AllFollow p next (e ∷ es)) (at : e.node ≡ Server) (d : ℕ) (txn : Txn) (took : e.input ≡ input.TookUp d (up.Commit txn)) (alive : is_lost d (entries_of Server es) ≡ false) where
     stand : WaitersStand p next sound es
-    stand = waiters_stand p next sound es follow.0 safe.1
+    stand = waiters_stand p next sound es follow.0
 
     abbrev server : List Entry
     server = counted (entries_of Server es)
@@ -138,10 +134,18 @@ module _ (p : Settings) (next : ThreadId → List Event → Option Request) (sou
     a = txn.thread
 
     takes : TakesBlock p d txn e es
-    takes = takes_its_block p next d es follow.0 (alive d) e follow.1 txn at took
+    takes = takes_its_block p next d es follow.0 alive e follow.1 txn at took
 
     its : a.client ≡ d
-    its = taken_of_client p next e es follow.1 d txn (alive d) takes
+    its = taken_of_client p next e es follow.1 d txn alive takes
+
+    -- the thread's client isn't lost,
+    alive_own : is_lost a.client (entries_of Server es) ≡ false
+    alive_own = subst (λ n. is_lost n (entries_of Server es) ≡ false) (sym its) alive
+
+    -- and no client more is lost than before
+    lost_now : (c : ℕ) → is_lost c (entries_of Server (e ∷ es)) ≡ is_lost c (entries_of Server es)
+    lost_now c = ap (is_lost c) (server_turn d e es at).server ∙ ap (λ i. loses c i || is_lost c (entries_of Server es)) took
 
     rule : ServerFollows p next e es
     rule = subst (λ n. NodeFollows p next n e es) at follow.1.rule
@@ -150,30 +154,38 @@ module _ (p : Settings) (next : ThreadId → List Event → Option Request) (sou
     first = subst (λ n. TakesFirst e.input n es) at follow.1.channels
 
     heard : HeardStep p d (up.Commit txn) e server
-    heard = subst (λ b. HeardOrLost p d (up.Commit txn) b e server) (alive d) (subst (λ i. ServerStepOn p i e (entries_of Server es)) took rule.step).heard
+    heard = subst (λ b. HeardOrLost p d (up.Commit txn) b e server) alive (subst (λ i. ServerStepOn p i e (entries_of Server es)) took rule.step).heard
 
     may_come : (l : LockName) (t : ThreadId) → t.client ≡ d → MayPlaceUp l t (up.Commit txn) (place_at es l t)
-    may_come l t own = first_may_up p next t.client (MayPlaceUp l t) (place_up l t) (MayPlaceDown l t) (place_down l t) (place_of l t) (place_with t.client l t) es (stand.agree l t (alive t.client)) (up.Commit txn)
+    may_come l t own = first_may_up p next t.client (MayPlaceUp l t) (place_up l t) (MayPlaceDown l t) (place_down l t) (place_of l t) (place_with t.client l t) es (stand.agree l t (subst (λ n. is_lost n (entries_of Server es) ≡ false) (sym own) alive)) (up.Commit txn)
         (subst (λ n. IsFirst (up.Commit txn) (up_in_flight n es)) (sym own) (subst (λ i. TakesFirst i Server es) took first))
 
     notes_are : txn.notes ≡ notes_of takes.block
     notes_are = ap (λ (x : Txn). x.notes) takes.its.whole ∙ block_notes p.shape takes.block _
 
-    kept_is : (l : LockName) (t : ThreadId) → kept_at es l t ≡ is_kept (place_at es l t)
-    kept_is l t = ap (λ b. not b && is_kept (place_at es l t)) (alive t.client)
+    kept_is : (l : LockName) (t : ThreadId) → is_lost t.client (entries_of Server es) ≡ false → kept_at es l t ≡ is_kept (place_at es l t)
+    kept_is l t there = ap (λ b. not b && is_kept (place_at es l t)) there
+
+    -- no thread of a lost client is kept
+    none_kept : (l : LockName) (t : ThreadId) → is_lost t.client (entries_of Server es) ≡ true → kept_at es l t ≡ false
+    none_kept l t lost = ap (λ b. not b && is_kept (place_at es l t)) lost
 
     -- other clients keep nobody of a lock that this one has at Write
     others_none : (l : LockName) → leased_to d l server ≡ Some Write → (u : ThreadId) → (u.client ≡ d → ⊥) → kept_at es l u ≡ false
-    others_none l leased u other = by (place_at es l u) refl
+    others_none l leased u other = of_lost (is_lost u.client (entries_of Server es)) refl
       where
         apart : eqb d u.client ≡ false
         apart = fails (eqb d u.client) (λ same. other (sym (same_number d u.client same)))
 
-        by : (s : Place) → place_at es l u ≡ s → kept_at es l u ≡ false
-        by Away is = kept_is l u ∙ ap is_kept is
-        by Gone is = kept_is l u ∙ ap is_kept is
-        by Kept is = absurd (cc (sym (ap (conflicts Write) (enough_write (leased_to u.client l server) (kept_leased p next sound es follow.0 safe.1 l u (alive u.client) is)))
+        by : is_lost u.client (entries_of Server es) ≡ false → (s : Place) → place_at es l u ≡ s → kept_at es l u ≡ false
+        by there Away is = kept_is l u there ∙ ap is_kept is
+        by there Gone is = kept_is l u there ∙ ap is_kept is
+        by there Kept is = absurd (cc (sym (ap (conflicts Write) (enough_write (leased_to u.client l server) (kept_leased p next sound es follow.0 l u there is)))
             ∙ (all_lent p next es follow.0 l).compatible d u.client Write apart leased))
+
+        of_lost : (b : Bool) → is_lost u.client (entries_of Server es) ≡ b → kept_at es l u ≡ false
+        of_lost true lost = none_kept l u lost
+        of_lost false there = by there (place_at es l u) refl
 
     fits_here : AllByRecursion (FitsHere d (kept_at es)) (notes_of takes.block)
     fits_here = subst (AllByRecursion (FitsHere d (kept_at es))) notes_are (each_follows (FitsNote p d server) (FitsHere d (kept_at es))
@@ -186,15 +198,15 @@ module _ (p : Settings) (next : ThreadId → List Event → Option Request) (sou
 
     -- its block, if it times out, asks for no mark
     unasked : IsUnasked takes.block
-    unasked = subst IsUnasked (sym takes.numbered) (numbered_so IsUnasked (λ late. refl) txn.seq (ended_blocks (entries_of (Client d) es)) (asks_fairly p next sound es follow.0 safe.1 d).ended)
+    unasked = subst IsUnasked (sym takes.numbered) (numbered_so IsUnasked (λ late. refl) txn.seq (ended_blocks (entries_of (Client d) es)) (asks_fairly p next sound es follow.0 d).ended)
 
     asks : MayAsk a takes.block (kept_at es) (lists_at es)
     asks = by txn.ending refl
       where
         away : ((l : LockName) → place_at es l a ≡ Away) → (l : LockName) → IsAway (kept_at es) (lists_at es) l a
         away is l = record {
-          unkept = kept_is l a ∙ ap is_kept (is l);
-          unlisted = fails (list_any (is_thread a) (lists_at es l)) (λ there. cc (sym (is l) ∙ (stand.server l a (alive a.client)).gone.0 there));
+          unkept = kept_is l a alive_own ∙ ap is_kept (is l);
+          unlisted = fails (list_any (is_thread a) (lists_at es l)) (λ there. cc (sym (is l) ∙ (stand.server l a alive_own).gone.0 there));
         }
 
         ends_so : (l : LockName) (x : Ending) → txn.ending ≡ x → MayEnd a a x (place_at es l a)
@@ -216,7 +228,7 @@ module _ (p : Settings) (next : ThreadId → List Event → Option Request) (sou
       wakes = subst (AllByRecursion EventWakes) (sym takes.numbered) (each_taken EventWakes d txn.seq es (each_wakes es follow.0));
       fits = fits_here;
       may = λ l t own. subst (λ notes. MayNote l t notes (place_at es l t)) notes_are (may_come l t own).0;
-      tracks = record { own = λ l t own. kept_is l t; others = λ l t other. refl };
+      tracks = record { own = λ l t own. kept_is l t (subst (λ n. is_lost n (entries_of Server es) ≡ false) (sym own) alive); others = λ l t other. refl };
       asks = asks;
     }
 
@@ -228,7 +240,7 @@ module _ (p : Settings) (next : ThreadId → List Event → Option Request) (sou
     -- The history goes on by the block, resolved,
     history : committed (e ∷ es) ≡ committed es ++ resolved takes.block (lists_at es)
     history = ap (λ more. committed es ++ more) (ap (λ n. committed_at n e.input es) at ∙ ap (λ i. committed_by i es) took
-        ∙ unless_true (is_lost d (entries_of Server es)) [] (block_taken d txn.seq es) (alive d) ∙ ap (λ b. resolved b (lists_at es)) (sym takes.numbered))
+        ∙ unless_true (is_lost d (entries_of Server es)) [] (block_taken d txn.seq es) alive ∙ ap (λ b. resolved b (lists_at es)) (sym takes.numbered))
 
     abbrev s : PlainState
     s = last_state p.shape (committed es)
@@ -237,28 +249,36 @@ module _ (p : Settings) (next : ThreadId → List Event → Option Request) (sou
     block_runs : RunsButMarks p.shape (resolved takes.block (lists_at es)) s
     block_runs = ((runs_but_marks_in_parts p.shape (committed es) (resolved takes.block (lists_at es)) (opening p.shape)).0
         (subst (λ h. RunsButMarks p.shape h (opening p.shape)) history
-        (runs_resolved p.shape (opening p.shape).marked (as_made (e ∷ es)) (committed (e ∷ es)) (opening p.shape) (all_holds p next sound (e ∷ es) follow safe).stand.runs (history_resolved (e ∷ es))).runs)).1
+        (runs_resolved p.shape (opening p.shape).marked (as_made (e ∷ es)) (committed (e ∷ es)) (opening p.shape) (all_holds p next sound (e ∷ es) follow).stand.runs (history_resolved (e ∷ es))).runs)).1
 
     -- who is kept now,
     counts : is_of_lost e.input (entries_of Server es) ≡ false
-    counts = ap (λ i. is_of_lost i (entries_of Server es)) took ∙ alive d
+    counts = ap (λ i. is_of_lost i (entries_of Server es)) took ∙ alive
 
     counted_now : counted (entries_of Server (e ∷ es)) ≡ e ∷ server
     counted_now = ap counted (server_turn d e es at).server ∙ unless_true (is_of_lost e.input (entries_of Server es)) server (e ∷ server) counts
 
-    kept_heard : (l : LockName) (t : ThreadId) → is_kept (place_at (e ∷ es) l t) ≡ is_kept (by_taken_up (if_to t.client (place_up l t)) e.input (place_at es l t))
-    kept_heard l t = ap (λ js. is_kept (place_with t.client l t js)) counted_now ∙ ap is_kept (told_status t.client (place_down l t) e.sent (by_taken_up (if_to t.client (place_up l t)) e.input (place_at es l t)))
+    kept_heard : (l : LockName) (t : ThreadId) → is_lost t.client (entries_of Server es) ≡ false → is_kept (place_at (e ∷ es) l t) ≡ is_kept (by_taken_up (if_to t.client (place_up l t)) e.input (place_at es l t))
+    kept_heard l t there = ap (λ js. is_kept (place_with t.client l t js)) counted_now ∙ ap is_kept (told_status t.client (place_down l t) e.sent (by_taken_up (if_to t.client (place_up l t)) e.input (place_at es l t)))
         ∙ wakes_leave l t (told_to t.client e.sent) (by_taken_up (if_to t.client (place_up l t)) e.input (place_at es l t))
-        (server_does p next sound e es follow (all_holds p next sound es follow.0 safe.1).untold stand l t (alive t.client) first rule counts (ap (loses t.client) took)).comes
+        (server_does p next sound e es follow (all_untold p next sound es follow.0) stand l t there first rule counts (ap (loses t.client) took)).comes
 
-    kept_now : (l : LockName) (t : ThreadId) → kept_through takes.block (kept_at es) l t ≡ is_kept (place_at (e ∷ es) l t)
-    kept_now l t = own_or_other d t
+    kept_after : (l : LockName) (t : ThreadId) → is_lost t.client (entries_of Server es) ≡ false → kept_through takes.block (kept_at es) l t ≡ is_kept (place_at (e ∷ es) l t)
+    kept_after l t there = own_or_other d t
         (λ own. walks.tracks.own l t own ∙ ap (λ notes. is_kept (place_ended l t a txn.ending (places_noted l t notes (place_at es l t)))) (sym notes_are)
-        ∙ sym (kept_heard l t ∙ ap (λ i. is_kept (by_taken_up (if_to t.client (place_up l t)) i (place_at es l t))) took
+        ∙ sym (kept_heard l t there ∙ ap (λ i. is_kept (by_taken_up (if_to t.client (place_up l t)) i (place_at es l t))) took
         ∙ ap (λ b. is_kept (cond b (place_up l t (up.Commit txn) (place_at es l t)) (place_at es l t))) (ap (λ n. eqb n d) own ∙ number_self d)))
-        (λ other. walks.tracks.others l t other ∙ kept_is l t
-        ∙ sym (kept_heard l t ∙ ap (λ i. is_kept (by_taken_up (if_to t.client (place_up l t)) i (place_at es l t))) took
+        (λ other. walks.tracks.others l t other ∙ kept_is l t there
+        ∙ sym (kept_heard l t there ∙ ap (λ i. is_kept (by_taken_up (if_to t.client (place_up l t)) i (place_at es l t))) took
         ∙ ap (λ b. is_kept (cond b (place_up l t (up.Commit txn) (place_at es l t)) (place_at es l t))) (fails (eqb t.client d) (λ same. other (same_number t.client d same)))))
+
+    kept_now : (l : LockName) (t : ThreadId) → kept_through takes.block (kept_at es) l t ≡ kept_at (e ∷ es) l t
+    kept_now l t = by (is_lost t.client (entries_of Server es)) refl
+      where
+        by : (b : Bool) → is_lost t.client (entries_of Server es) ≡ b → kept_through takes.block (kept_at es) l t ≡ kept_at (e ∷ es) l t
+        by true lost = walks.tracks.others l t (λ own. no_both (is_lost d (entries_of Server es)) (subst (λ n. is_lost n (entries_of Server es) ≡ true) own lost) alive) ∙ none_kept l t lost
+            ∙ sym (ap (λ b. not b && is_kept (place_at (e ∷ es) l t)) (lost_now t.client ∙ lost))
+        by false there = kept_after l t there ∙ sym (ap (λ b. not b && is_kept (place_at (e ∷ es) l t)) (lost_now t.client ∙ there))
 
     -- and the lists.
     lists_now : (l : LockName) → lists_through takes.block (lists_at es) l ≡ lists_at (e ∷ es) l
@@ -269,12 +289,12 @@ module _ (p : Settings) (next : ThreadId → List Event → Option Request) (sou
         ap (λ ls. ls l) walks.leaves ∙ ap (λ notes. lists_ended a txn.ending (lists_noted notes (lists_at es)) l) (sym notes_are)
         ∙ sym (ap (waiters_of l) counted_now ∙ ap (λ ls. by_sent_down (waiters_by_sent l) e.sent (ls l)) heard_lists ∙ ap (λ out. by_sent_down (waiters_by_sent l) out (lists_at es l)) (heard.sends ∙ ap (λ ls. front ++ wakes_of txn ls) heard_lists)
         ∙ (woken_both l front (wakes_of txn (lists_at es)) (lists_at es l) (lists_at es l) left (none_woken l front (lists_at es l) (tt, changes_wake_none p d txn (unsent e ∷ server)))
-        (record_wakes l txn (lists_at es) (stand.server l a (alive a.client)).once)).leaves)
+        (record_wakes l txn (lists_at es) (stand.server l a alive_own).once)).leaves)
 
     -- So the history runs behind it, marks and all, and who is kept and listed is known.
     pub record RecordKnows : Type 0 where
       pub runs : Runs p.shape (committed (e ∷ es)) (opening p.shape)
-      pub known : (l : LockName) (t : ThreadId) → IsUnmarkedWaiter l t (last_state p.shape (committed (e ∷ es))) ↔ ((is_kept (place_at (e ∷ es) l t) ≡ true) ⊎ (list_any (is_thread t) (lists_at (e ∷ es) l) ≡ true))
+      pub known : (l : LockName) (t : ThreadId) → IsUnmarkedWaiter l t (last_state p.shape (committed (e ∷ es))) ↔ ((kept_at (e ∷ es) l t ≡ true) ⊎ (list_any (is_thread t) (lists_at (e ∷ es) l) ≡ true))
 
     pub record_knows : Runs p.shape (committed es) (opening p.shape) → MarksAreKnown (kept_at es) (lists_at es) s → RecordKnows
     record_knows runs known =
@@ -282,8 +302,8 @@ module _ (p : Settings) (next : ThreadId → List Event → Option Request) (sou
         let knows : KnowsMarks p.shape takes.block (kept_at es) (lists_at es) s = block_knows p.shape takes.block (kept_at es) (lists_at es) s late block_runs walks.may known in
         record {
           runs = subst (λ h. Runs p.shape h (opening p.shape)) (sym history) ((runs_in_parts p.shape (committed es) (resolved takes.block (lists_at es)) (opening p.shape)).1 (runs, knows.runs));
-          known = λ l t. subst (λ h. IsUnmarkedWaiter l t (last_state p.shape h) ↔ ((is_kept (place_at (e ∷ es) l t) ≡ true) ⊎ (list_any (is_thread t) (lists_at (e ∷ es) l) ≡ true))) (sym history)
-              (subst (λ r. IsUnmarkedWaiter l t r ↔ ((is_kept (place_at (e ∷ es) l t) ≡ true) ⊎ (list_any (is_thread t) (lists_at (e ∷ es) l) ≡ true))) (sym (ends_in_parts p.shape (committed es) (resolved takes.block (lists_at es)) (opening p.shape)))
+          known = λ l t. subst (λ h. IsUnmarkedWaiter l t (last_state p.shape h) ↔ ((kept_at (e ∷ es) l t ≡ true) ⊎ (list_any (is_thread t) (lists_at (e ∷ es) l) ≡ true))) (sym history)
+              (subst (λ r. IsUnmarkedWaiter l t r ↔ ((kept_at (e ∷ es) l t ≡ true) ⊎ (list_any (is_thread t) (lists_at (e ∷ es) l) ≡ true))) (sym (ends_in_parts p.shape (committed es) (resolved takes.block (lists_at es)) (opening p.shape)))
               (subst (λ b. IsUnmarkedWaiter l t (end_of p.shape (resolved takes.block (lists_at es)) s) ↔ ((b ≡ true) ⊎ (list_any (is_thread t) (lists_at (e ∷ es) l) ≡ true))) (kept_now l t)
               (subst (λ ts. IsUnmarkedWaiter l t (end_of p.shape (resolved takes.block (lists_at es)) s) ↔ ((kept_through takes.block (kept_at es) l t ≡ true) ⊎ (list_any (is_thread t) ts ≡ true))) (lists_now l)
               (knows.marks.known l t))));

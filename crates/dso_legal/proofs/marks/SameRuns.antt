@@ -11,7 +11,7 @@ use Rattle.dso_plain.specs.State.{PlainState}
 use Rattle.dso_plain.specs.Possible.{IsPossibleButMarks, MayButMarks}
 use Rattle.dso_plain.specs.After.{after}
 use Rattle.dso_plain.specs.History.{RunsButMarks, end_of}
-use Rattle.dso_plain.specs.Rechoice.{with_marks}
+use Rattle.dso_plain.specs.SameActs.{with_marks}
 use Rattle.dso_plain.proofs.histories.OtherMarks.{answers_marked, awake_marked, writes_marked}
 use Rattle.dso_legal.specs.Resolved.{IsResolved, AreResolved}
 

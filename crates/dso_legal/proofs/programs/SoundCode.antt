@@ -15,7 +15,7 @@ use Rattle.dso_base.specs.declared.shape.Shape.{Shape}
 use Rattle.dso_base.specs.declared.value.Value.{Value}
 use Rattle.dso_base.specs.declared.value.Value.TheVariants as value
 use Rattle.dso_base.specs.Following.{IsListedFor, Listed, FollowsFrom, FollowsProgram}
-use Rattle.dso_plain.specs.Rechoice.{AreSameActs}
+use Rattle.dso_plain.specs.SameActs.{AreSameActs}
 use Rattle.dso_plain.specs.Touches.{AreActsOf}
 use Rattle.dso_plain.proofs.keys.SameKeys.{thread_self, number_self}
 use Rattle.dso_law.specs.Threads.{Locks, or_else, locks_by, locks_after, ending_by, ends_thread}

@@ -1,5 +1,6 @@
--- A client's ended blocks: the server took the first of them in, and the others are pending, whose records are in flight.
-use Rattle.std.proofs.Common.{ℕ, zero, suc, ◌+◌, ◌≤◌, ◌≡◌, ◌⊎◌, inl, inr, refl, sym, ◌∙◌, ap, subst, false, Option, List, [], ◌∷◌, ◌++◌, length, arith}
+-- A client's ended blocks: the server took the first of them in, of a lost client too; and of one that isn't lost the others are
+-- pending, whose records are in flight.
+use Rattle.std.proofs.Common.{ℕ, zero, suc, ◌+◌, ◌≤◌, ◌≡◌, ◌⊎◌, inl, inr, refl, sym, ◌∙◌, ap, subst, Bool, true, false, cond, eqb, Option, Some, None, List, [], ◌∷◌, ◌++◌, length, arith}
 use Rattle.std.specs.Prelude.{take, drop}
 use Rattle.std.proofs.lemmas.List.{append_assoc, append-nil, length-append, drop-append-le, take-append-le}
 use Rattle.dso_base.specs.declared.journal.Entry.{Entry}
@@ -13,18 +14,18 @@ use Rattle.dso_base.specs.declared.request.Event.{Event}
 use Rattle.dso_base.specs.declared.request.Request.{Request}
 use Rattle.dso_base.specs.declared.shape.Shape.{Shape}
 use Rattle.dso_law.specs.Settings.{Settings}
-use Rattle.dso_law.specs.Entries.{entries_of}
+use Rattle.dso_law.specs.Entries.{entries_of, by_event}
 use Rattle.dso_law.specs.Channels.{up_in_flight}
 use Rattle.dso_law.specs.ServerReadings.{is_lost}
 use Rattle.dso_legal.specs.Agreement.{messages}
 use Rattle.dso_legal.specs.Lawful.{ClientFollows, NodeFollows, MayFollow, AllFollow}
-use Rattle.dso_legal.specs.Committed.{or_empty, block_numbered, ended_blocks}
+use Rattle.dso_legal.specs.Committed.{or_empty, block_numbered, ended_by, ended_blocks}
 use Rattle.dso_legal.specs.PendingBlocks.{handed_in, taken_in, pending, records_in, records_sent, IsRecordOf, AreRecordsOf}
 use Rattle.dso_legal.specs.Blocks.{IsHandedIn, BlocksAreHandedIn}
 use Rattle.dso_legal.proofs.records.ClientRecords.{records_in_parts, records_more, as_many, EndsNone, EndsBlock, block_ended, client_ends, records_are}
 use Rattle.dso_legal.proofs.channels.Dropping.{DropsOne, drops_one}
 use Rattle.dso_legal.proofs.records.BothEnds.{client_with, not_lost_before}
-use Rattle.dso_legal.proofs.records.Handing.{handed_with, way_with, takes_record, takes_its_record, TakesRecord, SaysRecords, LeavesRecords, DoesToRecords, does_to_records}
+use Rattle.dso_legal.proofs.records.Handing.{lost_hands, handed_with, way_with, takes_record, takes_its_record, TakesRecord, SaysRecords, LeavesRecords, DoesToRecords, does_to_records}
 use Rattle.dso_legal.proofs.channels.InFlight.{said_of}
 
 still_few : (n m k : ℕ) → n ≤ m → n ≤ m + k
@@ -68,8 +69,37 @@ module _ (c : ℕ) (node : Node) (e : Entry) (es : List Entry) (before : HandsOv
       (subst (λ own. HandsOver (handed_in c es) (records_sent own) (records_in (way_with c node e es))) (sym leaves.own)
       (subst (HandsOver (handed_in c es) sent) (sym leaves.way) before))
 
+-- more were sent, or as many
+more_sent : (c : ℕ) (node : Node) (e : Entry) (es : List Entry) (n : ℕ) → n ≤ length (records_sent (entries_of (Client c) es)) → n ≤ length (records_sent (client_with c node e es))
+more_sent c Server e es n few = few
+more_sent c (Client d) e es n few = by (eqb c d)
+  where
+    more : n ≤ length (records_sent (e ∷ entries_of (Client c) es))
+    more = subst (λ txns. n ≤ length txns) (sym (records_more e (entries_of (Client c) es)))
+        (subst (λ k. n ≤ k) (sym (length-append (records_sent (entries_of (Client c) es)) (records_in (said_of e.sent)))) (still_few n (length (records_sent (entries_of (Client c) es))) (length (records_in (said_of e.sent))) few))
+
+    by : (b : Bool) → n ≤ length (records_sent (cond b (e ∷ entries_of (Client c) es) (entries_of (Client c) es)))
+    by true = more
+    by false = few
+
+-- the first blocks stay where others stand behind them
+still_taken : (c : ℕ) (node : Node) (e : Entry) (es : List Entry) (n : ℕ) → n ≤ length (ended_blocks (entries_of (Client c) es)) → take n (ended_blocks (client_with c node e es)) ≡ take n (ended_blocks (entries_of (Client c) es))
+still_taken c Server e es n few = refl
+still_taken c (Client d) e es n few = by (eqb c d)
+  where
+    own : List Entry
+    own = entries_of (Client c) es
+
+    more : (event : Option Event) → take n (by_event (λ event blocks. blocks ++ ended_by event own) event (ended_blocks own)) ≡ take n (ended_blocks own)
+    more None = refl
+    more (Some event) = take-append-le n (ended_blocks own) (ended_by event own) few
+
+    by : (b : Bool) → take n (ended_blocks (cond b (e ∷ own) own)) ≡ take n (ended_blocks own)
+    by true = more e.event
+    by false = refl
+
 -- where the records are those of the blocks, so are the ones that are left when the first are dropped
-records_dropped : (shape : Shape) (n : ℕ) (before : List (List Event)) (txns : List Txn) (blocks : List (List Event)) → AreRecordsOf shape before txns blocks
+pub records_dropped : (shape : Shape) (n : ℕ) (before : List (List Event)) (txns : List Txn) (blocks : List (List Event)) → AreRecordsOf shape before txns blocks
     → AreRecordsOf shape (before ++ take n blocks) (drop n txns) (drop n blocks)
 records_dropped shape zero before txns blocks are = subst (λ all. AreRecordsOf shape all txns blocks) (sym (append-nil before)) are
 records_dropped shape (suc n) before [] [] are = tt
@@ -124,17 +154,30 @@ module _ (p : Settings) (next : ThreadId → List Event → Option Request) (c :
       let before = not_lost_before c e.node e es alive in
       hands_after c e.node e es (hands_over es follow.0 before) (does_to_records p next c e es follow.1 before)
 
+  -- no more were taken than were sent, of a lost client too
+  pub few_sent : (es : List Entry) → AllFollow p next es → handed_in c es ≤ length (records_sent (entries_of (Client c) es))
+  few_sent [] follow = omega arith
+  few_sent (e ∷ es) follow = by (is_lost c (entries_of Server es)) refl (few_sent es follow.0)
+    where
+      by : (b : Bool) → is_lost c (entries_of Server es) ≡ b → handed_in c es ≤ length (records_sent (entries_of (Client c) es)) → handed_in c (e ∷ es) ≤ length (records_sent (entries_of (Client c) (e ∷ es)))
+      by true lost before = subst (λ n. n ≤ length (records_sent (entries_of (Client c) (e ∷ es)))) (sym (lost_hands p next c e es lost)) (more_sent c e.node e es (handed_in c es) before)
+      by false alive before = (hands_after c e.node e es (hands_over es follow.0 alive) (does_to_records p next c e es follow.1 alive)).few
+
+  -- No more blocks were taken in than there are.
+  pub few_taken : (es : List Entry) → AllFollow p next es → handed_in c es ≤ length (ended_blocks (entries_of (Client c) es))
+  few_taken es follow = subst (λ n. handed_in c es ≤ n) (as_many p.shape [] (records_sent (entries_of (Client c) es)) (ended_blocks (entries_of (Client c) es)) (records_are p next c es follow)) (few_sent es follow)
+
+  -- Of a client that is lost before an entry, what was taken in stays.
+  pub lost_keeps : (e : Entry) (es : List Entry) → AllFollow p next es → is_lost c (entries_of Server es) ≡ true → taken_in c (e ∷ es) ≡ taken_in c es
+  lost_keeps e es follow lost = ap (λ n. take n (ended_blocks (entries_of (Client c) (e ∷ es)))) (lost_hands p next c e es lost) ∙ still_taken c e.node e es (handed_in c es) (few_taken es follow)
+
   module _ (es : List Entry) (follow : AllFollow p next es) (alive : is_lost c (entries_of Server es) ≡ false) where
     abbrev blocks : List (List Event)
     blocks = ended_blocks (entries_of (Client c) es)
 
-    -- no more were taken than there are
-    few_taken : handed_in c es ≤ length blocks
-    few_taken = subst (λ n. handed_in c es ≤ n) (as_many p.shape [] (records_sent (entries_of (Client c) es)) blocks (records_are p next c es follow)) (hands_over es follow alive).few
-
     -- Blocks are handed in.
     pub hands_in : IsHandedIn c es
-    hands_in = record { few = few_taken; in_flight = (hands_over es follow alive).way }
+    hands_in = record { few = few_taken es follow; in_flight = (hands_over es follow alive).way }
 
     -- The records in flight are those of the pending blocks, behind those taken in.
     pub are_records_split : AreRecordsOf p.shape (taken_in c es) (records_in (messages (up_in_flight c es))) (pending c es)
@@ -180,11 +223,11 @@ module _ (p : Settings) (next : ThreadId → List Event → Option Request) (c :
 
         -- An ended block is pending, behind the others,
         pub pending_ended : pending c (e ∷ es) ≡ pending c es ++ block_ended ends ∷ []
-        pending_ended = pending_is says.taken (blocks ++ block_ended ends ∷ []) with_ended ∙ drop-append-le (handed_in c es) blocks (block_ended ends ∷ []) few_taken
+        pending_ended = pending_is says.taken (blocks ++ block_ended ends ∷ []) with_ended ∙ drop-append-le (handed_in c es) blocks (block_ended ends ∷ []) (few_taken es follow)
 
         -- and none is taken in.
         pub taken_ended : taken_in c (e ∷ es) ≡ taken_in c es
-        taken_ended = taken_is says.taken (blocks ++ block_ended ends ∷ []) with_ended ∙ take-append-le (handed_in c es) blocks (block_ended ends ∷ []) few_taken
+        taken_ended = taken_is says.taken (blocks ++ block_ended ends ∷ []) with_ended ∙ take-append-le (handed_in c es) blocks (block_ended ends ∷ []) (few_taken es follow)
 
       says_block : SaysRecords c e.node e es → EndsNone e (entries_of (Client c) es) ⊎ EndsBlock p e (entries_of (Client c) es) → EndsOwn p c e es ⊎ KeepsBoth c e es
       says_block says (inl none) = inr (ends_none says none)

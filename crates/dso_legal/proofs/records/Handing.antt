@@ -1,5 +1,5 @@
 -- What an entry does to a client's records: the server takes one, the client says some, or they stay.
-use Rattle.std.proofs.Common.{ℕ, suc, ◌≡◌, ◌⊎◌, inl, inr, refl, sym, ◌∙◌, ap, subst, Bool, true, false, cond, eqb, Option, List, [], ◌∷◌, ◌++◌}
+use Rattle.std.proofs.Common.{ℕ, suc, ◌≡◌, ◌⊎◌, inl, inr, refl, sym, ◌∙◌, ap, subst, Bool, true, false, cond, eqb, ◌||◌, Option, List, [], ◌∷◌, ◌++◌}
 use Rattle.std.specs.Prelude.{drop}
 use Rattle.dso_base.specs.declared.journal.Entry.{Entry}
 use Rattle.dso_base.specs.declared.journal.Input.{Input}
@@ -16,7 +16,7 @@ use Rattle.dso_plain.proofs.keys.SameKeys.{same_number, number_self}
 use Rattle.dso_law.specs.Settings.{Settings}
 use Rattle.dso_law.specs.Entries.{entries_of, by_taken_up}
 use Rattle.dso_law.specs.Channels.{Letter, takes_up, up_in_flight, in_flight_after, to_server, IsFirst, TakesFirst}
-use Rattle.dso_law.specs.ServerReadings.{is_lost, is_of_lost, counted, number_by, last_number}
+use Rattle.dso_law.specs.ServerReadings.{loses, is_lost, is_of_lost, counted, number_by, last_number}
 use Rattle.dso_law.specs.ServerStep.{HeardOrLost, ServerStepOn}
 use Rattle.dso_legal.specs.Agreement.{messages}
 use Rattle.dso_legal.specs.Lawful.{NodeFollows, MayFollow}
@@ -187,6 +187,36 @@ module _ (p : Settings) (next : ThreadId → List Event → Option Request) (c :
   -- What an entry does to the records of a client that isn't lost before it.
   pub does_to_records : MayFollow p next e es → is_lost c server ≡ false → DoesToRecords c e.node e es
   does_to_records follows alive = does_at e.node follows.channels follows.rule alive
+
+  -- the server takes no more records of a lost client
+  lost_heard : (i : Input) → e.input ≡ i → is_lost c server ≡ true → handed_with c Server e es ≡ handed_in c es
+  lost_heard (input.TookUp d m) is lost = by (eqb c d) refl
+    where
+      by : (b : Bool) → eqb c d ≡ b → handed_with c Server e es ≡ handed_in c es
+      by true same = number_after (input.TookUp d m) is ∙ if_true (is_lost d server) (handed_in c es) (by_taken_up (number_by c) (input.TookUp d m) (handed_in c es)) (subst (λ n. is_lost n server ≡ true) (same_number c d same) lost)
+      by false other = (server_leaves (input.TookUp d m) is other).taken
+  lost_heard other is lost = (server_leaves other is refl).taken
+
+  lost_at : (node : Node) → is_lost c server ≡ true → handed_with c node e es ≡ handed_in c es
+  lost_at Server lost = lost_heard e.input refl lost
+  lost_at (Client d) lost = refl
+
+  -- nor as it loses it
+  lost_now : (node : Node) → is_lost c (server_with node e es) ≡ true → handed_with c node e es ≡ handed_in c es
+  lost_now Server lost = by e.input refl lost
+    where
+      by : (i : Input) → e.input ≡ i → (loses c i || is_lost c server) ≡ true → handed_with c Server e es ≡ handed_in c es
+      by (input.TookUp d m) is lost = lost_heard (input.TookUp d m) is lost
+      by other is lost = (server_leaves other is refl).taken
+  lost_now (Client d) lost = refl
+
+  -- An entry hands in no record of a client that is lost by it or before it,
+  pub lost_after_hands : is_lost c (entries_of Server (e ∷ es)) ≡ true → handed_with c e.node e es ≡ handed_in c es
+  lost_after_hands lost = lost_now e.node lost
+
+  -- so none of one that is lost before it.
+  pub lost_hands : is_lost c server ≡ true → handed_with c e.node e es ≡ handed_in c es
+  lost_hands lost = lost_at e.node lost
 
   record_at : (node : Node) (txn : Txn) → node ≡ Server → e.input ≡ input.TookUp c (up.Commit txn) → TakesFirst e.input node es → NodeFollows p next node e es → is_lost c server ≡ false → TakesRecord c txn node e es
   record_at Server txn at is first follows alive =

@@ -46,7 +46,7 @@ use Rattle.dso_legal.proofs.waiting.EntryParts.{after_parts, SaysWell, IsAsking,
 use Rattle.dso_legal.proofs.waiting.ClientEnd.{act_well, IsDue, taken_well}
 
 -- what is asked for is no record and no return
-ask_asks : (need : Need) (own : List Entry) (m : Up) → ask_for need own ≡ Some m → IsAsking m
+pub ask_asks : (need : Need) (own : List Entry) (m : Up) → ask_for need own ≡ Some m → IsAsking m
 ask_asks NeedsId own m asked = subst IsAsking (sym (ask_is _ up.IdAsk m asked).0) tt
 ask_asks (NeedsObject o) own m asked = subst IsAsking (sym (ask_is _ (up.Fault o) m asked).0) tt
 ask_asks (NeedsLease k level) own m asked = subst IsAsking (sym (ask_is _ (up.Request k level) m asked).0) tt
@@ -57,7 +57,7 @@ ask_asks NeedsAck own m asked = absurd (cc asked)
 
 module _ (p : Settings) (c : ℕ) (before after_it : ThreadId → Option Request) (e : Entry) (own : List Entry) where
   -- what is asked for again
-  again_asks : (request : Option Request) → AllByRecursion IsAsking (asks_again p c before after_it request (unsent e ∷ own) own)
+  pub again_asks : (request : Option Request) → AllByRecursion IsAsking (asks_again p c before after_it request (unsent e ∷ own) own)
   again_asks (Some (Enter k Write)) = by (not (is_closing p c before k own) && list_any (is_lock k) (due p c after_it (unsent e ∷ own)))
     where
       by : (b : Bool) → AllByRecursion IsAsking (cond b (up.Request k Write ∷ []) [])

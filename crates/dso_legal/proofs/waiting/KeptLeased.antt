@@ -35,7 +35,6 @@ use Rattle.dso_law.specs.Settings.{Settings}
 use Rattle.dso_legal.specs.Lawful.{ServerFollows, NodeFollows, AllFollow}
 use Rattle.dso_legal.specs.Places.{Place, Away, Kept, Gone, unkept, places_noted, place_ended, place_up, place_down, MayPlaceUp, MayPlaceDown, place_of, place_with}
 use Rattle.dso_legal.specs.SoundProgram.{IsSound}
-use Rattle.dso_legal.specs.WaitsAndLosses.{WithoutLosses}
 use Rattle.dso_legal.proofs.leases.ClientLeases.{neither}
 use Rattle.dso_legal.proofs.leases.LeaseSteps.{no_both}
 use Rattle.dso_legal.proofs.line.LineElsewhere.{told_grow}
@@ -163,9 +162,9 @@ module _ (p : Settings) (next : ThreadId → List Event → Option Request) (sou
         by false counts = after_entry first rule counts (neither (loses t.client e.input) (is_lost t.client (entries_of Server es)) still).0
     kept_at (Client d) first rule still = before
 
-  -- Over lawful journals without losses.
-  pub kept_leased : (es : List Entry) → AllFollow p next es → WithoutLosses es → (l : LockName) (t : ThreadId) → is_lost t.client (entries_of Server es) ≡ false → IsKeptLeased l t (counted (entries_of Server es))
-  kept_leased [] follow safe l t alive = λ kept. absurd (cc kept)
-  kept_leased (e ∷ es) follow safe l t alive =
+  -- Over entries that follow one another.
+  pub kept_leased : (es : List Entry) → AllFollow p next es → (l : LockName) (t : ThreadId) → is_lost t.client (entries_of Server es) ≡ false → IsKeptLeased l t (counted (entries_of Server es))
+  kept_leased [] follow l t alive = λ kept. absurd (cc kept)
+  kept_leased (e ∷ es) follow l t alive =
       let before : is_lost t.client (entries_of Server es) ≡ false = not_lost_before t.client e.node e es alive in
-      kept_at e es follow.0 (waiters_stand p next sound es follow.0 safe.1) l t before (kept_leased es follow.0 safe.1 l t before) e.node follow.1.channels follow.1.rule alive
+      kept_at e es follow.0 (waiters_stand p next sound es follow.0) l t before (kept_leased es follow.0 l t before) e.node follow.1.channels follow.1.rule alive

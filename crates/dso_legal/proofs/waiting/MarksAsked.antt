@@ -28,13 +28,11 @@ use Rattle.dso_law.specs.Threads.{Locks, Waiting, resumed, locks_by, locks_after
 use Rattle.dso_legal.specs.Committed.{block_if, ended_by, ended_blocks}
 use Rattle.dso_legal.specs.Lawful.{next_after, ClientFollows, NodeFollows, AllFollow}
 use Rattle.dso_legal.specs.SoundProgram.{IsSound, KeepsLocks, KeepsTo}
-use Rattle.dso_legal.specs.WaitsAndLosses.{WithoutLosses}
-use Rattle.dso_legal.proofs.acts.SeesAll.{AllUntold}
+use Rattle.dso_legal.proofs.fitting.Untold.{AllUntold, all_untold}
 use Rattle.dso_legal.proofs.blocks.EachEvent.{each_both}
 use Rattle.dso_legal.proofs.blocks.OwnActs.{next_act, threads_follow, threads_wait, own_acts}
 use Rattle.dso_legal.proofs.blocks.SameLocks.{same_locks}
 use Rattle.dso_legal.proofs.blocks.WaitsApart.{does_wait}
-use Rattle.dso_legal.proofs.central.AllHold.{all_holds}
 use Rattle.dso_legal.proofs.leases.LeaseSteps.{no_both}
 use Rattle.dso_legal.proofs.records.BothEnds.{client_with}
 use Rattle.dso_legal.proofs.waiting.ServerWaiters.{any_append}
@@ -319,7 +317,7 @@ module _ (p : Settings) (next : ThreadId → List Event → Option Request) (sou
         by true same = fair_client c (subst (λ n. ClientFollows p next n e es) (sym (same_number c d same)) rule) fair
         by false other = fair
 
-  -- Over lawful journals no block that times out asks for a mark.
-  pub asks_fairly : (es : List Entry) → AllFollow p next es → WithoutLosses es → (c : ℕ) → AsksFairly (entries_of (Client c) es)
-  asks_fairly [] follow safe c = record { in_time = λ t. refl; asks = λ t is. absurd (cc is); ended = tt }
-  asks_fairly (e ∷ es) follow safe c = fair_at e es follow.0 (all_holds p next sound es follow.0 safe.1).untold c e.node follow.1.rule (asks_fairly es follow.0 safe.1 c)
+  -- Over entries that follow one another no block that times out asks for a mark.
+  pub asks_fairly : (es : List Entry) → AllFollow p next es → (c : ℕ) → AsksFairly (entries_of (Client c) es)
+  asks_fairly [] follow c = record { in_time = λ t. refl; asks = λ t is. absurd (cc is); ended = tt }
+  asks_fairly (e ∷ es) follow c = fair_at e es follow.0 (all_untold p next sound es follow.0) c e.node follow.1.rule (asks_fairly es follow.0 c)

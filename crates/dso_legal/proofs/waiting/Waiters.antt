@@ -1,5 +1,6 @@
--- Waiters are tokens: over lawful journals without losses, of a sound program, each client and the server agree on where each of the
--- client's threads stands; at the server who is in a list is who is gone to it; and the waiters stand as they should at each client.
+-- Waiters are tokens: over entries that follow one another, of a sound program, each client that isn't lost and the server agree on where
+-- each of the client's threads stands; at the server who is in a list is who is gone to it; and at each client, a lost one too, the waiters
+-- stand as they should, and each wake in flight to it may come.
 use Rattle.std.proofs.Common.{ℕ, ◌≡◌, ◌≢◌, refl, sym, ◌∙◌, ap, subst, Bool, true, false, cond, eqb, ◌&&◌, ◌||◌, Option, Some, None, List, [], ◌∷◌}
 use Rattle.dso_base.specs.declared.journal.Entry.{Entry}
 use Rattle.dso_base.specs.declared.journal.Input.TheVariants as input
@@ -27,21 +28,21 @@ use Rattle.dso_law.specs.RequestNeeds.{is_enough, conflicts, hold_level, unmet}
 use Rattle.dso_law.specs.ServerReadings.{loses, is_lost, is_of_lost, counted}
 use Rattle.dso_law.specs.Settings.{Settings}
 use Rattle.dso_law.specs.Threads.{hold_in, locks_after, locks_of, hold_of}
+use Rattle.dso_legal.specs.Agreement.{EachMay, messages}
 use Rattle.dso_legal.specs.Lawful.{next_after, ClientFollows, ServerFollows, NodeFollows, AllFollow}
 use Rattle.dso_legal.specs.Places.{Gone, place_up, place_down, MayPlaceUp, MayPlaceDown, place_of, place_with, AgreeOnWaiter}
 use Rattle.dso_legal.specs.SoundProgram.{IsSound, KeepsLocks, KeepsTo}
-use Rattle.dso_legal.specs.WaitsAndLosses.{WithoutLosses}
-use Rattle.dso_legal.proofs.acts.SeesAll.{AllUntold}
 use Rattle.dso_legal.proofs.blocks.OwnActs.{threads_follow, threads_wait, own_acts}
 use Rattle.dso_legal.proofs.blocks.SameLocks.{same_locks}
 use Rattle.dso_legal.proofs.blocks.WaitsApart.{waits_apart}
-use Rattle.dso_legal.proofs.central.AllHold.{all_holds}
+use Rattle.dso_legal.proofs.fitting.Untold.{AllUntold, all_untold}
+use Rattle.dso_legal.proofs.fitting.WaysDown.{downs_after}
 use Rattle.dso_legal.proofs.leases.Holding.{moves}
 use Rattle.dso_legal.proofs.leases.Holds.{HoldsWell, holds_well, well_after}
 use Rattle.dso_legal.proofs.leases.KeptLeases.{keeps_leases}
 use Rattle.dso_legal.proofs.leases.Queues.{lock_self}
 use Rattle.dso_legal.proofs.leases.Tokens.{known}
-use Rattle.dso_legal.proofs.records.BothEnds.{server_with, client_with, not_lost_before, EndsAt, agree_after, first_may_up, first_may_down}
+use Rattle.dso_legal.proofs.records.BothEnds.{server_with, client_with, not_lost_before, EndsAt, agree_after, first_may_up, first_down}
 use Rattle.dso_legal.proofs.channels.InFlight.{said_of}
 use Rattle.dso_legal.proofs.waiting.ActedView.{view_of, acted, IsFair}
 use Rattle.dso_legal.proofs.waiting.ClientEnd.{IsDue}
@@ -110,14 +111,16 @@ module _ (p : Settings) (next : ThreadId → List Event → Option Request) (sou
   pub record WaitersStand (es : List Entry) : Type 0 where
     pub agree : (l : LockName) (t : ThreadId) → is_lost t.client (entries_of Server es) ≡ false → AgreeOnWaiter t.client l t es
     pub server : (l : LockName) (t : ThreadId) → is_lost t.client (entries_of Server es) ≡ false → StandsAtServer l t (counted (entries_of Server es))
-    pub client : (c : ℕ) → is_lost c (entries_of Server es) ≡ false → (l : LockName) → KeepsWaiters l (view_of (entries_of (Client c) es))
+    pub downs : (l : LockName) (t : ThreadId) → EachMay (MayPlaceDown l t) (place_down l t) (messages (down_in_flight t.client es)) (place_of l t (entries_of (Client t.client) es))
+    pub client : (c : ℕ) (l : LockName) → KeepsWaiters l (view_of (entries_of (Client c) es))
 
   -- before the first entry
   starts : WaitersStand []
   starts = record {
     agree = λ l t alive. record { ups = tt; downs = tt; meet = refl };
     server = λ l t alive. record { gone = ((λ there. absurd (cc there)), λ gone. absurd (cc gone)); once = tt };
-    client = λ c alive l. record {
+    downs = λ l t. tt;
+    client = λ c l. record {
       kept = λ u t alone. ((λ kept. absurd (cc kept)), λ there. absurd (cc there));
       may = λ u t. tt;
       holder = λ u names. absurd (cc names);
@@ -132,28 +135,27 @@ module _ (p : Settings) (next : ThreadId → List Event → Option Request) (sou
 
   module _ (e : Entry) (es : List Entry) (follow : AllFollow p next (e ∷ es)) (untold : AllUntold es) (stand : WaitersStand es) where
     -- who is woken is gone to the server, and what is granted isn't leased
-    is_due : (c : ℕ) (alive : is_lost c (entries_of Server es) ≡ false) → TakesFirst e.input (Client c) es → (m : Down) → e.input ≡ input.TookDown m → FitsDown p c m (entries_of (Client c) es) → IsDue (entries_of (Client c) es) (stand.client c alive) m
-    is_due c alive first (down.Grant j level) is fits = (known p next es follow.0).plain c j fits
-    is_due c alive first (down.Wake j w) is fits =
+    is_due : (c : ℕ) → TakesFirst e.input (Client c) es → (m : Down) → e.input ≡ input.TookDown m → FitsDown p c m (entries_of (Client c) es) → IsDue (entries_of (Client c) es) (stand.client c) m
+    is_due c first (down.Grant j level) is fits = (known p next es follow.0).plain c j fits
+    is_due c first (down.Wake j w) is fits =
         let mine : IsFirst (down.Wake j w) (down_in_flight w.client es) = subst (λ n. IsFirst (down.Wake j w) (down_in_flight n es)) (sym fits.its) (subst (λ i. TakesFirst i (Client c) es) is first) in
-        let agree : AgreeOnWaiter w.client j w es = stand.agree j w (subst (λ n. is_lost n (entries_of Server es) ≡ false) (sym fits.its) alive) in
-        let gone : place_of j w (entries_of (Client w.client) es) ≡ Gone = first_may_down p next w.client (MayPlaceUp j w) (place_up j w) (MayPlaceDown j w) (place_down j w) (place_of j w) (place_with w.client j w) es agree (down.Wake j w) mine
-        (ap (λ b. b && is_thread w w) (lock_self j) ∙ thread_self w) in
+        let gone : place_of j w (entries_of (Client w.client) es) ≡ Gone = first_down p next w.client (MayPlaceUp j w) (place_up j w) (MayPlaceDown j w) (place_down j w) (place_of j w) (place_with w.client j w)
+        (down.Wake j w) (down_in_flight w.client es) (place_of j w (entries_of (Client w.client) es)) mine (stand.downs j w) (ap (λ b. b && is_thread w w) (lock_self j) ∙ thread_self w) in
         subst (λ n. place_of j w (entries_of (Client n) es) ≡ Gone) fits.its gone
-    is_due c alive first (down.Ids first_id) is fits = tt
-    is_due c alive first (down.Object body) is fits = tt
-    is_due c alive first (down.Recall j) is fits = tt
-    is_due c alive first (down.Ack seq) is fits = tt
-    is_due c alive first (down.Changes sets) is fits = tt
+    is_due c first (down.Ids first_id) is fits = tt
+    is_due c first (down.Object body) is fits = tt
+    is_due c first (down.Recall j) is fits = tt
+    is_due c first (down.Ack seq) is fits = tt
+    is_due c first (down.Changes sets) is fits = tt
 
     -- what a client's entry says
-    client_says : (c : ℕ) → is_lost c (entries_of Server es) ≡ false → TakesFirst e.input (Client c) es → ClientFollows p next c e es → SaysWell (entries_of (Client c) es) e.input e.event (said_of e.sent)
-    client_says c alive first rule =
+    client_says : (c : ℕ) → TakesFirst e.input (Client c) es → ClientFollows p next c e es → SaysWell (entries_of (Client c) es) e.input e.event (said_of e.sent)
+    client_says c first rule =
         let own : List Entry = entries_of (Client c) es in
         let before : ThreadId → Option Request = next_after next es in
         let after_it : ThreadId → Option Request = next_after next (e ∷ es) in
         let well_now : HoldsWell p c (e ∷ own) = well_after p c before after_it e own (holds_well p next es follow.0 c) (moves p c before after_it e own rule.step) (keeps_leases p c before after_it e own ((known p next es follow.0).plain c) rule.step) in
-        says_well p c before after_it e own well_now (fair e es follow.0 untold c well_now) (stand.client c alive) e.input refl rule.step (is_due c alive first)
+        says_well p c before after_it e own well_now (fair e es follow.0 untold c well_now) (stand.client c) e.input refl rule.step (is_due c first)
 
     -- what the server's makes of a thread
     pub server_does : (l : LockName) (t : ThreadId) → is_lost t.client (entries_of Server es) ≡ false → TakesFirst e.input Server es → ServerFollows p next e es → is_of_lost e.input (entries_of Server es) ≡ false → loses t.client e.input ≡ false
@@ -164,7 +166,7 @@ module _ (p : Settings) (next : ThreadId → List Event → Option Request) (sou
 
     ends_at : (l : LockName) (t : ThreadId) → is_lost t.client (entries_of Server es) ≡ false → EndsAt p next t.client (MayPlaceUp l t) (place_up l t) (MayPlaceDown l t) (place_down l t) (place_of l t) (place_with t.client l t) e es
     ends_at l t alive = record {
-      at_client = λ first rule. record { comes = (client_says t.client alive first rule).comes l t; reads = refl };
+      at_client = λ first rule. record { comes = (client_says t.client first rule).comes l t; reads = refl };
       at_server = λ first rule counts stays. record { comes = (server_does l t alive first rule counts stays).comes; reads = refl };
     }
 
@@ -180,27 +182,39 @@ module _ (p : Settings) (next : ThreadId → List Event → Option Request) (sou
         by false counts = (server_does l t (not_lost_before t.client Server e es alive) first rule counts (before (loses t.client e.input) (is_lost t.client (entries_of Server es)) alive).0).stand
     server_after l t (Client d) first rule alive = stand.server l t alive
 
-    client_after : (c : ℕ) (node : Node) → TakesFirst e.input node es → NodeFollows p next node e es → is_lost c (server_with node e es) ≡ false → (l : LockName) → KeepsWaiters l (view_of (client_with c node e es))
-    client_after c Server first rule alive l = stand.client c (not_lost_before c Server e es alive) l
-    client_after c (Client d) first rule alive l = by (eqb c d) refl
+    client_after : (c : ℕ) (node : Node) → TakesFirst e.input node es → NodeFollows p next node e es → (l : LockName) → KeepsWaiters l (view_of (client_with c node e es))
+    client_after c Server first rule l = stand.client c l
+    client_after c (Client d) first rule l = by (eqb c d) refl
       where
         by : (b : Bool) → eqb c d ≡ b → KeepsWaiters l (view_of (cond b (e ∷ entries_of (Client c) es) (entries_of (Client c) es)))
         by true own =
             let mine : ClientFollows p next c e es = subst (λ n. ClientFollows p next n e es) (sym (same_number c d own)) rule in
-            parts_tell e (entries_of (Client c) es) l ((client_says c alive (subst (λ n. TakesFirst e.input (Client n) es) (sym (same_number c d own)) first) mine).keeps l)
-        by false other = stand.client c alive l
+            parts_tell e (entries_of (Client c) es) l ((client_says c (subst (λ n. TakesFirst e.input (Client n) es) (sym (same_number c d own)) first) mine).keeps l)
+        by false other = stand.client c l
+
+    agree_on : (l : LockName) (t : ThreadId) → is_lost t.client (entries_of Server (e ∷ es)) ≡ false → AgreeOnWaiter t.client l t (e ∷ es)
+    agree_on l t alive =
+        let before : is_lost t.client (entries_of Server es) ≡ false = not_lost_before t.client e.node e es alive in
+        agree_after p next t.client (MayPlaceUp l t) (place_up l t) (MayPlaceDown l t) (place_down l t) (place_of l t) (place_with t.client l t) (places_commute l t) e es (ends_at l t before)
+        e.node follow.1.channels follow.1.rule alive (stand.agree l t before)
+
+    downs_on : (l : LockName) (t : ThreadId) → EachMay (MayPlaceDown l t) (place_down l t) (messages (down_in_flight t.client (e ∷ es))) (place_of l t (entries_of (Client t.client) (e ∷ es)))
+    downs_on l t = by (is_lost t.client (entries_of Server (e ∷ es))) refl
+      where
+        by : (lost : Bool) → is_lost t.client (entries_of Server (e ∷ es)) ≡ lost → EachMay (MayPlaceDown l t) (place_down l t) (messages (down_in_flight t.client (e ∷ es))) (place_of l t (entries_of (Client t.client) (e ∷ es)))
+        by true lost = downs_after p next t.client (MayPlaceUp l t) (place_up l t) (MayPlaceDown l t) (place_down l t) (place_of l t) (place_with t.client l t) (places_commute l t) e es follow lost
+            (λ first rule. record { comes = (client_says t.client first rule).comes l t; reads = refl }) (stand.downs l t)
+        by false alive = (agree_on l t alive).downs
 
     stands_on : WaitersStand (e ∷ es)
     stands_on = record {
-      agree = λ l t alive.
-          let before : is_lost t.client (entries_of Server es) ≡ false = not_lost_before t.client e.node e es alive in
-          agree_after p next t.client (MayPlaceUp l t) (place_up l t) (MayPlaceDown l t) (place_down l t) (place_of l t) (place_with t.client l t) (places_commute l t) e es (ends_at l t before)
-          e.node follow.1.channels follow.1.rule alive (stand.agree l t before);
+      agree = agree_on;
       server = λ l t alive. server_after l t e.node follow.1.channels follow.1.rule alive;
-      client = λ c alive. client_after c e.node follow.1.channels follow.1.rule alive;
+      downs = downs_on;
+      client = λ c l. client_after c e.node follow.1.channels follow.1.rule l;
     }
 
   -- Waiters are tokens.
-  pub waiters_stand : (es : List Entry) → AllFollow p next es → WithoutLosses es → WaitersStand es
-  waiters_stand [] follow safe = starts
-  waiters_stand (e ∷ es) follow safe = stands_on e es follow (all_holds p next sound es follow.0 safe.1).untold (waiters_stand es follow.0 safe.1)
+  pub waiters_stand : (es : List Entry) → AllFollow p next es → WaitersStand es
+  waiters_stand [] follow = starts
+  waiters_stand (e ∷ es) follow = stands_on e es follow (all_untold p next sound es follow.0) (waiters_stand es follow.0)

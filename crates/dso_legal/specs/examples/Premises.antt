@@ -11,7 +11,7 @@ use Rattle.dso_base.specs.declared.request.Request.TheVariants as request
 use Rattle.dso_base.specs.declared.value.ClassId.TheVariants.{Plain}
 use Rattle.dso_base.specs.declared.value.Value.TheVariants as value
 use Rattle.dso_law.specs.Settings.{Settings}
-use Rattle.dso_legal.specs.WaitsAndLosses.{WithoutWaits, WithoutLosses}
+use Rattle.dso_legal.specs.WithoutWaits.{WithoutWaits}
 use Rattle.dso_legal.specs.Lawful.{IsLawful}
 use Rattle.dso_legal.specs.SoundProgram.{IsSound}
 use Rattle.dso_legal.specs.examples.Courses.{Course, Stops, Makes, Looks, Reads, Ticks, TimesOut, Does, program_of}
@@ -19,6 +19,9 @@ use Rattle.dso_legal.specs.examples.Words.{thread}
 use Rattle.dso_legal.specs.examples.Counter as counter
 use Rattle.dso_legal.specs.examples.Recall as recall
 use Rattle.dso_legal.specs.examples.Flush as flush
+use Rattle.dso_legal.specs.examples.LostClient as lost
+use Rattle.dso_legal.specs.examples.LostWaiters as lost_waiters
+use Rattle.dso_legal.specs.examples.SettledThenLost as settled_then_lost
 use Rattle.dso_legal.specs.examples.CrossedTimeout as crossed
 use Rattle.dso_legal.specs.examples.Settling as settling
 use Rattle.dso_legal.specs.examples.TimedOutHere as here
@@ -28,7 +31,6 @@ use Rattle.dso_legal.specs.examples.TimedOutThere as there
 pub record MeetsPremises (p : Settings) (next : ThreadId → List Event → Option Request) (es : List Entry) : Type 0 where
   pub sound : IsSound p.shape next
   pub lawful : IsLawful p next es
-  pub whole : WithoutLosses es
 
 -- and what its clause on journals without waits asks besides
 pub record MeetsCalmly (p : Settings) (next : ThreadId → List Event → Option Request) (es : List Entry) : Type 0 where
@@ -161,6 +163,51 @@ notifying_courses = (thread 1 1, one_tick) ∷ (
       Does (request.End None) Stops))),
 ) ∷ []
 
+-- a thread makes an object and puts it into the root
+abbrev pub puts_root : Course
+puts_root = Makes (Plain 0) 1 (λ o.
+    Does (request.Enter (Name 0) Write) (
+    Reads 0 0 (
+    Does (request.Put 0 0 (value.Ref o)) (
+    Does (request.Exit (Name 0)) (
+    Does (request.End None) Stops)))))
+
+-- two threads do so
+abbrev pub two_puts_courses : List (ThreadId × Course)
+two_puts_courses = (thread 1 1, puts_root) ∷ (thread 2 1, puts_root) ∷ []
+
+-- a thread waits until it is woken
+abbrev pub waits_on : Course
+waits_on = Does (request.Enter (Name 0) Write) (
+    Does (request.Wait (Name 0)) goes_on)
+
+-- two threads do so, and one of another client notifies
+abbrev pub two_waits_courses : List (ThreadId × Course)
+two_waits_courses = (thread 1 1, waits_on) ∷ (
+  thread 2 1,
+  Does (request.Enter (Name 0) Write) (
+      Does (request.Notify (Name 0)) (
+      Does (request.Exit (Name 0)) (
+      Does (request.End None) Stops))),
+) ∷ (thread 3 1, waits_on) ∷ []
+
+-- a thread settles between two sections, and one of another client has one
+abbrev pub two_sections_courses : List (ThreadId × Course)
+two_sections_courses = (
+  thread 1 1,
+  Does (request.Enter (Name 0) Write) (
+      Does (request.Exit (Name 0)) (
+      Does request.Settle (
+      Does (request.Enter (Name 0) Write) (
+      Does (request.Exit (Name 0)) (
+      Does (request.End None) Stops))))),
+) ∷ (
+  thread 2 1,
+  Does (request.Enter (Name 0) Write) (
+      Does (request.Exit (Name 0)) (
+      Does (request.End None) Stops)),
+) ∷ []
+
 -- the counter's journal meets them
 abbrev pub CounterMeets : Type 0
 CounterMeets = MeetsCalmly counter.settings (program_of counter_courses) counter.entries
@@ -188,3 +235,15 @@ TimedOutThereMeets = MeetsPremises there.settings (program_of passing_courses) t
 -- so does that of one whose timeout crosses a notification
 abbrev pub CrossedTimeoutMeets : Type 0
 CrossedTimeoutMeets = MeetsPremises crossed.settings (program_of notifying_courses) crossed.entries
+
+-- so does that of a client that is lost in the middle of a section
+abbrev pub LostClientMeets : Type 0
+LostClientMeets = MeetsCalmly lost.settings (program_of two_puts_courses) lost.entries
+
+-- so does that of one that is lost while its thread stands first in the server's list
+abbrev pub LostWaitersMeets : Type 0
+LostWaitersMeets = MeetsPremises lost_waiters.settings (program_of two_waits_courses) lost_waiters.entries
+
+-- so does that of one that is lost after its thread settled
+abbrev pub SettledThenLostMeets : Type 0
+SettledThenLostMeets = MeetsCalmly settled_then_lost.settings (program_of two_sections_courses) settled_then_lost.entries

@@ -14,7 +14,7 @@ use Rattle.dso_base.specs.declared.value.Value.TheVariants as value
 use Rattle.dso_plain.specs.State.{Hold, PlainState, is_shared, hold_on_guard}
 use Rattle.dso_plain.specs.Possible.{Answers, IsPrivateMonitor, IsClusterLock, IsAwakeFor}
 use Rattle.dso_plain.specs.After.{change_of, apply, put, read, read_shared, notifies}
-use Rattle.dso_plain.specs.Rechoice.{with_marks}
+use Rattle.dso_plain.specs.SameActs.{with_marks}
 
 module _ (shape : Shape) (t : ThreadId) (s : PlainState) (marks : LockName × ThreadId → Bool) where
   -- with other marks a private monitor is one, and a cluster's lock

@@ -19,11 +19,12 @@ use Rattle.dso_base.specs.declared.value.Value.TheVariants as value
 use Rattle.dso_plain.specs.KeyTests.{is_lock, is_place}
 use Rattle.dso_lookup.specs.Maps.{writes, or_old, written}
 use Rattle.dso_plain.specs.State.{Hold, PlainState, is_shared, level_of, guard_in, hold_on_guard}
-use Rattle.dso_plain.specs.Possible.{IsPossible, May, Answers, AnswersNew, AnswersLook, AnswersGet, MayPut, IsPrivateMonitor, IsClusterLock, AnswersEnter, AnswersExit, AnswersMonitor, AnswersTick, AnswersTimeout, AnswersResume, AnswersEnd, IsCompatible, NoConflict, IsUpgrade, FindsMark, Wakes, IsAwakeFor, IsUnmarkedWaiter}
+use Rattle.dso_plain.specs.Possible.{IsPossible, May, MayButMarks, Answers, AnswersNew, AnswersLook, AnswersGet, MayPut, IsPrivateMonitor, IsClusterLock, AnswersEnter, AnswersExit, AnswersMonitor, AnswersTick, AnswersTimeout, AnswersResume, AnswersEnd, IsCompatible, NoConflict, IsUpgrade, FindsMark, Wakes, IsAwakeFor, IsUnmarkedWaiter}
 use Rattle.dso_plain.specs.After.{nothing, change_of, apply, after, loses, put, read, read_shared, notifies_all, entered, exited, count_of, resumed}
-use Rattle.dso_plain.specs.History.{Runs, end_of}
+use Rattle.dso_plain.specs.History.{Runs, RunsButMarks, end_of}
 use Rattle.dso_plain.specs.Touches.{ActTouches, Touches, TouchesIn}
 use Rattle.dso_plain.specs.Loss.{WakesNoneOf, IsApartFrom, AreApartFrom, SurvivesLoss}
+use Rattle.dso_plain.proofs.histories.RunKinds.{may_but_marks}
 use Rattle.dso_plain.proofs.keys.SameKeys.{Wherever, none, written_there, same_number, number_self, same_place}
 use Rattle.dso_plain.proofs.independence.ChangesCommute.{AreDisjoint, apply_swap}
 use Rattle.dso_plain.proofs.independence.WritesGuarded.{guarded}
@@ -331,17 +332,22 @@ module _ (shape : Shape) (client : ℕ) (s : PlainState) (t : ThreadId) (other :
   swap (NotifyAll l) reply woken a apart = refl
   swap request reply woken a apart = swap_one request reply woken a tt apart
 
--- what is so of one event
+-- what is so of one event, whatever is marked
 record OneSurvives (shape : Shape) (client : ℕ) (e : Event) (s : PlainState) : Type 0 where
-  may : May shape e (left client s)
+  may : MayButMarks shape e (left client s)
   same_end : after shape e (left client s) ≡ left client (after shape e s)
   touches : (l : LockName) (x : Level) → Touches e (left client s) l x → Touches e s l x
 
 -- each event of another client is so
-event_survives : (shape : Shape) (client : ℕ) (e : Event) (s : PlainState) → May shape e s → IsApartFrom client e → OneSurvives shape client e s
+event_survives : (shape : Shape) (client : ℕ) (e : Event) (s : PlainState) → MayButMarks shape e s → IsApartFrom client e → OneSurvives shape client e s
 event_survives shape client (Lost lost) s m apart = absurd apart
 event_survives shape client (Act t request reply woken) s m apart = record {
-  may = possible_with shape client s t apart.0 request reply woken woken m (still_wakes shape client s t apart.0 request reply woken apart.1 m.wakes);
+  may = record {
+    connected = not_cleared t.client client true (s.lost t.client) apart.0 ∙ m.connected;
+    going = m.going;
+    awake = still_awake shape client s t apart.0 request m.awake;
+    answers = still_answers shape client s t apart.0 request reply m.answers;
+  };
   same_end = swap shape client s t apart.0 request reply woken m.answers apart.1;
   touches = λ l x. touched l x;
 }
@@ -350,14 +356,14 @@ event_survives shape client (Act t request reply woken) s m apart = record {
     touched l x (inl e) = inl (sym (ap level_of (same_hold shape client s t apart.0 l)) ∙ e)
     touched l x (inr e) = inr e
 
--- a run of other clients survives the loss
-pub loss : (shape : Shape) (client : ℕ) (es : List Event) (s : PlainState) → Runs shape es s → AreApartFrom client es → SurvivesLoss shape client es s
+-- a run of other clients survives the loss, whatever is marked
+pub loss : (shape : Shape) (client : ℕ) (es : List Event) (s : PlainState) → RunsButMarks shape es s → AreApartFrom client es → SurvivesLoss shape client es s
 loss shape client [] s m apart = record { still_runs = tt; same_end = refl; touches = λ l x k. k }
 loss shape client (e ∷ es) s m apart =
     let one = event_survives shape client e s m.0 apart.0 in
     let rest = loss shape client es (after shape e s) m.1 apart.1 in
     record {
-      still_runs = (one.may, subst (λ z. Runs shape es z) (sym one.same_end) rest.still_runs);
+      still_runs = (one.may, subst (λ z. RunsButMarks shape es z) (sym one.same_end) rest.still_runs);
       same_end = ap (λ z. end_of shape es z) one.same_end ∙ rest.same_end;
       touches = λ l x. touched l x one rest;
     }
@@ -365,6 +371,18 @@ loss shape client (e ∷ es) s m apart =
     touched : (l : LockName) (x : Level) → OneSurvives shape client e s → SurvivesLoss shape client es (after shape e s) → TouchesIn shape (e ∷ es) (left client s) l x → TouchesIn shape (e ∷ es) s l x
     touched l x one rest (inl k) = inl (one.touches l x k)
     touched l x one rest (inr k) = inr (rest.touches l x (subst (λ z. TouchesIn shape es z l x) one.same_end k))
+
+-- an event that finds its marks still does
+may_still : (shape : Shape) (client : ℕ) (e : Event) (s : PlainState) → May shape e s → IsApartFrom client e → May shape e (left client s)
+may_still shape client (Lost lost) s m apart = absurd apart
+may_still shape client (Act t request reply woken) s m apart = possible_with shape client s t apart.0 request reply woken woken m (still_wakes shape client s t apart.0 request reply woken apart.1 m.wakes)
+
+-- and so does a run
+pub marks_after_loss : (shape : Shape) (client : ℕ) (es : List Event) (s : PlainState) → Runs shape es s → AreApartFrom client es → Runs shape es (left client s)
+marks_after_loss shape client [] s m apart = tt
+marks_after_loss shape client (e ∷ es) s m apart =
+    let one = event_survives shape client e s (may_but_marks shape e s m.0) apart.0 in
+    (may_still shape client e s m.0 apart.0, subst (λ z. Runs shape es z) (sym one.same_end) (marks_after_loss shape client es (after shape e s) m.1 apart.1))
 
 -- a notification chooses among the waiters left
 pub choice_after_loss : (shape : Shape) (client : ℕ) (s : PlainState) (t : ThreadId) (l : LockName) (before chosen : Option ThreadId) → t.client ≢ client → IsPossible shape t (Notify l) Done before s → IsPossible shape t (Notify l) Done chosen (left client s) ↔ Wakes (Notify l) Done chosen (left client s)

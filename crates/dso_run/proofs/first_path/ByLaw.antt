@@ -11,7 +11,6 @@ use Rattle.dso_machine.specs.declared.code.Code.{Code}
 use Rattle.dso_machine.specs.Next.{next_request}
 use Rattle.dso_machine.specs.Sound as machine
 use Rattle.dso_run.specs.first_path.Counter.{IsCounter, settings}
-use Rattle.dso_run.proofs.first_path.RunsWithoutLosses.{runs_without_losses}
 
 -- The counter's code, where it is sound, is a sound program of the settings' classes.
 counter_sound : (code : Code) → IsCounter code → machine.IsSound code → law.IsSound settings.shape (next_request code)
@@ -22,4 +21,4 @@ counter_sound code counter sound =
 -- A lawful journal of the counter's code commits a legal history, with a prefix of each thread's events; all where it is
 -- finished.
 pub legal_by_law : (code : Code) → IsCounter code → machine.IsSound code → (es : List Entry) → IsLawful settings (next_request code) es → CommitsLegally settings (next_request code) es
-legal_by_law code counter sound es lawful = central_law settings (next_request code) (counter_sound code counter sound) es lawful (runs_without_losses code es lawful.follow)
+legal_by_law code counter sound es lawful = central_law settings (next_request code) (counter_sound code counter sound) es lawful

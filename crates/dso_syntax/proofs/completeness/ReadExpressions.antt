@@ -1,11 +1,11 @@
 -- Every expression of the grammar is read, and as its tree.
 use Rattle.std.proofs.Common.{◌≡◌, ℕ, zero, suc, ◌≤◌, ◌<◌, false, cond, List, [], ◌∷◌, ◌++◌, length, Some, None, Ok, refl, sym, subst, ap, ◌∙◌, arith, append_assoc, length-append}
 use Rattle.dso_base.specs.declared.op.Op.{Op}
-use Rattle.dso_syntax.specs.declared.token.Keyword.{Keyword}
-use Rattle.dso_syntax.specs.declared.token.Keyword.TheVariants as k
-use Rattle.dso_syntax.specs.declared.token.Mark.{Mark}
-use Rattle.dso_syntax.specs.declared.token.Mark.TheVariants as m
-use Rattle.dso_syntax.specs.declared.token.Token.{Token}
+use Rattle.dso_tokens.specs.declared.token.Keyword.{Keyword}
+use Rattle.dso_tokens.specs.declared.token.Keyword.TheVariants as k
+use Rattle.dso_tokens.specs.declared.token.Mark.{Mark}
+use Rattle.dso_tokens.specs.declared.token.Mark.TheVariants as m
+use Rattle.dso_tokens.specs.declared.token.Token.{Token}
 use Rattle.dso_syntax.specs.declared.tree.ExprTree.{ExprTree}
 use Rattle.dso_syntax.specs.declared.tree.ExprForm.TheVariants as e
 use Rattle.dso_syntax.specs.Grammar as g

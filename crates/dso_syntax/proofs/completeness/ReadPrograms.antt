@@ -2,12 +2,12 @@
 use Rattle.std.proofs.Common.{◌≡◌, ℕ, zero, suc, ◌≤◌, Bool, true, false, cond, List, [], ◌∷◌, ◌++◌, length, Some, Ok, Err, refl, sym, subst, ap, ◌∙◌, arith, length-append}
 use Rattle.std.specs.Prelude.{ℤ}
 use Rattle.dso_base.specs.declared.value.Kind.{Kind}
-use Rattle.dso_syntax.specs.declared.token.Keyword.{Keyword}
-use Rattle.dso_syntax.specs.declared.token.Keyword.TheVariants as k
-use Rattle.dso_syntax.specs.declared.token.Mark.TheVariants as m
-use Rattle.dso_syntax.specs.declared.token.Form.TheVariants as form
-use Rattle.dso_syntax.specs.declared.token.Token.{Token}
-use Rattle.dso_syntax.specs.declared.token.Ending.TheVariants as ending
+use Rattle.dso_tokens.specs.declared.token.Keyword.{Keyword}
+use Rattle.dso_tokens.specs.declared.token.Keyword.TheVariants as k
+use Rattle.dso_tokens.specs.declared.token.Mark.TheVariants as m
+use Rattle.dso_tokens.specs.declared.token.Form.TheVariants as form
+use Rattle.dso_tokens.specs.declared.token.Token.{Token}
+use Rattle.dso_tokens.specs.declared.token.Ending.TheVariants as ending
 use Rattle.dso_syntax.specs.declared.tree.Ident.{Ident}
 use Rattle.dso_syntax.specs.declared.tree.Ast.{Ast}
 use Rattle.dso_syntax.specs.declared.tree.Item.{Item}
@@ -15,7 +15,7 @@ use Rattle.dso_syntax.specs.declared.tree.Item.TheVariants as item
 use Rattle.dso_syntax.specs.declared.tree.Member.{Member}
 use Rattle.dso_syntax.specs.declared.tree.Member.TheVariants as member
 use Rattle.dso_syntax.specs.declared.tree.StmtTree.{StmtTree}
-use Rattle.dso_syntax.specs.Bytes.{Text}
+use Rattle.dso_tokens.specs.Bytes.{Text}
 use Rattle.dso_syntax.specs.Grammar.{Tokens, IsMark, IsKeyword, IsName, kind_of}
 use Rattle.dso_syntax.specs.ProgramGrammar as p
 use Rattle.dso_syntax.specs.TextLimits.{most_levels}
@@ -26,7 +26,7 @@ use Rattle.dso_syntax.specs.ProgramReader.{until_brace, braced, block, names, pa
 use Rattle.dso_syntax.proofs.completeness.ReadSteps.{at}
 use Rattle.dso_syntax.proofs.completeness.ReadExpressions.{regroup}
 use Rattle.dso_syntax.proofs.completeness.ReadStatements.{kind_start, reader, block_read, braced_step, until_done, until_next}
-use Rattle.dso_syntax.proofs.tokens.ReadingLaws.{one_reading}
+use Rattle.dso_tokens.proofs.tokens.ReadingLaws.{one_reading}
 
 -- ---- parameters
 

@@ -1,29 +1,29 @@
 -- What is answered of a text, by what the parts of the parser answer.
 use Rattle.std.proofs.Common.{◌≡◌, ◌≤◌, ℕ, List, Option, Some, None, Result, Ok, Err, length, refl, sym, subst, ap, ◌∙◌}
 use Rattle.std.specs.Prelude.{IfOk, IfErr}
-use Rattle.dso_syntax.specs.declared.stop.Stop.{Stop}
-use Rattle.dso_syntax.specs.declared.stop.Stop.TheVariants as stop
-use Rattle.dso_syntax.specs.declared.token.Ending.{Ending}
-use Rattle.dso_syntax.specs.declared.token.Ending.TheVariants as ending
+use Rattle.dso_tokens.specs.declared.stop.Stop.{Stop}
+use Rattle.dso_tokens.specs.declared.stop.Stop.TheVariants as stop
+use Rattle.dso_tokens.specs.declared.token.Ending.{Ending}
+use Rattle.dso_tokens.specs.declared.token.Ending.TheVariants as ending
 use Rattle.dso_syntax.specs.declared.tree.Ast.{Ast}
 use Rattle.dso_syntax.specs.declared.tree.Item.{Item}
 use Rattle.dso_syntax.specs.declared.fault.SyntaxFault.{SyntaxFault}
 use Rattle.dso_syntax.specs.declared.fault.SyntaxFault.TheVariants as fault
-use Rattle.dso_syntax.specs.Bytes.{Text}
+use Rattle.dso_tokens.specs.Bytes.{Text}
 use Rattle.dso_syntax.specs.Grammar.{Tokens}
 use Rattle.dso_syntax.specs.TextLimits.{most_levels}
 use Rattle.dso_syntax.specs.ProgramGrammar.{IsProgram}
-use Rattle.dso_syntax.specs.Reading.{Reads}
+use Rattle.dso_tokens.specs.Reading.{Reads}
 use Rattle.dso_syntax.specs.SyntaxFaults.{IsText}
 use Rattle.dso_syntax.specs.ExpressionReader.{Input, Outcome, StopCause, unexpected, too_wide, too_deep}
 use Rattle.dso_syntax.specs.ProgramReader.{program, items_from}
-use Rattle.dso_syntax.specs.Gives.{Fails}
+use Rattle.dso_tokens.specs.Gives.{Fails}
 use Rattle.dso_syntax.specs.ExpressionLevels.{whole}
 use Rattle.dso_syntax.specs.StatementLevels.{body, block}
 use Rattle.dso_syntax.specs.ParseAnswer.{fault_behind, fault_by, place_of, fault_of, answer_by, answer_of, Answers, Refuses}
 use Rattle.dso_syntax.proofs.completeness.ReadPrograms.{program_read}
 use Rattle.dso_syntax.proofs.soundness.SoundPrograms.{program_came}
-use Rattle.dso_syntax.proofs.tokens.ReadingLaws.{one_reading}
+use Rattle.dso_tokens.proofs.tokens.ReadingLaws.{one_reading}
 use Rattle.dso_syntax.proofs.faults.RightFault.{right_fault}
 
 -- a program is read by the readers of its parts

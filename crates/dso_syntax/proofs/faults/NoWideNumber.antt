@@ -2,9 +2,9 @@
 use Rattle.std.proofs.Common.{◌≡◌, ℕ, Bool, true, false, List, [], ◌∷◌, ◌++◌, Some, None, refl, sym, ap, ◌∙◌}
 use Rattle.std.proofs.lemmas.Bool.{false≢true}
 use Rattle.std.proofs.lemmas.Option.{none-some}
-use Rattle.dso_syntax.specs.declared.token.Form.{Form}
-use Rattle.dso_syntax.specs.declared.token.Form.TheVariants as form
-use Rattle.dso_syntax.specs.declared.token.Token.{Token}
+use Rattle.dso_tokens.specs.declared.token.Form.{Form}
+use Rattle.dso_tokens.specs.declared.token.Form.TheVariants as form
+use Rattle.dso_tokens.specs.declared.token.Token.{Token}
 use Rattle.dso_syntax.specs.declared.tree.Ident.{Ident}
 use Rattle.dso_syntax.specs.declared.tree.ExprTree.{ExprTree}
 use Rattle.dso_syntax.specs.declared.tree.ExprForm.{ExprForm}

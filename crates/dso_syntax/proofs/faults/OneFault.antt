@@ -1,15 +1,15 @@
 -- A text has at most one fault.
 use Rattle.std.proofs.Common.{◌≡◌, Bool, true, false, [], ◌∷◌, ◌++◌, None, refl, sym, subst, ap, ◌∙◌}
 use Rattle.std.proofs.lemmas.Bool.{false≢true}
-use Rattle.dso_syntax.specs.declared.token.Form.{Form}
-use Rattle.dso_syntax.specs.declared.token.Form.TheVariants as form
-use Rattle.dso_syntax.specs.declared.token.Token.{Token}
-use Rattle.dso_syntax.specs.declared.token.Ending.{Ending}
+use Rattle.dso_tokens.specs.declared.token.Form.{Form}
+use Rattle.dso_tokens.specs.declared.token.Form.TheVariants as form
+use Rattle.dso_tokens.specs.declared.token.Token.{Token}
+use Rattle.dso_tokens.specs.declared.token.Ending.{Ending}
 use Rattle.dso_syntax.specs.declared.fault.SyntaxFault.{SyntaxFault}
-use Rattle.dso_syntax.specs.Bytes.{Text}
+use Rattle.dso_tokens.specs.Bytes.{Text}
 use Rattle.dso_syntax.specs.Grammar.{Tokens}
 use Rattle.dso_syntax.specs.SyntaxFaults.{IsPrefixAtAnyDepth, narrowed, OpensLevel, IsWrong, unexpected, too_wide, too_deep, EndsWrong, bad_byte, bad_token, too_short, HasFault, at_token, at_end}
-use Rattle.dso_syntax.proofs.tokens.ReadingLaws.{one_reading}
+use Rattle.dso_tokens.proofs.tokens.ReadingLaws.{one_reading}
 
 abbrev is_mark_form : Form → Bool
 is_mark_form (form.Mark mark) = true

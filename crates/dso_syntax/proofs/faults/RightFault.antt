@@ -1,18 +1,18 @@
 -- The fault that is answered is the text's fault.
 use Rattle.std.proofs.Common.{◌≡◌, ℕ, zero, suc, List, [], ◌∷◌, ◌++◌, Some, None, Result, Ok, Err, refl, sym, subst, ap, ◌∙◌, append_assoc, append-nil, arith}
-use Rattle.dso_syntax.specs.declared.token.Form.{Form}
-use Rattle.dso_syntax.specs.declared.token.Form.TheVariants as form
-use Rattle.dso_syntax.specs.declared.token.Token.{Token}
-use Rattle.dso_syntax.specs.declared.token.Ending.{Ending}
-use Rattle.dso_syntax.specs.declared.token.Ending.TheVariants as ending
+use Rattle.dso_tokens.specs.declared.token.Form.{Form}
+use Rattle.dso_tokens.specs.declared.token.Form.TheVariants as form
+use Rattle.dso_tokens.specs.declared.token.Token.{Token}
+use Rattle.dso_tokens.specs.declared.token.Ending.{Ending}
+use Rattle.dso_tokens.specs.declared.token.Ending.TheVariants as ending
 use Rattle.dso_syntax.specs.declared.tree.Ast.{Ast}
 use Rattle.dso_syntax.specs.declared.tree.Item.{Item}
 use Rattle.dso_syntax.specs.declared.fault.SyntaxFault.{SyntaxFault}
-use Rattle.dso_syntax.specs.Bytes.{Text}
+use Rattle.dso_tokens.specs.Bytes.{Text}
 use Rattle.dso_syntax.specs.Grammar.{Tokens}
 use Rattle.dso_syntax.specs.TextLimits.{most_levels}
 use Rattle.dso_syntax.specs.ProgramGrammar.{IsProgram, Tops}
-use Rattle.dso_syntax.specs.Reading.{Reads}
+use Rattle.dso_tokens.specs.Reading.{Reads}
 use Rattle.dso_syntax.specs.SyntaxFaults.{IsPrefix, IsPrefixAtAnyDepth, narrowed, OpensLevel, IsWrong, unexpected, too_wide, too_deep, NoneWrong, EndsWrong, bad_byte, bad_token, too_short, HasFault, at_token, at_end}
 use Rattle.dso_syntax.specs.ExpressionReader.{StopCause, Outcome}
 use Rattle.dso_syntax.specs.ExpressionReader as reader

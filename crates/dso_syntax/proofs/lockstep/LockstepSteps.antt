@@ -2,11 +2,11 @@
 -- that token, the second does not go on with it either. What stands behind the token does not count.
 use Rattle.std.proofs.Common.{◌≡◌, ℕ, zero, suc, ◌≤◌, ◌<◌, Bool, true, false, cond, [], ◌∷◌, ◌++◌, length, Some, None, Ok, Err, refl, sym, subst, ap, ◌∙◌, arith}
 use Rattle.std.specs.Prelude.{pos}
-use Rattle.dso_syntax.specs.declared.token.Keyword.{Keyword}
-use Rattle.dso_syntax.specs.declared.token.Mark.{Mark}
-use Rattle.dso_syntax.specs.declared.token.Form.{Form}
-use Rattle.dso_syntax.specs.declared.token.Form.TheVariants as form
-use Rattle.dso_syntax.specs.declared.token.Token.{Token}
+use Rattle.dso_tokens.specs.declared.token.Keyword.{Keyword}
+use Rattle.dso_tokens.specs.declared.token.Mark.{Mark}
+use Rattle.dso_tokens.specs.declared.token.Form.{Form}
+use Rattle.dso_tokens.specs.declared.token.Form.TheVariants as form
+use Rattle.dso_tokens.specs.declared.token.Token.{Token}
 use Rattle.dso_syntax.specs.Grammar.{Tokens}
 use Rattle.dso_syntax.specs.ExpressionReader.{Input, StopCause, unexpected, too_wide, too_deep, Outcome, Parser, and_then, pure, refuse, mark_of, keyword_of, is_mark, is_keyword, next_mark, next_keyword, take_from, take_any, take_mark, take_keyword, enter_at, enter, leave, open_mark, close_mark, name_by, name_from, take_name}
 use Rattle.dso_syntax.specs.ProgramReader.{next_line}

@@ -2,12 +2,12 @@
 use Rattle.std.proofs.Common.{◌≡◌, ◌+◌, ◌-◌, ◌<◌, ◌||◌, ℕ, zero, suc, Bool, true, false, cond, List, [], Option, Some, None, Result, Ok, Err, length, refl, sym, subst, ap, ◌∙◌, arith}
 use Rattle.dso_base.specs.declared.op.Op.{Op}
 use Rattle.dso_base.specs.declared.value.Kind.{Kind}
-use Rattle.dso_syntax.specs.declared.stop.Stop.{Stop}
-use Rattle.dso_syntax.specs.declared.stop.Stop.TheVariants as stop
-use Rattle.dso_syntax.specs.declared.cursor.Rest.{Rest}
-use Rattle.dso_syntax.specs.declared.token.Token.{Token}
-use Rattle.dso_syntax.specs.declared.token.Mark.TheVariants as m
-use Rattle.dso_syntax.specs.declared.token.Keyword.TheVariants as k
+use Rattle.dso_tokens.specs.declared.stop.Stop.{Stop}
+use Rattle.dso_tokens.specs.declared.stop.Stop.TheVariants as stop
+use Rattle.dso_tokens.specs.declared.cursor.Rest.{Rest}
+use Rattle.dso_tokens.specs.declared.token.Token.{Token}
+use Rattle.dso_tokens.specs.declared.token.Mark.TheVariants as m
+use Rattle.dso_tokens.specs.declared.token.Keyword.TheVariants as k
 use Rattle.dso_syntax.specs.declared.tree.Ident.{Ident}
 use Rattle.dso_syntax.specs.declared.tree.ExprTree.{ExprTree}
 use Rattle.dso_syntax.specs.declared.tree.ExprForm.{ExprForm}
@@ -21,7 +21,7 @@ use Rattle.dso_syntax.specs.declared.operand.Suffix.TheVariants as suffix
 use Rattle.dso_syntax.specs.Grammar.{expression, line_of}
 use Rattle.dso_syntax.specs.ExpressionReader.{Input, Outcome, Parser, StopCause, unexpected, too_wide, too_deep, and_then, pure, refuse, restored, operation_of, of_rank, operator_at, sign_at, next_mark, next_form, next_keyword, is_mark, is_wide, plain_at, kind_at, enter, take_any, take_mark, take_keyword, take_name, open_mark, close_mark, leave}
 use Rattle.dso_syntax.specs.ExpressionReader as reader
-use Rattle.dso_syntax.specs.Gives.{Gives, Fails}
+use Rattle.dso_tokens.specs.Gives.{Gives, Fails}
 use Rattle.dso_syntax.specs.OperandReader.{entered, opened, opened_of, made, made_of, closed, named, begins_suffix, take_suffix, called, indexed}
 use Rattle.dso_syntax.specs.ExpressionLevels.{whole, climb, operations, unary, primary, suffixes, suffixed, arguments}
 

@@ -1,13 +1,13 @@
 -- Reading items one after the other, as a loop does.
 use Rattle.std.proofs.Common.{◌≡◌, ℕ, zero, suc, List, [], ◌∷◌, ◌++◌, true, false, Ok, Err, refl, sym, ap, ◌∙◌, append_assoc, append-nil}
-use Rattle.dso_syntax.specs.declared.stop.Stop.{Stop}
-use Rattle.dso_syntax.specs.declared.stop.Stop.TheVariants as stop
-use Rattle.dso_syntax.specs.declared.token.Token.{Token}
-use Rattle.dso_syntax.specs.declared.token.Mark.TheVariants as m
+use Rattle.dso_tokens.specs.declared.stop.Stop.{Stop}
+use Rattle.dso_tokens.specs.declared.stop.Stop.TheVariants as stop
+use Rattle.dso_tokens.specs.declared.token.Token.{Token}
+use Rattle.dso_tokens.specs.declared.token.Mark.TheVariants as m
 use Rattle.dso_syntax.specs.declared.tree.ExprTree.{ExprTree}
 use Rattle.dso_syntax.specs.ExpressionReader.{Input, Outcome, Parser, and_then, pure, listed, is_mark, next_mark, take_any}
 use Rattle.dso_syntax.specs.ProgramReader.{until_brace}
-use Rattle.dso_syntax.specs.Gives.{Fails}
+use Rattle.dso_tokens.specs.Gives.{Fails}
 
 -- what was read before, and what is still read
 abbrev pub with_front : {A : Type 0} → List A → Outcome (List A) → Outcome (List A)

@@ -1,16 +1,16 @@
 -- The readers of members, classes and threads: what each makes of what its parts read, in the forms of a function's returns.
 use Rattle.std.proofs.Common.{◌≡◌, ◌<◌, ℕ, zero, suc, true, List, [], ◌∷◌, ◌++◌, Ok, Err, length, refl, sym, subst, ap, ◌∙◌, append-nil, arith}
-use Rattle.dso_syntax.specs.declared.stop.Stop.{Stop}
-use Rattle.dso_syntax.specs.declared.stop.Stop.TheVariants as stop
-use Rattle.dso_syntax.specs.declared.token.Token.{Token}
-use Rattle.dso_syntax.specs.declared.token.Mark.TheVariants as m
+use Rattle.dso_tokens.specs.declared.stop.Stop.{Stop}
+use Rattle.dso_tokens.specs.declared.stop.Stop.TheVariants as stop
+use Rattle.dso_tokens.specs.declared.token.Token.{Token}
+use Rattle.dso_tokens.specs.declared.token.Mark.TheVariants as m
 use Rattle.dso_syntax.specs.declared.tree.Ident.{Ident}
 use Rattle.dso_syntax.specs.declared.tree.Item.{Item}
 use Rattle.dso_syntax.specs.declared.tree.Member.{Member}
 use Rattle.dso_syntax.specs.Grammar.{Tokens}
 use Rattle.dso_syntax.specs.ExpressionReader.{Input, Outcome, Parser, unexpected, and_then, pure, is_mark, next_mark, next_keyword, take_any, take_name}
 use Rattle.dso_syntax.specs.ProgramReader.{Start, start_of, by_start, one_member, names, one_item, items_from}
-use Rattle.dso_syntax.specs.Gives.{Gives, Fails}
+use Rattle.dso_tokens.specs.Gives.{Gives, Fails}
 use Rattle.dso_syntax.specs.StatementLevels.{body}
 use Rattle.dso_syntax.proofs.parser.StatementReturns.{Read}
 use Rattle.dso_syntax.proofs.parser.ListLoops.{with_front, regroup}

@@ -1,10 +1,10 @@
 -- The readers of statements by their levels: what each makes of what its parts read, in the forms of a function's returns.
 use Rattle.std.proofs.Common.{◌≡◌, ◌+◌, ◌-◌, ◌<◌, ℕ, zero, suc, Bool, true, false, cond, List, [], ◌∷◌, Result, Ok, Err, length, refl, sym, subst, ap, ◌∙◌, arith}
-use Rattle.dso_syntax.specs.declared.stop.Stop.{Stop}
-use Rattle.dso_syntax.specs.declared.cursor.Rest.{Rest}
-use Rattle.dso_syntax.specs.declared.token.Token.{Token}
-use Rattle.dso_syntax.specs.declared.token.Mark.TheVariants as m
-use Rattle.dso_syntax.specs.declared.token.Keyword.TheVariants as k
+use Rattle.dso_tokens.specs.declared.stop.Stop.{Stop}
+use Rattle.dso_tokens.specs.declared.cursor.Rest.{Rest}
+use Rattle.dso_tokens.specs.declared.token.Token.{Token}
+use Rattle.dso_tokens.specs.declared.token.Mark.TheVariants as m
+use Rattle.dso_tokens.specs.declared.token.Keyword.TheVariants as k
 use Rattle.dso_syntax.specs.declared.tree.ExprTree.{ExprTree}
 use Rattle.dso_syntax.specs.declared.tree.StmtTree.{StmtTree}
 use Rattle.dso_syntax.specs.declared.tree.StmtForm.{StmtForm}
@@ -15,7 +15,7 @@ use Rattle.dso_syntax.specs.declared.blockless.Else.TheVariants as part
 use Rattle.dso_syntax.specs.ProgramGrammar.{statement as made_statement}
 use Rattle.dso_syntax.specs.ExpressionReader.{Input, Outcome, Parser, unexpected, and_then, pure, next_mark, next_keyword, is_mark, is_keyword, take_any, take_mark, take_keyword, open_mark, close_mark, enter, leave}
 use Rattle.dso_syntax.specs.ProgramReader as reader
-use Rattle.dso_syntax.specs.Gives.{Gives, Fails}
+use Rattle.dso_tokens.specs.Gives.{Gives, Fails}
 use Rattle.dso_syntax.specs.StatementLevels.{expr, parenthesized, wait_end, behind_waited, waiting, guard, condition, else_part, simple, guarding_of, block, statement, guarded, chain, other_of, chained, otherwise}
 use Rattle.dso_syntax.proofs.parser.ExpressionReturns.{stops_first}
 

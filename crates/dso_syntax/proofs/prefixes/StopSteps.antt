@@ -2,11 +2,11 @@
 -- more in any case.
 use Rattle.std.proofs.Common.{◌≡◌, ℕ, zero, suc, Bool, true, false, cond, [], ◌∷◌, ◌++◌, None, Ok, Err, refl, sym, subst, ap, ◌∙◌, append_assoc, append-nil}
 use Rattle.std.proofs.lemmas.Bool.{false≢true}
-use Rattle.dso_syntax.specs.declared.token.Keyword.{Keyword}
-use Rattle.dso_syntax.specs.declared.token.Mark.{Mark}
-use Rattle.dso_syntax.specs.declared.token.Form.{Form}
-use Rattle.dso_syntax.specs.declared.token.Form.TheVariants as form
-use Rattle.dso_syntax.specs.declared.token.Token.{Token}
+use Rattle.dso_tokens.specs.declared.token.Keyword.{Keyword}
+use Rattle.dso_tokens.specs.declared.token.Mark.{Mark}
+use Rattle.dso_tokens.specs.declared.token.Form.{Form}
+use Rattle.dso_tokens.specs.declared.token.Form.TheVariants as form
+use Rattle.dso_tokens.specs.declared.token.Token.{Token}
 use Rattle.dso_syntax.specs.declared.tree.Ident.{Ident}
 use Rattle.dso_syntax.specs.Grammar.{Tokens, IsMark, IsKeyword, IsName}
 use Rattle.dso_syntax.specs.SyntaxFaults.{OpensLevel, narrowed, opens}

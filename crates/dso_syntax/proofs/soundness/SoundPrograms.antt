@@ -3,12 +3,12 @@ use Rattle.std.proofs.Common.{◌≡◌, ℕ, zero, suc, Bool, true, false, cond
 use Rattle.std.specs.Prelude.{◌↔◌, ℤ}
 use Rattle.dso_base.specs.declared.value.Kind.{Kind}
 use Rattle.dso_base.specs.declared.value.Kind.TheVariants as kind
-use Rattle.dso_syntax.specs.declared.token.Keyword.{Keyword}
-use Rattle.dso_syntax.specs.declared.token.Keyword.TheVariants as k
-use Rattle.dso_syntax.specs.declared.token.Mark.TheVariants as m
-use Rattle.dso_syntax.specs.declared.token.Form.{Form}
-use Rattle.dso_syntax.specs.declared.token.Form.TheVariants as form
-use Rattle.dso_syntax.specs.declared.token.Token.{Token}
+use Rattle.dso_tokens.specs.declared.token.Keyword.{Keyword}
+use Rattle.dso_tokens.specs.declared.token.Keyword.TheVariants as k
+use Rattle.dso_tokens.specs.declared.token.Mark.TheVariants as m
+use Rattle.dso_tokens.specs.declared.token.Form.{Form}
+use Rattle.dso_tokens.specs.declared.token.Form.TheVariants as form
+use Rattle.dso_tokens.specs.declared.token.Token.{Token}
 use Rattle.dso_syntax.specs.declared.tree.Ident.{Ident}
 use Rattle.dso_syntax.specs.declared.tree.Item.{Item}
 use Rattle.dso_syntax.specs.declared.tree.Item.TheVariants as item

@@ -1,12 +1,12 @@
 -- What is read as a statement, a member or a program is one of the grammar.
 use Rattle.std.proofs.Common.{◌≡◌, ℕ, zero, suc, Bool, true, false, cond, List, [], ◌∷◌, ◌++◌, length, Option, Some, None, Ok, refl, sym, subst, ap, ◌∙◌, append_assoc}
 use Rattle.std.proofs.lemmas.Option.{none-some, same_Some}
-use Rattle.dso_syntax.specs.declared.token.Keyword.{Keyword}
-use Rattle.dso_syntax.specs.declared.token.Keyword.TheVariants as k
-use Rattle.dso_syntax.specs.declared.token.Mark.TheVariants as m
-use Rattle.dso_syntax.specs.declared.token.Form.{Form}
-use Rattle.dso_syntax.specs.declared.token.Form.TheVariants as form
-use Rattle.dso_syntax.specs.declared.token.Token.{Token}
+use Rattle.dso_tokens.specs.declared.token.Keyword.{Keyword}
+use Rattle.dso_tokens.specs.declared.token.Keyword.TheVariants as k
+use Rattle.dso_tokens.specs.declared.token.Mark.TheVariants as m
+use Rattle.dso_tokens.specs.declared.token.Form.{Form}
+use Rattle.dso_tokens.specs.declared.token.Form.TheVariants as form
+use Rattle.dso_tokens.specs.declared.token.Token.{Token}
 use Rattle.dso_syntax.specs.declared.tree.StmtTree.{StmtTree}
 use Rattle.dso_syntax.specs.declared.tree.StmtForm.{StmtForm}
 use Rattle.dso_syntax.specs.declared.tree.StmtForm.TheVariants as s

@@ -3,17 +3,17 @@ use Rattle.std.proofs.Common.{◌≡◌, ℕ, zero, suc, Bool, true, false, cond
 use Rattle.std.proofs.lemmas.Option.{same_Some}
 use Rattle.std.proofs.lemmas.Bool.{false≢true}
 use Rattle.std.proofs.lemmas.Slice.Eq.{bytes_eq-Decides}
-use Rattle.dso_syntax.specs.declared.token.Keyword.{Keyword}
-use Rattle.dso_syntax.specs.declared.token.Mark.{Mark}
-use Rattle.dso_syntax.specs.declared.token.Form.{Form}
-use Rattle.dso_syntax.specs.declared.token.Form.TheVariants as form
-use Rattle.dso_syntax.specs.declared.token.Token.{Token}
+use Rattle.dso_tokens.specs.declared.token.Keyword.{Keyword}
+use Rattle.dso_tokens.specs.declared.token.Mark.{Mark}
+use Rattle.dso_tokens.specs.declared.token.Form.{Form}
+use Rattle.dso_tokens.specs.declared.token.Form.TheVariants as form
+use Rattle.dso_tokens.specs.declared.token.Token.{Token}
 use Rattle.dso_syntax.specs.declared.tree.Ident.{Ident}
-use Rattle.dso_syntax.specs.Spelling.{word_of, symbol_of}
-use Rattle.dso_syntax.specs.Scan as scan
+use Rattle.dso_tokens.specs.Spelling.{word_of, symbol_of}
+use Rattle.dso_tokens.specs.Scan as scan
 use Rattle.dso_syntax.specs.Grammar.{Tokens, IsMark, IsName, IsKeyword}
-use Rattle.dso_syntax.proofs.tokens.Symbols.{symbol_is, mark_written}
-use Rattle.dso_syntax.proofs.tokens.Words.{reserved_is}
+use Rattle.dso_tokens.proofs.tokens.Symbols.{symbol_is, mark_written}
+use Rattle.dso_tokens.proofs.tokens.Words.{reserved_is}
 use Rattle.dso_syntax.specs.ExpressionReader.{Input, StopCause, Outcome, Parser, and_then, refuse, mark_of, keyword_of, is_mark, is_keyword, next_mark, next_keyword, take_from, take_any, take_mark, take_keyword, enter, leave, open_mark, close_mark, take_name, name_from, name_by}
 use Rattle.dso_syntax.proofs.completeness.ReadSteps.{at}
 

@@ -62,5 +62,6 @@ module _ (R S : RattleType) (h : R.Denot → S.Denot) where
       (laid _ _ _ (box_places alike), tt))
 
   -- where two types have the same codes, so have the boxes of them
-  pub the_codes_placed : Recodes R S h → Recodes (outside.the_row R) (outside.the_row S) ((the_former this).map R.Denot S.Denot h)
+  pub the_codes_placed : Recodes R S h
+      → Recodes (outside.the_row R) (outside.the_row S) ((the_former this).map R.Denot S.Denot h)
   the_codes_placed same value = same value

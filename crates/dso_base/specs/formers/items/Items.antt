@@ -55,5 +55,6 @@ module _ (R S : RattleType) (h : R.Denot → S.Denot) where
       (laid _ _ _ (vec.the_places heap.the_row ghosts R S h alike), tt))
 
   -- where two kinds of item have the same codes, so have the lists of them
-  pub the_codes_placed : Recodes R S h → Recodes (outside.the_row R) (outside.the_row S) ((the_former this).map R.Denot S.Denot h)
+  pub the_codes_placed : Recodes R S h
+      → Recodes (outside.the_row R) (outside.the_row S) ((the_former this).map R.Denot S.Denot h)
   the_codes_placed same items = sym (code_map R.coded.code S.coded.code h (λ item. sym (same item)) items)

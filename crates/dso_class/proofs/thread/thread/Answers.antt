@@ -2,7 +2,7 @@ use Rattle.std.proofs.Common.{◌∙◌, ap, subst}
 use Rattle.std.proofs.lemmas.Int.{to_z-of_z}
 use mir.Syntax.{w64}
 use Rattle.dso_class.specs.Heads.{IsThreadNamed, thread_head}
-use Rattle.dso_class.specs.BorrowedWords.{words_of}
+use Rattle.dso_entries.specs.BorrowedWords.{words_of}
 use Rattle.dso_class.specs.TextWalk.{IsToldOf, clients_in}
 use Rattle.dso_class.proofs.rules.ComposingItems as judging
 use Rattle.dso_class.proofs.walks.ThreadItems as laws

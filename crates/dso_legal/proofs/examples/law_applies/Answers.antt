@@ -1,5 +1,5 @@
 use Rattle.dso_legal.proofs.examples.law_applies.Goals as goal
-use Rattle.dso_legal.proofs.journals.Meets.{counter_meets, recall_meets, flush_meets, settling_meets, timed_out_here_meets, timed_out_there_meets, crossed_timeout_meets}
+use Rattle.dso_legal.proofs.journals.Meets.{counter_meets, recall_meets, flush_meets, settling_meets, timed_out_here_meets, timed_out_there_meets, crossed_timeout_meets, lost_client_meets, lost_waiters_meets, settled_then_lost_meets}
 
 pub returns-clause-counter : goal.returns-clause-counter
 returns-clause-counter c = counter_meets
@@ -21,3 +21,12 @@ returns-clause-timed_out_there c = timed_out_there_meets
 
 pub returns-clause-crossed_timeout : goal.returns-clause-crossed_timeout
 returns-clause-crossed_timeout c = crossed_timeout_meets
+
+pub returns-clause-lost_client : goal.returns-clause-lost_client
+returns-clause-lost_client c = lost_client_meets
+
+pub returns-clause-lost_waiters : goal.returns-clause-lost_waiters
+returns-clause-lost_waiters c = lost_waiters_meets
+
+pub returns-clause-settled_then_lost : goal.returns-clause-settled_then_lost
+returns-clause-settled_then_lost c = settled_then_lost_meets

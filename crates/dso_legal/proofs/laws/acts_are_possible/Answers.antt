@@ -1,8 +1,5 @@
 use Rattle.dso_legal.proofs.laws.acts_are_possible.Goals as goal
-use Rattle.dso_legal.proofs.acts.Acts.{acts_are_possible, acts_find_marks}
+use Rattle.dso_legal.proofs.acts.Acts.{acts_are_possible}
 
-pub returns-clause-possible : goal.returns-clause-possible
-returns-clause-possible c = acts_are_possible
-
-pub returns-clause-marks : goal.returns-clause-marks
-returns-clause-marks c = acts_find_marks
+pub returns : goal.returns
+returns c = acts_are_possible

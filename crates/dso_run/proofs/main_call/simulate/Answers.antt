@@ -1,7 +1,7 @@
 use Rattle.std.proofs.Common.{subst, sym}
 use Rattle.dso_io.specs.Environment.{Rose}
 use Rattle.dso_run.specs.Headline.{CallInput, CallOutput, StatusMeans}
-use Rattle.dso_run.specs.Words.{SimCall}
+use Rattle.dso_words.specs.Words.{SimCall}
 use Rattle.dso_run.proofs.Judging.{accepted_of, cause_of}
 use Rattle.dso_run.proofs.StatusMeaning.{refusal_means, run_means, verdict_has_line}
 use Rattle.dso_run.proofs.main_call.simulate.Goals as goal

@@ -1,8 +1,8 @@
 use Rattle.std.proofs.Common.{rules, ◌≡◌, ◌-◌, ◌+◌, true, sym, subst, ◌∙◌, arith, length}
 use Rattle.dso_syntax.specs.ExpressionReader as reader
 use Rattle.dso_syntax.specs.ExpressionLevels as parser
-use Rattle.dso_syntax.specs.declared.token.Mark.TheVariants as mark
-use Rattle.dso_syntax.specs.Gives.{input}
+use Rattle.dso_tokens.specs.declared.token.Mark.TheVariants as mark
+use Rattle.dso_tokens.specs.Gives.{input}
 use Rattle.dso_syntax.proofs.parser.ExpressionReturns.{operations_stops, operations_last, operations_goes, unary_last, unary_stops, unary_goes, primary_closes, suffixed_field, suffixed_call, suffixed_element}
 use Rattle.dso_syntax.proofs.parser.ListLoops.{with_front, goes_on}
 use Rattle.dso_syntax.proofs.expression.+expression.Goals as goal

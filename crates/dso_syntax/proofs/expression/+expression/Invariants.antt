@@ -1,7 +1,7 @@
 use Rattle.std.proofs.Common.{◌≡◌, ◌+◌, ◌*◌, ◌-◌, length}
 use Rattle.dso_syntax.specs.ExpressionReader.{listed}
 use Rattle.dso_syntax.specs.ExpressionLevels.{whole}
-use Rattle.dso_syntax.specs.Gives.{input}
+use Rattle.dso_tokens.specs.Gives.{input}
 use Rattle.dso_syntax.proofs.parser.ListLoops.{with_front}
 use Rattle.dso_syntax.proofs.expression.+expression.Given as goal
 

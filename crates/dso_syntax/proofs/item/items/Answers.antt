@@ -1,7 +1,7 @@
 use Rattle.std.proofs.Common.{rules, ◌≡◌, ◌-◌, ◌+◌, ◌<◌, sym, subst, arith, length}
 use Rattle.dso_syntax.specs.ProgramReader.{items_from}
 use Rattle.dso_syntax.specs.StatementLevels.{body}
-use Rattle.dso_syntax.specs.Gives.{input}
+use Rattle.dso_tokens.specs.Gives.{input}
 use Rattle.dso_syntax.proofs.parser.ListLoops.{with_front}
 use Rattle.dso_syntax.proofs.parser.MemberReturns.{items_rest, items_stop, items_go}
 use Rattle.dso_syntax.proofs.item.items.Goals as goal

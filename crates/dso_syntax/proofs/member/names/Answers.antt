@@ -1,8 +1,8 @@
 use Rattle.std.proofs.Common.{rules, ◌≡◌, ◌-◌, ◌+◌, true, sym, subst, arith, length}
 use Rattle.dso_syntax.specs.ExpressionReader.{is_mark, next_mark}
 use Rattle.dso_syntax.specs.ProgramReader.{names}
-use Rattle.dso_syntax.specs.declared.token.Mark.TheVariants as mark
-use Rattle.dso_syntax.specs.Gives.{input}
+use Rattle.dso_tokens.specs.declared.token.Mark.TheVariants as mark
+use Rattle.dso_tokens.specs.Gives.{input}
 use Rattle.dso_syntax.proofs.parser.ListLoops.{with_front}
 use Rattle.dso_syntax.proofs.parser.MemberReturns.{names_go, names_stop}
 use Rattle.dso_syntax.proofs.member.names.Goals as goal

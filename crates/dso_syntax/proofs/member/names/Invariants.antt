@@ -1,6 +1,6 @@
 use Rattle.std.proofs.Common.{◌≡◌, ◌-◌, length}
 use Rattle.dso_syntax.specs.ProgramReader.{names}
-use Rattle.dso_syntax.specs.Gives.{input}
+use Rattle.dso_tokens.specs.Gives.{input}
 use Rattle.dso_syntax.proofs.parser.ListLoops.{with_front}
 use Rattle.dso_syntax.proofs.member.names.Given as goal
 

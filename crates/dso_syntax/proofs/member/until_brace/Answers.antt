@@ -2,8 +2,8 @@ use Rattle.std.proofs.Common.{rules, ◌≡◌, ◌-◌, ◌+◌, true, false, s
 use Rattle.dso_syntax.specs.ExpressionReader.{is_mark, next_mark}
 use Rattle.dso_syntax.specs.ProgramReader.{until_brace, one_member}
 use Rattle.dso_syntax.specs.StatementLevels.{body}
-use Rattle.dso_syntax.specs.declared.token.Mark.TheVariants as mark
-use Rattle.dso_syntax.specs.Gives.{input}
+use Rattle.dso_tokens.specs.declared.token.Mark.TheVariants as mark
+use Rattle.dso_tokens.specs.Gives.{input}
 use Rattle.dso_syntax.proofs.parser.ListLoops.{with_front, braces_close, braces_stop, braces_go}
 use Rattle.dso_syntax.proofs.member.until_brace.Goals as goal
 

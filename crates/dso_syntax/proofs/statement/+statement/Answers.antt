@@ -2,8 +2,8 @@ use Rattle.std.proofs.Common.{rules, ◌≡◌, ◌-◌, ◌+◌, false, sym, su
 use Rattle.dso_syntax.specs.ExpressionReader.{is_mark, next_mark}
 use Rattle.dso_syntax.specs.ProgramReader as reader
 use Rattle.dso_syntax.specs.StatementLevels as parser
-use Rattle.dso_syntax.specs.declared.token.Mark.TheVariants as mark
-use Rattle.dso_syntax.specs.Gives.{input}
+use Rattle.dso_tokens.specs.declared.token.Mark.TheVariants as mark
+use Rattle.dso_tokens.specs.Gives.{input}
 use Rattle.dso_syntax.proofs.parser.StatementReturns.{block_stops, block_close_stops, block_goes, chain_block_stops, chain_stops, chain_goes, guarded_stops, guarded_goes, otherwise_none, otherwise_goes}
 use Rattle.dso_syntax.proofs.parser.ListLoops.{with_front, braces_go}
 use Rattle.dso_syntax.proofs.statement.+statement.Goals as goal

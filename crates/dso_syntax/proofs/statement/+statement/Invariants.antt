@@ -1,7 +1,7 @@
 use Rattle.std.proofs.Common.{◌≡◌, ◌+◌, ◌*◌, ◌-◌, length}
 use Rattle.dso_syntax.specs.ProgramReader.{until_brace}
 use Rattle.dso_syntax.specs.StatementLevels.{statement}
-use Rattle.dso_syntax.specs.Gives.{input}
+use Rattle.dso_tokens.specs.Gives.{input}
 use Rattle.dso_syntax.proofs.parser.ListLoops.{with_front}
 use Rattle.dso_syntax.proofs.statement.+statement.Given as goal
 

@@ -1,0 +1,3 @@
+-- The names of locks, and roots.
+pub mod LockNames
+pub mod Roots

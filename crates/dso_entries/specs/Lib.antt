@@ -1,0 +1,6 @@
+pub mod Words
+pub mod BorrowedWords
+pub mod LastAndFirst
+pub mod FirstPlace
+pub mod ConfigEntries
+pub mod LockNumbers

@@ -1,0 +1,97 @@
+//! The entries of one node.
+ghost use Rattle.std.specs.Prelude.{◌<◌, ◌^◌, ◌≡◌, [], OnErr, OnOk, true, false};
+ghost use Rattle.dso_log.specs.Logs.{entry_of, last_clock, next_clock, with_entry};
+
+use dso_base::{Entry, Event, Input, Items, NoMemory, Node, Sent};
+use std::alloc::Global;
+use std::marker::Model;
+
+/// The entries of one node, the first of them first. Contracts see them, and whether there is room for one more (`Log`).
+#[derive(Drop)]
+pub struct NodeLog {
+    node: Node,
+    entries: Vec<Entry>,
+    has_room: bool,
+}
+
+impl Model for NodeLog {
+    ghost use Rattle.std.specs.Prelude.{◌<◌, ◌≡◌, true, length};
+    ghost use Rattle.std.specs.Vec.{vec_capacity};
+    ghost use Rattle.dso_log.specs.Logs.{Log};
+
+    ghost Value = { Log };
+
+    ghost view = { λ log. record { node = log.node; entries = log.entries.items; has_room = log.has_room } };
+
+    ghost invariant = { λ log. log.has_room ≡ true → length log.entries.items < vec_capacity log.entries };
+}
+
+impl NodeLog {
+    /// The log of a node that has no entry yet, without room for one.
+    pub fn new(node: Node, alloc: Global) -> NodeLog
+        ensures { result ≡ record { node = node; entries = []; has_room = false } }
+    {
+        NodeLog {
+            node,
+            entries: Vec::new(alloc),
+            has_room: false,
+        }
+    }
+
+    /// Makes room for one more entry. It answers `NoMemory` where an allocation was refused, and the log is then as before.
+    pub fn reserve(&mut self) -> Result<(), NoMemory>
+        ensures ok { OnOk result (self.new ≡ record self.old { has_room = true }) }
+        ensures err { OnErr result (self.new ≡ self.old) }
+    {
+        self.entries.reserve(1)?;
+        self.has_room = true;
+        Ok(())
+    }
+
+    /// Adds an entry in the room that was made for it. Its clock, which is answered, is one more than the greater of the last entry's
+    /// and the one that was heard. It takes no memory.
+    pub fn add(&mut self, heard: u64, input: Input, sent: Vec<Sent>, event: Option<Event>) -> u64
+        requires room { self.old.has_room ≡ true }
+        requires clock { next_clock heard self.old < 2 ^ 64 }
+        ensures clock { result ≡ next_clock heard self.old }
+        ensures added { self.new ≡ with_entry (entry_of heard input sent.items event self.old) self.old }
+    {
+        let clock = self.last_clock().max(heard) + 1;
+        let entry = Entry {
+            clock,
+            node: self.node,
+            input,
+            sent: Items::from_vec(sent),
+            event,
+        };
+        self.has_room = false;
+        match self.entries.push(entry) {
+            Ok(()) => clock,
+            Err(_) => unreachable!(),
+        }
+    }
+
+    /// The clock of the last entry, 0 where there is none. It takes no memory.
+    pub fn last_clock(&self) -> u64
+        ensures { result ≡ last_clock self.now }
+    {
+        match self.entries.last() {
+            Some(entry) => entry.clock,
+            None => 0,
+        }
+    }
+
+    /// The node whose entries these are. It takes no memory.
+    pub fn node(&self) -> Node
+        ensures { result ≡ self.now.node }
+    {
+        self.node
+    }
+
+    /// All entries in order. It takes no memory.
+    pub fn into_entries(self) -> Vec<Entry>
+        ensures { result.items ≡ self.entries }
+    {
+        self.entries
+    }
+}

@@ -1,0 +1,5 @@
+pub mod Ids
+pub mod Objects
+pub mod Locks
+pub mod Records
+pub mod Losses

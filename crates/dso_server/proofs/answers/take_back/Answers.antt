@@ -1,0 +1,8 @@
+use Rattle.std.proofs.Common.{◌∙◌, ap}
+use Rattle.std.proofs.lemmas.Result.{IfOk-weaker}
+use Rattle.dso_locks.specs.Locks.{messages_of}
+use Rattle.dso_server.proofs.answered.Locks.{answered_return}
+use Rattle.dso_server.proofs.answers.take_back.Goals as goal
+
+pub returns-clause-answers : goal.returns-clause-answers
+returns-clause-answers c = IfOk-weaker c.tell_locks.result _ _ (λ messages told. answered_return c.args.server.now c.returned.new.self c.add_all.new.waiters c.args.client c.args.lock c.args.threads.now c.in_ok-told.told.items messages.items c.in_ok-add_all.ensures c.in_ok-told.ensures.told c.in_ok-told.ensures.locks c.in_ok-told.ensures.requested (told ∙ ap messages_of c.as_slice.ensures.value)) c.tell_locks.ensures

@@ -1,0 +1,9 @@
+use Rattle.std.proofs.Common.{sym, ◌∙◌}
+use Rattle.dso_server.proofs.Telling.{no, told_by}
+use Rattle.dso_server.proofs.fits_lists.out_fits.Goals as goal
+
+pub returns-then-not-is_printed : goal.returns-then-not-is_printed
+returns-then-not-is_printed c = λ p es s. no (λ fits. cc (sym c.if-not-is_printed.true ∙ (c.is_printed.ensures p es s).1 fits.0))
+
+pub returns : goal.returns
+returns c = λ p es s. told_by c.is_literal.ensures (λ literal. ((c.is_printed.ensures p es s).0 c.if-not-is_printed.false, literal)) (λ fits. fits.1)

@@ -1,0 +1,51 @@
+-- What the server's calls make of it, whatever entries it stood for.
+use Rattle.std.specs.Prelude.{ℕ, ◌≡◌, true, false, List, [], ◌∷◌, length}
+use Rattle.dso_base.specs.declared.journal.Entry.{Entry}
+use Rattle.dso_base.specs.declared.message.Down.{Down}
+use Rattle.dso_base.specs.declared.message.Up.{Up}
+use Rattle.dso_law.specs.FitsUp.{FitsUp}
+use Rattle.dso_law.specs.Granting.{serves_all}
+use Rattle.dso_law.specs.ServerReadings.{counted, is_lost}
+use Rattle.dso_law.specs.ServerStep.{answers}
+use Rattle.dso_law.specs.Settings.{Settings}
+use Rattle.dso_locks.specs.Locks.{IsClient}
+use Rattle.dso_server.specs.declared.server.Server.{Server}
+use Rattle.dso_server.specs.declared.taken.Taken.{Taken}
+use Rattle.dso_server.specs.declared.taken.Taken.TheVariants.{Done, Gone, Unfit}
+use Rattle.dso_server.specs.Sending.{lost, sent_of, took}
+use Rattle.dso_server.specs.ServerStands.{ServerStands}
+
+-- how many batches of ids the server gave
+abbrev pub given_by : Server → ℕ
+given_by server = length server.ids
+
+-- A message answered: the messages are those of the rule's row, and the server stands for the entries with the one in
+-- which it took it, at any clock.
+pub record IsAnswered (p : Settings) (c : ℕ) (m : Up) (messages : List (ℕ × Down)) (new : Server) (es : List Entry)
+    : Type 0 where
+  pub sends : (clock : ℕ) → sent_of messages ≡ answers p c m (took clock c m [] ∷ counted es)
+  pub stands : (clock : ℕ) → ServerStands p new (took clock c m (sent_of messages) ∷ es)
+
+-- the message of a client that isn't lost is answered where it fits
+abbrev pub Answers : ℕ → Up → List (ℕ × Down) → Server → Server → Type 0
+Answers c m messages old new = (p : Settings) (es : List Entry) → ServerStands p old es → IsClient p c
+    → is_lost c es ≡ false → FitsUp p c m (counted es) → IsAnswered p c m messages new es
+
+-- nothing is sent and nothing changed
+abbrev pub ChangesNothing : List (ℕ × Down) → Server → Server → Type 0
+ChangesNothing messages old new = (messages ≡ []) × (new ≡ old)
+
+-- What is told of a message: it is done where it fits and its client isn't lost; of a lost client, or unfit, it changes
+-- nothing.
+abbrev pub IsTaken : Settings → ℕ → Up → Taken → List (ℕ × Down) → Server → Server → List Entry → Type 0
+IsTaken p c m Done messages old new es = (is_lost c es ≡ false) × FitsUp p c m (counted es)
+    × IsAnswered p c m messages new es
+IsTaken p c m Gone messages old new es = (is_lost c es ≡ true) × ChangesNothing messages old new
+IsTaken p c m Unfit messages old new es = (is_lost c es ≡ false) × (¬ FitsUp p c m (counted es))
+    × ChangesNothing messages old new
+
+-- A client lost: the messages are those that the queues' serving makes, and the server stands for the entries with the
+-- one in which it lost the client, at any clock.
+pub record IsLost (p : Settings) (c : ℕ) (messages : List (ℕ × Down)) (new : Server) (es : List Entry) : Type 0 where
+  pub sends : (clock : ℕ) → sent_of messages ≡ serves_all p (lost clock c [] ∷ counted es)
+  pub stands : (clock : ℕ) → ServerStands p new (lost clock c (sent_of messages) ∷ es)

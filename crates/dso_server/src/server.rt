@@ -1,0 +1,118 @@
+//! The server's core.
+ghost use Rattle.std.specs.Prelude.{ℕ, ◌≡◌, ◌≤◌, ◌+◌, ◌<◌, ◌^◌, List, [], IfOk, OnOk};
+ghost use Rattle.dso_base.specs.declared.journal.Entry.{Entry};
+ghost use Rattle.dso_law.specs.ServerReadings.{is_lost};
+ghost use Rattle.dso_law.specs.Settings.{Settings};
+ghost use Rattle.dso_locks.specs.Locks.{IsClient};
+ghost use Rattle.dso_server.specs.Answering.{IsLost, IsTaken, given_by};
+ghost use Rattle.dso_server.specs.ServerStands.{ServerStands};
+ghost use Rattle.dso_server.specs.Threads.{RunsThreadsOf};
+
+use crate::answers::{answer, lost};
+use crate::batches::Batches;
+use crate::fits::fits;
+use crate::taken::Taken;
+use crate::threads::{Threads, opening, threads_of};
+use crate::waiters::Waiters;
+use dso_base::{Down, NoMemory, Up};
+use dso_locks::LockTable;
+use dso_machine::Code;
+use dso_store::Store;
+use std::alloc::Global;
+use std::collections::{BTreeMap, BTreeSet};
+
+/// The server of a cluster: who was lost, the batches of ids that were given, the graph, the locks, the waiters and the
+/// threads. Contracts see for which lists of the server's entries it stands (`ServerStands`).
+///
+/// A call costs the logarithm of what the server holds, for each item of its message and each message that it answers;
+/// losing a client costs that for each lock that was ever requested or waited on. After `NoMemory` the server is spent:
+/// its calls still return, but it stands for no list that is told.
+#[derive(Drop)]
+pub struct Server {
+    pub(crate) lost: BTreeSet<u8>,
+    pub(crate) ids: Batches,
+    pub(crate) store: Store,
+    pub(crate) locks: LockTable,
+    pub(crate) waiters: Waiters,
+    pub(crate) threads: Threads,
+}
+
+impl Server {
+    /// The server before its first entry, of a cluster of so many clients that runs this code. How many clients there are it
+    /// doesn't keep: its answers hold of whatever cluster has the code's shape and threads.
+    ///
+    /// It answers `NoMemory` where an allocation was refused.
+    pub fn new(alloc: Global, code: &Code, clients: u8) -> Result<Server, NoMemory>
+        ensures stands { IfOk result (λ server. (p : Settings) → p.shape ≡ code.now.shape → RunsThreadsOf code.now p → p.clients ≡ clients → ServerStands p server []) }
+        ensures given { IfOk result (λ server. given_by server ≡ 0) }
+    {
+        let _ = clients;
+        let store = Store::new(alloc, &code.shape)?;
+        let listed = threads_of(alloc, code.bodies.as_slice())?;
+        let threads = opening(alloc, listed.as_slice())?;
+        Ok(Server {
+            lost: BTreeSet::new(alloc),
+            ids: Batches::new(alloc),
+            store,
+            locks: LockTable::new(alloc),
+            waiters: BTreeMap::new(alloc),
+            threads,
+        })
+    }
+
+    /// Takes a message of a client of the cluster, whose code is that of [`Server::new`]. Fewer than 2^54 batches of ids were
+    /// given before.
+    ///
+    /// It is `Done` where the client isn't lost and the message fits: the messages are those of the server rule's row, in
+    /// its order, and the server stands for its entries with the one in which it took the message. It is `Gone` exactly
+    /// where the client was lost, and `Unfit` exactly where it isn't and the message doesn't fit: nothing is sent then and
+    /// nothing changed.
+    ///
+    /// It answers `NoMemory` where an allocation was refused.
+    pub fn take(
+        &mut self,
+        alloc: Global,
+        code: &Code,
+        client: u8,
+        message: &Up,
+    ) -> Result<(Taken, Vec<(u8, Down)>), NoMemory>
+        requires { given_by self.old < 2 ^ 54 }
+        ensures taken { IfOk result (λ answer. (p : Settings) (es : List Entry) → p.shape ≡ code.now.shape → ServerStands p self.old es → IsClient p client → IsTaken p client message.now answer.0 answer.1.items self.old self.new es) }
+        ensures given { OnOk result (given_by self.new ≤ given_by self.old + 1) }
+    {
+        if self.lost.contains(&client) {
+            return Ok((Taken::Gone, Vec::new(alloc)));
+        }
+        if !fits(self, &code.shape, client, message) {
+            return Ok((Taken::Unfit, Vec::new(alloc)));
+        }
+        let messages = answer(alloc, self, client, message)?;
+        Ok((Taken::Done, messages))
+    }
+
+    /// Loses the client: its leases, its requests, its waiters and what it holds are gone, and the queues of all locks are
+    /// served, by rising lock. The messages are those of the server rule, in its order, and the server stands for its
+    /// entries with the one in which it lost the client.
+    ///
+    /// It answers `NoMemory` where an allocation was refused.
+    pub fn lose(&mut self, alloc: Global, client: u8) -> Result<Vec<(u8, Down)>, NoMemory>
+        ensures lost { IfOk result (λ messages. (p : Settings) (es : List Entry) → ServerStands p self.old es → IsLost p client messages.items self.new es) }
+        ensures given { OnOk result (given_by self.new ≡ given_by self.old) }
+    {
+        lost(alloc, self, client)
+    }
+
+    /// How many batches of ids it gave. It takes no memory.
+    pub fn batches_given(&self) -> u64
+        ensures { result ≡ given_by self.now }
+    {
+        self.ids.given()
+    }
+
+    /// Whether the client was lost. It takes no memory.
+    pub fn is_lost(&self, client: u8) -> bool
+        ensures { (p : Settings) (es : List Entry) → ServerStands p self.now es → result ≡ is_lost client es }
+    {
+        self.lost.contains(&client)
+    }
+}

@@ -1,5 +1,0 @@
-use Rattle.dso_syntax.proofs.tokens.ReadingLaws as laws
-use Rattle.dso_syntax.proofs.lex.one_reading.Goals as goal
-
-pub returns : goal.returns
-returns c = laws.one_reading

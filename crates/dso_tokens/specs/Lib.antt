@@ -1,0 +1,10 @@
+pub mod TokenLimits
+pub mod Bytes
+pub mod ByteClasses
+pub mod Spelling
+pub mod Token
+pub mod Scan
+pub mod Reading
+pub mod Operators
+pub mod TokenReader
+pub mod Gives

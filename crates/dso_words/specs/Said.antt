@@ -1,0 +1,22 @@
+-- What the words ask for, as the code keeps it.
+use Rattle.dso_words.specs.declared.command.Command.{Command}
+use Rattle.dso_words.specs.declared.command.Command.TheVariants.{Sim, Run, Big}
+use Rattle.dso_words.specs.Given.{told}
+use Rattle.dso_words.specs.Words as words
+
+-- the same, with the bytes of its texts
+abbrev pub said : Command → words.Command
+said (Sim config program seed steps journal) = words.Sim (record {
+  config = config.now;
+  program = program.now;
+  seed = seed;
+  steps = steps;
+  journal = told journal;
+})
+said (Run config program steps journal) = words.Run (record {
+  config = config.now;
+  program = program.now;
+  steps = steps;
+  journal = told journal;
+})
+said (Big number) = words.Big number

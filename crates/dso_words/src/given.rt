@@ -1,0 +1,108 @@
+//! What the words behind a command give.
+ghost use Rattle.std.specs.Prelude.{◌≡◌};
+ghost use Rattle.dso_words.specs.Given.{told};
+ghost use Rattle.dso_words.specs.WordReading.{nothing, set_value, with_name, with_value};
+ghost use Rattle.dso_words.specs.Words.{value_of};
+
+use crate::option_name::OptionName;
+use std::marker::Model;
+
+/// What the words behind a command have given so far: names, and the values of options.
+#[derive(Drop)]
+pub(crate) struct Given<'a> {
+    pub(crate) first: Option<&'a str>,
+    pub(crate) second: Option<&'a str>,
+    pub(crate) seed: Option<&'a str>,
+    pub(crate) steps: Option<&'a str>,
+    pub(crate) journal: Option<&'a str>,
+}
+
+impl<'a> Model for Given<'a> {
+    ghost use Rattle.dso_words.specs.Words as words;
+    ghost use Rattle.dso_words.specs.Given.{names_of, told};
+
+    ghost Value = { words.Given };
+
+    ghost view = { λ g. record {
+      names = names_of (told g.first) (told g.second);
+      seed = told g.seed;
+      steps = told g.steps;
+      journal = told g.journal;
+    } };
+}
+
+impl<'a> Given<'a> {
+    /// Nothing is given yet.
+    pub(crate) fn nothing() -> Given<'a>
+        ensures { result ≡ nothing }
+    {
+        Given {
+            first: None,
+            second: None,
+            seed: None,
+            steps: None,
+            journal: None,
+        }
+    }
+
+    /// With one more name: none that is empty, and no third one.
+    pub(crate) fn with_name(self, name: &'a str) -> Option<Given<'a>>
+        ensures { result ≡ with_name self.entry name.now }
+    {
+        match (self.first, self.second) {
+            _ if name.is_empty() => None,
+            (None, _) => Some(Given {
+                first: Some(name),
+                second: None,
+                ..self
+            }),
+            (Some(_), None) => Some(Given {
+                second: Some(name),
+                ..self
+            }),
+            (Some(_), Some(_)) => None,
+        }
+    }
+
+    /// The value of an option, if it is there.
+    fn value_of(&self, option: OptionName) -> Option<&'a str>
+        ensures { told result ≡ value_of self.now option }
+    {
+        match option {
+            OptionName::Seed => self.seed,
+            OptionName::Steps => self.steps,
+            OptionName::Journal => self.journal,
+        }
+    }
+
+    /// With a value for an option.
+    fn set_value(self, option: OptionName, value: &'a str) -> Given<'a>
+        ensures { result ≡ set_value self.entry option value.now }
+    {
+        let value = Some(value);
+        match option {
+            OptionName::Seed => Given {
+                seed: value,
+                ..self
+            },
+            OptionName::Steps => Given {
+                steps: value,
+                ..self
+            },
+            OptionName::Journal => Given {
+                journal: value,
+                ..self
+            },
+        }
+    }
+
+    /// With a value for an option: none that is empty, and no second one.
+    pub(crate) fn with_value(self, option: OptionName, value: &'a str) -> Option<Given<'a>>
+        ensures { result ≡ with_value self.entry option value.now }
+    {
+        if value.is_empty() || self.value_of(option).is_some() {
+            return None;
+        }
+        Some(self.set_value(option, value))
+    }
+}

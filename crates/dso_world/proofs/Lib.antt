@@ -1,0 +1,12 @@
+pub mod NthSet
+pub mod Named
+pub mod Chosen
+pub mod Breaks
+pub mod Order
+pub mod Pumping
+pub mod Carried
+pub mod LinkEnds
+pub mod Links
+pub mod LinkTakes
+pub mod Letters
+pub mod SlotsOnce

@@ -1,0 +1,5 @@
+use Rattle.dso_world.proofs.LinkTakes.{links_go_on}
+use Rattle.dso_world.proofs.laws.links_go_on.Goals as goal
+
+pub returns : goal.returns
+returns g c = links_go_on

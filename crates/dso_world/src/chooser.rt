@@ -1,0 +1,117 @@
+//! Which step is taken next.
+ghost use Rattle.std.specs.Prelude.{◌≡◌, ◌+◌, ◌<◌, ◌≤◌, ◌^◌, IfOk, IfSome, length, set};
+ghost use Rattle.dso_world.specs.Flags.{closed_row, next_set, nth_set, chosen_place};
+
+use crate::seed::Moved;
+use dso_base::NoMemory;
+use std::alloc::Global;
+use std::marker::Model;
+
+/// Which steps are open, and which of them is taken next.
+///
+/// It has a flag for each slot, at the slot's place. Contracts see the flags, the place at which the next round begins
+/// and how many steps made an entry (`Row`). To choose costs one pass over the flags; a seed that was used before goes
+/// on from where it was.
+#[derive(Drop)]
+pub struct Chooser {
+    flags: Vec<bool>,
+    count: usize,
+    begin: usize,
+    entries: u64,
+    seed: Moved,
+}
+
+impl Model for Chooser {
+    ghost use Rattle.std.specs.Prelude.{◌≡◌, ◌≤◌, length};
+    ghost use Rattle.dso_world.specs.Flags.{Row, set_count};
+
+    ghost Value = { Row };
+
+    ghost view = { λ chooser. record { flags = chooser.flags.items; begin = chooser.begin; entries = chooser.entries } };
+
+    ghost invariant = { λ chooser. (chooser.count ≡ set_count chooser.flags.items) × (chooser.begin ≤ length chooser.flags.items) };
+}
+
+/// The place of the flag that has this number among those set, from 0 on.
+fn nth_set(flags: &[bool], number: usize) -> Option<usize>
+    ensures place { result ≡ nth_set number flags.now }
+    ensures within { IfSome result (λ place. place < length flags.now) }
+{
+    let mut left = number;
+    for (place, flag) in flags.iter().enumerate() {
+        if *flag {
+            if left == 0 {
+                return Some(place);
+            }
+            left -= 1;
+        }
+    }
+    None
+}
+
+/// The place of the first flag set, from this place on, going round.
+fn next_set(flags: &[bool], begin: usize) -> Option<usize>
+    requires { begin ≤ length flags.now }
+    ensures { result ≡ next_set begin flags.now }
+{
+    match nth_set(&flags[begin..], 0) {
+        Some(at) => Some(begin + at),
+        None => nth_set(&flags[..begin], 0),
+    }
+}
+
+impl Chooser {
+    /// So many slots, none of which is open, before the first step. It answers `NoMemory` where an allocation was
+    /// refused.
+    pub fn new(alloc: Global, slots: usize) -> Result<Chooser, NoMemory>
+        ensures { IfOk result (λ chooser. chooser ≡ closed_row slots) }
+    {
+        Ok(Chooser {
+            flags: vec![in alloc; false; slots]?,
+            count: 0,
+            begin: 0,
+            entries: 0,
+            seed: Moved::new(0),
+        })
+    }
+
+    /// Tells whether the slot at this place is open. It takes no memory.
+    pub fn set(&mut self, place: usize, to: bool)
+        requires { place < length self.old.flags }
+        ensures { self.new ≡ record self.old { flags = set self.old.flags place to } }
+    {
+        if self.flags[place] && !to {
+            self.count -= 1;
+        } else if !self.flags[place] && to {
+            self.count += 1;
+        }
+        self.flags[place] = to;
+    }
+
+    /// The step of the slot at this place made an entry: the next round begins behind it. It takes no memory.
+    pub fn taken(&mut self, place: usize)
+        requires place { place < length self.old.flags }
+        requires fits { self.old.entries + 1 < 2 ^ 64 }
+        ensures { self.new ≡ record self.old { begin = place + 1; entries = self.old.entries + 1 } }
+    {
+        self.entries += 1;
+        self.begin = place + 1;
+    }
+
+    /// The place of the slot that is taken next: by round robin, or by the seed. None exactly where no slot is open. It
+    /// takes no memory.
+    pub fn choose(&mut self, seed: Option<u64>) -> Option<usize>
+        requires { self.old.entries + 1 < 2 ^ 64 }
+        ensures chosen { result ≡ chosen_place seed self.old }
+        ensures same { self.new ≡ self.old }
+    {
+        match seed {
+            Some(_) if self.count == 0 => None,
+            Some(seed) => {
+                self.seed = self.seed.moved_to(seed, self.entries + 1);
+                nth_set(self.flags.as_slice(), self.seed.lot(self.count))
+            }
+            None => next_set(self.flags.as_slice(), self.begin),
+        }
+    }
+}

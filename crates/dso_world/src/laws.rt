@@ -1,0 +1,38 @@
+//! The laws of the cluster in one program. Each is the contract of a function that does nothing.
+ghost use Rattle.dso_world.specs.Breaks.{BrokenIsNeverDue};
+ghost use Rattle.dso_world.specs.LinkStands.{LinksGoOn};
+ghost use Rattle.dso_world.specs.PastOf.{LettersAreLeft};
+ghost use Rattle.dso_world.specs.Laws.{PlacesAreChosen, RoundsGoOn};
+
+/// Where each flag tells whether its slot is open, and a round begins behind the slot of the last entry, the chosen
+/// place is that of the chosen slot, by round robin and by each seed. None is chosen exactly where no slot is open.
+pub fn places_are_chosen()
+    ensures { PlacesAreChosen }
+{}
+
+/// Where each thread stands once among those of the cluster, the place behind a slot is the next one: so a round begins
+/// behind the place at which the last step was taken.
+pub fn rounds_go_on()
+    ensures { RoundsGoOn }
+{}
+
+/// In a lawful journal of a program that sets no break twice, a break of a client's connection is never due while that
+/// is broken.
+pub fn broken_is_never_due()
+    ensures { BrokenIsNeverDue }
+{}
+
+/// Whatever happens to the connection of a client makes of it one that stands for what has happened: a message is sent
+/// by either end; a frame is taken, and gives up the next message of the other end; the connection breaks, and either
+/// end takes it up again. A frame waits exactly where one can be taken: on a joined connection where a message was
+/// sent and not taken, on a broken one on the way down, and on one that the client has taken up again on the way up.
+pub fn links_go_on<M>()
+    ensures { LinksGoOn M }
+{}
+
+/// In a lawful journal the letters in flight between a client and the server are those posted that were not taken. So
+/// where a connection stands for what happened to it by the journal, a frame waits exactly where the journal has a
+/// message or a rejoin to take; the server takes it only where no loss and no break is due.
+pub fn letters_are_left<M>()
+    ensures { LettersAreLeft M }
+{}

@@ -1,0 +1,175 @@
+//! A server, and the answer to a row.
+//!
+//! | Command | What it calls |
+//! |---|---|
+//! | `1 idask`, `1 fault 5`, `1 flushed 5` | the server takes that message of client 1 |
+//! | `1 request m5 write`, `1 return m5 1.1 1.2` | a request, and a return with the threads that wait |
+//! | `1 commit 1 1.1 5.0=7 exit:m5` | a record, its words told in `records.rt` |
+//! | `1 lose`, `1 lost` | the client is lost; whether it was |
+
+use crate::answers::with_messages;
+use crate::records::record;
+use crate::words::{first_of, level, lock, number, small, thread};
+use dso_base::{ClassShape, FieldShape, Guard, Items, Kind, NoMemory, Shape, ThreadId, Up};
+use dso_machine::{Code, ThreadBody};
+use dso_server::Server;
+use std::alloc::{AllocError, Global};
+
+/// How many batches a row may ask for.
+const MOST_BATCHES: u64 = 1000;
+
+/// A server of clients with two threads each, 1 to 3, that do nothing, and of this shape: class 0 with a long guarded by the object's
+/// monitor and an object guarded by the named lock 1; one root, two named locks, one text.
+#[derive(Drop)]
+pub struct Rows {
+    code: Code,
+    server: Server,
+}
+
+/// The shape.
+fn shape(alloc: Global) -> Result<Shape, NoMemory> {
+    let mut fields = Items::new(alloc);
+    fields.push(FieldShape {
+        kind: Kind::Long,
+        guard: Guard::Own,
+    })?;
+    fields.push(FieldShape {
+        kind: Kind::Ref,
+        guard: Guard::Name(1),
+    })?;
+    let mut classes = Items::new(alloc);
+    classes.push(ClassShape { fields })?;
+    Ok(Shape {
+        classes,
+        roots: 1,
+        names: 2,
+        texts: 1,
+    })
+}
+
+/// The bodies of the threads.
+fn bodies(alloc: Global) -> Result<Items<ThreadBody>, NoMemory> {
+    let mut bodies = Items::new(alloc);
+    for client in 1..4 {
+        bodies.push(body(alloc, ThreadId { client, index: 1 }))?;
+        bodies.push(body(alloc, ThreadId { client, index: 2 }))?;
+    }
+    Ok(bodies)
+}
+
+/// A thread that does nothing.
+fn body(alloc: Global, thread: ThreadId) -> ThreadBody {
+    ThreadBody {
+        thread,
+        vars: 0,
+        body: Items::new(alloc),
+    }
+}
+
+/// The code and a server of it.
+fn opened(alloc: Global) -> Result<Rows, NoMemory> {
+    let bodies = bodies(alloc)?;
+    let code = Code {
+        shape: shape(alloc)?,
+        methods: Items::new(alloc),
+        bodies,
+    };
+    let server = Server::new(alloc, &code, 3)?;
+    Ok(Rows { code, server })
+}
+
+/// The text of the words.
+fn shown(alloc: Global, words: &str) -> Result<String, NoMemory> {
+    let text = format!(in alloc; "{words}")?;
+    Ok(text)
+}
+
+/// The return of the lock with the threads.
+fn returned(alloc: Global, text: &str) -> Result<Option<Up>, NoMemory> {
+    let (name, rest) = first_of(text);
+    let Some(name) = lock(name) else {
+        return Ok(None);
+    };
+    let mut waiting = Items::new(alloc);
+    for word in rest.split(' ') {
+        if let Some(thread) = thread(word) {
+            waiting.push(thread)?;
+        }
+    }
+    Ok(Some(Up::Return(name, waiting)))
+}
+
+/// The request of the lock at the level.
+fn requested(text: &str) -> Option<Up> {
+    let (name, wanted) = first_of(text);
+    Some(Up::Request(lock(name)?, level(wanted)?))
+}
+
+/// The message of the words, None where they tell none.
+fn message(alloc: Global, text: &str) -> Result<Option<Up>, NoMemory> {
+    let (word, rest) = first_of(text);
+    match word {
+        "idask" => Ok(Some(Up::IdAsk)),
+        "fault" => Ok(number(rest).map(Up::Fault)),
+        "flushed" => Ok(number(rest).map(Up::Flushed)),
+        "request" => Ok(requested(rest)),
+        "return" => returned(alloc, rest),
+        "commit" => Ok(record(alloc, rest)?.map(Up::Commit)),
+        _ => Ok(None),
+    }
+}
+
+impl Rows {
+    /// A new server.
+    pub fn new(alloc: Global) -> Result<Rows, AllocError> {
+        match opened(alloc) {
+            Ok(rows) => Ok(rows),
+            Err(NoMemory) => Err(AllocError),
+        }
+    }
+
+    /// What is printed for the line.
+    pub fn answered(&mut self, alloc: Global, line: &str) -> Result<String, AllocError> {
+        let Some((name, command)) = line.split_once(": ") else {
+            *self = Rows::new(alloc)?;
+            return format!(in alloc; "{line}");
+        };
+        match self.told(alloc, command) {
+            Ok(answer) => format!(in alloc; "{name}: {answer}"),
+            Err(NoMemory) => Err(AllocError),
+        }
+    }
+
+    /// The answer to the command.
+    fn told(&mut self, alloc: Global, command: &str) -> Result<String, NoMemory> {
+        let (first, rest) = first_of(command);
+        let Some(client) = small(first) else {
+            return shown(alloc, "no such client");
+        };
+        match rest {
+            "lose" => {
+                let messages = self.server.lose(alloc, client)?;
+                with_messages(alloc, shown(alloc, "Lost")?, messages.as_slice())
+            }
+            "lost" => {
+                let lost = self.server.is_lost(client);
+                let text = format!(in alloc; "{lost}")?;
+                Ok(text)
+            }
+            _ => match message(alloc, rest)? {
+                Some(message) => self.taken(alloc, client, &message),
+                None => shown(alloc, "no such message"),
+            },
+        }
+    }
+
+    /// The answer to a message.
+    fn taken(&mut self, alloc: Global, client: u8, message: &Up) -> Result<String, NoMemory> {
+        if self.server.batches_given() > MOST_BATCHES {
+            return shown(alloc, "too many batches");
+        }
+        let (taken, messages) = self.server.take(alloc, &self.code, client, message)?;
+        let text = format!(in alloc; "{taken:?}")?;
+        with_messages(alloc, text, messages.as_slice())
+    }
+}

@@ -1,0 +1,57 @@
+//! Rows of calls of the two ends of a connection and of the logs of nodes, with what each answers.
+//!
+//! A row of the input is a sentence, `: `, and a command; it is printed as the sentence, `: `, and the answer. Any other
+//! line is printed as it stands, and all is new from there on.
+//!
+//! | Command | What it calls |
+//! |---|---|
+//! | `client send 7 3` | the client's end says at clock 3 that object 7 is flushed |
+//! | `client next` | its next frame |
+//! | `server carry 0 1 0 3 7` | the server's end takes a message: epoch, number, seen, clock, message |
+//! | `server hello 1 0 0` | it takes a Hello: epoch, seen, clock |
+//! | `server break` | its connection breaks |
+//! | `log 2 5` | client 2 (0 is the server) adds an entry, having heard clock 5 |
+//! | `merge` | the entries of all logs, by clock and node |
+#![tactic(auto)]
+
+mod ends;
+mod logs;
+mod words;
+
+use ends::Ends;
+use logs::Logs;
+use std::alloc::{AllocError, Global};
+use std::io;
+
+fn main(rt: HostRuntime) -> io::Result<()> {
+    let mut ends = Ends::new(rt.alloc());
+    let mut logs = Logs::new(rt.alloc());
+    for line in rt.lines(rt.alloc()) {
+        let line = line?;
+        let Some((name, command)) = line.split_once(": ") else {
+            ends = Ends::new(rt.alloc());
+            logs = Logs::new(rt.alloc());
+            println!(rt; "{line}")?;
+            continue;
+        };
+        let answer = answered(rt.alloc(), &mut ends, &mut logs, command)?;
+        println!(rt; "{name}: {answer}")?;
+    }
+    Ok(())
+}
+
+/// The answer to a command.
+fn answered(
+    alloc: Global,
+    ends: &mut Ends,
+    logs: &mut Logs,
+    command: &str,
+) -> Result<String, AllocError> {
+    let (word, rest) = words::first_of(command);
+    match word {
+        "server" => ends::told(alloc, &mut ends.server, rest),
+        "client" => ends::told(alloc, &mut ends.client, rest),
+        "log" => logs.added(alloc, rest),
+        _ => logs.merged(alloc),
+    }
+}
