@@ -58,7 +58,8 @@ abbrev pub ListsStand : Point → BTreeMap LockName (List ThreadId) → Type 0
 ListsStand at lists = (l : LockName) → list_at lists l ≡ client_list l at.entries
 
 -- the lists with another one for this lock
-abbrev pub HasList : LockName → List ThreadId → BTreeMap LockName (List ThreadId) → BTreeMap LockName (List ThreadId) → Type 0
+abbrev pub HasList : LockName → List ThreadId → BTreeMap LockName (List ThreadId) → BTreeMap LockName (List ThreadId)
+    → Type 0
 HasList l list old new = (x : LockName) → list_at new x ≡ cond (is_lock x l) list (list_at old x)
 
 -- of each thread and lock the hold, as the entries tell
