@@ -2,7 +2,6 @@
 use Rattle.std.specs.Prelude.{ℕ, ◌+◌, ◌-◌, ◌≡◌, ◌≢◌, Bool, true, false, cond, ltb, Option, Some, None}
 use Rattle.std.specs.Option.{option_map, option_map_or}
 use Rattle.std.specs.Ordering.{is_lt}
-use Rattle.std.specs.declared.cmp.Ordering.{Ordering}
 use Rattle.dso_base.specs.declared.lock.Level.{Level}
 use Rattle.dso_base.specs.declared.lock.Level.TheVariants.{Read, Write}
 use Rattle.dso_base.specs.declared.lock.LockName.{LockName}
@@ -83,6 +82,11 @@ IsFree l holds = (t : ThreadId) → holds (l, t) ≡ None
 -- the thread holds the lock at Read and asks for Write
 abbrev pub is_upgrade : Level → Option Held → Bool
 is_upgrade level held = option_map_or (is_lower level) held false
+
+-- the thread holds the lock, and the level is no upgrade of its hold
+abbrev pub HoldsEnough : Level → Option Held → Type 0
+HoldsEnough level None = ⊥
+HoldsEnough level (Some held) = is_lower level held ≡ false
 
 -- Thread u is another one that holds the lock in conflict with an entry of thread t at the level.
 pub record IsInConflict (t : ThreadId) (l : LockName) (level : Level) (holds : LockName × ThreadId → Option Held) (u : ThreadId) : Type 0 where

@@ -1,6 +1,7 @@
 //! Entries and exits in the tables of holds.
-ghost use Rattle.std.specs.Prelude.{◌≡◌, ◌+◌, ◌^◌, ◌<◌, None, IfOk, OnErr, Some};
-ghost use Rattle.dso_hold.specs.Holds.{hold_in, with_hold, count_at, exited, IsAnswer};
+ghost use Rattle.std.specs.Prelude.{◌≡◌, ◌+◌, ◌^◌, ◌<◌, false, None, IfOk, OnErr, Some};
+ghost use Rattle.dso_hold.specs.declared.held.Enter.TheVariants.{Entered};
+ghost use Rattle.dso_hold.specs.Holds.{hold_in, with_hold, count_at, exited, is_lower, HoldsEnough, IsAnswer};
 ghost use Rattle.dso_hold.specs.Tables.{HoldsAgree};
 
 use crate::held::{Enter, Held};
@@ -41,6 +42,7 @@ fn enter_again(
     requires own { hold_in tables.old (lock, thread) ≡ Some own }
     requires fits { own.count + wanted.count < 2 ^ 32 }
     ensures answer { IsAnswer thread lock wanted.level wanted.count (hold_in tables.old) (hold_in tables.new) result }
+    ensures again { is_lower wanted.level own ≡ false → result ≡ Entered }
     ensures agree { HoldsAgree tables.new }
 {
     if own.is_lower(wanted.level) {
@@ -61,6 +63,7 @@ pub(crate) fn enter(
     requires agree { HoldsAgree tables.old }
     requires fits { count_at (hold_in tables.old (lock, thread)) + wanted.count < 2 ^ 32 }
     ensures answer { IfOk result (λ enter. IsAnswer thread lock wanted.level wanted.count (hold_in tables.old) (hold_in tables.new) enter) }
+    ensures again { IfOk result (λ enter. HoldsEnough wanted.level (hold_in tables.old (lock, thread)) → enter ≡ Entered) }
     ensures err { OnErr result (hold_in tables.new ≡ hold_in tables.old) }
     ensures agree { HoldsAgree tables.new }
 {

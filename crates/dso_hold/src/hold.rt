@@ -1,6 +1,7 @@
 //! The list of holds of one client.
 ghost use Rattle.std.specs.Prelude.{◌≡◌, ◌↔◌, ◌+◌, ◌^◌, ◌<◌, ◌≤◌, None, Some, IsTrue, IfNone, IfSome, IfOk, OnErr};
-ghost use Rattle.dso_hold.specs.Holds.{hold_in, with_hold, level_at, count_at, exited, HoldsSome, IsFree, NoConflict, IsFirstInConflict, IsAnswer};
+ghost use Rattle.dso_hold.specs.declared.held.Enter.TheVariants.{Entered};
+ghost use Rattle.dso_hold.specs.Holds.{hold_in, with_hold, level_at, count_at, exited, HoldsEnough, HoldsSome, IsFree, NoConflict, IsFirstInConflict, IsAnswer};
 
 use crate::entries::{enter, exit};
 use crate::held::{Enter, Held};
@@ -48,7 +49,7 @@ impl Hold {
     /// The thread enters the lock so many times at the level: `Entered`, and its hold's count is that much more, at the
     /// level of the hold where it has one. `LockUpgrade`, with nothing changed, exactly where it holds at `Read` and asks
     /// for `Write`. `Blocked`, with nothing changed, exactly where another thread holds in conflict and it is no upgrade:
-    /// the first of these threads.
+    /// the first of these threads; so a thread that holds the lock and asks for no upgrade has entered.
     ///
     /// It answers `NoMemory` where an allocation was refused, and nothing is changed then.
     pub fn enter(
@@ -62,6 +63,7 @@ impl Hold {
         requires once { 1 ≤ count }
         requires fits { count_at (hold_in self.old (lock, thread)) + count < 2 ^ 32 }
         ensures answer { IfOk result (λ enter. IsAnswer thread lock level count (hold_in self.old) (hold_in self.new) enter) }
+        ensures again { IfOk result (λ enter. HoldsEnough level (hold_in self.old (lock, thread)) → enter ≡ Entered) }
         ensures err { OnErr result (hold_in self.new ≡ hold_in self.old) }
     {
         enter(alloc, &mut self.tables, thread, lock, Held { level, count })
