@@ -1,5 +1,5 @@
 -- A client before its first entry stands for no entries.
-use Rattle.std.proofs.Common.{◌≡◌, ℕ, ◌+◌, ◌≤◌, refl, sym, ◌∙◌, ap, arith, Bool, true, false, ◌&&◌, Some, None, List, [], ◌∷◌, map, length}
+use Rattle.std.proofs.Common.{◌≡◌, ℕ, ◌+◌, ◌≤◌, refl, sym, ◌∙◌, ap, arith, Bool, true, false, ◌&&◌, Some, None, List, [], ◌∷◌, map, length, subst}
 use Rattle.std.proofs.lemmas.Bool.{le-ltb}
 use Rattle.std.specs.List.{AllByRecursion}
 use Rattle.std.specs.Map.{lookup}
@@ -47,6 +47,7 @@ module _ (code : Code) (p : Settings) (c : ℕ) (shape : p.shape ≡ code.shape)
     wanted = λ t o. ap (λ (s : State). s.wanted (t, o)) is ∙ neither (eqb t.client c);
     room = ap (λ (s : State). s.limit) is ∙ sym room;
     count = ap (λ (s : State). s.residents) is;
+    acked = subst (λ n. n ≤ 0) (sym (ap (λ (s : State). s.acked) is)) (omega arith);
   }
 
   locking_stands : (locking : Locking) → IsEmptyLocking locking → LockingStands (point code p c []) locking
@@ -79,6 +80,11 @@ module _ (code : Code) (p : Settings) (c : ℕ) (shape : p.shape ≡ code.shape)
     strangers = λ t e. refl;
     waitless = λ t e. refl;
     unwanted = λ t o e its. refl;
+    holdless = λ t e. refl;
+    counted = λ t l. tt;
+    owed = λ t. tt;
+    once = λ t. record { privates = tt; apart = λ o e. absurd (cc e); news = tt };
+    changed = λ t o e. absurd (cc e);
   }
 
   pub stands_at_start : (kept : Kept) (threads resident : ℕ) → kept.number ≡ c → p.resident ≡ resident → threads_of p c ≡ first_threads c threads

@@ -9,9 +9,10 @@ use Rattle.dso_table.specs.Tables.{state_in}
 use Rattle.dso_table.specs.Victims.{IsFlushable, IsVictim, NoVictim}
 use Rattle.dso_client.specs.declared.kept.Kept.{Kept}
 use Rattle.dso_client.specs.ClientStands.{point}
-use Rattle.dso_client.specs.Flushing.{Flushes, NoneDue}
+use Rattle.dso_client.specs.Flushing.{Flushes, NoneDue, TellsFlush}
 use Rattle.dso_client.proofs.Flushable.{may_flush_it, none_due}
 use Rattle.dso_client.proofs.Flushed.{stands_flushed}
+use Rattle.dso_client.proofs.ResidentsListed.{may_flush_some}
 
 victim_goes : (kept : Kept) (o : ℕ) → IsVictim (state_in kept.table) o → IsFlushable (state_in kept.table) o
 victim_goes kept o h = elim h.chosen [ inl first ↦ first.flushable | inr last ↦ last.flushable ]
@@ -30,3 +31,9 @@ pub flush_none : (found : Option ℕ) (kept : Kept) → IfNone found (NoVictim (
 flush_none (Some o) kept none = tt
 flush_none None kept none = λ code p c es h.
     none_due (point code p c es) kept.table h.parts.table h.parts.facts (records_are_acked_in_order p c (next_request code) es h.run) none
+
+-- whether there is a victim tells whether there is a flush
+pub flush_told : (found : Option ℕ) (kept : Kept) → IfSome found (IsVictim (state_in kept.table)) → IfNone found (NoVictim (state_in kept.table)) → TellsFlush kept (is_some found)
+flush_told None kept victim none = λ code p c es h. sym (flush_none None kept none code p c es h)
+flush_told (Some o) kept victim none = λ code p c es h. sym (may_flush_some p c o es
+    (may_flush_it (point code p c es) kept.table h.parts.table h.parts.facts (records_are_acked_in_order p c (next_request code) es h.run) o victim.full (victim_goes kept o victim)))

@@ -1,5 +1,5 @@
 -- What stands after a flush.
-use Rattle.std.proofs.Common.{◌≡◌, ℕ, ◌-◌, refl, sym, ◌∙◌, ap, subst, Bool, true, false, cond, eqb, is_some, Option, Some, None, List, ◌∷◌}
+use Rattle.std.proofs.Common.{◌≡◌, ℕ, ◌-◌, refl, sym, ◌∙◌, ap, subst, Bool, true, false, cond, eqb, is_some, Option, Some, None, List, ◌∷◌, ◌≤◌}
 use Rattle.std.proofs.lemmas.Bool.{eqb-true}
 use Rattle.std.specs.Cmp.{unsigned_tied}
 use Rattle.dso_base.specs.declared.journal.Entry.{Entry}
@@ -8,12 +8,15 @@ use Rattle.dso_law.specs.Settings.{Settings}
 use Rattle.dso_law.specs.Copies.{is_resident, is_object_asked}
 use Rattle.dso_law.specs.HeldBody.{held_body}
 use Rattle.dso_law.specs.ResidentCount.{resident_count}
-use Rattle.dso_law.specs.ClientStep.{MayFlush}
+use Rattle.dso_law.specs.ClientStep.{ClientStep, MayFlush}
+use Rattle.dso_law.specs.ClientRun.{next_in}
 use Rattle.dso_law.proofs.core.Bodies.{bodies_are_held}
 use Rattle.dso_law.proofs.core.Counts.{residents_are_counted}
 use Rattle.dso_machine.specs.declared.code.Code.{Code}
+use Rattle.dso_machine.specs.Next.{next_request}
 use Rattle.dso_table.specs.declared.slot.Standing.{Standing}
 use Rattle.dso_table.specs.declared.slot.Standing.TheVariants.{Asked, Resident}
+use Rattle.dso_law.specs.Records.{records}
 use Rattle.dso_table.specs.declared.tables.Tables.{Tables}
 use Rattle.dso_table.specs.States as states
 use Rattle.dso_table.specs.States.{State, body_of, is_asked, with_at, flushed}
@@ -22,10 +25,10 @@ use Rattle.dso_client.specs.declared.kept.Kept.{Kept}
 use Rattle.dso_client.specs.declared.seat.Seat.{Seat}
 use Rattle.dso_client.specs.ClientStands.{ClientStands, point}
 use Rattle.dso_client.specs.Entries.{flush_entry}
-use Rattle.dso_client.specs.RunFacts.{RunFacts}
 use Rattle.dso_client.specs.SeatStands.{SeatStands}
 use Rattle.dso_client.specs.TableStands.{TableStands}
 use Rattle.dso_client.proofs.AtStart.{all_as}
+use Rattle.dso_client.proofs.facts.All.{run_facts}
 
 -- a function with another value at one number
 pub at_number : {V : Type 0} (o : ℕ) (new : V) (old : ℕ → V) (x : ℕ) → with_at o new old x ≡ cond (eqb o x) new (old x)
@@ -36,7 +39,7 @@ at_number {V} o new old x = ap (λ b. or_old (cond b (Some new) None) (old x)) (
     by false = refl
 
 -- a resident object isn't asked for
-not_asked : (standing : Option Standing) → states.is_resident standing ≡ true → is_asked standing ≡ false
+pub not_asked : (standing : Option Standing) → states.is_resident standing ≡ true → is_asked standing ≡ false
 not_asked None e = refl
 not_asked (Some standing) e = there standing e
   where
@@ -61,6 +64,7 @@ module _ (code : Code) (p : Settings) (c clock o : ℕ) (es : List Entry) where
     wanted = λ t x. ap (λ (s : State). s.wanted (t, x)) is ∙ h.wanted t x;
     room = ap (λ (s : State). s.limit) is ∙ h.room;
     count = ap (λ (s : State). s.residents) is ∙ (ap (λ n. n - 1) h.count ∙ ap (λ b. cond b (resident_count es - 1) (resident_count es)) (sym ((residents_are_counted es).has o ∙ there)));
+    acked = subst (λ n. n ≤ records es) (sym (ap (λ (s : State). s.acked) is)) h.acked;
   }
     where
       bodies : (x : ℕ) (b : Bool) → body_of (cond b None ((state_in old).standing x)) ≡ cond b None (held_body x es)
@@ -74,30 +78,29 @@ module _ (code : Code) (p : Settings) (c clock o : ℕ) (es : List Entry) where
           sym (not_asked ((state_in old).standing x) resident) ∙ h.asked x
       asked x false same = h.asked x
 
-  facts_after : RunFacts (point code p c es) → RunFacts (point code p c after)
-  facts_after h = record { apart = h.apart; settled = h.settled; numbered = h.numbered; strangers = h.strangers; waitless = h.waitless; unwanted = h.unwanted }
-
   pub stands_flushed : (old new : Kept) → ClientStands code p c old es → MayFlush p c o es → is_resident o es ≡ true
       → state_in new.table ≡ flushed o (state_in old.table) → new ≡ record old { table = new.table } → ClientStands code p c new after
-  stands_flushed old new h may there is same = subst (λ kept. ClientStands code p c kept after) (sym same) (record {
-    shape = h.shape;
-    run = (h.run, record { may = may; event = refl; sends = refl });
-    parts = record {
-      number = h.parts.number;
-      places = h.parts.places;
-      numbered = h.parts.numbered;
-      seats = all_as (SeatStands (point code p c es)) (SeatStands (point code p c after)) seat_after old.seats.items h.parts.seats;
-      table = table_after old.table new.table h.parts.table there is;
-      locking = record { holds = h.parts.locking.holds; leases = h.parts.locking.leases; lists = h.parts.locking.lists };
-      ledger = record {
-        ids = h.parts.ledger.ids;
-        bounded = h.parts.ledger.bounded;
-        end = h.parts.ledger.end;
-        asking = h.parts.ledger.asking;
-        records = h.parts.ledger.records;
-        unacked = h.parts.ledger.unacked;
-      };
-      facts = facts_after h.parts.facts;
-    };
-    threads = h.threads;
-  })
+  stands_flushed old new h may there is same =
+      let step : ClientStep p c (next_in (next_request code) es) (next_in (next_request code) after) (flush_entry clock c o) es = record { may = may; event = refl; sends = refl } in
+      subst (λ kept. ClientStands code p c kept after) (sym same) (record {
+        shape = h.shape;
+        run = (h.run, step);
+        parts = record {
+          number = h.parts.number;
+          places = h.parts.places;
+          numbered = h.parts.numbered;
+          seats = all_as (SeatStands (point code p c es)) (SeatStands (point code p c after)) seat_after old.seats.items h.parts.seats;
+          table = table_after old.table new.table h.parts.table there is;
+          locking = record { holds = h.parts.locking.holds; leases = h.parts.locking.leases; lists = h.parts.locking.lists };
+          ledger = record {
+            ids = h.parts.ledger.ids;
+            bounded = h.parts.ledger.bounded;
+            end = h.parts.ledger.end;
+            asking = h.parts.ledger.asking;
+            records = h.parts.ledger.records;
+            unacked = h.parts.ledger.unacked;
+          };
+          facts = run_facts p c (next_request code) after (h.run, step);
+        };
+        threads = h.threads;
+      })

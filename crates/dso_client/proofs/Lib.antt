@@ -10,6 +10,7 @@ pub mod Blank
 pub mod AtStart
 pub mod Flushable
 pub mod Flushed
+pub mod ResidentsListed
 pub mod FlushMade
 pub mod SeatsFound
 pub mod BatchEnds
@@ -20,3 +21,10 @@ pub mod Outcomes
 pub mod due
 pub mod asked
 pub mod lived
+pub mod acts
+pub mod Listed
+pub mod KeptCounts
+pub mod HeldObjects
+pub mod sent
+pub mod ChangedSeats
+pub mod worked

@@ -5,3 +5,10 @@ pub mod Leased
 pub mod Touched
 pub mod Returned
 pub mod Took
+pub mod SameLocks
+pub mod AfterActs
+pub mod GivenBack
+pub mod Sent
+pub mod Settled
+pub mod Slices
+pub mod Again

@@ -2,4 +2,6 @@
 pub mod Strangers
 pub mod Settled
 pub mod Apart
+pub mod Counts
+pub mod Once
 pub mod All

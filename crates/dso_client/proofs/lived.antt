@@ -4,3 +4,5 @@ pub mod Objects
 pub mod Leases
 pub mod Lists
 pub mod Holds
+pub mod Entered
+pub mod Counts

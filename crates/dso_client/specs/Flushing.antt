@@ -1,5 +1,5 @@
 -- What a flush makes of a client.
-use Rattle.std.specs.Prelude.{◌≡◌, ℕ, false, List, ◌∷◌}
+use Rattle.std.specs.Prelude.{◌≡◌, ℕ, Bool, false, List, ◌∷◌}
 use Rattle.dso_base.specs.declared.journal.Entry.{Entry}
 use Rattle.dso_law.specs.Settings.{Settings}
 use Rattle.dso_law.specs.ClientStep.{may_flush}
@@ -18,3 +18,8 @@ Flushes old new o = (code : Code) (p : Settings) (c clock : ℕ) (es : List Entr
 abbrev pub NoneDue : Kept → Type 0
 NoneDue kept = (code : Code) (p : Settings) (c : ℕ) (es : List Entry) → ClientStands code p c kept es
     → may_flush p c es ≡ false
+
+-- the answer tells, whatever entries the client stands for, whether the client rule has a flush behind them
+abbrev pub TellsFlush : Kept → Bool → Type 0
+TellsFlush kept answer = (code : Code) (p : Settings) (c : ℕ) (es : List Entry) → ClientStands code p c kept es
+    → answer ≡ may_flush p c es

@@ -21,3 +21,10 @@ pub mod Touching
 pub mod Taking
 pub mod Asking
 pub mod Living
+pub mod Committing
+pub mod Acting
+pub mod LivingSeats
+pub mod GoingOn
+pub mod Entering
+pub mod Returning
+pub mod Answering

@@ -1,12 +1,14 @@
 -- What a client keeps once a thread's request was answered, before anything is sent.
 use Rattle.std.specs.BTreeMap.{BTreeMap}
 use Rattle.std.specs.Option.{option_map}
-use Rattle.std.specs.Prelude.{◌≡◌, ℕ, cond, Option, Some, None, List, [], ◌∷◌}
+use Rattle.std.specs.Prelude.{◌≡◌, ◌≤◌, ℕ, cond, Option, Some, None, List, [], ◌∷◌, map}
 use Rattle.dso_base.specs.declared.journal.Entry.{Entry}
 use Rattle.dso_base.specs.declared.journal.Input.TheVariants as input
 use Rattle.dso_base.specs.declared.journal.Node.TheVariants.{Client}
+use Rattle.dso_base.specs.declared.journal.Sent.TheVariants.{ToServer}
 use Rattle.dso_base.specs.declared.lock.LockName.{LockName}
 use Rattle.dso_base.specs.declared.lock.ThreadId.{ThreadId}
+use Rattle.dso_base.specs.declared.message.Up.{Up}
 use Rattle.dso_base.specs.declared.request.Event.{Event}
 use Rattle.dso_base.specs.declared.request.Event.TheVariants.{Act}
 use Rattle.dso_base.specs.declared.request.Reply.{Reply}
@@ -14,7 +16,7 @@ use Rattle.dso_base.specs.declared.request.Reply.TheVariants.{Done}
 use Rattle.dso_base.specs.declared.request.Request.{Request}
 use Rattle.dso_base.specs.declared.request.Request.TheVariants.{Put, Enter, Resume}
 use Rattle.dso_hold.specs.declared.tables.Tables.{Tables}
-use Rattle.dso_hold.specs.Holds.{hold_in}
+use Rattle.dso_hold.specs.Holds.{hold_in, count_at}
 use Rattle.dso_lease.specs.declared.leases.Leases.{Leases}
 use Rattle.dso_lease.specs.Leases.{standing_in}
 use Rattle.dso_plain.specs.KeyTests.{is_lock}
@@ -36,6 +38,14 @@ lived_entry clock c act = record { clock = clock; node = Client c; input = input
 -- the point then, while the next requests are those before it
 abbrev pub lived : ℕ → Answered → Point → Point
 lived clock act at = record at { entries = lived_entry clock at.client act ∷ at.entries }
+
+-- the entry in which a thread of client c acts with this event, and sends these
+abbrev pub acting_entry : ℕ → ℕ → Answered → List Up → Entry
+acting_entry clock c act sent = record { clock = clock; node = Client c; input = input.Act act.thread.index; sent = map ToServer sent; event = Some (event_of act) }
+
+-- the point in this entry once these were sent, where the next requests are these
+abbrev pub acting : ℕ → Answered → List Up → (ThreadId → Option Request) → Point → Point
+acting clock act sent next at = record { settings = at.settings; client = at.client; next = next; entries = acting_entry clock at.client act sent ∷ at.entries }
 
 -- the object that a done put is to
 abbrev pub put_to : Request → Reply → Option ℕ
@@ -65,3 +75,7 @@ HasList l list old new = (x : LockName) → list_at new x ≡ cond (is_lock x l)
 -- of each thread and lock the hold, as the entries tell
 abbrev pub HoldsStand : Point → Tables → Type 0
 HoldsStand at holds = (t : ThreadId) (l : LockName) → option_map as_hold (hold_in holds (l, t)) ≡ hold_of t l at.entries
+
+-- no lock is held more often than so
+abbrev pub CountsAtMost : ℕ → Tables → Type 0
+CountsAtMost most holds = (t : ThreadId) (l : LockName) → count_at (hold_in holds (l, t)) ≤ most

@@ -1,9 +1,12 @@
 -- What a thread's turn comes to.
-use Rattle.std.specs.Prelude.{◌≡◌, false, Option, Some, None}
+use Rattle.std.specs.Option.{option_and_then}
+use Rattle.std.specs.Prelude.{◌≡◌, ℕ, Bool, true, false, is_some, Option, Some, None}
 use Rattle.dso_base.specs.declared.lock.ThreadId.{ThreadId}
 use Rattle.dso_base.specs.declared.message.Up.{Up}
 use Rattle.dso_base.specs.declared.request.Reply.{Reply}
 use Rattle.dso_base.specs.declared.request.Request.{Request}
+use Rattle.dso_base.specs.declared.request.Request.TheVariants.{New, Look, Get, Put}
+use Rattle.dso_base.specs.Following.{IsListed}
 use Rattle.dso_law.specs.ClientStep.{can_act}
 use Rattle.dso_law.specs.Replies.{reply_of, woken_by}
 use Rattle.dso_law.specs.RequestNeeds.{Need, unmet, ask_for}
@@ -11,6 +14,7 @@ use Rattle.dso_client.specs.declared.cause.Cause.{Cause}
 use Rattle.dso_client.specs.declared.cause.Cause.TheVariants as cause
 use Rattle.dso_client.specs.declared.lack.Lack.{Lack}
 use Rattle.dso_client.specs.declared.lack.Lack.TheVariants as lack
+use Rattle.dso_client.specs.declared.seat.Seat.{Seat}
 use Rattle.dso_client.specs.declared.turn.Turn.{Turn}
 use Rattle.dso_client.specs.declared.turn.Turn.TheVariants as turn
 use Rattle.dso_client.specs.Lacks.{TellsNeed}
@@ -32,11 +36,17 @@ pub record NamesNeed (at : Point) (t : ThreadId) (need : Need) (told : Cause) : 
   pub tells : TellsNeed at t (Some need) (Some lacking)
   pub told_so : told ≡ cause_of lacking
 
--- The cause is that of the first need that isn't met. Where all are met there is no reply, which is so of no request of
--- a sound program.
-abbrev pub IsCause : Point → ThreadId → Option Need → Cause → Type 0
-IsCause at t None told = Unit {0}
-IsCause at t (Some need) told = NamesNeed at t need told
+-- the request is a Get or a Put of the object that the cause names
+abbrev pub NamesAccessed : Request → Cause → Type 0
+NamesAccessed (Get o f) told = told ≡ cause.Object o
+NamesAccessed (Put o f v) told = told ≡ cause.Object o
+NamesAccessed request told = ⊥
+
+-- The cause is that of the first need that isn't met. Where all are met and there is no reply, the request reads or
+-- writes a field that its object doesn't have, and the cause is that object; no sound program makes such a request.
+abbrev pub IsCause : Point → ThreadId → Request → Option Need → Cause → Type 0
+IsCause at t request None told = NamesAccessed request told
+IsCause at t request (Some need) told = NamesNeed at t need told
 
 -- all needs of the request are met: this is the reply, and whom the act wakes
 pub record Answers (at : Point) (t : ThreadId) (request : Request) (reply : Reply) (woken : Option ThreadId) : Type 0 where
@@ -53,7 +63,7 @@ pub record Asks (at : Point) (t : ThreadId) (request : Request) (message : Up) :
 -- the client rule has no act of the thread, for this cause
 pub record Waits (at : Point) (t : ThreadId) (request : Request) (told : Cause) : Type 0 where
   pub closed : can_act at.settings at.client at.next t (Some request) at.entries ≡ false
-  pub of_need : IsCause at t (unmet at.settings at.client at.next t request at.entries) told
+  pub of_need : IsCause at t request (unmet at.settings at.client at.next t request at.entries) told
 
 -- what the turn comes to with this request
 abbrev pub IsTurn : Point → ThreadId → Request → Turn → Type 0
@@ -61,7 +71,43 @@ IsTurn at t request (turn.Answers reply woken) = Answers at t request reply woke
 IsTurn at t request (turn.Asks message) = Asks at t request message
 IsTurn at t request (turn.Waits told) = Waits at t request told
 
+-- the request has a reply, where its needs are met
+abbrev pub IsAnswerable : Point → ThreadId → Request → Type 0
+IsAnswerable at t request = unmet at.settings at.client at.next t request at.entries ≡ None
+    → is_some (reply_of at.settings t request at.entries) ≡ true
+
+-- a need of the request isn't met, and the cause is that of the first such
+pub record IsOfNeed (at : Point) (t : ThreadId) (request : Request) (told : Cause) : Type 0 where
+  pub need : Need
+  pub lacks : unmet at.settings at.client at.next t request at.entries ≡ Some need
+  pub names : NamesNeed at t need told
+
+-- the request makes, looks at, reads or writes an object
+abbrev pub is_of_object : Request → Bool
+is_of_object (New class n) = true
+is_of_object (Look o) = true
+is_of_object (Get o f) = true
+is_of_object (Put o f v) = true
+is_of_object request = false
+
+-- the reply that the turn comes to, where it is one, is listed for the request
+abbrev pub IsListedTurn : Request → Turn → Type 0
+IsListedTurn request (turn.Answers reply woken) = IsListed request reply
+IsListedTurn request (turn.Asks message) = Unit {0}
+IsListedTurn request (turn.Waits told) = Unit {0}
+
+-- the turn with a field of this object, by the reply: where there is none, the thread waits for the object
+abbrev pub field_turn : ℕ → Option Reply → Turn
+field_turn o None = turn.Waits (cause.Object o)
+field_turn o (Some reply) = turn.Answers reply None
+
 -- The thread's next request, and what its turn comes to with it; None where it has none.
 abbrev pub IsTurnOf : Point → ThreadId → Option (Request × Turn) → Type 0
 IsTurnOf at t None = at.next t ≡ None
 IsTurnOf at t (Some (request, turn)) = (at.next t ≡ Some request) × IsTurn at t request turn
+
+-- the request is the next one that is kept of the thread, and the reply is listed for it
+abbrev pub IsTurnOfSeat : Option Seat → Option (Request × Turn) → Type 0
+IsTurnOfSeat seat None = Unit {0}
+IsTurnOfSeat seat (Some (request, turn)) = (option_and_then (λ seat. seat.next) seat ≡ Some request)
+    × IsListedTurn request turn

@@ -52,7 +52,7 @@ fn ask_object(
 }
 
 /// A thread asks for a lock.
-fn ask_lock(locking: &mut Locking, lock: LockName, level: Level) -> Result<(), NoMemory>
+pub(crate) fn ask_lock(locking: &mut Locking, lock: LockName, level: Level) -> Result<(), NoMemory>
     ensures wanted { OnOk result (standing_in locking.new.leases ≡ with_standing lock (Some (after_want level (standing_in locking.old.leases lock))) (standing_in locking.old.leases)) }
     ensures holds { locking.new.holds ≡ locking.old.holds }
     ensures lists { locking.new.lists ≡ locking.old.lists }
@@ -68,6 +68,8 @@ fn ask(alloc: Global, kept: &mut Kept, thread: ThreadId, message: &Up) -> Result
     ensures parts { OnOk result ((clock : ℕ) (at : Point) → KeptStands at kept.old → thread.client ≡ at.client → IsMissing at.entries message.now
         → PartsStand (asked clock thread.index message.now at) kept.new) }
     ensures seats { kept.new.seats ≡ kept.old.seats }
+    ensures records { kept.new.ledger.records ≡ kept.old.ledger.records }
+    ensures holds { kept.new.locking.holds ≡ kept.old.locking.holds }
 {
     kept.table.acted(thread);
     match message {
@@ -93,6 +95,9 @@ pub(crate) fn act_asking(
 ) -> Result<Vec<Up>, NoMemory>
     ensures sent { IfOk result (λ sent. sent.items ≡ message ∷ []) }
     ensures stands { OnOk result (HasAsked index message kept.old kept.new) }
+    ensures seats { kept.new.seats ≡ kept.old.seats }
+    ensures records { kept.new.ledger.records ≡ kept.old.ledger.records }
+    ensures holds { kept.new.locking.holds ≡ kept.old.locking.holds }
 {
     let thread = ThreadId {
         client: kept.number,

@@ -1,5 +1,5 @@
 //! A client.
-ghost use Rattle.std.specs.Prelude.{ℕ, ◌≡◌, List, [], IfNone, IfOk, IfSome};
+ghost use Rattle.std.specs.Prelude.{ℕ, ◌≡◌, ◌≤◌, ◌<◌, ◌+◌, ◌-◌, ◌^◌, suc, List, [], IfNone, IfOk, IfSome, OnOk};
 ghost use Rattle.dso_base.specs.declared.journal.Entry.{Entry};
 ghost use Rattle.dso_law.specs.Records.{records};
 ghost use Rattle.dso_law.specs.Settings.{Settings, threads_of};
@@ -7,13 +7,16 @@ ghost use Rattle.dso_machine.specs.declared.code.Code.{Code};
 ghost use Rattle.dso_machine.specs.Sound.{IsSound};
 ghost use Rattle.dso_table.specs.Tables.{state_in};
 ghost use Rattle.dso_table.specs.Victims.{IsVictim};
+ghost use Rattle.dso_client.specs.Acting.{Acts, HoldsAtMost, LeavesAlone};
 ghost use Rattle.dso_client.specs.ClientStands.{ClientStands};
 ghost use Rattle.dso_client.specs.CodeRuns.{RunsCode};
-ghost use Rattle.dso_client.specs.Flushing.{Flushes, NoneDue};
+ghost use Rattle.dso_client.specs.Flushing.{Flushes, NoneDue, TellsFlush};
 ghost use Rattle.dso_client.specs.Taking.{Takes};
 ghost use Rattle.dso_client.specs.Threads.{IsEnabled, TellsAlive, TellsOver};
 ghost use Rattle.dso_client.specs.Openings.{HasThreads, IsEmptyLedger, IsEmptyLocking, first_threads};
 
+use crate::acted::Acted;
+use crate::doing::act;
 use crate::flushing::flush;
 use crate::kept::Kept;
 use crate::ledger::Ledger;
@@ -125,6 +128,32 @@ impl Client {
         }
     }
 
+    /// The thread of this index makes its next request, where it can: the request is answered, or what it lacks is asked for; and
+    /// what the client sends is answered too. Whatever entries the client stood for whose sizes are kept, it stands for them with
+    /// that entry, which follows by the client rule. `Blocked` exactly where the rule has no act of the thread, with the first
+    /// need that isn't met; `Over` exactly where the thread has ended, and where there is no such thread; nothing is changed or
+    /// sent then.
+    ///
+    /// It answers `NoMemory` where an allocation was refused; the client is spent then.
+    pub fn act(
+        &mut self,
+        alloc: Global,
+        code: &Code,
+        index: u8,
+    ) -> Result<(Acted, Vec<Up>), NoMemory>
+        requires sound { IsSound code.now }
+        requires runs { RunsCode code.now self.old }
+        requires few { self.old.ledger.records < 2 ^ 62 }
+        requires counts { HoldsAtMost (2 ^ 32 - 2) self.old }
+        ensures acts { IfOk result (λ made. Acts code.now index self.old self.new made.0 made.1.items) }
+        ensures alone { IfOk result (λ made. LeavesAlone made.0 made.1.items self.old self.new) }
+        ensures runs { OnOk result (RunsCode code.now self.new) }
+        ensures records { OnOk result (self.new.ledger.records ≤ self.old.ledger.records + 1) }
+        ensures holds { OnOk result ((most : ℕ) → HoldsAtMost most self.old → HoldsAtMost (suc most) self.new) }
+    {
+        act(alloc, code, &mut self.kept, index)
+    }
+
     /// Takes a message of the server, and answers what the client sends. Whatever entries the client stood for: where the
     /// message fits, it stands for them with the entry that takes it and sends these leases back, which follows by the client
     /// rule; a message that doesn't fit changes and sends nothing. The shape is that of the code of the threads.
@@ -133,6 +162,8 @@ impl Client {
     pub fn take(&mut self, alloc: Global, code: &Code, message: &Down) -> Result<Vec<Up>, NoMemory>
         ensures takes { IfOk result (λ sent. Takes code.now message.now self.old self.new sent.items) }
         ensures runs { (code : Code) → RunsCode code self.old → RunsCode code self.new }
+        ensures holds { (most : ℕ) → HoldsAtMost most self.old → HoldsAtMost most self.new }
+        ensures records { self.new.ledger.records ≡ self.old.ledger.records }
     {
         take(alloc, &mut self.kept, &code.shape, message)
     }
@@ -147,8 +178,17 @@ impl Client {
         ensures none { IfNone result (NoneDue self.old) }
         ensures unchanged { IfNone result (self.new ≡ self.old) }
         ensures runs { (code : Code) → RunsCode code self.old → RunsCode code self.new }
+        ensures holds { (most : ℕ) → HoldsAtMost most self.old → HoldsAtMost most self.new }
+        ensures records { self.new.ledger.records ≡ self.old.ledger.records }
     {
         flush(&mut self.kept.table)
+    }
+
+    /// Whether the client rule has a flush of some object. It takes no memory.
+    pub fn may_flush(&self) -> bool
+        ensures { TellsFlush self.now result }
+    {
+        self.kept.table.victim().is_some()
     }
 
     /// Whether the client rule has an act of the thread of this index: its next request can be answered, or what it lacks

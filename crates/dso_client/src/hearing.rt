@@ -1,10 +1,11 @@
 //! What a message that fits makes of what a client keeps.
-ghost use Rattle.std.specs.Prelude.{ℕ, ◌≡◌, [], ◌∷◌, OnOk, map, true};
+ghost use Rattle.std.specs.Prelude.{ℕ, ◌≡◌, ◌≤◌, [], ◌∷◌, OnOk, map, true};
 ghost use Rattle.dso_base.specs.declared.message.Down.TheVariants as down;
 ghost use Rattle.dso_law.specs.FitsDown.{FitsAck, FitsDown, FitsIds};
 ghost use Rattle.dso_law.specs.Leases.{is_asked_for};
-ghost use Rattle.dso_law.specs.Records.{unacked};
+ghost use Rattle.dso_law.specs.Records.{records, unacked};
 ghost use Rattle.dso_law.specs.RunLaws.{IdsAreTaken};
+ghost use Rattle.dso_client.specs.Acting.{KeepsCounts};
 ghost use Rattle.dso_client.specs.Hearing.{heard};
 ghost use Rattle.dso_client.specs.KeptStands.{KeptStands, PartsStand};
 ghost use Rattle.dso_client.specs.LedgerStands.{LedgerStands};
@@ -29,8 +30,9 @@ const LAST_FIRST: u64 = u64::MAX - 256;
 
 /// A batch of ids that fits. It takes no memory.
 pub(crate) fn hear_ids(ledger: &mut Ledger, first: u64)
-    ensures { (clock : ℕ) (at : Point) → LedgerStands at ledger.old → FitsIds first at.entries → IdsAreTaken at.entries
+    ensures heard { (clock : ℕ) (at : Point) → LedgerStands at ledger.old → FitsIds first at.entries → IdsAreTaken at.entries
         → LedgerStands (heard clock (down.Ids first) at) ledger.new }
+    ensures records { ledger.new.records ≡ ledger.old.records }
 {
     ledger.is_asking = false;
     if LAST_FIRST < first {
@@ -50,8 +52,9 @@ pub(crate) fn hear_object(table: &mut Table, body: &Body) -> Result<(), NoMemory
 
 /// A grant of a lock that was asked for: its lease begins, and its list is empty. It takes no memory.
 pub(crate) fn hear_grant(locking: &mut Locking, lock: LockName, level: Level)
-    ensures { (clock : ℕ) (at : Point) → LockingStands at locking.old → RunFacts at → is_asked_for lock at.entries ≡ true
+    ensures heard { (clock : ℕ) (at : Point) → LockingStands at locking.old → RunFacts at → is_asked_for lock at.entries ≡ true
         → LockingStands (heard clock (down.Grant lock level) at) locking.new }
+    ensures holds { locking.new.holds ≡ locking.old.holds }
 {
     locking.leases.granted(lock, level);
     let _ = take(&mut locking.lists, &lock);
@@ -59,22 +62,24 @@ pub(crate) fn hear_grant(locking: &mut Locking, lock: LockName, level: Level)
 
 /// A recall of a lock: its lease, where there is one, is closing. It takes no memory.
 pub(crate) fn hear_recall(locking: &mut Locking, lock: LockName)
-    ensures { (clock : ℕ) (at : Point) → LockingStands at locking.old → LockingStands (heard clock (down.Recall lock) at) locking.new }
+    ensures heard { (clock : ℕ) (at : Point) → LockingStands at locking.old → LockingStands (heard clock (down.Recall lock) at) locking.new }
+    ensures holds { locking.new.holds ≡ locking.old.holds }
 {
     locking.leases.recalled(lock);
 }
 
 /// An acknowledgement of the first record that isn't acknowledged, by the numbers that are kept. It takes no memory.
 pub(crate) fn hear_ack(ledger: &mut Ledger, seq: u64)
-    ensures { (clock : ℕ) (at : Point) → LedgerStands at ledger.old → RunFacts at → FitsAck seq (unacked at.entries)
+    ensures heard { (clock : ℕ) (at : Point) → LedgerStands at ledger.old → RunFacts at → FitsAck seq (unacked at.entries)
         → LedgerStands (heard clock (down.Ack seq) at) ledger.new }
+    ensures records { ledger.new.records ≡ ledger.old.records }
 {
     ledger.unacked.ack(seq);
 }
 
 /// An acknowledgement: the records up to this one keep no object. It takes no memory.
 pub(crate) fn hear_acked(table: &mut Table, seq: u64)
-    ensures { (clock : ℕ) (at : Point) → TableStands at table.old → TableStands (heard clock (down.Ack seq) at) table.new }
+    ensures { (clock : ℕ) (at : Point) → TableStands at table.old → seq ≤ records at.entries → TableStands (heard clock (down.Ack seq) at) table.new }
 {
     table.acked(seq);
 }
@@ -119,6 +124,7 @@ pub(crate) fn hear(alloc: Global, kept: &mut Kept, message: &Down) -> Result<(),
     ensures parts { OnOk result ((clock : ℕ) (at : Point) → KeptStands at kept.old → FitsDown at.settings at.client message.now at.entries → IdsAreTaken at.entries
         → PartsStand (heard clock message.now at) kept.new) }
     ensures runs { map running kept.new.seats.items ≡ map running kept.old.seats.items }
+    ensures counts { KeepsCounts kept.old kept.new }
 {
     match message {
         Down::Ids(first) => {

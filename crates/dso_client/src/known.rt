@@ -1,5 +1,5 @@
 //! What a thread knows of objects: of its own what it did, of others what its client's copies hold.
-ghost use Rattle.std.specs.Prelude.{◌≡◌, true};
+ghost use Rattle.std.specs.Prelude.{◌≡◌, ◌||◌, is_some, true};
 ghost use Rattle.dso_base.specs.declared.lock.LockName.{LockName};
 ghost use Rattle.dso_base.specs.declared.value.ClassId.{ClassId};
 ghost use Rattle.dso_base.specs.Shape.{guard_of};
@@ -10,7 +10,7 @@ ghost use Rattle.dso_law.specs.Replies.{class_known, value_in, value_seen};
 ghost use Rattle.dso_client.specs.Points.{Point};
 ghost use Rattle.dso_client.specs.RunFacts.{SizesAreKept};
 ghost use Rattle.dso_client.specs.TableStands.{TableStands};
-ghost use Rattle.dso_client.specs.KnownObjects.{KnowsObject};
+ghost use Rattle.dso_client.specs.KnownObjects.{KnowsObject, KnowsObjects};
 
 use crate::seat::Seat;
 use dso_base::{ClassId, Guard, Kind, LockName, Shape, Value};
@@ -61,7 +61,9 @@ pub(crate) fn is_resident(table: &Table, object: u64) -> bool
 
 /// The class and size of the thread's own object, else of the copy.
 pub(crate) fn class_known(table: &Table, seat: &Seat, object: u64) -> Option<(ClassId, usize)>
-    ensures { (at : Point) → KnowsObject at table.now seat.now object → result ≡ class_known at.settings seat.now.id object at.entries }
+    ensures there { (at : Point) → KnowsObjects at table.now seat.now
+        → is_some result ≡ (is_some (own at.settings.shape seat.now.id object at.entries) || is_resident object at.entries) }
+    ensures known { (at : Point) → KnowsObject at table.now seat.now object → result ≡ class_known at.settings seat.now.id object at.entries }
 {
     match seat.own(object) {
         Some(body) => Some((body.class, body.values.len())),

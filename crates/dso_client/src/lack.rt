@@ -57,7 +57,7 @@ fn is_as_seen(table: &Table, seat: &Seat, object: u64) -> bool
 }
 
 /// An object that is read or written is also to be of the class and size that the thread saw.
-fn access_lack(table: &Table, seat: &Seat, object: u64) -> Option<Lack>
+pub(crate) fn access_lack(table: &Table, seat: &Seat, object: u64) -> Option<Lack>
     ensures { (at : Point) → KnowsObjects at table.now seat.now → TellsNeed at seat.now.id (access_need at.settings at.client at.next seat.now.id object at.entries) result }
 {
     if let Some(lack) = look_lack(table, seat, object) {

@@ -4,29 +4,39 @@
 //! allows there.
 #![tactic(auto)]
 
+mod acted;
+mod acting;
 mod answered;
 mod asking;
 mod cause;
 mod client;
+mod doing;
 mod fitting;
 mod flushing;
+mod going;
 mod hearing;
 mod kept;
 mod known;
 mod lack;
 mod ledger;
 mod living;
+mod living_hand;
 mod living_holds;
+mod living_locking;
+mod living_objects;
 mod living_seat;
 mod locking;
 mod locks;
 mod opening;
 mod reply;
+mod returning;
 mod seat;
+mod sending;
 mod settling;
 mod shaped;
 mod taking;
 mod turn;
 
+pub use acted::Acted;
 pub use cause::Cause;
 pub use client::Client;

@@ -24,7 +24,8 @@ use std::collections::BTreeMap;
 
 /// The id of a new object is taken. It takes no memory.
 pub(crate) fn live_ledger(ledger: &mut Ledger, act: Answered)
-    ensures { (clock : ℕ) (at : Point) → LedgerStands at ledger.old → LedgerStands (lived clock act at) ledger.new }
+    ensures stands { (clock : ℕ) (at : Point) → LedgerStands at ledger.old → LedgerStands (lived clock act at) ledger.new }
+    ensures records { ledger.new.records ≡ ledger.old.records }
 {
     if let Reply::Made(_) = act.reply {
         ledger.pool.take();

@@ -1,19 +1,24 @@
 //! How a client answers a request whose needs are met.
-ghost use Rattle.std.specs.Prelude.{◌≡◌, ◌≢◌, true, false, Some, None, List, [], option_map, cond, is_some};
+ghost use Rattle.std.specs.Prelude.{ℕ, ◌≡◌, ◌≢◌, ◌<◌, ◌^◌, ◌||◌, true, false, Some, None, IfSome, List, [], option_map, cond, is_some};
 ghost use Rattle.dso_base.specs.declared.request.Reply.TheVariants as reply;
 ghost use Rattle.dso_base.specs.declared.request.Request.TheVariants as request;
+ghost use Rattle.dso_base.specs.declared.value.ClassId.{ClassId};
+ghost use Rattle.dso_base.specs.declared.value.Value.{Value};
+ghost use Rattle.dso_base.specs.Following.{IsListed};
 ghost use Rattle.dso_law.specs.ClientWaiters.{client_list};
+ghost use Rattle.dso_law.specs.Copies.{is_resident};
 ghost use Rattle.dso_law.specs.Records.{next_id};
 ghost use Rattle.dso_law.specs.Replies.{class_known, answer_put, put_reply, enter_reply, monitor_reply, timeout_reply, first_of_list, reply_of, woken_by};
 ghost use Rattle.dso_law.specs.RequestNeeds.{hold_level, unmet};
-ghost use Rattle.dso_law.specs.Threads.{Held, is_private, hold_of, locks_of};
+ghost use Rattle.dso_law.specs.Threads.{Held, is_private, hold_of, locks_of, own};
 ghost use Rattle.dso_client.specs.KeptStands.{KeptStands};
-ghost use Rattle.dso_client.specs.KnownObjects.{KnowsObject};
+ghost use Rattle.dso_client.specs.KnownObjects.{KnowsObject, KnowsObjects};
 ghost use Rattle.dso_client.specs.LedgerStands.{LedgerStands};
 ghost use Rattle.dso_client.specs.LockingStands.{LockingStands};
 ghost use Rattle.dso_client.specs.Points.{Point};
 ghost use Rattle.dso_client.specs.RunFacts.{SizesAreKept};
 ghost use Rattle.dso_client.specs.SeatStands.{SeatStands};
+ghost use Rattle.dso_client.specs.Turns.{is_of_object};
 
 use crate::kept::Kept;
 use crate::known::{class_known, field_value, guard_of};
@@ -24,9 +29,10 @@ use crate::seat::Seat;
 use dso_base::{Fault, Level, LockName, Reply, Request, Shape, ThreadId, Value};
 use dso_table::Table;
 
-/// The id of the next object.
-fn new_reply(ledger: &Ledger) -> Option<Reply>
-    ensures { (at : Point) → LedgerStands at ledger.now → result ≡ option_map reply.Made (next_id at.entries) }
+/// The id of the next object, None where none is left.
+pub(crate) fn new_reply(ledger: &Ledger) -> Option<Reply>
+    ensures listed { IfSome result (λ reply. (class : ClassId) (n : ℕ) → IsListed (request.New class n) reply) }
+    ensures next { (at : Point) → LedgerStands at ledger.now → result ≡ option_map reply.Made (next_id at.entries) }
 {
     if ledger.pool.next() < ledger.pool.end() {
         Some(Reply::Made(ledger.pool.next()))
@@ -35,21 +41,29 @@ fn new_reply(ledger: &Ledger) -> Option<Reply>
     }
 }
 
-/// The class and size of an object that is there.
-fn look_reply(table: &Table, seat: &Seat, object: u64) -> Option<Reply>
-    ensures { (at : Point) → KnowsObject at table.now seat.now object → SizesAreKept at
+/// A size as it is told, in 32 bits.
+fn told_size(size: usize) -> u32
+    ensures { size < 2 ^ 32 → result ≡ size }
+{
+    u32::try_from(size).unwrap_or(u32::MAX)
+}
+
+/// The class and size of an object that is there, None where it isn't.
+pub(crate) fn look_reply(table: &Table, seat: &Seat, object: u64) -> Option<Reply>
+    ensures listed { IfSome result (IsListed (request.Look object)) }
+    ensures there { (at : Point) → KnowsObjects at table.now seat.now
+        → is_some result ≡ (is_some (own at.settings.shape seat.now.id object at.entries) || is_resident object at.entries) }
+    ensures known { (at : Point) → KnowsObject at table.now seat.now object → SizesAreKept at
         → result ≡ option_map (λ class. reply.Seen class.0 class.1) (class_known at.settings seat.now.id object at.entries) }
 {
     let (class, size) = class_known(table, seat, object)?;
-    match u32::try_from(size) {
-        Ok(size) => Some(Reply::Seen(class, size)),
-        Err(_) => None,
-    }
+    Some(Reply::Seen(class, told_size(size)))
 }
 
 /// The value of a field of an object that is there.
-fn get_reply(table: &Table, seat: &Seat, object: u64, field: u32) -> Option<Reply>
-    ensures { (at : Point) → KnowsObject at table.now seat.now object → SizesAreKept at
+pub(crate) fn get_reply(table: &Table, seat: &Seat, object: u64, field: u32) -> Option<Reply>
+    ensures listed { IfSome result (IsListed (request.Get object field)) }
+    ensures told { (at : Point) → KnowsObject at table.now seat.now object → SizesAreKept at
         → result ≡ reply_of at.settings seat.now.id (request.Get object field) at.entries }
 {
     match field_value(table, seat, object, field) {
@@ -60,7 +74,8 @@ fn get_reply(table: &Table, seat: &Seat, object: u64, field: u32) -> Option<Repl
 
 /// A put in a shared object, by how its guard is held, and by whether the thread holds a lock.
 fn shared_put(held: Option<Level>, holds_some: bool) -> Reply
-    ensures { (holds : List Held) → (holds_some ≡ true → holds ≢ []) → (holds_some ≡ false → holds ≡ []) → result ≡ put_reply held holds }
+    ensures listed { (o f : ℕ) (v : Value) → IsListed (request.Put o f v) result }
+    ensures told { (holds : List Held) → (holds_some ≡ true → holds ≢ []) → (holds_some ≡ false → holds ≡ []) → result ≡ put_reply held holds }
 {
     match held {
         Some(Level::Write) => Reply::Done,
@@ -72,7 +87,8 @@ fn shared_put(held: Option<Level>, holds_some: bool) -> Reply
 
 /// A put in a field of an object whose guard this is: done where the object is private, else by the locks.
 fn put_answer(locking: &Locking, seat: &Seat, object: u64, guard: LockName) -> Reply
-    ensures { (at : Point) → LockingStands at locking.now → SeatStands at seat.now
+    ensures listed { (o f : ℕ) (v : Value) → IsListed (request.Put o f v) result }
+    ensures told { (at : Point) → LockingStands at locking.now → SeatStands at seat.now
         → result ≡ cond (is_private at.settings.shape seat.now.id object at.entries) reply.Done
         (put_reply (hold_level (hold_of seat.now.id guard at.entries)) (locks_of seat.now.id at.entries).holds) }
 {
@@ -117,8 +133,15 @@ fn timeout_reply(is_marked: bool) -> Reply
 }
 
 /// A put in a field of an object that is there, None where the object has no such field.
-fn put_reply(kept: &Kept, shape: &Shape, seat: &Seat, object: u64, field: u32) -> Option<Reply>
-    ensures { (at : Point) → KeptStands at kept.now → KnowsObject at kept.now.table seat.now object → at.settings.shape ≡ shape.now
+pub(crate) fn put_reply(
+    kept: &Kept,
+    shape: &Shape,
+    seat: &Seat,
+    object: u64,
+    field: u32,
+) -> Option<Reply>
+    ensures listed { IfSome result (λ reply. (v : Value) → IsListed (request.Put object field v) reply) }
+    ensures told { (at : Point) → KeptStands at kept.now → KnowsObject at kept.now.table seat.now object → at.settings.shape ≡ shape.now
         → result ≡ answer_put at.settings seat.now.id object field (class_known at.settings seat.now.id object at.entries) at.entries }
 {
     let (class, size) = class_known(&kept.table, seat, object)?;
@@ -130,23 +153,20 @@ fn put_reply(kept: &Kept, shape: &Shape, seat: &Seat, object: u64, field: u32) -
     }
 }
 
-/// The answer to the request of a thread, whose needs are met. None where there is no such field.
-pub(crate) fn reply(kept: &Kept, shape: &Shape, seat: &Seat, request: Request) -> Option<Reply>
-    ensures { (at : Point) → KeptStands at kept.now → SeatStands at seat.now → SizesAreKept at → at.settings.shape ≡ shape.now
-        → unmet at.settings at.client at.next seat.now.id request at.entries ≡ None → result ≡ reply_of at.settings seat.now.id request at.entries }
+/// The answer to a request that neither makes nor looks at, reads or writes an object.
+pub(crate) fn reply(kept: &Kept, seat: &Seat, request: Request) -> Reply
+    ensures listed { is_of_object request ≡ false → IsListed request result }
+    ensures told { (at : Point) → KeptStands at kept.now → SeatStands at seat.now → is_of_object request ≡ false
+        → reply_of at.settings seat.now.id request at.entries ≡ Some result }
 {
     match request {
-        Request::New(..) => new_reply(&kept.ledger),
-        Request::Look(object) => look_reply(&kept.table, seat, object),
-        Request::Get(object, field) => get_reply(&kept.table, seat, object, field),
-        Request::Put(object, field, _) => put_reply(kept, shape, seat, object, field),
-        Request::Enter(lock, level) => Some(entering_reply(&kept.locking, seat, lock, level)),
+        Request::Enter(lock, level) => entering_reply(&kept.locking, seat, lock, level),
         Request::Wait(lock) | Request::Notify(lock) | Request::NotifyAll(lock) => {
-            Some(monitor_reply(level_held(&kept.locking, seat.id, lock)))
+            monitor_reply(level_held(&kept.locking, seat.id, lock))
         }
-        Request::Tick(_) => Some(Reply::Val(Value::Bool(seat.is_marked))),
-        Request::Timeout(_) => Some(timeout_reply(seat.is_marked)),
-        _ => Some(Reply::Done),
+        Request::Tick(_) => Reply::Val(Value::Bool(seat.is_marked)),
+        Request::Timeout(_) => timeout_reply(seat.is_marked),
+        _ => Reply::Done,
     }
 }
 
@@ -177,7 +197,8 @@ fn has_field(table: &Table, seat: &Seat, object: u64, field: u32) -> bool
 
 /// An entry is local at the monitor of a private object, and else as the lock is held.
 fn entering_reply(locking: &Locking, seat: &Seat, lock: LockName, level: Level) -> Reply
-    ensures { (at : Point) → LockingStands at locking.now → SeatStands at seat.now
+    ensures listed { IsListed (request.Enter lock level) result }
+    ensures told { (at : Point) → LockingStands at locking.now → SeatStands at seat.now
         → Some result ≡ reply_of at.settings seat.now.id (request.Enter lock level) at.entries }
 {
     if seat.is_local(lock) {

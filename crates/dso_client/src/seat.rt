@@ -37,6 +37,13 @@ impl Waiting {
     {
         Waiting { lock, count }
     }
+
+    /// The count of the hold that the thread is to have again.
+    pub(crate) fn count(self) -> u32
+        ensures { result ≡ self.count }
+    {
+        self.count
+    }
 }
 
 /// A thread with what its client keeps of it: its next request, None where it has ended; the work that it has in hand; the

@@ -10,6 +10,7 @@ ghost use Rattle.dso_lookup.specs.Orders.{lock_order};
 ghost use Rattle.dso_law.specs.Closing.{is_due, is_free, is_read};
 ghost use Rattle.dso_law.specs.Leases.{is_entered, is_recalled, leased};
 ghost use Rattle.dso_law.specs.Threads.{hold_of};
+ghost use Rattle.dso_client.specs.Acting.{KeepsCounts};
 ghost use Rattle.dso_client.specs.KeptStands.{PartsStand};
 ghost use Rattle.dso_client.specs.LockingStands.{LockingStands, list_at};
 ghost use Rattle.dso_client.specs.Hearing.{heard};
@@ -101,7 +102,7 @@ fn move_out(
 }
 
 /// Gives a lease back that is to be given back: the threads that wait on the lock, which has no list then.
-fn give_back(
+pub(crate) fn give_back(
     alloc: Global,
     locking: &mut Locking,
     lock: LockName,
@@ -130,6 +131,7 @@ fn settle_one(alloc: Global, kept: &mut Kept, lock: LockName) -> Result<Vec<Up>,
     ensures settles { IfOk result (λ sent. (clock : ℕ) (m : Down) (at : Point) → PartsStand (heard clock m at) kept.old → IsQuiet at → RunFacts at → touched at m ≡ Some lock
         → (is_some (leased lock (heard clock m at).entries) && is_due at.settings at.client at.next lock (heard clock m at).entries) ≡ true → Settles clock m at sent.items kept.new) }
     ensures seats { kept.new.seats ≡ kept.old.seats }
+    ensures counts { KeepsCounts kept.old kept.new }
 {
     let threads = give_back(alloc, &mut kept.locking, lock)?;
     return_alone(alloc, lock, threads)
@@ -146,6 +148,7 @@ pub(crate) fn settle(
     ensures settles { IfOk result (λ sent. (clock : ℕ) (m : Down) (at : Point) → PartsStand (heard clock m at) kept.old → IsQuiet at → RunFacts at → touched at m ≡ lock
         → Settles clock m at sent.items kept.new) }
     ensures seats { kept.new.seats ≡ kept.old.seats }
+    ensures counts { KeepsCounts kept.old kept.new }
 {
     match lock {
         Some(lock) => {

@@ -1,6 +1,7 @@
 //! A message of the server, taken.
 ghost use Rattle.std.specs.Prelude.{◌≡◌, IfOk, map};
 ghost use Rattle.dso_machine.specs.declared.code.Code.{Code};
+ghost use Rattle.dso_client.specs.Acting.{KeepsCounts};
 ghost use Rattle.dso_client.specs.SeatPlaces.{running};
 ghost use Rattle.dso_client.specs.Taking.{Takes};
 
@@ -22,6 +23,7 @@ pub(crate) fn take(
 ) -> Result<Vec<Up>, NoMemory>
     ensures takes { IfOk result (λ sent. (code : Code) → code.shape ≡ shape.now → Takes code message.now kept.old kept.new sent.items) }
     ensures runs { map running kept.new.seats.items ≡ map running kept.old.seats.items }
+    ensures counts { KeepsCounts kept.old kept.new }
 {
     if !fits_down(kept, shape, message) {
         return Ok(Vec::new(alloc));

@@ -17,13 +17,13 @@ use Rattle.dso_client.specs.Points.{Point}
 use Rattle.dso_client.proofs.heard.Locks.{at_lock}
 
 -- a lock that is neither leased nor asked for is idle
-idle : (level : Option Level) (entered recalled waits : Bool) → level ≡ None → waits ≡ false → standing_as level entered recalled waits ≡ None
+pub idle : (level : Option Level) (entered recalled waits : Bool) → level ≡ None → waits ≡ false → standing_as level entered recalled waits ≡ None
 idle (Some level) entered recalled waits e f = absurd (cc e)
 idle None entered recalled true e f = absurd (cc f)
 idle None entered recalled false e f = refl
 
 -- one that isn't leased and is asked for now
-asks_now : (level : Option Level) (entered recalled : Bool) → level ≡ None → Some standings.Asked ≡ standing_as level entered recalled true
+pub asks_now : (level : Option Level) (entered recalled : Bool) → level ≡ None → Some standings.Asked ≡ standing_as level entered recalled true
 asks_now (Some level) entered recalled e = absurd (cc e)
 asks_now None entered recalled e = refl
 

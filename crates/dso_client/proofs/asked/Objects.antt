@@ -1,5 +1,5 @@
 -- The table once a thread asked for what it lacks.
-use Rattle.std.proofs.Common.{◌≡◌, ℕ, refl, sym, ◌∙◌, ap, Bool, true, false, cond, eqb, ◌&&◌, ◌||◌, is_some, Option, Some, None}
+use Rattle.std.proofs.Common.{◌≡◌, ℕ, refl, sym, ◌∙◌, ap, Bool, true, false, cond, eqb, ◌&&◌, ◌||◌, is_some, Option, Some, None, subst, ◌≤◌}
 use Rattle.std.proofs.lemmas.Bool.{eqb-true}
 use Rattle.std.specs.BTreeMap.{is_at}
 use Rattle.std.specs.Cmp.{unsigned_tied}
@@ -20,6 +20,7 @@ use Rattle.dso_law.proofs.client.ClientLaws.{lock_either_way}
 use Rattle.dso_law.proofs.core.Bodies.{bodies_are_held}
 use Rattle.dso_table.specs.declared.slot.Standing.{Standing}
 use Rattle.dso_table.specs.declared.slot.Standing.TheVariants.{Asked, Resident}
+use Rattle.dso_law.specs.Records.{records}
 use Rattle.dso_table.specs.declared.tables.Tables.{Tables}
 use Rattle.dso_table.specs.States as states
 use Rattle.dso_table.specs.States.{State, body_of, is_asked, is_absent, acted}
@@ -72,6 +73,7 @@ module _ (clock : ℕ) (at : Point) (t : ThreadId) (mine : t.client ≡ at.clien
     wanted = λ u x. ap (λ (s : State). s.wanted (u, x)) is ∙ unwanted u x;
     room = ap (λ (s : State). s.limit) is ∙ h.room;
     count = ap (λ (s : State). s.residents) is ∙ h.count;
+    acked = subst (λ n. n ≤ records at.entries) (sym (ap (λ (s : State). s.acked) is)) h.acked;
   }
 
   -- a lock is asked for
@@ -84,6 +86,7 @@ module _ (clock : ℕ) (at : Point) (t : ThreadId) (mine : t.client ≡ at.clien
     wanted = λ u x. ap (λ (s : State). s.wanted (u, x)) is ∙ unwanted u x;
     room = ap (λ (s : State). s.limit) is ∙ h.room;
     count = ap (λ (s : State). s.residents) is ∙ h.count;
+    acked = subst (λ n. n ≤ records at.entries) (sym (ap (λ (s : State). s.acked) is)) h.acked;
   }
 
   module _ (o : ℕ) (away : is_resident o at.entries ≡ false) where
@@ -103,6 +106,7 @@ module _ (clock : ℕ) (at : Point) (t : ThreadId) (mine : t.client ≡ at.clien
       wanted = λ u x. ap (λ (s : State). s.wanted (u, x)) is ∙ wanted u x;
       room = ap (λ (s : State). s.limit) is ∙ h.room;
       count = ap (λ (s : State). s.residents) is ∙ h.count;
+      acked = subst (λ n. n ≤ records at.entries) (sym (ap (λ (s : State). s.acked) is)) h.acked;
     }
       where
         bodies : (x : ℕ) (b : Bool) → eqb o x ≡ b → body_of (cond b (Some Asked) ((state_in old).standing x)) ≡ held_body x at.entries

@@ -28,7 +28,7 @@ use Rattle.dso_client.specs.Turns.{Asks}
 use Rattle.dso_client.proofs.facts.All.{run_facts}
 
 -- one of a part of a list is one of the list
-of_all : (t : ThreadId) (test : ThreadId → Bool) (threads : List ThreadId) → list_any (is_thread t) (filter test threads) ≡ true → list_any (is_thread t) threads ≡ true
+pub of_all : (t : ThreadId) (test : ThreadId → Bool) (threads : List ThreadId) → list_any (is_thread t) (filter test threads) ≡ true → list_any (is_thread t) threads ≡ true
 of_all t test [] h = h
 of_all t test (u ∷ threads) h = by (of_all t test threads) (test u) h
   where

@@ -13,16 +13,7 @@ use Rattle.dso_base.specs.declared.message.Down.TheVariants as down
 use Rattle.dso_plain.specs.KeyTests.{is_lock}
 use Rattle.dso_law.specs.Entries.{by_taken_down}
 use Rattle.dso_law.specs.Leases.{is_lock_before, insert_lock, granted_by, granted}
-
--- each lock stands once
-abbrev pub Distinct : List LockName → Type 0
-Distinct [] = Unit {0}
-Distinct (l ∷ locks) = (list_any (is_lock l) locks ≡ false) × Distinct locks
-
--- each lock stands before all that follow it
-abbrev pub Rising : List LockName → Type 0
-Rising [] = Unit {0}
-Rising (l ∷ locks) = AllByRecursion (λ k. is_lock_before l k ≡ true) locks × Rising locks
+use Rattle.dso_client.specs.Returning.{Distinct, Rising}
 
 -- numbers are ordered
 below_below : (a b c : ℕ) → ltb a b ≡ true → ltb b c ≡ true → ltb a c ≡ true
@@ -35,7 +26,7 @@ isnt_itself : (a b : ℕ) → ltb a b ≡ true → eqb b a ≡ false
 isnt_itself a b e = grind (arith, nat_tests)
 
 -- and so are locks
-before_before : (l k j : LockName) → is_lock_before l k ≡ true → is_lock_before k j ≡ true → is_lock_before l j ≡ true
+pub before_before : (l k j : LockName) → is_lock_before l k ≡ true → is_lock_before k j ≡ true → is_lock_before l j ≡ true
 before_before (Mon a) (Mon b) (Mon c) e d = below_below a b c e d
 before_before (Mon a) (Mon b) (Name c) e d = refl
 before_before (Mon a) (Name b) (Mon c) e d = absurd (cc d)
@@ -50,14 +41,14 @@ isnt_before (Mon a) (Name b) e d = absurd (cc d)
 isnt_before (Name a) (Mon b) e d = refl
 isnt_before (Name a) (Name b) e d = not_below a b e d
 
-before_isnt : (l k : LockName) → is_lock_before l k ≡ true → is_lock l k ≡ false
+pub before_isnt : (l k : LockName) → is_lock_before l k ≡ true → is_lock l k ≡ false
 before_isnt (Mon a) (Mon b) e = isnt_itself a b e
 before_isnt (Mon a) (Name b) e = refl
 before_isnt (Name a) (Mon b) e = refl
 before_isnt (Name a) (Name b) e = isnt_itself a b e
 
 -- what stands after a lock isn't that lock
-after_isnt : (l : LockName) (locks : List LockName) → AllByRecursion (λ k. is_lock_before l k ≡ true) locks → list_any (is_lock l) locks ≡ false
+pub after_isnt : (l : LockName) (locks : List LockName) → AllByRecursion (λ k. is_lock_before l k ≡ true) locks → list_any (is_lock l) locks ≡ false
 after_isnt l [] h = refl
 after_isnt l (k ∷ locks) h = ap (λ b. b || list_any (is_lock l) locks) (before_isnt l k h.0) ∙ after_isnt l locks h.1
 
@@ -80,7 +71,7 @@ insert_after l k (first ∷ rest) e h = by (is_lock l first) (is_lock_before l f
     by false true later = (e, h)
     by false false later = (h.0, later)
 
-insert_rising : (l : LockName) (locks : List LockName) → Rising locks → Rising (insert_lock l locks)
+pub insert_rising : (l : LockName) (locks : List LockName) → Rising locks → Rising (insert_lock l locks)
 insert_rising l [] h = (tt, tt)
 insert_rising l (first ∷ rest) h = by (is_lock l first) (is_lock_before l first) (insert_rising l rest h.1) refl refl
   where

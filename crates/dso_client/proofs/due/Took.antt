@@ -38,7 +38,7 @@ told_all : {X Y : Type 0} (tell : X → Y) (Q : Y → Type 0) (xs : List X) → 
 told_all tell Q [] h = tt
 told_all tell Q (x ∷ xs) h = (h.0, told_all tell Q xs h.1)
 
-same_told : {X Y : Type 0} (tell : X → Y) (Q : Y → Type 0) (xs ys : List X) → map tell ys ≡ map tell xs → AllByRecursion (λ x. Q (tell x)) xs → AllByRecursion (λ x. Q (tell x)) ys
+pub same_told : {X Y : Type 0} (tell : X → Y) (Q : Y → Type 0) (xs ys : List X) → map tell ys ≡ map tell xs → AllByRecursion (λ x. Q (tell x)) xs → AllByRecursion (λ x. Q (tell x)) ys
 same_told tell Q xs ys same h = told_all tell Q ys (subst (AllByRecursion Q) (sym same) (all_told tell Q xs h))
 
 -- a seat runs the code, said of its parts

@@ -22,14 +22,11 @@ use Rattle.dso_law.specs.Leases.{standing, leased, is_entered, is_recalled, gran
 use Rattle.dso_law.specs.Closing.{wants_write, is_read, awaits_write, is_free, is_due, due}
 use Rattle.dso_client.specs.Hearing.{heard}
 use Rattle.dso_client.specs.Points.{Point}
+use Rattle.dso_client.specs.Returning.{is_due_at}
 use Rattle.dso_client.specs.Touching.{resumed_lock, touched}
 use Rattle.dso_client.proofs.due.Leased.{leased_granted}
 use Rattle.dso_client.proofs.due.Parts.{none_left, one_left}
 use Rattle.dso_client.proofs.due.Rising.{rising_distinct, granted_rises}
-
--- there is a lease that is to be given back
-abbrev pub is_due_at : Point → LockName → Bool
-is_due_at at l = is_some (leased l at.entries) && is_due at.settings at.client at.next l at.entries
 
 -- the lock isn't that one
 abbrev pub IsApart : LockName → Option LockName → Type 0

@@ -92,14 +92,15 @@ module _ (p : Settings) (c : ℕ) (t : ThreadId) (stranger : list_any (is_thread
   locks_left (Some (Act thread request reply woken)) locks other = ap (λ b. cond b (locks_by request reply locks) locks) other
   locks_left (Some (Lost client)) locks other = refl
 
-  -- it has no open block, doesn't wait, and wants nothing
+  -- it has no open block, doesn't wait, wants nothing and holds nothing
   pub record DoesNothing (es : List Entry) : Type 0 where
     pub block : open_block t es ≡ []
     pub waitless : (locks_of t es).waiting ≡ None
     pub unwanted : (o : ℕ) → eqb t.client c ≡ true → wants_object o t.index es ≡ false
+    pub holdless : (locks_of t es).holds ≡ []
 
   pub does_nothing : (next : ThreadId → List Event → Option Request) (es : List Entry) → ClientRun p c next es → DoesNothing es
-  does_nothing next [] run = record { block = refl; waitless = refl; unwanted = λ o mine. refl }
+  does_nothing next [] run = record { block = refl; waitless = refl; unwanted = λ o mine. refl; holdless = refl }
   does_nothing next (e ∷ es) run =
       let h = does_nothing next es run.0 in
       let other = others (next_in next es) (next_in next (e ∷ es)) e es e.input run.1 in
@@ -107,4 +108,5 @@ module _ (p : Settings) (c : ℕ) (t : ThreadId) (stranger : list_any (is_thread
         block = block_left es e.event other ∙ h.block;
         waitless = ap (λ (locks : Locks). locks.waiting) (locks_left e.event (locks_of t es) other) ∙ h.waitless;
         unwanted = λ o mine. wants_not (next_in next es) (next_in next (e ∷ es)) e es o mine e.input run.1 (h.unwanted o mine);
+        holdless = ap (λ (locks : Locks). locks.holds) (locks_left e.event (locks_of t es) other) ∙ h.holdless;
       }

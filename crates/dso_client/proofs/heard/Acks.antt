@@ -1,5 +1,5 @@
 -- An acknowledgement that was taken.
-use Rattle.std.proofs.Common.{◌≡◌, ◌↔◌, ℕ, refl, sym, ◌∙◌, ap, subst, inl, inr, IsTrue, Bool, true, false, cond, eqb, ◌||◌, Option, Some, None, List, [], ◌∷◌, drop}
+use Rattle.std.proofs.Common.{◌≡◌, ◌↔◌, ℕ, refl, sym, ◌∙◌, ap, subst, inl, inr, IsTrue, Bool, true, false, cond, eqb, ◌||◌, Option, Some, None, List, [], ◌∷◌, drop, suc, ◌+◌, ◌≤◌, max, length, arith}
 use Rattle.std.proofs.lemmas.Bool.{eqb-true, lt-ltb, le-ltb}
 use Rattle.std.proofs.lemmas.Bool.Decides.{leb_tells}
 use Rattle.std.specs.Bool.{OnTrue}
@@ -7,7 +7,7 @@ use Rattle.dso_base.specs.declared.message.Down.TheVariants as down
 use Rattle.dso_base.specs.declared.record.Txn.{Txn}
 use Rattle.dso_law.specs.ChangeMarks.{later_mark}
 use Rattle.dso_law.specs.FitsDown.{FitsAck}
-use Rattle.dso_law.specs.Records.{unacked}
+use Rattle.dso_law.specs.Records.{unacked, records}
 use Rattle.dso_law.specs.RunLaws.{NumberedFrom}
 use Rattle.dso_table.specs.declared.tables.Tables.{Tables}
 use Rattle.dso_table.specs.States.{State, body_of, is_asked, acknowledged, later_than}
@@ -55,8 +55,20 @@ later_same seq (Some n) = elim (leb_tells n seq) [
   | inr h ↦ ap (λ b. cond b (Some n) None) (lt-ltb seq n h.1) ∙ sym (ap (λ b. cond b None (Some n)) h.0)
 ]
 
-pub acked_heard : (clock seq : ℕ) (at : Point) (old new : Tables) → TableStands at old → state_in new ≡ acknowledged seq (state_in old) → TableStands (heard clock (down.Ack seq) at) new
-acked_heard clock seq at old new h is = record {
+-- the first record that isn't acknowledged has no greater number than the last one sent
+pub acked_was_sent : (at : Point) (seq : ℕ) → RunFacts at → FitsAck seq (unacked at.entries) → seq ≤ records at.entries
+acked_was_sent at seq facts fits = by facts.numbered.acked (unacked at.entries) (records at.entries) facts.numbered.numbers facts.numbered.whole fits
+  where
+    by : (k : ℕ) (txns : List Txn) (n : ℕ) → NumberedFrom k txns → k + length txns ≡ n → FitsAck seq txns → seq ≤ n
+    by k [] n h whole fits = absurd fits
+    by k (txn ∷ txns) n h whole fits =
+        let first : txn.seq ≡ suc k = h.0 in
+        let same : seq ≡ txn.seq = fits in
+        omega (arith, first, same, whole)
+
+pub acked_heard : (clock seq : ℕ) (at : Point) (old new : Tables) → TableStands at old → seq ≤ records at.entries → state_in new ≡ acknowledged seq (state_in old)
+    → TableStands (heard clock (down.Ack seq) at) new
+acked_heard clock seq at old new h sent is = record {
   bodies = λ x. ap (λ (s : State). body_of (s.standing x)) is ∙ h.bodies x;
   asked = λ x. ap (λ (s : State). is_asked (s.standing x)) is ∙ h.asked x;
   marks = λ x. ap (λ (s : State). s.marks x) is ∙ (ap (later_than seq) (h.marks x) ∙ later_same seq _);
@@ -64,4 +76,8 @@ acked_heard clock seq at old new h is = record {
   wanted = λ t x. ap (λ (s : State). s.wanted (t, x)) is ∙ h.wanted t x;
   room = ap (λ (s : State). s.limit) is ∙ h.room;
   count = ap (λ (s : State). s.residents) is ∙ h.count;
+  acked = subst (λ n. n ≤ records at.entries) (sym (ap (λ (s : State). s.acked) is)) (most (state_in old).acked h.acked);
 }
+  where
+    most : (n : ℕ) → n ≤ records at.entries → max seq n ≤ records at.entries
+    most n few = omega (arith, few, sent)

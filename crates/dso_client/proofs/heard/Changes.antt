@@ -14,6 +14,7 @@ use Rattle.dso_law.specs.Copies.{is_object_asked}
 use Rattle.dso_law.specs.Store.{body_with}
 use Rattle.dso_table.specs.declared.slot.Standing.{Standing}
 use Rattle.dso_table.specs.declared.slot.Standing.TheVariants.{Asked, Resident}
+use Rattle.dso_law.specs.Records.{records}
 use Rattle.dso_table.specs.declared.tables.Tables.{Tables}
 use Rattle.dso_table.specs.States.{State, body_of, is_asked, with_value, set}
 use Rattle.dso_table.specs.Tables.{state_in}
@@ -29,18 +30,18 @@ past (first ∷ values) zero v h = absurd (omega (arith, h))
 past (first ∷ values) (suc f) v h = ap (λ rest. first ∷ rest) (past values f v (omega (arith, h)))
 
 -- the copy with the value
-with_it : (change : Set) (standing : Option Standing) → body_of (option_map (with_value change.field change.value) standing) ≡ body_with change (body_of standing)
+pub with_it : (change : Set) (standing : Option Standing) → body_of (option_map (with_value change.field change.value) standing) ≡ body_with change (body_of standing)
 with_it change None = refl
 with_it change (Some Asked) = refl
 with_it change (Some (Resident body)) = refl
 
-asked_as : (change : Set) (standing : Option Standing) → is_asked (option_map (with_value change.field change.value) standing) ≡ is_asked standing
+pub asked_as : (change : Set) (standing : Option Standing) → is_asked (option_map (with_value change.field change.value) standing) ≡ is_asked standing
 asked_as change None = refl
 asked_as change (Some Asked) = refl
 asked_as change (Some (Resident body)) = refl
 
 -- where there is no such field the body is as it was
-no_field : (change : Set) (body : Option Body) → has_field change.field body ≡ false → body ≡ body_with change body
+pub no_field : (change : Set) (body : Option Body) → has_field change.field body ≡ false → body ≡ body_with change body
 no_field change None e = refl
 no_field change (Some body) e =
     let most : length body.values ≤ change.field = ltb-false change.field (length body.values) e in
@@ -58,6 +59,7 @@ module _ (clock : ℕ) (at : Point) (change : Set) (old new : Tables) (h : Table
     wanted = λ t x. ap (λ (s : State). s.wanted (t, x)) is ∙ h.wanted t x;
     room = ap (λ (s : State). s.limit) is ∙ h.room;
     count = ap (λ (s : State). s.residents) is ∙ h.count;
+    acked = subst (λ n. n ≤ records at.entries) (sym (ap (λ (s : State). s.acked) is)) h.acked;
   }
     where
       bodies : (x : ℕ) (b : Bool) → eqb change.object x ≡ b
@@ -80,6 +82,7 @@ module _ (clock : ℕ) (at : Point) (change : Set) (old new : Tables) (h : Table
     wanted = λ t x. ap (λ (s : State). s.wanted (t, x)) is ∙ h.wanted t x;
     room = ap (λ (s : State). s.limit) is ∙ h.room;
     count = ap (λ (s : State). s.residents) is ∙ h.count;
+    acked = subst (λ n. n ≤ records at.entries) (sym (ap (λ (s : State). s.acked) is)) h.acked;
   }
     where
       bodies : (x : ℕ) (b : Bool) → eqb change.object x ≡ b → held_body x at.entries ≡ cond b (body_with change (held_body x at.entries)) (held_body x at.entries)
@@ -94,12 +97,12 @@ module _ (clock : ℕ) (at : Point) (change : Set) (old new : Tables) (h : Table
 
 -- no change leaves all as it is
 pub none_heard : (clock : ℕ) (at : Point) (table : Tables) → TableStands at table → TableStands (heard clock (down.Changes []) at) table
-none_heard clock at table h = record { bodies = h.bodies; asked = h.asked; marks = h.marks; opened = h.opened; wanted = h.wanted; room = h.room; count = h.count }
+none_heard clock at table h = record { bodies = h.bodies; asked = h.asked; marks = h.marks; opened = h.opened; wanted = h.wanted; room = h.room; count = h.count; acked = h.acked }
 
 -- one change and then the others are all of them
 pub all_heard : (clock : ℕ) (at : Point) (change : Set) (changes : List Set) (table : Tables)
     → TableStands (heard clock (down.Changes changes) (heard clock (down.Changes (change ∷ [])) at)) table → TableStands (heard clock (down.Changes (change ∷ changes)) at) table
-all_heard clock at change changes table h = record { bodies = h.bodies; asked = h.asked; marks = h.marks; opened = h.opened; wanted = h.wanted; room = h.room; count = h.count }
+all_heard clock at change changes table h = record { bodies = h.bodies; asked = h.asked; marks = h.marks; opened = h.opened; wanted = h.wanted; room = h.room; count = h.count; acked = h.acked }
 
 -- all but the first
 rest_is : (changes : List Set) → take (length changes - 1) (drop 1 changes) ≡ drop 1 changes

@@ -1,5 +1,5 @@
 -- An object that was taken.
-use Rattle.std.proofs.Common.{◌≡◌, ℕ, suc, ◌+◌, refl, sym, ◌∙◌, ap, arith, Bool, true, false, cond, eqb, is_some, Some, None}
+use Rattle.std.proofs.Common.{◌≡◌, ℕ, suc, ◌+◌, refl, sym, ◌∙◌, ap, arith, Bool, true, false, cond, eqb, is_some, Some, None, subst, ◌≤◌}
 use Rattle.dso_base.specs.declared.message.Down.TheVariants as down
 use Rattle.dso_base.specs.declared.record.Body.{Body}
 use Rattle.dso_law.specs.Copies.{is_object_asked}
@@ -8,6 +8,7 @@ use Rattle.dso_law.specs.ResidentCount.{presence, resident_count}
 use Rattle.dso_law.proofs.core.Bodies.{bodies_are_held}
 use Rattle.dso_law.proofs.core.Counts.{residents_are_counted}
 use Rattle.dso_table.specs.declared.slot.Standing.TheVariants.{Resident}
+use Rattle.dso_law.specs.Records.{records}
 use Rattle.dso_table.specs.declared.tables.Tables.{Tables}
 use Rattle.dso_table.specs.States as states
 use Rattle.dso_table.specs.States.{State, body_of, is_asked, put}
@@ -18,7 +19,7 @@ use Rattle.dso_client.specs.TableStands.{TableStands}
 use Rattle.dso_client.proofs.Flushed.{at_number}
 
 -- one more, where it wasn't there
-counted : (b : Bool) (n : ℕ) → n + cond b 0 1 ≡ cond b n (suc n)
+pub counted : (b : Bool) (n : ℕ) → n + cond b 0 1 ≡ cond b n (suc n)
 counted true n = omega arith
 counted false n = omega arith
 
@@ -33,6 +34,7 @@ object_heard clock at body old new h is = record {
   room = ap (λ (s : State). s.limit) is ∙ h.room;
   count = ap (λ (s : State). s.residents) is ∙ (ap (λ n. n + cond (states.is_resident ((state_in old).standing body.object)) 0 1) h.count
       ∙ (ap (λ b. resident_count at.entries + cond b 0 1) there ∙ counted ((presence at.entries).has body.object) (resident_count at.entries)));
+  acked = subst (λ n. n ≤ records at.entries) (sym (ap (λ (s : State). s.acked) is)) h.acked;
 }
   where
     there : states.is_resident ((state_in old).standing body.object) ≡ (presence at.entries).has body.object

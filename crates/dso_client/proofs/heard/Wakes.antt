@@ -22,7 +22,7 @@ all_from P [] h = tt
 all_from P (x ∷ xs) h = (h zero x refl, all_from P xs (λ k y e. h (suc k) y e))
 
 -- at a place of a list of which one was set there is that one, or what was there
-set_get : {X : Type 0} (xs : List X) (i k : ℕ) (x y : X) → slice_get (slice_set xs i x) k ≡ Some y → ((k ≡ i) × (y ≡ x)) ⊎ ((k ≢ i) × (slice_get xs k ≡ Some y))
+pub set_get : {X : Type 0} (xs : List X) (i k : ℕ) (x y : X) → slice_get (slice_set xs i x) k ≡ Some y → ((k ≡ i) × (y ≡ x)) ⊎ ((k ≢ i) × (slice_get xs k ≡ Some y))
 set_get [] i k x y e = absurd (cc e)
 set_get (z ∷ zs) zero zero x y e = inl (refl, cc e)
 set_get (z ∷ zs) zero (suc k) x y e = inr ((λ same. cc same), e)
@@ -56,6 +56,10 @@ ids_kept seats index = told_kept (λ seat. seat.id) (λ seat. refl) seats index
 -- and their threads
 pub runs_kept : (seats : List Seat) (index : ℕ) → map running (with_mark index seats) ≡ map running seats
 runs_kept seats index = told_kept running (λ seat. refl) seats index
+
+-- and the locks that they wait on
+pub waits_kept : (seats : List Seat) (index : ℕ) → map (λ seat. seat.waiting) (with_mark index seats) ≡ map (λ seat. seat.waiting) seats
+waits_kept seats index = told_kept (λ seat. seat.waiting) (λ seat. refl) seats index
 
 -- and its length
 pub length_kept : (seats : List Seat) (index : ℕ) → length (with_mark index seats) ≡ length seats

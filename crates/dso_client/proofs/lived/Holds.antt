@@ -61,3 +61,12 @@ hold_changed clock at act l held old new h is changes u x = ap (λ f. option_map
         ∙ (its (is_lock l x) ∙ (ap (λ k. cond (is_lock l x) (option_map as_hold held) (hold_of k x at.entries)) (sym same)
         ∙ (sym (holds_after l x (option_map as_hold held) (locks_of t at.entries).holds)
         ∙ (ap (hold_in x) (sym changes) ∙ ap (λ k. hold_in x (locks_by act.request act.reply (locks_of k at.entries)).holds) same))))
+
+-- no hold of the acting thread was changed
+pub holds_kept : (clock : ℕ) (at : Point) (act : Answered) (old : Tables) → HoldsStand at old → (locks_by act.request act.reply (locks_of act.thread at.entries)).holds ≡ (locks_of act.thread at.entries).holds
+    → HoldsStand (lived clock act at) old
+holds_kept clock at act old h same u x = h u x ∙ by (is_thread u act.thread) refl
+  where
+    by : (b : Bool) → is_thread u act.thread ≡ b → hold_of u x at.entries ≡ hold_in x (cond b (locks_by act.request act.reply (locks_of u at.entries)) (locks_of u at.entries)).holds
+    by false e = refl
+    by true e = ap (hold_in x) (ap (λ t. (locks_of t at.entries).holds) (sym (same_thread u act.thread e)) ∙ (sym same ∙ ap (λ t. (locks_by act.request act.reply (locks_of t at.entries)).holds) (same_thread u act.thread e)))

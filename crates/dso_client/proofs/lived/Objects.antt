@@ -1,6 +1,6 @@
 -- The table once a request was answered.
 use Rattle.std.specs.List.{list_any}
-use Rattle.std.proofs.Common.{◌≡◌, ℕ, refl, sym, ◌∙◌, ap, Bool, true, false, cond, eqb, ◌&&◌, ◌||◌, is_some, Some, None, [], ◌∷◌, ◌++◌}
+use Rattle.std.proofs.Common.{◌≡◌, ℕ, refl, sym, ◌∙◌, ap, Bool, true, false, cond, eqb, ◌&&◌, ◌||◌, is_some, Some, None, [], ◌∷◌, ◌++◌, subst, ◌≤◌}
 use Rattle.std.proofs.lemmas.List.Folds.{list_any-append}
 use Rattle.std.specs.BTreeMap.{is_at}
 use Rattle.std.specs.Cmp.{unsigned_tied}
@@ -20,6 +20,7 @@ use Rattle.dso_plain.proofs.keys.TableOrders.{thread_at}
 use Rattle.dso_law.proofs.client.ClientLaws.{lock_either_way}
 use Rattle.dso_law.specs.ClientStep.{puts_to, event_puts_to}
 use Rattle.dso_law.specs.Threads.{ending_by, locks_of, open_block, block_after}
+use Rattle.dso_law.specs.Records.{records}
 use Rattle.dso_table.specs.declared.tables.Tables.{Tables}
 use Rattle.dso_table.specs.States as states
 use Rattle.dso_table.specs.States.{State, body_of, is_asked, acted, closed, opened}
@@ -100,6 +101,7 @@ module _ (clock : ℕ) (at : Point) (act : Answered) (mine : act.thread.client �
     wanted = λ u x. ap (λ (s : State). s.wanted (u, x)) is ∙ unwanted clock at act.thread mine old h u x;
     room = ap (λ (s : State). s.limit) is ∙ h.room;
     count = ap (λ (s : State). s.residents) is ∙ h.count;
+    acked = subst (λ n. n ≤ records at.entries) (sym (ap (λ (s : State). s.acked) is)) h.acked;
   }
 
   -- an ending closes the block

@@ -4,6 +4,7 @@ use Rattle.std.specs.Vec.{with_items}
 use Rattle.dso_base.specs.declared.message.Down.TheVariants as down
 use Rattle.dso_law.specs.FitsDown.{FitsDown}
 use Rattle.dso_law.specs.RunLaws.{IdsAreTaken}
+use Rattle.dso_client.specs.declared.seat.Seat.{Seat}
 use Rattle.dso_client.specs.Hearing.{heard}
 use Rattle.dso_client.specs.KeptStands.{KeptStands, PartsStand}
 use Rattle.dso_client.specs.Openings.{thread_at}
@@ -11,9 +12,10 @@ use Rattle.dso_client.specs.Points.{Point}
 use Rattle.dso_client.specs.SeatPlaces.{running, with_mark}
 use Rattle.dso_client.specs.TableStands.{TableStands}
 use Rattle.dso_client.proofs.Outcomes.{on_ok}
+use Rattle.dso_client.proofs.heard.Acks.{acked_was_sent}
 use Rattle.dso_client.proofs.heard.Leaves.{table_kept, locking_kept, ledger_kept}
 use Rattle.dso_client.proofs.heard.Parts.{parts_heard, parts_woken}
-use Rattle.dso_client.proofs.heard.Wakes.{length_kept, runs_kept}
+use Rattle.dso_client.proofs.heard.Wakes.{length_kept, runs_kept, waits_kept}
 use Rattle.dso_client.proofs.hearing.hear.Goals as goal
 
 pub returns-in-Ids-clause-parts : goal.returns-in-Ids-clause-parts
@@ -23,7 +25,7 @@ returns-in-Ids-clause-parts c = λ clock at h fits taken.
     let ledger = c.hear_ids.new.ledger in
     subst (λ m. PartsStand (heard clock m at) (record old { ledger = ledger })) (sym c.in-Ids.is)
     (parts_heard clock at old h m tt old.table old.locking ledger (table_kept clock m at old.table tt h.table) (locking_kept clock m at old.locking tt h.locking)
-    (c.hear_ids.ensures clock at h.ledger (subst (λ m. FitsDown at.settings at.client m at.entries) c.in-Ids.is fits) taken))
+    (c.hear_ids.ensures.heard clock at h.ledger (subst (λ m. FitsDown at.settings at.client m at.entries) c.in-Ids.is fits) taken))
 
 pub returns-in-Object-clause-parts : goal.returns-in-Object-clause-parts
 returns-in-Object-clause-parts c =
@@ -44,7 +46,7 @@ returns-in-Grant-clause-parts c = λ clock at h fits taken.
     let locking = c.hear_grant.new.locking in
     subst (λ m. PartsStand (heard clock m at) (record old { locking = locking })) (sym c.in-Grant.is)
     (parts_heard clock at old h m tt old.table locking old.ledger (table_kept clock m at old.table tt h.table)
-    (c.hear_grant.ensures clock at h.locking h.facts (subst (λ m. FitsDown at.settings at.client m at.entries) c.in-Grant.is fits)) (ledger_kept clock m at old.ledger tt h.ledger))
+    (c.hear_grant.ensures.heard clock at h.locking h.facts (subst (λ m. FitsDown at.settings at.client m at.entries) c.in-Grant.is fits)) (ledger_kept clock m at old.ledger tt h.ledger))
 
 pub returns-in-Recall-clause-parts : goal.returns-in-Recall-clause-parts
 returns-in-Recall-clause-parts c = λ clock at h fits taken.
@@ -52,7 +54,7 @@ returns-in-Recall-clause-parts c = λ clock at h fits taken.
     let m = down.Recall c.in-Recall.lock in
     let locking = c.hear_recall.new.locking in
     subst (λ m. PartsStand (heard clock m at) (record old { locking = locking })) (sym c.in-Recall.is)
-    (parts_heard clock at old h m tt old.table locking old.ledger (table_kept clock m at old.table tt h.table) (c.hear_recall.ensures clock at h.locking) (ledger_kept clock m at old.ledger tt h.ledger))
+    (parts_heard clock at old h m tt old.table locking old.ledger (table_kept clock m at old.table tt h.table) (c.hear_recall.ensures.heard clock at h.locking) (ledger_kept clock m at old.ledger tt h.ledger))
 
 pub returns-in-Ack-clause-parts : goal.returns-in-Ack-clause-parts
 returns-in-Ack-clause-parts c = λ clock at h fits taken.
@@ -60,9 +62,10 @@ returns-in-Ack-clause-parts c = λ clock at h fits taken.
     let m = down.Ack c.in-Ack.seq in
     let table = c.hear_acked.new.table in
     let ledger = c.hear_ack.new.ledger in
+    let right = subst (λ m. FitsDown at.settings at.client m at.entries) c.in-Ack.is fits in
     subst (λ m. PartsStand (heard clock m at) (record old { table = table; ledger = ledger })) (sym c.in-Ack.is)
-    (parts_heard clock at old h m tt table old.locking ledger (c.hear_acked.ensures clock at h.table) (locking_kept clock m at old.locking tt h.locking)
-    (c.hear_ack.ensures clock at h.ledger h.facts (subst (λ m. FitsDown at.settings at.client m at.entries) c.in-Ack.is fits)))
+    (parts_heard clock at old h m tt table old.locking ledger (c.hear_acked.ensures clock at h.table (acked_was_sent at c.in-Ack.seq h.facts right)) (locking_kept clock m at old.locking tt h.locking)
+    (c.hear_ack.ensures.heard clock at h.ledger h.facts right))
 
 pub returns-in-Changes-clause-parts : goal.returns-in-Changes-clause-parts
 returns-in-Changes-clause-parts c = λ clock at h fits taken.
@@ -94,3 +97,15 @@ returns-in-Wake-clause-runs c =
     let marked = c.mark.ensures in
     let many = ap length marked ∙ (length_kept c.as_mut_slice.result.now t.index ∙ c.as_mut_slice.ensures.len) in
     ap (map running) (with_items_is old.seats c.mark.new.seats many ∙ (marked ∙ ap (with_mark t.index) c.as_mut_slice.ensures.value)) ∙ runs_kept old.seats.items t.index
+
+pub returns-in-Wake-clause-counts : goal.returns-in-Wake-clause-counts
+returns-in-Wake-clause-counts c =
+    let old = c.args.kept.now in
+    let t = c.in-Wake.thread in
+    let marked = c.mark.ensures in
+    let many = ap length marked ∙ (length_kept c.as_mut_slice.result.now t.index ∙ c.as_mut_slice.ensures.len) in
+    record {
+      holds = refl;
+      waits = ap (map (λ (seat : Seat). seat.waiting)) (with_items_is old.seats c.mark.new.seats many ∙ (marked ∙ ap (with_mark t.index) c.as_mut_slice.ensures.value)) ∙ waits_kept old.seats.items t.index;
+      records = refl;
+    }

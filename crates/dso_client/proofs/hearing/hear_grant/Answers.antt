@@ -3,8 +3,8 @@ use Rattle.dso_lease.specs.Leases.{standing_in, with_standing, granted_at}
 use Rattle.dso_client.proofs.heard.Locks.{grant_asked, grant_heard, on_true}
 use Rattle.dso_client.proofs.hearing.hear_grant.Goals as goal
 
-pub returns : goal.returns
-returns c = λ clock at h facts asked.
+pub returns-clause-heard : goal.returns-clause-heard
+returns-clause-heard c = λ clock at h facts asked.
     let l = c.args.lock in
     let old = c.args.locking.now in
     let new = record old { leases = c.granted.new.self; lists = c.take.new.map } in

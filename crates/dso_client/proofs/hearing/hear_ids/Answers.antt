@@ -5,11 +5,11 @@ use Rattle.dso_client.specs.LedgerStands.{LedgerStands}
 use Rattle.dso_client.proofs.heard.Ids.{batch_heard, none_left}
 use Rattle.dso_client.proofs.hearing.hear_ids.Goals as goal
 
-pub returns-then-next-end : goal.returns-then-next-end
-returns-then-next-end c = λ clock at h fits taken.
+pub returns-then-next-end-clause-heard : goal.returns-then-next-end-clause-heard
+returns-then-next-end-clause-heard c = λ clock at h fits taken.
     subst (λ pool. LedgerStands (heard clock (down.Ids c.args.first) at) (record c.args.ledger.now { pool = pool; is_asking = false })) (sym c.refill.ensures)
     (batch_heard clock c.args.first at fits taken c.args.ledger.now h)
 
-pub returns-else-next-end : goal.returns-else-next-end
-returns-else-next-end c = λ clock at h fits taken.
+pub returns-else-next-end-clause-heard : goal.returns-else-next-end-clause-heard
+returns-else-next-end-clause-heard c = λ clock at h fits taken.
     absurd (c.if-next-end.false (c.next.ensures ∙ (none_left clock c.args.first at fits taken c.args.ledger.now h ∙ sym c.end.ensures)))

@@ -2,11 +2,12 @@ use Rattle.std.proofs.Common.{◌∙◌, ap, None}
 use Rattle.dso_base.specs.declared.request.Request.TheVariants.{Wait}
 use Rattle.dso_hold.specs.Holds.{hold_in, with_hold, exited}
 use Rattle.dso_law.specs.Threads.{locks_by, locks_of}
+use Rattle.dso_client.proofs.lived.Counts.{counts_with, count_exited}
 use Rattle.dso_client.proofs.lived.Holds.{none_left, hold_changed}
 use Rattle.dso_client.proofs.living_holds.live_wait.Goals as goal
 
-pub returns : goal.returns
-returns c = λ clock at h is done.
+pub returns-clause-stands : goal.returns-clause-stands
+returns-clause-stands c = λ clock at h is done.
     let act = c.args.act in
     let l = c.args.lock in
     let old = c.args.holds.now in
@@ -15,3 +16,11 @@ returns c = λ clock at h is done.
     (c.exit.ensures.holds ∙ ap (λ held. with_hold l act.thread held (hold_in old))
     (ap (λ n. exited n (hold_in old (l, act.thread))) c.count-count.ensures ∙ none_left (hold_in old (l, act.thread))))
     (ap (λ r. (locks_by r act.reply locks).holds) is ∙ ap (λ r. (locks_by (Wait l) r locks).holds) done)
+
+pub returns-clause-most : goal.returns-clause-most
+returns-clause-most c = λ most h.
+    let t = c.args.act.thread in
+    let l = c.args.lock in
+    let old = c.args.holds.now in
+    let n = c.count-count.result in
+    counts_with most l t (exited n (hold_in old (l, t))) old c.exit.new.self c.exit.ensures.holds h (count_exited most n (hold_in old (l, t)) (h t l))

@@ -1,5 +1,7 @@
-use Rattle.std.proofs.Common.{refl, subst}
+use Rattle.std.proofs.Common.{refl, sym, ap, subst}
 use Rattle.std.specs.Option.{IfSome, IfNone}
+use Rattle.dso_client.specs.declared.kept.Kept.{Kept}
+use Rattle.dso_client.specs.Acting.{HoldsAtMost}
 use Rattle.dso_client.specs.Flushing.{Flushes, NoneDue}
 use Rattle.dso_client.proofs.FlushMade.{flush_made, flush_none}
 use Rattle.dso_client.proofs.client.Client.flush.Goals as goal
@@ -13,3 +15,11 @@ returns-clause-made c =
 pub returns-clause-none : goal.returns-clause-none
 returns-clause-none c = subst (λ old. IfNone c.flush.result (NoneDue old)) c.self.view_is
     (flush_none c.flush.result c.self.inside.kept c.flush.ensures.none)
+
+pub returns-clause-holds : goal.returns-clause-holds
+returns-clause-holds c = λ most h.
+    let before = subst (HoldsAtMost most) (sym c.self.view_is) h in
+    record { held = before.held; waiting = before.waiting }
+
+pub returns-clause-records : goal.returns-clause-records
+returns-clause-records c = ap (λ (kept : Kept). kept.ledger.records) c.self.view_is

@@ -1,0 +1,36 @@
+-- No hold, no count that a waiting thread is to have again, and no record is more or less.
+use Rattle.std.proofs.Common.{◌≡◌, ℕ, zero, suc, ◌≤◌, refl, sym, ◌∙◌, ap, subst, Option, Some, None, List, map, slice_get}
+use Rattle.std.proofs.lemmas.Option.{slice_get-map}
+use Rattle.std.specs.Option.{option_map, option_map_or}
+use Rattle.dso_hold.specs.Holds.{hold_in, count_at}
+use Rattle.dso_law.specs.Threads.{Waiting}
+use Rattle.dso_client.specs.declared.kept.Kept.{Kept}
+use Rattle.dso_client.specs.declared.seat.Seat.{Seat}
+use Rattle.dso_client.specs.Acting.{HoldsAtMost, KeepsCounts, count_again}
+use Rattle.dso_client.specs.Entering.{count_owed}
+use Rattle.dso_client.specs.SeatPlaces.{seat_in}
+
+-- one after the other
+pub counts_then : (a b c : Kept) → KeepsCounts a b → KeepsCounts b c → KeepsCounts a c
+counts_then a b c first second = record { holds = second.holds ∙ first.holds; waits = second.waits ∙ first.waits; records = second.records ∙ first.records }
+
+-- the count of the waits at an index
+abbrev count_in : List (Option Waiting) → ℕ → ℕ
+count_in waits zero = 0
+count_in waits (suc at) = option_map_or count_owed (slice_get waits at) 0
+
+again_by_waits : (seats : List Seat) (index : ℕ) → count_again (seat_in seats index) ≡ count_in (map (λ (seat : Seat). seat.waiting) seats) index
+again_by_waits seats zero = refl
+again_by_waits seats (suc at) = by (slice_get seats at) ∙ sym (ap (λ found. option_map_or count_owed found 0) (slice_get-map (λ (seat : Seat). seat.waiting) seats at))
+  where
+    by : (found : Option Seat) → count_again found ≡ option_map_or count_owed (option_map (λ (seat : Seat). seat.waiting) found) 0
+    by None = refl
+    by (Some seat) = refl
+
+-- so no lock is held more often
+pub keeps_most : (old new : Kept) → KeepsCounts old new → (most : ℕ) → HoldsAtMost most old → HoldsAtMost most new
+keeps_most old new keeps most h = record {
+  held = λ t l. subst (λ holds. count_at (hold_in holds (l, t)) ≤ most) (sym keeps.holds) (h.held t l);
+  waiting = λ index. subst (λ n. n ≤ most)
+      (again_by_waits old.seats.items index ∙ (ap (λ waits. count_in waits index) (sym keeps.waits) ∙ sym (again_by_waits new.seats.items index))) (h.waiting index);
+}

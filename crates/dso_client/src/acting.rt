@@ -1,0 +1,235 @@
+//! An act of a thread whose request is answered.
+ghost use Rattle.std.specs.Prelude.{ℕ, ◌≡◌, ◌≢◌, ◌≤◌, ◌<◌, ◌+◌, ◌-◌, ◌^◌, suc, IfOk, None, OnOk, Option, Some, map, true};
+ghost use Rattle.std.specs.List.{list_any};
+ghost use Rattle.std.specs.Option.{option_and_then};
+ghost use Rattle.dso_base.specs.Following.{IsListedFor, is_thread};
+ghost use Rattle.dso_base.specs.declared.record.Txn as txn;
+ghost use Rattle.dso_law.specs.ClientStep.{commits};
+ghost use Rattle.dso_law.specs.Settings.{threads_of};
+ghost use Rattle.dso_law.specs.Threads.{locks_of};
+ghost use Rattle.dso_machine.specs.Sound.{IsSound};
+ghost use Rattle.dso_client.specs.Acting.{HoldsAtMost};
+ghost use Rattle.dso_client.specs.Answering.{HasAnswered, IsAnswering, StandsHandedIn, StandsLived, StandsSent, TellsClosing};
+ghost use Rattle.dso_client.specs.CodeRuns.{RunsCode};
+ghost use Rattle.dso_client.specs.Entering.{count_owed};
+ghost use Rattle.dso_client.specs.GoingOn.{HasGoneOn, next_at, with_next};
+ghost use Rattle.dso_client.specs.Committing.{MaySend, changed_seat, with_record};
+ghost use Rattle.dso_client.specs.Openings.{thread_at};
+ghost use Rattle.dso_client.specs.KeptStands.{PartsStand};
+ghost use Rattle.dso_client.specs.Living.{CountsAtMost, acting, event_of, lived};
+ghost use Rattle.dso_client.specs.LivingSeats.{LiveOn};
+ghost use Rattle.dso_client.specs.LockingStands.{LockingStands};
+ghost use Rattle.dso_client.specs.Points.{Point};
+ghost use Rattle.dso_client.specs.Returning.{record_sent};
+ghost use Rattle.dso_client.specs.RunFacts.{RunFacts};
+ghost use Rattle.dso_client.specs.SeatPlaces.{running, seat_in};
+ghost use Rattle.dso_client.specs.Taking.{IsQuiet};
+ghost use Rattle.dso_client.specs.Turns.{Answers};
+ghost use Rattle.dso_base.specs.declared.lock.ThreadId as thread;
+ghost use Rattle.dso_base.specs.declared.request.Request as request;
+
+use crate::answered::{Answered, ending_of};
+use crate::going::{go_on_at, set_next};
+use crate::kept::Kept;
+use crate::living_locking::live_locking;
+use crate::living_objects::live_objects;
+use crate::living_seat::live_seats;
+use crate::returning::{ask_again, is_closing, left_lock, settle_act};
+use crate::seat::{Waiting, seat_at};
+use crate::sending::send_record;
+use dso_base::{Level, NoMemory, Request, Shape, Txn, Up};
+use dso_machine::Code;
+use std::alloc::Global;
+
+/// The lock that the thread of this index waits on.
+fn waiting_at(kept: &Kept, index: u8) -> Option<Waiting>
+    ensures { result ≡ option_and_then (λ seat. seat.waiting) (seat_in kept.now.seats.items index) }
+{
+    match seat_at(kept, index) {
+        Some(seat) => seat.waiting,
+        None => None,
+    }
+}
+
+/// What an answered request makes of what is kept of the threads but their work, and of the locks; the threads first, by the locks
+/// as they were.
+///
+/// It answers `NoMemory` where an allocation was refused.
+fn live_threads(
+    alloc: Global,
+    kept: &mut Kept,
+    act: Answered,
+    waiting: Option<Waiting>,
+) -> Result<(), NoMemory>
+    requires counts { CountsAtMost (2 ^ 32 - 2) kept.old.locking.holds }
+    ensures seats { LiveOn kept.old.locking act kept.old.seats.items kept.new.seats.items }
+    ensures locking { OnOk result ((clock : ℕ) (at : Point) → LockingStands at kept.old.locking → RunFacts at → waiting ≡ (locks_of act.thread at.entries).waiting
+        → Answers at act.thread act.request act.reply act.woken → LockingStands (lived clock act at) kept.new.locking) }
+    ensures most { OnOk result ((most : ℕ) → CountsAtMost most kept.old.locking.holds → count_owed waiting ≤ most → CountsAtMost (suc most) kept.new.locking.holds) }
+    ensures others { kept.new ≡ record kept.old { seats = kept.new.seats; locking = kept.new.locking } }
+{
+    live_seats(&kept.locking, kept.seats.as_mut_slice(), act);
+    live_locking(alloc, &mut kept.locking, act, waiting)
+}
+
+/// What an answered request makes of all that is kept but the thread's next request, before anything is sent; and the record that
+/// is to be sent, where the act is an ending.
+///
+/// It answers `NoMemory` where an allocation was refused.
+fn live(
+    alloc: Global,
+    kept: &mut Kept,
+    shape: &Shape,
+    act: Answered,
+) -> Result<Option<Txn>, NoMemory>
+    requires few { kept.old.ledger.records < 2 ^ 62 }
+    requires there { seat_in kept.old.seats.items act.thread.index ≢ None }
+    requires counts { HoldsAtMost (2 ^ 32 - 2) kept.old }
+    ensures stands { IfOk result (λ txn. (clock : ℕ) (at : Point) → IsAnswering at shape.now act kept.old → StandsLived clock at act txn kept.new) }
+    ensures runs { OnOk result (map running kept.new.seats.items ≡ map running kept.old.seats.items) }
+    ensures records { OnOk result (kept.new.ledger.records ≡ kept.old.ledger.records) }
+    ensures holds { OnOk result ((most : ℕ) → HoldsAtMost most kept.old → HoldsAtMost (suc most) kept.new) }
+{
+    let index = act.thread.index;
+    let ending = ending_of(&kept.locking, act);
+    let waiting = waiting_at(kept, index);
+    let txn = live_objects(alloc, kept, shape, index, act, ending)?;
+    live_threads(alloc, kept, act, waiting)?;
+    Ok(txn)
+}
+
+/// The record of the thread of this index is sent.
+///
+/// It answers `NoMemory` where an allocation was refused.
+fn hand_over(alloc: Global, kept: &mut Kept, index: u8, txn: Txn) -> Result<Vec<Up>, NoMemory>
+    requires few { kept.old.ledger.records < 2 ^ 62 }
+    ensures stands { IfOk result (λ sent. (clock : ℕ) (act : Answered) (at : Point) → PartsStand (lived clock act at) kept.old → MaySend at txn
+        → txn.thread ≡ thread_at at.client index → StandsHandedIn clock at act (Some txn) sent.items kept.new) }
+    ensures seats { OnOk result (kept.new.seats.items ≡ changed_seat index (with_record txn.seq) kept.old.seats.items) }
+    ensures locking { kept.new.locking ≡ kept.old.locking }
+    ensures records { OnOk result (kept.new.ledger.records ≤ kept.old.ledger.records + 1) }
+{
+    send_record(alloc, kept, index, &txn)?;
+    let mut sent = Vec::new(alloc);
+    sent.push(Up::Commit(txn))?;
+    Ok(sent)
+}
+
+/// The record of the thread of this index is sent, where there is one.
+///
+/// It answers `NoMemory` where an allocation was refused.
+fn hand_in(alloc: Global, kept: &mut Kept, index: u8, txn: Option<Txn>) -> Result<Vec<Up>, NoMemory>
+    requires few { kept.old.ledger.records < 2 ^ 62 }
+    ensures stands { IfOk result (λ sent. (clock : ℕ) (act : Answered) (at : Point) → PartsStand (lived clock act at) kept.old → RunFacts at
+        → act.thread ≡ thread_at at.client index → record_sent txn ≡ commits at.settings act.thread (event_of act) at.entries
+        → StandsHandedIn clock at act txn sent.items kept.new) }
+    ensures runs { OnOk result (map running kept.new.seats.items ≡ map running kept.old.seats.items) }
+    ensures waits { OnOk result (map (λ seat. seat.waiting) kept.new.seats.items ≡ map (λ seat. seat.waiting) kept.old.seats.items) }
+    ensures locking { kept.new.locking ≡ kept.old.locking }
+    ensures records { OnOk result (kept.new.ledger.records ≤ kept.old.ledger.records + 1) }
+{
+    match txn {
+        Some(txn) => hand_over(alloc, kept, index, txn),
+        None => Ok(Vec::new(alloc)),
+    }
+}
+
+/// The thread of this index hears the reply; its next request, None where it has ended.
+///
+/// It answers `NoMemory` where an allocation was refused.
+fn go_on_in(
+    alloc: Global,
+    code: &Code,
+    kept: &mut Kept,
+    act: Answered,
+) -> Result<Option<Request>, NoMemory>
+    requires sound { IsSound code.now }
+    requires runs { RunsCode code.now kept.old }
+    requires listed { IsListedFor (next_at kept.old.seats.items act.thread.index) act.reply }
+    ensures goes { IfOk result (HasGoneOn code.now act.thread.index act.reply kept.old.seats.items kept.new.seats.items) }
+    ensures others { kept.new ≡ record kept.old { seats = kept.new.seats } }
+{
+    go_on_at(
+        alloc,
+        code,
+        kept.seats.as_mut_slice(),
+        act.thread.index,
+        act.reply,
+    )
+}
+
+/// The thread of this index has this next request. It takes no memory.
+fn set_next_in(kept: &mut Kept, index: u8, next: Option<Request>)
+    ensures seats { kept.new.seats.items ≡ with_next index next kept.old.seats.items }
+    ensures others { kept.new ≡ record kept.old { seats = kept.new.seats } }
+{
+    set_next(kept.seats.as_mut_slice(), index, next);
+}
+
+/// Whether the lease of the lock is closing that the request enters at `Write`.
+fn closes(kept: &Kept, next: Option<Request>) -> bool
+    ensures { (at : Point) → PartsStand at kept.now → TellsClosing at next result }
+{
+    match next {
+        Some(Request::Enter(lock, Level::Write)) => is_closing(kept, lock),
+        _ => false,
+    }
+}
+
+/// Behind the record that an act sent, the leases that it gives back and the request for one of them, where the acting thread
+/// next wants it; the next requests are those after the act.
+///
+/// It answers `NoMemory` where an allocation was refused.
+fn send_rest(
+    alloc: Global,
+    kept: &mut Kept,
+    act: Answered,
+    next: Option<Request>,
+    was_closing: bool,
+    sent: Vec<Up>,
+) -> Result<Vec<Up>, NoMemory>
+    ensures stands { IfOk result (λ all. (clock : ℕ) (txn : Option txn.Txn) (later : thread.ThreadId → Option request.Request) (at : Point)
+        → PartsStand (acting clock act (record_sent txn) later at) kept.old → IsQuiet at → RunFacts at
+        → list_any (is_thread act.thread) (threads_of at.settings at.client) ≡ true → next ≡ later act.thread → TellsClosing at next was_closing
+        → sent.items ≡ record_sent txn → StandsSent clock at act txn later all.items kept.new) }
+    ensures others { kept.new ≡ record kept.old { locking = kept.new.locking } }
+    ensures holds { kept.new.locking.holds ≡ kept.old.locking.holds }
+{
+    let mut returned = settle_act(alloc, kept, left_lock(act.request))?;
+    let again = ask_again(kept, next, was_closing, returned.as_slice())?;
+    let mut all = sent;
+    all.append(&mut returned)?;
+    if let Some(message) = again {
+        all.push(message)?;
+    }
+    Ok(all)
+}
+
+/// The act of a thread whose request is answered, and what it sends: the record of its block where the act is an ending, the
+/// leases to be given back, and the request for one of them that the thread next wants.
+///
+/// It answers `NoMemory` where an allocation was refused.
+pub(crate) fn act_answering(
+    alloc: Global,
+    code: &Code,
+    kept: &mut Kept,
+    act: Answered,
+) -> Result<Vec<Up>, NoMemory>
+    requires sound { IsSound code.now }
+    requires runs { RunsCode code.now kept.old }
+    requires listed { IsListedFor (next_at kept.old.seats.items act.thread.index) act.reply }
+    requires few { kept.old.ledger.records < 2 ^ 62 }
+    requires counts { HoldsAtMost (2 ^ 32 - 2) kept.old }
+    ensures stands { IfOk result (λ sent. HasAnswered code.now act kept.old kept.new sent.items) }
+    ensures runs { OnOk result (RunsCode code.now kept.new) }
+    ensures records { OnOk result (kept.new.ledger.records ≤ kept.old.ledger.records + 1) }
+    ensures holds { OnOk result ((most : ℕ) → HoldsAtMost most kept.old → HoldsAtMost (suc most) kept.new) }
+{
+    let index = act.thread.index;
+    let next = go_on_in(alloc, code, kept, act)?;
+    let was_closing = closes(kept, next);
+    let txn = live(alloc, kept, &code.shape, act)?;
+    let sent = hand_in(alloc, kept, index, txn)?;
+    set_next_in(kept, index, next);
+    send_rest(alloc, kept, act, next, was_closing, sent)
+}

@@ -1,0 +1,125 @@
+//! A record that is sent.
+ghost use Rattle.std.specs.Prelude.{ℕ, ◌≡◌, ◌+◌, ◌<◌, ◌^◌, [], ◌∷◌, IfOk, OnOk, Option, Some, false, true};
+ghost use Rattle.dso_base.specs.declared.lock.ThreadId.{ThreadId};
+ghost use Rattle.dso_base.specs.declared.message.Up.TheVariants.{Commit};
+ghost use Rattle.dso_base.specs.declared.record.Body as body;
+ghost use Rattle.dso_base.specs.declared.record.Txn as txn;
+ghost use Rattle.dso_base.specs.declared.request.Request.{Request};
+ghost use Rattle.dso_change.specs.Hands.{has_field};
+ghost use Rattle.dso_table.specs.States.{body_of, put, set};
+ghost use Rattle.dso_table.specs.Tables.{state_in};
+ghost use Rattle.dso_client.specs.Committing.{MaySend, changed_seat, with_record};
+ghost use Rattle.dso_client.specs.KeptStands.{PartsStand};
+ghost use Rattle.dso_client.specs.LedgerStands.{LedgerStands};
+ghost use Rattle.dso_client.specs.Living.{acting};
+ghost use Rattle.dso_client.specs.Openings.{thread_at};
+ghost use Rattle.dso_client.specs.Points.{Point};
+ghost use Rattle.dso_client.specs.TableStands.{TableStands};
+ghost use Rattle.dso_client.specs.declared.answered.Answered.{Answered};
+
+use crate::kept::Kept;
+use crate::ledger::Ledger;
+use crate::seat::Seat;
+use dso_base::{Body, NoMemory, Set, Txn};
+use dso_table::Table;
+use std::alloc::Global;
+
+/// A copy of the client's copy of an object, None where the object isn't resident.
+///
+/// It answers `NoMemory` where an allocation was refused.
+fn copy_of(table: &Table, object: u64) -> Result<Option<Body>, NoMemory>
+    ensures { IfOk result (λ copy. copy ≡ body_of ((state_in table.now).standing object)) }
+{
+    match table.get(object) {
+        Some(body) => {
+            let copy = body.clone()?;
+            Ok(Some(copy))
+        }
+        None => Ok(None),
+    }
+}
+
+/// A set of the own record of this number: the copy of its object has the value, and the number is the object's mark.
+///
+/// It answers `NoMemory` where an allocation was refused.
+fn send_set(alloc: Global, table: &mut Table, change: Set, seq: u64) -> Result<(), NoMemory>
+    ensures written { OnOk result (has_field change.field (body_of ((state_in table.old).standing change.object)) ≡ true
+        → state_in table.new ≡ set change (Some seq) (state_in table.old)) }
+    ensures marked { OnOk result ((copy : body.Body) → body_of ((state_in table.old).standing change.object) ≡ Some copy
+        → has_field change.field (Some copy) ≡ false → state_in table.new ≡ put copy (Some seq) (state_in table.old)) }
+{
+    if table.set(alloc, change, Some(seq)) {
+        return Ok(());
+    }
+    match copy_of(table, change.object)? {
+        Some(copy) => table.put_object(&copy, Some(seq)),
+        None => Ok(()),
+    }
+}
+
+/// The objects that a record publishes are resident, and the copies of others have the values that it sets; the number of the
+/// record is the mark of each.
+///
+/// It answers `NoMemory` where an allocation was refused.
+fn send_objects(alloc: Global, table: &mut Table, txn: &Txn) -> Result<(), NoMemory>
+    ensures { OnOk result ((clock : ℕ) (act : Answered) (next : ThreadId → Option Request) (at : Point) → TableStands (acting clock act [] next at) table.old
+        → MaySend at txn.now → TableStands (acting clock act (Commit txn.now ∷ []) next at) table.new) }
+{
+    for body in txn.news.as_slice() {
+        table.put_object(body, Some(txn.seq))?;
+    }
+    for set in txn.sets.as_slice() {
+        send_set(alloc, table, *set, txn.seq)?;
+    }
+    Ok(())
+}
+
+/// One more record was sent, of this number, and isn't acknowledged.
+///
+/// It answers `NoMemory` where an allocation was refused.
+fn count_record(ledger: &mut Ledger, seq: u64) -> Result<(), NoMemory>
+    requires few { ledger.old.records < 2 ^ 62 }
+    ensures stands { OnOk result ((clock : ℕ) (act : Answered) (next : ThreadId → Option Request) (at : Point) (txn : txn.Txn) → txn.seq ≡ seq
+        → LedgerStands (acting clock act [] next at) ledger.old → LedgerStands (acting clock act (Commit txn ∷ []) next at) ledger.new) }
+    ensures one_more { OnOk result (ledger.new.records ≡ ledger.old.records + 1) }
+{
+    ledger.unacked.add(seq)?;
+    ledger.records += 1;
+    Ok(())
+}
+
+/// The last record of the thread of this index has this number, where there is such a thread. It takes no memory.
+fn note_record(seats: &mut [Seat], index: u8, seq: u64)
+    ensures { seats.new ≡ changed_seat index (with_record seq) seats.old }
+{
+    if index == 0 {
+        return;
+    }
+    let at = index as usize - 1;
+    if at < seats.len() {
+        seats[at].last_record = Some(seq);
+    }
+}
+
+/// A record of the thread of this index is sent.
+///
+/// It answers `NoMemory` where an allocation was refused.
+pub(crate) fn send_record(
+    alloc: Global,
+    kept: &mut Kept,
+    index: u8,
+    txn: &Txn,
+) -> Result<(), NoMemory>
+    requires few { kept.old.ledger.records < 2 ^ 62 }
+    ensures parts { OnOk result ((clock : ℕ) (act : Answered) (next : ThreadId → Option Request) (at : Point) → PartsStand (acting clock act [] next at) kept.old
+        → MaySend at txn.now → txn.now.thread ≡ thread_at at.client index → PartsStand (acting clock act (Commit txn.now ∷ []) next at) kept.new) }
+    ensures seats { OnOk result (kept.new.seats.items ≡ changed_seat index (with_record txn.now.seq) kept.old.seats.items) }
+    ensures number { kept.new.number ≡ kept.old.number }
+    ensures locking { kept.new.locking ≡ kept.old.locking }
+    ensures records { OnOk result (kept.new.ledger.records ≡ kept.old.ledger.records + 1) }
+{
+    send_objects(alloc, &mut kept.table, txn)?;
+    count_record(&mut kept.ledger, txn.seq)?;
+    note_record(kept.seats.as_mut_slice(), index, txn.seq);
+    Ok(())
+}
