@@ -1,6 +1,6 @@
 //! One end of a connection.
 ghost use Rattle.std.specs.Prelude.{ℕ, ◌+◌, ◌<◌, ◌≤◌, ◌^◌, ◌≡◌, IfErr, IfOk, OnErr, OnOk, true};
-ghost use Rattle.dso_session.specs.Ends.{opened, posted, next_frame, behind_frame, answer, answer_hello, after_frame, broken, forgotten, is_new, sent_count};
+ghost use Rattle.dso_session.specs.Ends.{IsInOrder, opened, posted, next_frame, behind_frame, answer, answer_hello, after_frame, broken, forgotten, is_new, sent_count};
 ghost use Rattle.dso_session.specs.declared.frame.Frame.TheVariants.{Hello};
 ghost use Rattle.dso_session.specs.declared.session.Role.TheVariants as role;
 
@@ -82,13 +82,14 @@ impl<M: Drop> Session<M> {
         }
     }
 
-    /// Numbers the message and keeps it until the other end has seen it. Where an allocation was refused the message is
-    /// handed back, and the session is as before.
+    /// Numbers the message and keeps it until the other end has seen it. Fewer than 2^63 messages were seen there; so many
+    /// more are never kept. Where an allocation was refused the message is handed back, and the session is as before.
     pub fn send(&mut self, message: M, clock: u64) -> Result<(), M>
-        requires { sent_count self.old + 1 < 2 ^ 64 }
+        requires { self.old.seen < 2 ^ 63 }
         ensures ok { OnOk result (self.new ≡ posted message clock self.old) }
         ensures err { OnErr result (self.new ≡ self.old) }
         ensures given_back { IfErr result (λ back. back ≡ message) }
+        ensures order { IsInOrder self.new }
     {
         match self.kept.push_back(Posted { message, clock }) {
             Ok(()) => {
