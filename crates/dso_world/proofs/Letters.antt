@@ -147,7 +147,7 @@ module _ (p : Settings) (next : ThreadId → List Event → Option Request) (c :
   down_left (e ∷ es) follow = down_next c e es (down_left es follow.0) e.node e.input follow.1.channels
 
 -- there is a letter where fewer were taken than posted
-any_left : {N M : Type 0} (one : N → M) (n : ℕ) (letters flight : List (Letter N)) → flight ≡ drop n letters → is_any flight ≡ ltb n (length (map (post_of one) letters))
+pub any_left : {N M : Type 0} (one : N → M) (n : ℕ) (letters flight : List (Letter N)) → flight ≡ drop n letters → is_any flight ≡ ltb n (length (map (post_of one) letters))
 any_left {N = N} one n letters flight left = by flight left
   where
     by : (flight : List (Letter N)) → flight ≡ drop n letters → is_any flight ≡ ltb n (length (map (post_of one) letters))

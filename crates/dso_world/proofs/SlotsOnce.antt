@@ -15,7 +15,7 @@ use Rattle.dso_world.specs.Laws.{RoundsGoOn}
 abbrev times : Slot → List Slot → ℕ
 times slot list = length (filter (is_slot slot) list)
 
-same_slot : (slot : Slot) → is_slot slot slot ≡ true
+pub same_slot : (slot : Slot) → is_slot slot slot ≡ true
 same_slot (Acts t) = ap (λ b. b && eqb t.index t.index) (eq-eqb t.client t.client refl) ∙ eq-eqb t.index t.index refl
 same_slot (TakesDown c) = eq-eqb c c refl
 same_slot (Flushes c) = eq-eqb c c refl

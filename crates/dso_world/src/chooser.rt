@@ -1,6 +1,7 @@
 //! Which step is taken next.
-ghost use Rattle.std.specs.Prelude.{◌≡◌, ◌+◌, ◌<◌, ◌≤◌, ◌^◌, IfOk, IfSome, length, set};
-ghost use Rattle.dso_world.specs.Flags.{closed_row, next_set, nth_set, chosen_place};
+ghost use Rattle.std.specs.Prelude.{◌≡◌, ◌+◌, ◌<◌, ◌≤◌, ◌^◌, IfOk, IfSome, false, length, set, slice_get};
+ghost use Rattle.std.specs.Option.{option_map_or};
+ghost use Rattle.dso_world.specs.Flags.{closed_row, is_set, next_set, nth_set, chosen_place};
 
 use crate::seed::Moved;
 use dso_base::NoMemory;
@@ -22,14 +23,14 @@ pub struct Chooser {
 }
 
 impl Model for Chooser {
-    ghost use Rattle.std.specs.Prelude.{◌≡◌, ◌≤◌, length};
+    ghost use Rattle.std.specs.Prelude.{◌≡◌, ◌≤◌, ◌<◌, ◌^◌, length};
     ghost use Rattle.dso_world.specs.Flags.{Row, set_count};
 
     ghost Value = { Row };
 
     ghost view = { λ chooser. record { flags = chooser.flags.items; begin = chooser.begin; entries = chooser.entries } };
 
-    ghost invariant = { λ chooser. (chooser.count ≡ set_count chooser.flags.items) × (chooser.begin ≤ length chooser.flags.items) };
+    ghost invariant = { λ chooser. (chooser.count ≡ set_count chooser.flags.items) × (chooser.begin ≤ length chooser.flags.items) × (chooser.entries < 2 ^ 63) };
 }
 
 /// The place of the flag that has this number among those set, from 0 on.
@@ -52,7 +53,8 @@ fn nth_set(flags: &[bool], number: usize) -> Option<usize>
 /// The place of the first flag set, from this place on, going round.
 fn next_set(flags: &[bool], begin: usize) -> Option<usize>
     requires { begin ≤ length flags.now }
-    ensures { result ≡ next_set begin flags.now }
+    ensures place { result ≡ next_set begin flags.now }
+    ensures within { IfSome result (λ place. place < length flags.now) }
 {
     match nth_set(&flags[begin..], 0) {
         Some(at) => Some(begin + at),
@@ -75,6 +77,16 @@ impl Chooser {
         })
     }
 
+    /// Whether the slot at this place is open; false where there is no such place. It takes no memory.
+    pub fn is_open(&self, place: usize) -> bool
+        ensures { result ≡ option_map_or is_set (slice_get self.now.flags place) false }
+    {
+        match self.flags.get(place) {
+            Some(flag) => *flag,
+            None => false,
+        }
+    }
+
     /// Tells whether the slot at this place is open. It takes no memory.
     pub fn set(&mut self, place: usize, to: bool)
         requires { place < length self.old.flags }
@@ -91,7 +103,7 @@ impl Chooser {
     /// The step of the slot at this place made an entry: the next round begins behind it. It takes no memory.
     pub fn taken(&mut self, place: usize)
         requires place { place < length self.old.flags }
-        requires fits { self.old.entries + 1 < 2 ^ 64 }
+        requires fits { self.old.entries + 1 < 2 ^ 63 }
         ensures { self.new ≡ record self.old { begin = place + 1; entries = self.old.entries + 1 } }
     {
         self.entries += 1;
@@ -101,8 +113,8 @@ impl Chooser {
     /// The place of the slot that is taken next: by round robin, or by the seed. None exactly where no slot is open. It
     /// takes no memory.
     pub fn choose(&mut self, seed: Option<u64>) -> Option<usize>
-        requires { self.old.entries + 1 < 2 ^ 64 }
         ensures chosen { result ≡ chosen_place seed self.old }
+        ensures within { IfSome result (λ place. place < length self.old.flags) }
         ensures same { self.new ≡ self.old }
     {
         match seed {

@@ -1,8 +1,10 @@
 //! The laws of the cluster in one program. Each is the contract of a function that does nothing.
 ghost use Rattle.dso_world.specs.Breaks.{BrokenIsNeverDue};
+ghost use Rattle.dso_world.specs.Finishing.{EndedAsksNothing, FinishedWhereNoneIsBusy};
 ghost use Rattle.dso_world.specs.LinkStands.{LinksGoOn};
 ghost use Rattle.dso_world.specs.PastOf.{LettersAreLeft};
 ghost use Rattle.dso_world.specs.Laws.{PlacesAreChosen, RoundsGoOn};
+ghost use Rattle.dso_world.specs.Touched.{OthersStay};
 
 /// Where each flag tells whether its slot is open, and a round begins behind the slot of the last entry, the chosen
 /// place is that of the chosen slot, by round robin and by each seed. None is chosen exactly where no slot is open.
@@ -35,4 +37,22 @@ pub fn links_go_on<M>()
 /// message or a rejoin to take; the server takes it only where no loss and no break is due.
 pub fn letters_are_left<M>()
     ensures { LettersAreLeft M }
+{}
+
+/// An entry of a client opens and closes no slot but those of that client, and none of a trigger. One of the server opens
+/// and closes no act and no flush; and only of the client whose message, loss, break or rejoin it is, what the server can
+/// do with that client.
+pub fn others_stay()
+    ensures { OthersStay }
+{}
+
+/// In a lawful journal of sound code a thread has ended exactly where its code asks nothing more.
+pub fn ended_asks_nothing()
+    ensures { EndedAsksNothing }
+{}
+
+/// A journal is finished exactly where none of the clients is busy: of each no trigger is due; and it is lost, or all its
+/// threads have ended and no message is in flight between it and the server.
+pub fn finished_where_none_is_busy()
+    ensures { FinishedWhereNoneIsBusy }
 {}

@@ -115,7 +115,7 @@ impl<M: Data + Drop> Link<M> {
 
     /// The client sends a message, with the clock of its entry. It answers `NoMemory` where an allocation was refused.
     pub fn send_up(&mut self, message: M, clock: u64) -> Result<(), NoMemory>
-        requires { sent_count self.old.client + 1 < 2 ^ 64 }
+        requires { self.old.client.seen < 2 ^ 63 }
         ensures { OnOk result (self.new ≡ sent_up message clock self.old) }
     {
         if self.client.send(message, clock).is_err() {
@@ -126,7 +126,7 @@ impl<M: Data + Drop> Link<M> {
 
     /// The server sends a message, with the clock of its entry. It answers `NoMemory` where an allocation was refused.
     pub fn send_down(&mut self, message: M, clock: u64) -> Result<(), NoMemory>
-        requires { sent_count self.old.server + 1 < 2 ^ 64 }
+        requires { self.old.server.seen < 2 ^ 63 }
         ensures { OnOk result (self.new ≡ sent_down message clock self.old) }
     {
         if self.server.send(message, clock).is_err() {

@@ -1,0 +1,5 @@
+-- When a journal is finished.
+pub mod CodeEnds
+pub mod Ended
+pub mod Busy
+pub mod Working

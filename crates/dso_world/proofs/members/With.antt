@@ -1,0 +1,50 @@
+-- A client with one entry more of its own.
+use Rattle.std.proofs.Common.{ℕ, suc, ◌≤◌, ◌≡◌, refl, sym, ◌∙◌, ap, subst, Bool, true, false, cond, eqb, Option, List, [], ◌∷◌, length, map}
+use Rattle.dso_base.specs.declared.journal.Entry.{Entry}
+use Rattle.dso_base.specs.declared.journal.Input.{Input}
+use Rattle.dso_base.specs.declared.journal.Node.TheVariants as node
+use Rattle.dso_base.specs.declared.journal.Sent.{Sent}
+use Rattle.dso_base.specs.declared.request.Event.{Event}
+use Rattle.dso_class.specs.declared.program.Program.{Program}
+use Rattle.dso_client.specs.Acting.{HoldsAtMost}
+use Rattle.dso_client.specs.ClientStands.{ClientStands}
+use Rattle.dso_client.specs.CodeRuns.{RunsCode}
+use Rattle.dso_law.specs.Channels.{last_clock}
+use Rattle.dso_law.specs.Entries.{entries_of}
+use Rattle.dso_plain.proofs.keys.SameKeys.{number_self}
+use Rattle.dso_world.specs.declared.both.Both.{Both}
+use Rattle.dso_world.specs.declared.both.Both.TheVariants as both
+use Rattle.dso_world.specs.declared.member.Member.{Member}
+use Rattle.dso_world.specs.Link.{Line}
+use Rattle.dso_world.specs.LinkStands.{Course, LinkStands, Past}
+use Rattle.dso_world.specs.NodesStand.{MemberStands}
+use Rattle.dso_world.specs.PastOf.{course_of, past_of}
+use Rattle.dso_world.specs.WorldSteps.{settings_of}
+
+module _ (program : Program) (c clock : ℕ) (input : Input) (sent : List Sent) (event : Option Event) (es : List Entry) where
+  -- the entry
+  abbrev pub own_entry : Entry
+  own_entry = record { clock = clock; node = node.Client c; input = input; sent = sent; event = event }
+
+  -- the client's own entries with it, and the clock
+  pub own_more : own_entry ∷ entries_of (node.Client c) es ≡ entries_of (node.Client c) (own_entry ∷ es)
+  own_more = sym (ap (λ b. cond b (own_entry ∷ entries_of (node.Client c) es) (entries_of (node.Client c) es)) (number_self c))
+
+  pub own_last : last_clock (node.Client c) (own_entry ∷ es) ≡ clock
+  own_last = ap (λ b. cond b clock (last_clock (node.Client c) es)) (number_self c)
+
+  -- the client stands for the entries with it
+  pub member_with : (member : Member) (course : Course) (past : Past Both)
+      → ClientStands program.code (settings_of program) c member.client (own_entry ∷ entries_of (node.Client c) es)
+      → RunsCode program.code member.client → member.client.ledger.records ≤ suc (length es) → HoldsAtMost (suc (length es)) member.client
+      → LinkStands course past member.link → course_of (settings_of program) c (own_entry ∷ es) ≡ course → past_of both.Up both.Down c (own_entry ∷ es) ≡ past
+      → member.clock ≡ clock → MemberStands program c member (own_entry ∷ es)
+  member_with member course past client runs records holds link same_course same_past now = record {
+    client = subst (ClientStands program.code (settings_of program) c member.client) own_more client;
+    runs = runs;
+    records = records;
+    holds = holds;
+    link = subst (λ course. LinkStands course (past_of both.Up both.Down c (own_entry ∷ es)) member.link) (sym same_course)
+        (subst (λ past. LinkStands course past member.link) (sym same_past) link);
+    clock = now ∙ sym own_last;
+  }

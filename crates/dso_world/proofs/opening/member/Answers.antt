@@ -1,0 +1,15 @@
+use Rattle.std.proofs.Common.{◌∙◌, ◌≤◌, ◌≡◌, ap, eqb, filter, length, refl, arith}
+use Rattle.dso_world.proofs.Openings.{few_threads, member_stands, threads_there}
+use Rattle.dso_world.proofs.opening.member.Goals as goal
+
+pub overflow_cast-threads : goal.overflow_cast-threads
+overflow_cast-threads c =
+    let few : c.thread_count-threads.result ≤ 16 = few_threads c.args.program.now c.requires c.args.number c.thread_count-threads.result (c.thread_count-threads.ensures ∙ ap (λ list. length (filter (λ t. eqb t.client c.args.number) list)) c.as_slice.ensures) in
+    omega (arith, few)
+
+pub new-requires-clause-there : goal.new-requires-clause-there
+new-requires-clause-there c = threads_there c.args.program.now c.requires c.args.number c.thread_count-threads.result (c.thread_count-threads.ensures ∙ ap (λ list. length (filter (λ t. eqb t.client c.args.number) list)) c.as_slice.ensures)
+
+pub returns : goal.returns
+returns c = member_stands c.args.program.now c.requires c.args.number c.thread_count-threads.result _ (c.thread_count-threads.ensures ∙ ap (λ list. length (filter (λ t. eqb t.client c.args.number) list)) c.as_slice.ensures)
+    c.in_ok-client.ensures.runs c.in_ok-client.ensures.stands c.new-2.ensures refl

@@ -1,0 +1,2 @@
+-- What is so of a sound program's threads.
+pub mod Threads

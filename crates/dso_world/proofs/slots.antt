@@ -1,0 +1,2 @@
+-- Which slots an entry may open or close.
+pub mod OthersStay

@@ -1,0 +1,4 @@
+pub mod Choices
+pub mod Followed
+pub mod Made
+pub mod Stepped

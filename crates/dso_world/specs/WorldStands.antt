@@ -1,0 +1,75 @@
+-- What a simulated cluster is, by its journal. Entries stand with the newest first.
+use Rattle.std.specs.List.{list_any}
+use Rattle.std.specs.Prelude.{ℕ, ◌≡◌, ◌<◌, ◌-◌, ◌^◌, ◌↔◌, min, Bool, true, false, Option, Some, None, List, [], ◌∷◌, ◌++◌, length, map, option_map, reverse, slice_get}
+use Rattle.dso_base.specs.declared.journal.Entry.{Entry}
+use Rattle.dso_class.specs.declared.program.Program.{Program}
+use Rattle.dso_legal.specs.Lawful.{IsLawful}
+use Rattle.dso_legal.specs.Slots.{is_finished, open_slots, slots, weight}
+use Rattle.dso_machine.specs.Next.{next_request}
+use Rattle.dso_world.specs.declared.board.Board.{Board}
+use Rattle.dso_world.specs.declared.step.Step.{Step}
+use Rattle.dso_world.specs.declared.world.World.{World}
+use Rattle.dso_world.specs.ChosenSlot.{chosen_slot, is_slot, slot_at}
+use Rattle.dso_world.specs.Laws.{RowStands}
+use Rattle.dso_world.specs.MemberSteps.{IsJournal, IsOpenAfter}
+use Rattle.dso_world.specs.NodesStand.{NodesStand}
+use Rattle.dso_world.specs.WorldSteps.{settings_of, slot_of}
+
+-- the entries of the world's journal, the newest first
+abbrev pub entries_in : World → List Entry
+entries_in world = reverse world.journal.entries
+
+module _ (program : Program) where
+  -- The board after the entries: its steps are those of all slots, in their order; each flag tells whether its slot is
+  -- open; and it is noted whether the run is finished.
+  pub record BoardStands (board : Board) (es : List Entry) : Type 0 where
+    pub steps : map slot_of board.steps.items ≡ slots (settings_of program)
+    pub row : RowStands (settings_of program) (next_request program.code) board.chooser es
+    pub finished : board.is_finished ≡ is_finished (settings_of program) es
+
+  -- All that a world keeps beside its journal, after these entries
+  pub record PartsStand (world : World) (es : List Entry) : Type 0 where
+    pub nodes : NodesStand program world.nodes es
+    pub board : BoardStands world.board es
+    pub weight : world.weight ≡ min (weight es) (2 ^ 64 - 1)
+
+  -- The world is one of this program: its journal is lawful; and while it isn't spent, its parts are what they are after
+  -- the journal's entries.
+  pub record WorldStands (world : World) : Type 0 where
+    pub lawful : IsLawful (settings_of program) (next_request program.code) (entries_in world)
+    pub parts : world.is_spent ≡ false → PartsStand world (entries_in world)
+
+  -- whether the step's slot is one of the cluster's that are open
+  abbrev pub is_open_step : Step → World → Bool
+  is_open_step step world = list_any (is_slot (slot_of step)) (open_slots (settings_of program) (next_request program.code) (entries_in world))
+
+-- one entry more, made at the slot of the step
+pub record MakesEntry (step : Step) (old new : World) : Type 0 where
+  pub entry : Entry
+  pub added : new.journal.entries ≡ old.journal.entries ++ entry ∷ []
+  pub at : slot_at entry.node entry.input ≡ Some (slot_of step)
+
+-- The step at this place can be made: the world's parts are what they are after its journal, which has room, and the
+-- slot is open.
+pub record IsMakeable (program : Program) (step : Step) (place : ℕ) (world : World) : Type 0 where
+  pub journal : IsJournal program (entries_in world)
+  pub few : length world.journal.entries < 2 ^ 28
+  pub parts : PartsStand program world (entries_in world)
+  pub at : slice_get (slots (settings_of program)) place ≡ Some (slot_of step)
+  pub opened : IsOpenAfter program (entries_in world) (slot_of step)
+
+-- It is made: there is one entry more, at its slot, and the parts are what they are after the journal, which is lawful.
+pub record IsMade (program : Program) (step : Step) (old new : World) : Type 0 where
+  pub makes : MakesEntry step old new
+  pub lawful : IsLawful (settings_of program) (next_request program.code) (entries_in new)
+  pub parts : PartsStand program new (entries_in new)
+
+-- the step makes an entry where its slot is open; where that isn't open, nothing changes
+abbrev pub IsStepped : Program → Step → Bool → World → World → Type 0
+IsStepped program step true old new = (is_open_step program step old ≡ true) × MakesEntry step old new
+IsStepped program step false old new = (is_open_step program step old ≡ false) × (new ≡ old)
+
+-- the step is that of the chosen slot, and there is none exactly where no slot is open
+pub record IsChosenStep (program : Program) (seed : Option ℕ) (chosen : Option Step) (world : World) : Type 0 where
+  pub slot : option_map slot_of chosen ≡ chosen_slot (settings_of program) (next_request program.code) seed (entries_in world)
+  pub none : (chosen ≡ None) ↔ (open_slots (settings_of program) (next_request program.code) (entries_in world) ≡ [])

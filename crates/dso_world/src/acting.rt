@@ -1,0 +1,105 @@
+//! The steps of a client: a thread acts, a message is taken, an object is flushed.
+ghost use Rattle.std.specs.Prelude.{◌≡◌, [], ◌∷◌, IfOk};
+ghost use Rattle.dso_base.specs.declared.message.Up.TheVariants as up;
+ghost use Rattle.dso_class.specs.declared.program.Program.{Program};
+ghost use Rattle.dso_legal.specs.Slots as slot;
+ghost use Rattle.dso_world.specs.MemberSteps.{IsMoved, StandsOpen, Steps, event_of};
+
+use crate::Both;
+use crate::made::Made;
+use crate::member::Member;
+use crate::saying::say;
+use dso_base::{Entry, Event, Input, NoMemory, ThreadId, Up};
+use dso_class::Program;
+use dso_client::Acted;
+use dso_session::Accepted;
+use std::alloc::Global;
+
+/// The event of an act; none where the thread only asks.
+fn event_of(acted: Acted) -> Option<Event>
+    requires { IsMoved acted }
+    ensures { result ≡ event_of acted }
+{
+    match acted {
+        Acted::Event(event) => Some(event),
+        Acted::Asked => None,
+        _ => unreachable!(),
+    }
+}
+
+/// The message that tells of a flush, alone.
+fn flushed_alone(alloc: Global, object: u64) -> Result<Vec<Up>, NoMemory>
+    ensures { IfOk result (λ messages. messages.items ≡ up.Flushed object ∷ []) }
+{
+    let mut messages = Vec::new(alloc);
+    messages.push(Up::Flushed(object))?;
+    Ok(messages)
+}
+
+/// A thread of the client acts: its next request is answered, or what it lacks is asked for.
+///
+/// It answers `NoMemory` where an allocation was refused.
+pub(crate) fn act(
+    alloc: Global,
+    program: &Program,
+    member: &mut Member,
+    thread: ThreadId,
+) -> Result<Entry, NoMemory>
+    requires { StandsOpen program.now thread.client (slot.Acts thread) member.old }
+    ensures { IfOk result (λ entry. Steps program.now thread.client (slot.Acts thread) entry member.old member.new) }
+{
+    let (acted, messages) = member.client.act(alloc, &program.code, thread.index)?;
+    let made = Made {
+        heard: 0,
+        input: Input::Act(thread.index),
+        event: event_of(acted),
+    };
+    say(alloc, thread.client, member, made, messages)
+}
+
+/// The client of this number takes the first frame on the way down: a message, or one that joins its connection again.
+///
+/// It answers `NoMemory` where an allocation was refused.
+pub(crate) fn take_down(
+    alloc: Global,
+    program: &Program,
+    member: &mut Member,
+    number: u8,
+) -> Result<Entry, NoMemory>
+    requires { StandsOpen program.now number (slot.TakesDown number) member.old }
+    ensures { IfOk result (λ entry. Steps program.now number (slot.TakesDown number) entry member.old member.new) }
+{
+    match member.link.take_down()? {
+        Some(Accepted::Up(both, heard)) => {
+            let Both::Down(message) = both else {
+                unreachable!()
+            };
+            let messages = member.client.take(alloc, &program.code, &message)?;
+            let made = Made::of(heard, Input::TookDown(message));
+            say(alloc, number, member, made, messages)
+        }
+        Some(Accepted::Rejoined(_)) => {
+            let made = Made::of(0, Input::Rejoin(number));
+            say(alloc, number, member, made, Vec::new(alloc))
+        }
+        Some(Accepted::Again(_)) => unreachable!(),
+        Some(Accepted::Gap(_)) => unreachable!(),
+        Some(Accepted::OldConnection(_)) => unreachable!(),
+        None => unreachable!(),
+    }
+}
+
+/// The client of this number flushes an object.
+///
+/// It answers `NoMemory` where an allocation was refused.
+pub(crate) fn flush(alloc: Global, member: &mut Member, number: u8) -> Result<Entry, NoMemory>
+    requires { (program : Program) × StandsOpen program number (slot.Flushes number) member.old }
+    ensures { IfOk result (λ entry. (program : Program) → Steps program number (slot.Flushes number) entry member.old member.new) }
+{
+    let Some(object) = member.client.flush() else {
+        unreachable!()
+    };
+    let messages = flushed_alone(alloc, object)?;
+    let made = Made::of(0, Input::Flush(object));
+    say(alloc, number, member, made, messages)
+}

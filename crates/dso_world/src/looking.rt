@@ -1,0 +1,126 @@
+//! Which steps are open, and whether the run is finished, by the nodes.
+ghost use Rattle.std.specs.Prelude.{◌≡◌, ◌<◌, ◌&&◌, ◌||◌, List, eqb, ltb, not, suc};
+ghost use Rattle.dso_base.specs.declared.journal.Entry.{Entry};
+ghost use Rattle.dso_session.specs.Ends.{sent_count};
+ghost use Rattle.dso_world.specs.Busy.{is_busy};
+ghost use Rattle.dso_world.specs.Looking.{TellsBusy, TellsDue, TellsFinished, TellsOpen, TellsOpenAt};
+ghost use Rattle.dso_world.specs.MemberSteps.{IsJournal};
+ghost use Rattle.dso_world.specs.NodesStand.{NodesStand};
+ghost use Rattle.dso_world.specs.Touched.{client_of};
+ghost use Rattle.dso_world.specs.WorldSteps.{settings_of, slot_of};
+
+use crate::applying::client_of;
+use crate::due::{is_break_due, is_loss_due};
+use crate::member::Member;
+use crate::nodes::Nodes;
+use crate::{Both, Link, Step};
+use dso_class::Program;
+use dso_server::Server;
+
+/// Whether a loss of the client is due, and whether a break of its connection is.
+fn due(program: &Program, number: u8, server: &Server, member: &Member) -> (bool, bool)
+    ensures { TellsDue program.now number server.now member.now result.0 result.1 }
+{
+    let is_lost = server.is_lost(number);
+    let losses = program.losses.as_slice();
+    let is_loss_due = is_loss_due(number, member, is_lost, losses);
+    let breaks = program.breaks.as_slice();
+    let is_break_due = is_break_due(number, member, is_lost, is_loss_due, breaks);
+    (is_loss_due, is_break_due)
+}
+
+/// Whether one of the two is due.
+fn is_either(due: (bool, bool)) -> bool
+    ensures { result ≡ (due.0 || due.1) }
+{
+    due.0 || due.1
+}
+
+/// Whether the server can take of a client where something waits and nothing is due.
+fn can_take(is_due: bool, is_empty: bool) -> bool
+    ensures { result ≡ (not is_due && not is_empty) }
+{
+    !is_due && !is_empty
+}
+
+/// Whether the step of the client of this number is open.
+fn is_open_at(program: &Program, number: u8, server: &Server, member: &Member, step: Step) -> bool
+    requires { number ≡ client_of (slot_of step) }
+    ensures { TellsOpenAt program.now number server.now member.now step result }
+{
+    match step {
+        Step::Act(thread) => member.client.enabled(thread.index),
+        Step::TakeDown(_) => !member.link.is_down_empty(),
+        Step::Flush(_) => member.client.may_flush(),
+        Step::TakeUp(_) => can_take(
+            is_either(due(program, number, server, member)),
+            member.link.is_up_empty(),
+        ),
+        Step::Lose(_) => due(program, number, server, member).0,
+        Step::Break(_) => due(program, number, server, member).1,
+    }
+}
+
+/// Whether the step is open.
+pub(crate) fn is_open(program: &Program, nodes: &Nodes, step: Step) -> bool
+    ensures { TellsOpen program.now nodes.now step result }
+{
+    let number = client_of(step);
+    if number == 0 {
+        return false;
+    }
+    match nodes.members.get(number as usize - 1) {
+        Some(member) => is_open_at(program, number, &nodes.server, member, step),
+        None => false,
+    }
+}
+
+/// Whether all messages of both ends were taken.
+fn is_quiet(link: &Link<Both>) -> bool
+    ensures { result ≡ (eqb (sent_count link.now.client) link.now.server.accepted && eqb (sent_count link.now.server) link.now.client.accepted) }
+{
+    link.sent_up() == link.taken_up() && link.sent_down() == link.taken_down()
+}
+
+/// Whether a trigger is due, or a client isn't lost, and has a message in flight or threads that haven't ended.
+fn keeps_going(is_due: bool, is_lost: bool, is_quiet: bool, alive: usize) -> bool
+    ensures { result ≡ (is_due || (not is_lost && (not is_quiet || ltb 0 alive))) }
+{
+    is_due || (!is_lost && (!is_quiet || alive > 0))
+}
+
+/// Whether the client of this number keeps the run going.
+fn is_busy(program: &Program, number: u8, server: &Server, member: &Member) -> bool
+    ensures { TellsBusy program.now number server.now member.now result }
+{
+    keeps_going(
+        is_either(due(program, number, server, member)),
+        server.is_lost(number),
+        is_quiet(&member.link),
+        member.client.alive(),
+    )
+}
+
+/// Whether the client at this place keeps the run going.
+fn is_busy_at(program: &Program, nodes: &Nodes, place: u8) -> bool
+    requires within { place < program.now.clients }
+    requires fits { place < 255 }
+    ensures { (es : List Entry) → IsJournal program.now es → NodesStand program.now nodes.now es → result ≡ is_busy (settings_of program.now) (suc place) es }
+{
+    match nodes.members.get(place as usize) {
+        Some(member) => is_busy(program, place + 1, &nodes.server, member),
+        None => false,
+    }
+}
+
+/// Whether the run is finished: no client keeps it going.
+pub(crate) fn is_finished(program: &Program, nodes: &Nodes) -> bool
+    ensures { TellsFinished program.now nodes.now result }
+{
+    for place in 0..program.clients {
+        if is_busy_at(program, nodes, place) {
+            return false;
+        }
+    }
+    true
+}

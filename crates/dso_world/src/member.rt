@@ -1,0 +1,11 @@
+//! A client of the cluster with its connection.
+use crate::{Both, Link};
+use dso_client::Client;
+
+/// A client, both ends of its connection with what is on the way, and the clock of its last entry.
+#[derive(Drop)]
+pub struct Member {
+    pub(crate) client: Client,
+    pub(crate) link: Link<Both>,
+    pub(crate) clock: u64,
+}

@@ -1,0 +1,130 @@
+//! The steps of the server: it takes a message of a client, loses it, or breaks its connection.
+ghost use Rattle.std.specs.Prelude.{◌≡◌, ◌<◌, List, IfOk, OnOk};
+ghost use Rattle.dso_base.specs.declared.journal.Entry.{Entry};
+ghost use Rattle.dso_class.specs.declared.program.Program.{Program};
+ghost use Rattle.dso_legal.specs.Slots as slot;
+ghost use Rattle.dso_world.specs.Link.{cut, taken_up};
+ghost use Rattle.dso_world.specs.NodeSteps.{ChangesLine, FollowsAll, HasBreakLeft, Heard, IsHeard, StandOpen, StepsAll, first_up};
+
+use crate::Both;
+use crate::arrived::Arrived;
+use crate::made::Made;
+use crate::member::Member;
+use crate::nodes::Nodes;
+use crate::telling::tell_all;
+use dso_base::{Entry, Input, NoMemory};
+use dso_class::Program;
+use dso_server::Taken;
+use dso_session::Accepted;
+use std::alloc::Global;
+
+/// The server takes the first frame of the client of this number, and what it makes of it is answered; None where there
+/// is none.
+fn take_frame(members: &mut Vec<Member>, number: u8) -> Result<Option<Accepted<Both>>, NoMemory>
+    requires { 0 < number }
+    ensures answer { IfOk result (λ answer. answer ≡ first_up number members.old.items) }
+    ensures after { OnOk result (ChangesLine number taken_up members.old.items members.new.items) }
+{
+    match members.get_mut(number as usize - 1) {
+        Some(member) => member.link.take_up(),
+        None => Ok(None),
+    }
+}
+
+/// The connection of the client of this number breaks.
+fn break_line(members: &mut Vec<Member>, number: u8) -> Result<(), NoMemory>
+    requires there { 0 < number }
+    requires few { HasBreakLeft number members.old.items }
+    ensures { OnOk result (ChangesLine number cut members.old.items members.new.items) }
+{
+    match members.get_mut(number as usize - 1) {
+        Some(member) => member.link.break_now(),
+        None => Ok(()),
+    }
+}
+
+/// The server takes a message that came up, and answers it.
+fn hear(
+    alloc: Global,
+    program: &Program,
+    nodes: &mut Nodes,
+    arrived: Arrived,
+) -> Result<Entry, NoMemory>
+    requires { IsHeard program.now arrived.client (record { message = arrived.message; clock = arrived.clock }) nodes.old }
+    ensures { IfOk result (λ entry. (es : List Entry) → Heard program.now arrived.client (record { message = arrived.message; clock = arrived.clock }) nodes.old es
+        → FollowsAll program.now (slot.TakesUp arrived.client) entry nodes.new es) }
+{
+    let Arrived {
+        client,
+        message,
+        clock,
+    } = arrived;
+    let (taken, messages) = nodes.server.take(alloc, &program.code, client, &message)?;
+    match taken {
+        Taken::Done | Taken::Gone => {
+            let made = Made::of(clock, Input::TookUp(client, message));
+            tell_all(alloc, nodes, made, messages)
+        }
+        Taken::Unfit => unreachable!(),
+    }
+}
+
+/// The server takes the first frame on the way up from the client of this number: a message, or one that joins the
+/// connection again.
+///
+/// It answers `NoMemory` where an allocation was refused.
+pub(crate) fn take_up(
+    alloc: Global,
+    program: &Program,
+    nodes: &mut Nodes,
+    number: u8,
+) -> Result<Entry, NoMemory>
+    requires { StandOpen program.now number (slot.TakesUp number) nodes.old }
+    ensures { IfOk result (λ entry. StepsAll program.now number (slot.TakesUp number) entry nodes.old nodes.new) }
+{
+    match take_frame(&mut nodes.members, number)? {
+        Some(Accepted::Up(both, clock)) => {
+            let Both::Up(message) = both else {
+                unreachable!()
+            };
+            let arrived = Arrived {
+                client: number,
+                message,
+                clock,
+            };
+            hear(alloc, program, nodes, arrived)
+        }
+        Some(Accepted::Rejoined(_)) => {
+            let made = Made::of(0, Input::Rejoin(number));
+            tell_all(alloc, nodes, made, Vec::new(alloc))
+        }
+        Some(Accepted::Again(_)) => unreachable!(),
+        Some(Accepted::Gap(_)) => unreachable!(),
+        Some(Accepted::OldConnection(_)) => unreachable!(),
+        None => unreachable!(),
+    }
+}
+
+/// The server loses the client of this number.
+///
+/// It answers `NoMemory` where an allocation was refused.
+pub(crate) fn lose(alloc: Global, nodes: &mut Nodes, number: u8) -> Result<Entry, NoMemory>
+    requires { (program : Program) × StandOpen program number (slot.Loses number) nodes.old }
+    ensures { IfOk result (λ entry. (program : Program) → StepsAll program number (slot.Loses number) entry nodes.old nodes.new) }
+{
+    let messages = nodes.server.lose(alloc, number)?;
+    let made = Made::of(0, Input::Lose(number));
+    tell_all(alloc, nodes, made, messages)
+}
+
+/// The connection of the client of this number breaks.
+///
+/// It answers `NoMemory` where an allocation was refused.
+pub(crate) fn break_now(alloc: Global, nodes: &mut Nodes, number: u8) -> Result<Entry, NoMemory>
+    requires { (program : Program) × StandOpen program number (slot.Breaks number) nodes.old }
+    ensures { IfOk result (λ entry. (program : Program) → StepsAll program number (slot.Breaks number) entry nodes.old nodes.new) }
+{
+    break_line(&mut nodes.members, number)?;
+    let made = Made::of(0, Input::Break(number));
+    tell_all(alloc, nodes, made, Vec::new(alloc))
+}
