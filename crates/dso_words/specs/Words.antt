@@ -189,9 +189,9 @@ pub record Asks (words : List (List ℕ)) (command : Command) : Type 0 where
 abbrev pub WordsAskOnce : Type 0
 WordsAskOnce = (words : List (List ℕ)) (command other : Command) → Asks words command → Asks words other → command ≡ other
 
--- What of it is built: `sim`, without a seed and without a file for the journal.
+-- What of it is built: `sim`, by round robin or by a seed, without a file for the journal.
 abbrev pub IsBuilt : Command → Type 0
-IsBuilt (Sim call) = (call.seed ≡ None) × (call.journal ≡ None)
+IsBuilt (Sim call) = call.journal ≡ None
 IsBuilt (Run call) = ⊥
 IsBuilt (Big number) = ⊥
 

@@ -31,17 +31,10 @@ pub enum Command<'a> {
 }
 
 impl Command<'_> {
-    /// Whether it is built: `sim`, without a seed and without a file for the journal.
+    /// Whether it is built: `sim`, by round robin or by a seed, without a file for the journal.
     pub(crate) fn is_built(&self) -> bool
         ensures { IsTrue result ↔ IsBuilt (said self.now) }
     {
-        matches!(
-            self,
-            Command::Sim {
-                seed: None,
-                journal: None,
-                ..
-            }
-        )
+        matches!(self, Command::Sim { journal: None, .. })
     }
 }
