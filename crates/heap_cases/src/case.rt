@@ -12,8 +12,9 @@
 
 use crate::entries::entry_of;
 use crate::events::event_of;
-use crate::words::{shape, shown};
+use crate::shape::shape;
 use crate::{heap, journal, parts, record};
+use case_words::{first_of, row_answer, shown};
 use dso_base::{Entry, Items, Journal, NoMemory, Shape};
 use dso_law::Entries;
 use dso_plain::Plain;
@@ -46,11 +47,9 @@ impl Case {
         let Some((name, command)) = line.split_once(": ") else {
             return format!(in alloc; "{line}");
         };
-        let (word, rest) = command.split_once(' ').unwrap_or((command, ""));
-        match self.told(alloc, word, rest) {
-            Ok(answer) => format!(in alloc; "{name}: {answer}"),
-            Err(NoMemory) => Err(AllocError),
-        }
+        let (word, rest) = first_of(command);
+        let answer = self.told(alloc, word, rest);
+        row_answer(alloc, name, answer)
     }
 
     /// The answer to the command.

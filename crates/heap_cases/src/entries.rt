@@ -11,9 +11,11 @@
 //! Behind ` sends ` stand the messages that it sends, joined by ` and `: to the server as they are, to a client as `to 1 ids 257`.
 
 use crate::events::event_by;
-use crate::words::{class_id, field, first_of, level, lock, number, small, thread, value};
+use case_words::{
+    bare_record, class, first_of, level, lock, number, set, single, small, thread, value,
+};
 use dso_base::{
-    Body, Down, Ending, Entry, Event, Input, Items, NoMemory, Node, Sent, Set, ThreadId, Txn, Up,
+    Body, Down, Ending, Entry, Event, Input, Items, NoMemory, Node, Sent, ThreadId, Up,
 };
 use std::alloc::Global;
 
@@ -99,24 +101,6 @@ fn sent_of(alloc: Global, text: &str) -> Result<Option<Sent>, NoMemory> {
     Ok(message.map(|message| Sent::ToClient(client, message)))
 }
 
-/// A list of one.
-fn single<T: Drop>(alloc: Global, item: T) -> Result<Items<T>, NoMemory> {
-    let mut items = Items::new(alloc);
-    items.push(item)?;
-    Ok(items)
-}
-
-/// A set as `7 0 l2`: object, field and value.
-fn set_of(text: &str) -> Option<Set> {
-    let (first, rest) = first_of(text);
-    let (second, third) = first_of(rest);
-    Some(Set {
-        object: number(first)?,
-        field: field(second)?,
-        value: value(third)?,
-    })
-}
-
 /// A message of the server that has no list.
 fn plain_down_of(verb: &str, rest: &str) -> Option<Down> {
     let (first, second) = first_of(rest);
@@ -135,7 +119,7 @@ fn down_of(alloc: Global, text: &str) -> Result<Option<Down>, NoMemory> {
     let (verb, rest) = first_of(text);
     match verb {
         "object" => object_of(alloc, rest),
-        "changes" => match set_of(rest) {
+        "changes" => match set(rest) {
             Some(set) => Ok(Some(Down::Changes(single(alloc, set)?))),
             None => Ok(None),
         },
@@ -147,7 +131,7 @@ fn down_of(alloc: Global, text: &str) -> Result<Option<Down>, NoMemory> {
 fn object_of(alloc: Global, text: &str) -> Result<Option<Down>, NoMemory> {
     let (first, rest) = first_of(text);
     let (second, third) = first_of(rest);
-    let (Some(object), Some(class), Some(value)) = (number(first), class_id(second), value(third))
+    let (Some(object), Some(class), Some(value)) = (number(first), class(second), value(third))
     else {
         return Ok(None);
     };
@@ -175,16 +159,10 @@ fn up_of(alloc: Global, text: &str) -> Result<Option<Up>, NoMemory> {
 
 /// The first record of a thread, with one set and its end: `1.2 0 1 r7`.
 fn record_of(alloc: Global, who: &str, text: &str) -> Result<Option<Up>, NoMemory> {
-    let (Some(thread), Some(set)) = (thread(who), set_of(text)) else {
+    let (Some(thread), Some(set)) = (thread(who), set(text)) else {
         return Ok(None);
     };
-    Ok(Some(Up::Commit(Txn {
-        seq: 1,
-        thread,
-        news: Items::new(alloc),
-        sets: single(alloc, set)?,
-        outs: Items::new(alloc),
-        notes: Items::new(alloc),
-        ending: Ending::End(None),
-    })))
+    let mut txn = bare_record(alloc, 1, thread, Ending::End(None));
+    txn.sets.push(set)?;
+    Ok(Some(Up::Commit(txn)))
 }

@@ -1,6 +1,6 @@
 //! What the heap tells.
 
-use crate::words::{debugged, field, first_of, number, shown, small, thread};
+use case_words::{count, debugged, first_of, number, shown, thread};
 use dso_base::{NoMemory, ThreadId};
 use dso_plain::Plain;
 use std::alloc::Global;
@@ -27,7 +27,7 @@ fn of_thread(
     thread: ThreadId,
     rest: &str,
 ) -> Result<String, NoMemory> {
-    match (word, field(rest)) {
+    match (word, count(rest)) {
         ("printed", _) => shown(alloc, heap.printed(thread)),
         ("output", Some(at)) => debugged(alloc, heap.output(thread, at as usize)),
         ("ended", _) => debugged(alloc, heap.ended(thread)),
@@ -44,7 +44,7 @@ fn of_number(
     number: u64,
     rest: &str,
 ) -> Result<String, NoMemory> {
-    match (word, field(rest)) {
+    match (word, count(rest)) {
         ("object", _) => debugged(alloc, heap.object(number)),
         ("value", Some(field)) => debugged(alloc, heap.value(number, field)),
         ("lost", _) => match u8::try_from(number) {

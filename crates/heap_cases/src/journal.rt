@@ -1,7 +1,7 @@
 //! What a journal tells.
 
 use crate::counts::{are_small, send_nothing};
-use crate::words::{debugged, field, first_of, lock, number, shown, small, thread};
+use case_words::{count, debugged, first_of, lock, number, shown, small, thread};
 use dso_base::{Entry, Journal, LockName, NoMemory, Node, Same, Shape, ThreadId};
 use dso_law::{
     Entries, class_held, copy_of, events_in, first_down, first_up, has_ended, is_batch_asked,
@@ -168,7 +168,7 @@ fn of_object(
     rest: &str,
 ) -> Result<String, NoMemory> {
     let entries = &Entries::new(journal.entries.as_slice());
-    match (word, field(rest)) {
+    match (word, count(rest)) {
         ("copy", Some(field)) => debugged(alloc, copy_of(journal, client, object, field)),
         ("value", Some(field)) => debugged(alloc, value_held(entries, client, object, field)),
         ("class", _) => debugged(alloc, class_held(entries, client, object)),
@@ -186,7 +186,7 @@ fn of_store(
     first: &str,
     second: &str,
 ) -> Result<String, NoMemory> {
-    let (Some(object), Some(field)) = (number(first), field(second)) else {
+    let (Some(object), Some(field)) = (number(first), count(second)) else {
         return shown(alloc, "no such question");
     };
     match stored(

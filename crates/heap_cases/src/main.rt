@@ -12,7 +12,7 @@ mod heap;
 mod journal;
 mod parts;
 mod record;
-mod words;
+mod shape;
 
 use case::Case;
 use dso_base::NoMemory;

@@ -2,8 +2,8 @@
 ghost use Rattle.std.specs.Prelude.{IsTrue};
 ghost use Rattle.dso_base.specs.Shape.{HasField};
 
-use crate::words::{class_id, debugged, field, first_of, kind, number, shown, value};
-use dso_base::{Boxed, ClassId, Items, NoMemory, Shape, fits};
+use case_words::{class, count, debugged, first_of, kind, number, number_list, shown, value};
+use dso_base::{Boxed, ClassId, NoMemory, Shape, fits};
 use std::alloc::Global;
 
 /// The answer to a question about the base types.
@@ -37,7 +37,7 @@ fn has_field(shape: &Shape, class: ClassId, field: u32) -> bool
 fn of_guard(alloc: Global, shape: &Shape, rest: &str) -> Result<String, NoMemory> {
     let (first, numbers) = first_of(rest);
     let (second, third) = first_of(numbers);
-    let (Some(class), Some(object), Some(field)) = (class_id(first), number(second), field(third))
+    let (Some(class), Some(object), Some(field)) = (class(first), number(second), count(third))
     else {
         return shown(alloc, "no such guard");
     };
@@ -51,7 +51,7 @@ fn of_guard(alloc: Global, shape: &Shape, rest: &str) -> Result<String, NoMemory
 /// The kind of a field: `kind c0 1`.
 fn of_kind(alloc: Global, shape: &Shape, rest: &str) -> Result<String, NoMemory> {
     let (first, second) = first_of(rest);
-    let (Some(class), Some(field)) = (class_id(first), field(second)) else {
+    let (Some(class), Some(field)) = (class(first), count(second)) else {
         return shown(alloc, "no such kind");
     };
     if has_field(shape, class, field) {
@@ -70,23 +70,12 @@ fn whether_fits(alloc: Global, rest: &str) -> Result<String, NoMemory> {
     }
 }
 
-/// A list of the numbers, of which the last is pushed behind the others.
-fn list_of(alloc: Global, text: &str) -> Result<Items<u64>, NoMemory> {
-    let mut items = Items::from_vec(Vec::new(alloc));
-    for word in text.split(' ') {
-        if let Some(number) = number(word) {
-            items.push(number)?;
-        }
-    }
-    Ok(items)
-}
-
 /// What a list tells: `list 2 of 1 2 3` the item at place 2, `list pop of 1 2 3` the last one and those left.
 fn of_list(alloc: Global, rest: &str) -> Result<String, NoMemory> {
-    let Some((what, numbers)) = rest.split_once(" of ") else {
+    let Some((what, listed)) = rest.split_once(" of ") else {
         return shown(alloc, "no such list");
     };
-    let mut items = list_of(alloc, numbers)?;
+    let mut items = number_list(alloc, listed)?;
     match number(what) {
         Some(at) => debugged(alloc, items.get(at as usize)),
         None => {

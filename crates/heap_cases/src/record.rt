@@ -1,7 +1,7 @@
 //! What a thread has in hand by the journal, which locks it holds, and the record that it would send.
 
 use crate::events::event_by;
-use crate::words::{debugged, field, first_of, lock, number, shown, thread};
+use case_words::{count, debugged, first_of, lock, number, shown, thread};
 use dso_base::{NoMemory, Shape, ThreadId};
 use dso_law::{Entries, Locks, Work, ending_of, locks_of, record_of, work_after, work_of};
 use std::alloc::Global;
@@ -84,7 +84,7 @@ fn of_work_after(
 /// What is told of a work.
 fn of_work(alloc: Global, work: &Work, word: &str, what: &str) -> Result<String, NoMemory> {
     let (first, second) = first_of(what);
-    match (word, number(first), field(second)) {
+    match (word, number(first), count(second)) {
         ("private", Some(object), _) => shown(alloc, work.is_private(object)),
         ("own", Some(object), _) => shown(alloc, work.own(object).is_some()),
         ("set", Some(object), Some(field)) => debugged(alloc, work.set_value(object, field)),

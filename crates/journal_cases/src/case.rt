@@ -1,8 +1,9 @@
 //! A case: the entries so far, and what is answered to each line.
 
 use crate::words::entry_of;
+use case_words::{class_shape, field_shape, single};
 use dso_base::{
-    ClassShape, Entry, Event, FieldShape, Guard, Items, Journal, Kind, NoMemory, Shape,
+    Entry, Event, Guard, Items, Journal, Kind, NoMemory, Reply, Request, Shape, ThreadId,
 };
 use dso_legal::committed;
 use dso_plain::Plain;
@@ -31,9 +32,10 @@ impl Case {
             return self.history(alloc);
         }
         let clock = self.clock.saturating_add(1);
-        match entry_of(alloc, clock, line)? {
-            Some(entry) => self.added(alloc, clock, entry),
-            None => format!(in alloc; "{line}\n"),
+        match entry_of(alloc, clock, line) {
+            Ok(Some(entry)) => self.added(alloc, clock, entry),
+            Ok(None) => format!(in alloc; "{line}\n"),
+            Err(NoMemory) => Err(AllocError),
         }
     }
 
@@ -77,22 +79,25 @@ fn add_line(text: &mut String, event: &Event) -> Result<(), AllocError> {
             thread,
             request,
             reply,
-            woken: None,
-        } => writeln!(
-            text,
-            "{}.{} {request:?} {reply:?}",
-            thread.client, thread.index
-        ),
-        Event::Act {
-            thread,
-            request,
-            woken: Some(woken),
-            ..
-        } => writeln!(
-            text,
-            "{}.{} {request:?} wakes {}.{}",
-            thread.client, thread.index, woken.client, woken.index
-        ),
+            woken,
+        } => {
+            add_request(text, *thread, *request)?;
+            add_outcome(text, *reply, *woken)
+        }
+    }
+}
+
+/// Adds a thread and what it asks.
+fn add_request(text: &mut String, thread: ThreadId, request: Request) -> Result<(), AllocError> {
+    let ThreadId { client, index } = thread;
+    write!(text, "{client}.{index} {request:?} ")
+}
+
+/// Adds what came of a request, and ends the line: the thread that was woken, or else the reply.
+fn add_outcome(text: &mut String, reply: Reply, woken: Option<ThreadId>) -> Result<(), AllocError> {
+    match woken {
+        Some(ThreadId { client, index }) => writeln!(text, "wakes {client}.{index}"),
+        None => writeln!(text, "{reply:?}"),
     }
 }
 
@@ -110,15 +115,9 @@ fn taken_by_plain(alloc: Global, history: &[Event]) -> Result<usize, NoMemory> {
 
 /// One class with a number under its own monitor, and one root.
 fn shape(alloc: Global) -> Result<Shape, NoMemory> {
-    let mut fields = Items::new(alloc);
-    fields.push(FieldShape {
-        kind: Kind::Long,
-        guard: Guard::Own,
-    })?;
-    let mut classes = Items::new(alloc);
-    classes.push(ClassShape { fields })?;
+    let class = class_shape(alloc, &[field_shape(Kind::Long, Guard::Own)])?;
     Ok(Shape {
-        classes,
+        classes: single(alloc, class)?,
         roots: 1,
         names: 1,
         texts: 0,

@@ -12,11 +12,9 @@
 //! | `close 3 exit m1` | the record from the open block, which is empty then |
 //! | `changes 1 2` | the sets of the last record closed that are for a client that holds these objects |
 
-use crate::block_words::{
-    body_of, made_by, note_of, note_request, numbered_ending, objects_in, set_of, shape, value,
-};
+use crate::block_words::{body_of, made_by, note_of, note_request, numbered_ending, shape};
 use crate::record_words::{body_text, record_text, sets_text};
-use crate::words::{debugged, first_of, number, shown};
+use case_words::{debugged, first_of, number, number_list, set, shown, value};
 use dso_base::{Body, Ending, Event, NoMemory, Note, Reply, Request, Set, ThreadId, Txn, Value};
 use dso_change::{changes_for, fold, opening_body};
 use dso_txn::{OpenBlock, Privates};
@@ -105,7 +103,7 @@ impl Hand {
 
     /// The thread puts a value in a field of a private object, or of a shared one.
     fn write(&mut self, alloc: Global, word: &str, text: &str) -> Result<String, NoMemory> {
-        let Some(set) = set_of(text) else {
+        let Some(set) = set(text) else {
             return shown(alloc, "no such field");
         };
         match word {
@@ -211,7 +209,7 @@ impl Hand {
         let Some(txn) = &self.closed else {
             return shown(alloc, "no record");
         };
-        let held = objects_in(alloc, text)?;
+        let held = number_list(alloc, text)?;
         let changes = changes_for(alloc, txn, held.as_slice())?;
         sets_text(alloc, changes.as_slice())
     }

@@ -1,8 +1,8 @@
 //! The list of holds: `enter 1.1 m5 read 1`, `exit 1.1 m5 1`, `level 1.1 m5`, `count 1.1 m5`, `conflict 1.1 m5 read`,
 //! `any 1.1`, `free m5`, `random 7 500`.
 
-use crate::plain_holds;
-use crate::words::{count, debugged, first_of, level, lock, shown, thread};
+use crate::plain_holds::compared_holds;
+use case_words::{count, debugged, first_of, level, lock, shown, thread};
 use dso_base::{Level, LockName, NoMemory, ThreadId};
 use dso_hold::Hold;
 use std::alloc::Global;
@@ -12,7 +12,7 @@ pub fn told(alloc: Global, holds: &mut Hold, text: &str) -> Result<String, NoMem
     let (word, rest) = first_of(text);
     match word {
         "free" => free(alloc, holds, rest),
-        "random" => plain_holds::compared(alloc, rest),
+        "random" => compared_holds(alloc, rest),
         _ => of_thread(alloc, holds, word, rest),
     }
 }

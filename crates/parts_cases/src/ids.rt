@@ -1,6 +1,6 @@
 //! The pool and the source of ids: `take`, `refill 257`, `next`, `end`; `batch`, `given`.
 
-use crate::words::{debugged, first_of, number, shown};
+use case_words::{debugged, first_of, number, shown};
 use dso_base::NoMemory;
 use dso_ids::{IdPool, IdSource};
 use std::alloc::Global;

@@ -1,8 +1,8 @@
 //! The leases: `want m5 read outer`, `entered m5`, `granted m5 read`, `recalled m5`, `return m5 free`, `level m5`,
 //! `standing m5`, `asked m5`, `is-entered m5`, `closing m5`, `admits m5 read inner`, `random 7 500`.
 
-use crate::plain_leases;
-use crate::words::{debugged, first_of, level, lock, shown};
+use crate::plain_leases::compared_leases;
+use case_words::{debugged, first_of, level, lock, shown};
 use dso_base::{Level, LockName, NoMemory};
 use dso_lease::Leases;
 use std::alloc::Global;
@@ -12,7 +12,7 @@ pub fn told(alloc: Global, leases: &mut Leases, text: &str) -> Result<String, No
     let (word, rest) = first_of(text);
     let (first, rest) = first_of(rest);
     match (word, lock(first)) {
-        ("random", _) => plain_leases::compared(alloc, first, rest),
+        ("random", _) => compared_leases(alloc, first, rest),
         (_, Some(lock)) => of_lock(alloc, leases, word, lock, rest),
         _ => shown(alloc, "no such lock"),
     }

@@ -1,8 +1,8 @@
 //! The server's table of locks: `request 1 m5 write`, `returned 1 m5`, `lose 1`, `lease 1 m5`, `waits 1 m5`,
 //! `random 7 500`.
 
-use crate::plain_locks;
-use crate::words::{debugged, first_of, level, lock, shown, small};
+use crate::plain_locks::compared_locks;
+use case_words::{debugged, first_of, level, lock, shown, small};
 use dso_base::{Level, LockName, NoMemory};
 use dso_locks::LockTable;
 use std::alloc::Global;
@@ -12,7 +12,7 @@ pub fn told(alloc: Global, locks: &mut LockTable, text: &str) -> Result<String, 
     let (word, rest) = first_of(text);
     let (first, rest) = first_of(rest);
     match (word, small(first)) {
-        ("random", _) => plain_locks::compared(alloc, first, rest),
+        ("random", _) => compared_locks(alloc, first, rest),
         ("lose", Some(client)) => {
             let told = locks.lose(alloc, client)?;
             debugged(alloc, told)

@@ -11,6 +11,7 @@ mod ids;
 mod leases;
 mod locks;
 mod parts;
+mod plain_calls;
 mod plain_holds;
 mod plain_leases;
 mod plain_locks;
@@ -23,7 +24,6 @@ mod store_rows;
 mod table_rows;
 mod unacked_rows;
 mod waits;
-mod words;
 
 use parts::Parts;
 use std::io;

@@ -19,8 +19,8 @@
 
 use crate::block_rows::Hand;
 use crate::server_parts::ServerParts;
-use crate::words::first_of;
 use crate::{holds, ids, leases, table_rows, unacked_rows, waits};
+use case_words::{first_of, row_answer};
 use dso_base::NoMemory;
 use dso_hold::Hold;
 use dso_ids::{IdPool, IdSource};
@@ -70,10 +70,8 @@ impl Parts {
             return format!(in alloc; "{line}");
         };
         let (word, rest) = first_of(command);
-        match self.told(alloc, word, rest) {
-            Ok(answer) => format!(in alloc; "{name}: {answer}"),
-            Err(NoMemory) => Err(AllocError),
-        }
+        let answer = self.told(alloc, word, rest);
+        row_answer(alloc, name, answer)
     }
 
     /// The answer to the command.

@@ -1,6 +1,7 @@
 //! Calls on holds that are drawn from a number, each compared with what a plain list of holds tells.
 
-use crate::words::{count, first_of, number, shown};
+use crate::plain_calls::{Comparison, drawn_level, drawn_lock, run};
+use case_words::first_of;
 use dso_base::{Level, LockName, NoMemory, ThreadId};
 use dso_hold::{Enter, Hold};
 use std::alloc::Global;
@@ -14,59 +15,37 @@ struct Row {
     count: u32,
 }
 
-/// Makes so many calls, drawn from the number, and tells whether each answered what the list tells.
-pub fn compared(alloc: Global, text: &str) -> Result<String, NoMemory> {
+/// The holds, and the plain list of them.
+#[derive(Drop)]
+struct HoldComparison {
+    holds: Hold,
+    rows: Vec<Row>,
+}
+
+/// Makes so many calls, drawn from a number, and tells whether each answered what the list tells.
+pub fn compared_holds(alloc: Global, text: &str) -> Result<String, NoMemory> {
     let (first, second) = first_of(text);
-    match (number(first), count(second)) {
-        (Some(seed), Some(calls)) => agreement(alloc, seed, calls),
-        _ => shown(alloc, "no such numbers"),
-    }
-}
-
-/// How many calls agreed until the first one that didn't.
-fn agreement(alloc: Global, seed: u64, calls: u32) -> Result<String, NoMemory> {
-    let mut holds = Hold::new(alloc);
-    let mut rows = Vec::new(alloc);
-    let mut drawn = seed;
-    for _ in 0..calls {
-        drawn = drawn
-            .wrapping_mul(6364136223846793005)
-            .wrapping_add(1442695040888963407);
-        if !agrees(alloc, &mut holds, &mut rows, drawn >> 33)? {
-            return shown(alloc, "a call differs");
-        }
-    }
-    shown(alloc, "all calls agree")
-}
-
-/// Whether the call that is drawn answers what the list tells. Of ten calls six enter and three leave.
-fn agrees(
-    alloc: Global,
-    holds: &mut Hold,
-    rows: &mut Vec<Row>,
-    drawn: u64,
-) -> Result<bool, NoMemory> {
-    let lock = drawn_lock(drawn);
-    let thread = drawn_thread(drawn / 4);
-    let level = if drawn / 32 % 2 == 0 {
-        Level::Read
-    } else {
-        Level::Write
+    let mut comparison = HoldComparison {
+        holds: Hold::new(alloc),
+        rows: Vec::new(alloc),
     };
-    match drawn / 64 % 10 {
-        0..6 => enters(alloc, holds, rows, lock, thread, level),
-        6..9 => Ok(holds.exit(thread, lock, 1) == plain_exit(rows, lock, thread)),
-        _ => Ok(reads_agree(holds, rows.as_slice(), lock, thread)),
-    }
+    run(alloc, &mut comparison, first, second)
 }
 
-/// One of four locks.
-fn drawn_lock(drawn: u64) -> LockName {
-    match drawn % 4 {
-        0 => LockName::Mon(1),
-        1 => LockName::Mon(2),
-        2 => LockName::Name(0),
-        _ => LockName::Name(1),
+impl Comparison for HoldComparison {
+    /// Of ten calls six enter and three leave.
+    fn agrees(&mut self, alloc: Global, drawn: u64) -> Result<bool, NoMemory> {
+        let lock = drawn_lock(drawn);
+        let thread = drawn_thread(drawn / 4);
+        let level = drawn_level(drawn / 32 % 2 != 0);
+        match drawn / 64 % 10 {
+            0..6 => enters(alloc, self, lock, thread, level),
+            6..9 => {
+                let left = plain_exit(&mut self.rows, lock, thread);
+                Ok(self.holds.exit(thread, lock, 1) == left)
+            }
+            _ => Ok(reads_agree(&self.holds, self.rows.as_slice(), lock, thread)),
+        }
     }
 }
 
@@ -86,17 +65,16 @@ fn drawn_thread(drawn: u64) -> ThreadId {
 /// Whether the entry is answered as the list tells.
 fn enters(
     alloc: Global,
-    holds: &mut Hold,
-    rows: &mut Vec<Row>,
+    comparison: &mut HoldComparison,
     lock: LockName,
     thread: ThreadId,
     level: Level,
 ) -> Result<bool, NoMemory> {
-    if holds.count(thread, lock) > 1000 {
+    if comparison.holds.count(thread, lock) > 1000 {
         return Ok(true);
     }
-    let answer = holds.enter(alloc, thread, lock, level, 1)?;
-    Ok(answer == plain_enter(rows, lock, thread, level)?)
+    let answer = comparison.holds.enter(alloc, thread, lock, level, 1)?;
+    Ok(answer == plain_enter(&mut comparison.rows, lock, thread, level)?)
 }
 
 /// What the list answers to an entry, and the list after it.

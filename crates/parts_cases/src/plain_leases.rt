@@ -1,6 +1,6 @@
 //! Calls on leases that are drawn from a number, each compared with what a plain list of locks tells.
 
-use crate::words::{count, number, shown};
+use crate::plain_calls::{Comparison, drawn_level, drawn_lock, run};
 use dso_base::{Level, LockName, NoMemory};
 use dso_lease::{Leases, Want};
 use std::alloc::Global;
@@ -22,54 +22,37 @@ const IDLE: Row = Row {
     is_asked: false,
 };
 
-/// Makes so many calls, drawn from the number, and tells whether each answered what the list tells.
-pub fn compared(alloc: Global, first: &str, second: &str) -> Result<String, NoMemory> {
-    match (number(first), count(second)) {
-        (Some(seed), Some(calls)) => agreement(alloc, seed, calls),
-        _ => shown(alloc, "no such numbers"),
-    }
+/// The leases, and the plain list of four locks.
+#[derive(Drop)]
+struct LeaseComparison {
+    leases: Leases,
+    rows: [Row; 4],
 }
 
-/// Whether all calls agreed.
-fn agreement(alloc: Global, seed: u64, calls: u32) -> Result<String, NoMemory> {
-    let mut leases = Leases::new(alloc);
-    let mut rows = [IDLE; 4];
-    let mut drawn = seed;
-    for _ in 0..calls {
-        drawn = drawn
-            .wrapping_mul(6364136223846793005)
-            .wrapping_add(1442695040888963407);
-        let call = drawn >> 33;
-        let row = &mut rows[(call % 4) as usize];
-        if !agrees(&mut leases, row, drawn_lock(call), call / 4)? {
-            return shown(alloc, "a call differs");
-        }
-    }
-    shown(alloc, "all calls agree")
+/// Makes so many calls, drawn from a number, and tells whether each answered what the list tells.
+pub fn compared_leases(alloc: Global, first: &str, second: &str) -> Result<String, NoMemory> {
+    let mut comparison = LeaseComparison {
+        leases: Leases::new(alloc),
+        rows: [IDLE; 4],
+    };
+    run(alloc, &mut comparison, first, second)
 }
 
-/// The lock of a row.
-fn drawn_lock(drawn: u64) -> LockName {
-    match drawn % 4 {
-        0 => LockName::Mon(1),
-        1 => LockName::Mon(2),
-        2 => LockName::Name(1),
-        _ => LockName::Name(2),
+impl Comparison for LeaseComparison {
+    fn agrees(&mut self, _alloc: Global, drawn: u64) -> Result<bool, NoMemory> {
+        let row = &mut self.rows[(drawn % 4) as usize];
+        row_agrees(&mut self.leases, row, drawn_lock(drawn), drawn / 4)
     }
 }
 
 /// Whether the call that is drawn answers what the row tells.
-fn agrees(
+fn row_agrees(
     leases: &mut Leases,
     row: &mut Row,
     lock: LockName,
     drawn: u64,
 ) -> Result<bool, NoMemory> {
-    let level = if drawn % 2 == 0 {
-        Level::Read
-    } else {
-        Level::Write
-    };
+    let level = drawn_level(drawn % 2 != 0);
     let flag = drawn / 2 % 2 == 0;
     match drawn / 4 % 5 {
         0 => {

@@ -1,7 +1,7 @@
 //! Calls on the table of locks that are drawn from a number, each compared with what plain lists of leases and requests
 //! tell.
 
-use crate::words::{count, number, shown};
+use crate::plain_calls::{Comparison, drawn_client, drawn_level, drawn_lock, run};
 use dso_base::{Level, LockName, NoMemory};
 use dso_locks::{LockTable, Told};
 use std::alloc::Global;
@@ -22,61 +22,44 @@ struct Lists {
     requests: Vec<Row>,
 }
 
-/// Makes so many calls, drawn from the number, and tells whether each answered what the lists tell.
-pub fn compared(alloc: Global, first: &str, second: &str) -> Result<String, NoMemory> {
-    match (number(first), count(second)) {
-        (Some(seed), Some(calls)) => agreement(alloc, seed, calls),
-        _ => shown(alloc, "no such numbers"),
-    }
+/// The table of locks, and the lists.
+#[derive(Drop)]
+struct LockComparison {
+    locks: LockTable,
+    lists: Lists,
 }
 
-/// Whether all calls agreed.
-fn agreement(alloc: Global, seed: u64, calls: u32) -> Result<String, NoMemory> {
-    let mut locks = LockTable::new(alloc);
-    let mut lists = Lists {
-        leases: Vec::new(alloc),
-        requests: Vec::new(alloc),
+/// Makes so many calls, drawn from a number, and tells whether each answered what the lists tell.
+pub fn compared_locks(alloc: Global, first: &str, second: &str) -> Result<String, NoMemory> {
+    let mut comparison = LockComparison {
+        locks: LockTable::new(alloc),
+        lists: Lists {
+            leases: Vec::new(alloc),
+            requests: Vec::new(alloc),
+        },
     };
-    let mut drawn = seed;
-    for _ in 0..calls {
-        drawn = drawn
-            .wrapping_mul(6364136223846793005)
-            .wrapping_add(1442695040888963407);
-        if !agrees(alloc, &mut locks, &mut lists, drawn >> 33)? {
-            return shown(alloc, "a call differs");
+    run(alloc, &mut comparison, first, second)
+}
+
+impl Comparison for LockComparison {
+    /// One call in fifty loses a client; of the others a client returns a lease that it has, and requests a lock that it
+    /// neither has nor waits for.
+    fn agrees(&mut self, alloc: Global, drawn: u64) -> Result<bool, NoMemory> {
+        let (locks, lists) = (&mut self.locks, &mut self.lists);
+        let row = Row {
+            lock: drawn_lock(drawn),
+            client: drawn_client(drawn / 4),
+            level: drawn_level(drawn / 32 % 3 == 0),
+            is_recalled: false,
+        };
+        if !reads_agree(locks, lists, row) {
+            return Ok(false);
         }
-    }
-    shown(alloc, "all calls agree")
-}
-
-/// Whether the call that is drawn answers what the lists tell. One call in fifty loses a client; of the others a client
-/// returns a lease that it has, and requests a lock that it neither has nor waits for.
-fn agrees(
-    alloc: Global,
-    locks: &mut LockTable,
-    lists: &mut Lists,
-    drawn: u64,
-) -> Result<bool, NoMemory> {
-    let lock = drawn_lock(drawn);
-    let client = drawn_client(drawn / 4);
-    let level = if drawn / 32 % 3 == 0 {
-        Level::Write
-    } else {
-        Level::Read
-    };
-    let row = Row {
-        lock,
-        client,
-        level,
-        is_recalled: false,
-    };
-    if !reads_agree(locks, lists, row) {
-        return Ok(false);
-    }
-    match lease_of(lists.leases.as_slice(), row) {
-        _ if drawn / 100 % 50 == 0 => loses(alloc, locks, lists, row),
-        Some(_) => returns(alloc, locks, lists, row),
-        None => requests(alloc, locks, lists, row),
+        match lease_of(lists.leases.as_slice(), row) {
+            _ if drawn / 100 % 50 == 0 => loses(alloc, locks, lists, row),
+            Some(_) => returns(alloc, locks, lists, row),
+            None => requests(alloc, locks, lists, row),
+        }
     }
 }
 
@@ -84,27 +67,6 @@ fn agrees(
 fn reads_agree(locks: &LockTable, lists: &Lists, row: Row) -> bool {
     locks.lease(row.client, row.lock) == lease_of(lists.leases.as_slice(), row)
         && locks.waits(row.client, row.lock) == is_listed(lists.requests.as_slice(), row)
-}
-
-/// One of four locks.
-fn drawn_lock(drawn: u64) -> LockName {
-    match drawn % 4 {
-        0 => LockName::Mon(1),
-        1 => LockName::Mon(2),
-        2 => LockName::Name(0),
-        _ => LockName::Name(1),
-    }
-}
-
-/// One of five clients.
-fn drawn_client(drawn: u64) -> u8 {
-    match drawn % 5 {
-        0 => 1,
-        1 => 2,
-        2 => 3,
-        3 => 9,
-        _ => 16,
-    }
 }
 
 /// The level of the lease of the row's client and lock.

@@ -1,8 +1,8 @@
 //! Calls on the graph that are drawn from a number, each compared with what plain lists of values and holders tell.
 
+use crate::plain_calls::{Comparison, drawn_client, run};
 use crate::store_records::{publishing, setting};
 use crate::store_rows::opened;
-use crate::words::{count, number, shown};
 use dso_base::{NoMemory, Set, Value};
 use dso_store::Store;
 use std::alloc::Global;
@@ -23,51 +23,35 @@ struct Lists {
     records: Vec<(u8, u64)>,
 }
 
-/// Makes so many calls, drawn from the number, and tells whether each answered what the lists tell.
-pub fn compared(alloc: Global, first: &str, second: &str) -> Result<String, NoMemory> {
-    match (number(first), count(second)) {
-        (Some(seed), Some(calls)) => agreement(alloc, seed, calls),
-        _ => shown(alloc, "no such numbers"),
-    }
+/// The graph, and the lists.
+#[derive(Drop)]
+struct StoreComparison {
+    store: Store,
+    lists: Lists,
 }
 
-/// Whether all calls agreed.
-fn agreement(alloc: Global, seed: u64, calls: u32) -> Result<String, NoMemory> {
-    let mut store = opened(alloc)?;
-    let mut lists = Lists {
-        objects: Vec::new(alloc),
-        holders: Vec::new(alloc),
-        records: Vec::new(alloc),
+/// Makes so many calls, drawn from a number, and tells whether the graph answered what the lists tell after each.
+pub fn compared_stores(alloc: Global, first: &str, second: &str) -> Result<String, NoMemory> {
+    let mut comparison = StoreComparison {
+        store: opened(alloc)?,
+        lists: Lists {
+            objects: Vec::new(alloc),
+            holders: Vec::new(alloc),
+            records: Vec::new(alloc),
+        },
     };
-    let mut drawn = seed;
-    for _ in 0..calls {
-        drawn = drawn
-            .wrapping_mul(6364136223846793005)
-            .wrapping_add(1442695040888963407);
-        call(alloc, &mut store, &mut lists, drawn >> 33)?;
-        if !reads_agree(
-            &store,
-            &lists,
-            drawn_client(drawn / 1048576),
-            1 + drawn / 16777216 % 16,
-        ) {
-            return shown(alloc, "a read differs");
-        }
-        if !others_agree(alloc, &store, &lists, drawn >> 33)? {
-            return shown(alloc, "the changes differ");
-        }
-    }
-    shown(alloc, "all calls agree")
+    run(alloc, &mut comparison, first, second)
 }
 
-/// One of five clients.
-fn drawn_client(drawn: u64) -> u8 {
-    match drawn % 5 {
-        0 => 1,
-        1 => 2,
-        2 => 3,
-        3 => 9,
-        _ => 16,
+impl Comparison for StoreComparison {
+    fn agrees(&mut self, alloc: Global, drawn: u64) -> Result<bool, NoMemory> {
+        call(alloc, &mut self.store, &mut self.lists, drawn)?;
+        let client = drawn_client(drawn / 8192);
+        let object = 1 + drawn / 65536 % 16;
+        if !reads_agree(&self.store, &self.lists, client, object) {
+            return Ok(false);
+        }
+        others_agree(alloc, &self.store, &self.lists, drawn)
     }
 }
 

@@ -1,8 +1,9 @@
 //! Calls on a table that are drawn from a number, each compared with what a plain list of objects tells.
 ghost use Rattle.std.specs.Prelude.{◌<◌};
 
+use crate::plain_calls::{Comparison, run};
 use crate::table_rows::{first_value, put_value};
-use crate::words::{count, first_of, number, shown};
+use case_words::first_of;
 use dso_base::{NoMemory, Set, ThreadId, Value};
 use dso_table::{NotFlushable, Table};
 use std::alloc::Global;
@@ -40,49 +41,34 @@ struct Plain {
     records: u64,
 }
 
-/// Makes so many calls, drawn from the number, and tells whether each answered what the list tells.
-pub fn compared(alloc: Global, text: &str) -> Result<String, NoMemory> {
+/// The table, and the plain list.
+#[derive(Drop)]
+struct TableComparison {
+    table: Table,
+    plain: Plain,
+}
+
+/// Makes so many calls, drawn from a number, and tells whether each answered what the list tells.
+pub fn compared_tables(alloc: Global, text: &str) -> Result<String, NoMemory> {
     let (first, second) = first_of(text);
-    match (number(first), count(second)) {
-        (Some(seed), Some(calls)) => agreement(alloc, seed, calls),
-        _ => shown(alloc, "no such numbers"),
-    }
-}
-
-/// Whether all calls agreed.
-fn agreement(alloc: Global, seed: u64, calls: u32) -> Result<String, NoMemory> {
-    let mut table = Table::new(alloc, LIMIT)?;
-    let mut plain = Plain {
-        rows: [ABSENT; 6],
-        last: None,
-        before_last: None,
-        records: 0,
+    let mut comparison = TableComparison {
+        table: Table::new(alloc, LIMIT)?,
+        plain: Plain {
+            rows: [ABSENT; 6],
+            last: None,
+            before_last: None,
+            records: 0,
+        },
     };
-    match all_agree(alloc, &mut table, &mut plain, seed, calls)? {
-        true => shown(alloc, "all calls agree"),
-        false => shown(alloc, "a call differs"),
-    }
+    run(alloc, &mut comparison, first, second)
 }
 
-/// Whether so many calls that are drawn from the number agree, and what is dropped next after each.
-fn all_agree(
-    alloc: Global,
-    table: &mut Table,
-    plain: &mut Plain,
-    seed: u64,
-    calls: u32,
-) -> Result<bool, NoMemory> {
-    let mut drawn = seed;
-    for _ in 0..calls {
-        drawn = drawn
-            .wrapping_mul(6364136223846793005)
-            .wrapping_add(1442695040888963407);
-        let is_same = agrees(alloc, table, plain, drawn >> 33)?;
-        if !is_same || table.victim() != plain_victim(plain) {
-            return Ok(false);
-        }
+impl Comparison for TableComparison {
+    /// Whether the call agrees, and what is dropped next after it.
+    fn agrees(&mut self, alloc: Global, drawn: u64) -> Result<bool, NoMemory> {
+        let is_same = call_agrees(alloc, &mut self.table, &mut self.plain, drawn)?;
+        Ok(is_same && self.table.victim() == plain_victim(&self.plain))
     }
-    Ok(true)
 }
 
 /// The id of a row's object.
@@ -101,7 +87,7 @@ fn thread_of(index: usize) -> ThreadId {
 }
 
 /// Whether the call that is drawn answers what the list tells.
-fn agrees(
+fn call_agrees(
     alloc: Global,
     table: &mut Table,
     plain: &mut Plain,

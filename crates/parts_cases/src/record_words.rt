@@ -2,8 +2,8 @@
 //! `record 3 of 1.1 | #1 Plain(0) Long(1) Ref(2) | 0.0=Ref(1) | Long(7) | Mon(1) All | Exit(Mon(1))`: the news, the sets,
 //! the printed values, the notifications and the ending.
 
-use crate::words::shown;
-use dso_base::{Body, NoMemory, Note, Set, Txn, Value};
+use case_words::{shown, with_sets, with_values};
+use dso_base::{Body, NoMemory, Note, Set, Txn};
 use std::alloc::Global;
 
 /// The object, or that there is none.
@@ -26,29 +26,6 @@ fn with_bodies(alloc: Global, text: String, bodies: &[Body]) -> Result<String, N
     let mut text = text;
     for body in bodies {
         text = with_body(alloc, text, body)?;
-    }
-    Ok(text)
-}
-
-/// The text with the values behind it.
-fn with_values(alloc: Global, text: String, values: &[Value]) -> Result<String, NoMemory> {
-    let mut text = text;
-    for value in values {
-        text = format!(in alloc; "{text} {value:?}")?;
-    }
-    Ok(text)
-}
-
-/// The text with the sets behind it.
-fn with_sets(alloc: Global, text: String, sets: &[Set]) -> Result<String, NoMemory> {
-    let mut text = text;
-    for set in sets {
-        let Set {
-            object,
-            field,
-            value,
-        } = *set;
-        text = format!(in alloc; "{text} {object}.{field}={value:?}")?;
     }
     Ok(text)
 }

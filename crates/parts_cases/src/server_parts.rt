@@ -1,7 +1,7 @@
 //! The parts of a server.
 
-use crate::words::shown;
 use crate::{locks, store_rows};
+use case_words::shown;
 use dso_base::NoMemory;
 use dso_locks::LockTable;
 use dso_store::Store;

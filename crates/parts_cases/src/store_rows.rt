@@ -2,10 +2,10 @@
 //! `set 1 8 5 0 9` (its record 8 sets element 0 of object 5 to 9), `others 1 8 5 0 9` (who is told of that record), `hold 1 5`,
 //! `unhold 1 5`, `lose 1`, `holds 1 5`, `last 1`, `object 5`, `random 7 500`.
 
-use crate::plain_store;
+use crate::plain_store::compared_stores;
 use crate::store_records::{publishing, setting};
-use crate::words::{count, debugged, first_of, number, shown, small};
-use dso_base::{Items, NoMemory, Set, Shape, Txn, Value};
+use case_words::{debugged, first_of, number, set, shown, small};
+use dso_base::{Items, NoMemory, Shape, Txn};
 use dso_store::Store;
 use std::alloc::Global;
 
@@ -25,7 +25,7 @@ pub fn told(alloc: Global, store: &mut Store, text: &str) -> Result<String, NoMe
     let (word, rest) = first_of(text);
     let (first, rest) = first_of(rest);
     if word == "random" {
-        return plain_store::compared(alloc, first, rest);
+        return compared_stores(alloc, first, rest);
     }
     if word == "object" {
         return body_of(alloc, store, first);
@@ -96,7 +96,7 @@ fn of_record(
     text: &str,
 ) -> Result<String, NoMemory> {
     let (first, rest) = first_of(text);
-    match (word, number(first), set_of(text)) {
+    match (word, number(first), set(text)) {
         ("publish", Some(object), _) if rest.is_empty() => {
             applied(
                 alloc,
@@ -120,15 +120,4 @@ fn applied(alloc: Global, store: &mut Store, client: u8, txn: Txn) -> Result<Str
 /// Who is told of the client's record.
 fn others(alloc: Global, store: &Store, client: u8, txn: Txn) -> Result<String, NoMemory> {
     debugged(alloc, store.others_holding(alloc, client, &txn)?)
-}
-
-/// A set as `5 0 9`: the object, the field, and the number that it is given.
-fn set_of(text: &str) -> Option<Set> {
-    let (object, rest) = first_of(text);
-    let (field, value) = first_of(rest);
-    Some(Set {
-        object: number(object)?,
-        field: count(field)?,
-        value: Value::Long(value.parse().ok()?),
-    })
 }

@@ -3,8 +3,8 @@
 //!
 //! An object has one field, a long. A number behind a `put` or a `set` is that of the own record that changed it.
 
-use crate::plain_table;
-use crate::words::{count, debugged, first_of, number, shown, thread};
+use crate::plain_table::compared_tables;
+use case_words::{count, debugged, first_of, long, number, shown, thread};
 use dso_base::{Body, ClassId, Items, NoMemory, Set, ThreadId, Value};
 use dso_table::Table;
 use std::alloc::Global;
@@ -13,7 +13,7 @@ use std::alloc::Global;
 pub fn told(alloc: Global, table: &mut Option<Table>, text: &str) -> Result<String, NoMemory> {
     let (word, rest) = first_of(text);
     if word == "random" {
-        return plain_table::compared(alloc, rest);
+        return compared_tables(alloc, rest);
     }
     if word == "new" {
         return made(alloc, table, rest);
@@ -168,9 +168,4 @@ fn of_thread(
         }
         _ => shown(alloc, "no such call"),
     }
-}
-
-/// The value of a field.
-fn long(word: &str) -> Option<i64> {
-    word.parse().ok()
 }

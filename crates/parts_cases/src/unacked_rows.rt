@@ -1,6 +1,6 @@
 //! The records that are not acknowledged: `add 1`, `ack 1`, `keeps 1`, `least`.
 
-use crate::words::{debugged, first_of, number, shown};
+use case_words::{debugged, first_of, number, shown};
 use dso_base::NoMemory;
 use dso_txn::Unacked;
 use std::alloc::Global;

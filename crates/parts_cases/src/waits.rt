@@ -1,6 +1,6 @@
 //! The list of waiting threads: `add 1.1`, `pick`, `remove 1.1`, `drop 2`, `move`, `all`.
 
-use crate::words::{debugged, first_of, shown, small, thread};
+use case_words::{debugged, first_of, shown, small, thread};
 use dso_base::{NoMemory, ThreadId};
 use dso_wait::WaitList;
 use std::alloc::Global;

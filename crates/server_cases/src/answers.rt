@@ -1,30 +1,8 @@
 //! How answers are written: `Done ; 1 Ack(1) ; 2 Changes 5.0=Long(7)`.
 
-use dso_base::{Body, Down, NoMemory, Set, Value};
+use case_words::{with_sets, with_values};
+use dso_base::{Body, Down, NoMemory};
 use std::alloc::Global;
-
-/// The text with the values behind it.
-fn with_values(alloc: Global, text: String, values: &[Value]) -> Result<String, NoMemory> {
-    let mut text = text;
-    for value in values {
-        text = format!(in alloc; "{text} {value:?}")?;
-    }
-    Ok(text)
-}
-
-/// The text with the sets behind it.
-fn with_sets(alloc: Global, text: String, sets: &[Set]) -> Result<String, NoMemory> {
-    let mut text = text;
-    for set in sets {
-        let Set {
-            object,
-            field,
-            value,
-        } = *set;
-        text = format!(in alloc; "{text} {object}.{field}={value:?}")?;
-    }
-    Ok(text)
-}
 
 /// The text with the object behind it.
 fn with_body(alloc: Global, text: String, body: &Body) -> Result<String, NoMemory> {

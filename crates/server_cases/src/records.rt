@@ -1,22 +1,10 @@
 //! Records, as words behind their number and thread: `+5:k0:1,null` an object published, `5.0=7` a set, `!7` a value
 //! printed, `?m5:there`, `?m5:all` or `?m5:1.2` a notification, `exit:m5`, `wait:m5`, `timeout:m5` or `end` the ending.
 
-use crate::words::{class, count, first_of, lock, number, thread, value};
-use dso_base::{Body, Choice, Ending, Items, NoMemory, Note, Set, ThreadId, Txn, Value};
+use crate::words::class;
+use case_words::{bare_record, count, ending, first_of, note, number, thread, value, value_list};
+use dso_base::{Body, Ending, NoMemory, Note, Set, Txn, Value};
 use std::alloc::Global;
-
-/// A record of the thread that prints nothing and ends it.
-fn empty(alloc: Global, seq: u64, thread: ThreadId) -> Txn {
-    Txn {
-        seq,
-        thread,
-        news: Items::new(alloc),
-        sets: Items::new(alloc),
-        outs: Items::new(alloc),
-        notes: Items::new(alloc),
-        ending: Ending::End(None),
-    }
-}
 
 /// The record of the words, None where they tell none.
 pub fn record(alloc: Global, text: &str) -> Result<Option<Txn>, NoMemory> {
@@ -25,7 +13,7 @@ pub fn record(alloc: Global, text: &str) -> Result<Option<Txn>, NoMemory> {
     let (Some(seq), Some(thread)) = (number(seq), thread(of)) else {
         return Ok(None);
     };
-    let mut txn = empty(alloc, seq, thread);
+    let mut txn = bare_record(alloc, seq, thread, Ending::End(None));
     for word in rest.split(' ') {
         if !add(alloc, &mut txn, word)? {
             return Ok(None);
@@ -51,18 +39,6 @@ fn add(alloc: Global, txn: &mut Txn, word: &str) -> Result<bool, NoMemory> {
     }
 }
 
-/// The values of a list.
-fn values(alloc: Global, text: &str) -> Result<Option<Items<Value>>, NoMemory> {
-    let mut values = Items::new(alloc);
-    for word in text.split(',') {
-        match value(word) {
-            Some(value) => values.push(value)?,
-            None => return Ok(None),
-        }
-    }
-    Ok(Some(values))
-}
-
 /// Adds an object published.
 fn add_body(alloc: Global, txn: &mut Txn, text: &str) -> Result<bool, NoMemory> {
     let Some((object, rest)) = text.split_once(':') else {
@@ -74,13 +50,10 @@ fn add_body(alloc: Global, txn: &mut Txn, text: &str) -> Result<bool, NoMemory> 
     let (Some(object), Some(class)) = (number(object), class(kind)) else {
         return Ok(false);
     };
-    let Some(values) = values(alloc, list)? else {
-        return Ok(false);
-    };
     txn.news.push(Body {
         object,
         class,
-        values,
+        values: value_list(alloc, list, ',')?,
     })?;
     Ok(true)
 }
@@ -116,15 +89,7 @@ fn add_out(txn: &mut Txn, out: Option<Value>) -> Result<bool, NoMemory> {
 /// The notification of the words.
 fn noted(text: &str) -> Option<Note> {
     let (name, whom) = text.split_once(':')?;
-    let choice = match whom {
-        "there" => Choice::There,
-        "all" => Choice::All,
-        _ => Choice::Here(thread(whom)?),
-    };
-    Some(Note {
-        lock: lock(name)?,
-        choice,
-    })
+    note(name, whom)
 }
 
 /// Adds a notification.
@@ -138,16 +103,8 @@ fn add_note(txn: &mut Txn, note: Option<Note>) -> Result<bool, NoMemory> {
 
 /// The ending of the word.
 fn ended(word: &str) -> Option<Ending> {
-    if word == "end" {
-        return Some(Ending::End(None));
-    }
-    let (how, name) = word.split_once(':')?;
-    match how {
-        "exit" => Some(Ending::Exit(lock(name)?)),
-        "wait" => Some(Ending::Wait(lock(name)?)),
-        "timeout" => Some(Ending::Timeout(lock(name)?)),
-        _ => None,
-    }
+    let (how, name) = word.split_once(':').unwrap_or((word, ""));
+    ending(how, name)
 }
 
 /// Ends the record so.

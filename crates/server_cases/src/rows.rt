@@ -9,8 +9,11 @@
 
 use crate::answers::with_messages;
 use crate::records::record;
-use crate::words::{first_of, level, lock, number, small, thread};
-use dso_base::{ClassShape, FieldShape, Guard, Items, Kind, NoMemory, Shape, ThreadId, Up};
+use case_words::{
+    class_shape, field_shape, first_of, level, lock, number, row_answer, shown, single, small,
+    thread_list,
+};
+use dso_base::{Guard, Items, Kind, NoMemory, Shape, ThreadId, Up};
 use dso_machine::{Code, ThreadBody};
 use dso_server::Server;
 use std::alloc::{AllocError, Global};
@@ -28,19 +31,13 @@ pub struct Rows {
 
 /// The shape.
 fn shape(alloc: Global) -> Result<Shape, NoMemory> {
-    let mut fields = Items::new(alloc);
-    fields.push(FieldShape {
-        kind: Kind::Long,
-        guard: Guard::Own,
-    })?;
-    fields.push(FieldShape {
-        kind: Kind::Ref,
-        guard: Guard::Name(1),
-    })?;
-    let mut classes = Items::new(alloc);
-    classes.push(ClassShape { fields })?;
+    let fields = [
+        field_shape(Kind::Long, Guard::Own),
+        field_shape(Kind::Ref, Guard::Name(1)),
+    ];
+    let class = class_shape(alloc, &fields)?;
     Ok(Shape {
-        classes,
+        classes: single(alloc, class)?,
         roots: 1,
         names: 2,
         texts: 1,
@@ -78,24 +75,13 @@ fn opened(alloc: Global) -> Result<Rows, NoMemory> {
     Ok(Rows { code, server })
 }
 
-/// The text of the words.
-fn shown(alloc: Global, words: &str) -> Result<String, NoMemory> {
-    let text = format!(in alloc; "{words}")?;
-    Ok(text)
-}
-
 /// The return of the lock with the threads.
 fn returned(alloc: Global, text: &str) -> Result<Option<Up>, NoMemory> {
     let (name, rest) = first_of(text);
     let Some(name) = lock(name) else {
         return Ok(None);
     };
-    let mut waiting = Items::new(alloc);
-    for word in rest.split(' ') {
-        if let Some(thread) = thread(word) {
-            waiting.push(thread)?;
-        }
-    }
+    let waiting = thread_list(alloc, rest)?;
     Ok(Some(Up::Return(name, waiting)))
 }
 
@@ -134,10 +120,8 @@ impl Rows {
             *self = Rows::new(alloc)?;
             return format!(in alloc; "{line}");
         };
-        match self.told(alloc, command) {
-            Ok(answer) => format!(in alloc; "{name}: {answer}"),
-            Err(NoMemory) => Err(AllocError),
-        }
+        let answer = self.told(alloc, command);
+        row_answer(alloc, name, answer)
     }
 
     /// The answer to the command.
@@ -151,11 +135,7 @@ impl Rows {
                 let messages = self.server.lose(alloc, client)?;
                 with_messages(alloc, shown(alloc, "Lost")?, messages.as_slice())
             }
-            "lost" => {
-                let lost = self.server.is_lost(client);
-                let text = format!(in alloc; "{lost}")?;
-                Ok(text)
-            }
+            "lost" => shown(alloc, self.server.is_lost(client)),
             _ => match message(alloc, rest)? {
                 Some(message) => self.taken(alloc, client, &message),
                 None => shown(alloc, "no such message"),

@@ -1,9 +1,10 @@
 //! The two ends of a connection, whose messages tell of flushed objects.
 
-use crate::words::{debugged, first_of, number_of};
-use dso_base::Up;
+use crate::words::number_of;
+use case_words::{debugged, first_of};
+use dso_base::{NoMemory, Up};
 use dso_session::{Frame, Session};
-use std::alloc::{AllocError, Global};
+use std::alloc::Global;
 
 /// Both ends.
 #[derive(Drop)]
@@ -23,7 +24,7 @@ impl Ends {
 }
 
 /// The answer to a call of one end.
-pub fn told(alloc: Global, end: &mut Session<Up>, text: &str) -> Result<String, AllocError> {
+pub fn told(alloc: Global, end: &mut Session<Up>, text: &str) -> Result<String, NoMemory> {
     let (word, rest) = first_of(text);
     match word {
         "send" => sent(alloc, end, rest),
@@ -35,7 +36,7 @@ pub fn told(alloc: Global, end: &mut Session<Up>, text: &str) -> Result<String, 
 }
 
 /// Sends a message at a clock, where its number fits.
-fn sent(alloc: Global, end: &mut Session<Up>, text: &str) -> Result<String, AllocError> {
+fn sent(alloc: Global, end: &mut Session<Up>, text: &str) -> Result<String, NoMemory> {
     let (message, rest) = number_of(text);
     let (clock, _) = number_of(rest);
     if end.sent() >= 1 << 60 {
@@ -45,7 +46,7 @@ fn sent(alloc: Global, end: &mut Session<Up>, text: &str) -> Result<String, Allo
 }
 
 /// Breaks the connection, where the epoch fits.
-fn broken(alloc: Global, end: &mut Session<Up>) -> Result<String, AllocError> {
+fn broken(alloc: Global, end: &mut Session<Up>) -> Result<String, NoMemory> {
     if end.epoch() >= 1 << 30 {
         return debugged(alloc, "too often");
     }

@@ -1,9 +1,10 @@
 //! The logs of the server and of two clients.
 
-use crate::words::{debugged, number_of};
-use dso_base::{Input, Node};
+use crate::words::number_of;
+use case_words::debugged;
+use dso_base::{Input, NoMemory, Node};
 use dso_log::{NodeLog, merge};
-use std::alloc::{AllocError, Global};
+use std::alloc::Global;
 
 /// A log for each node.
 #[derive(Drop)]
@@ -24,7 +25,7 @@ impl Logs {
     }
 
     /// Adds a flush to the log of a node, having heard a clock.
-    pub fn added(&mut self, alloc: Global, text: &str) -> Result<String, AllocError> {
+    pub fn added(&mut self, alloc: Global, text: &str) -> Result<String, NoMemory> {
         let (node, rest) = number_of(text);
         let (heard, _) = number_of(rest);
         match node {
@@ -35,15 +36,13 @@ impl Logs {
     }
 
     /// The nodes and clocks of all entries in order. The logs are new then.
-    pub fn merged(&mut self, alloc: Global) -> Result<String, AllocError> {
+    pub fn merged(&mut self, alloc: Global) -> Result<String, NoMemory> {
         let old = std::mem::replace(self, Logs::new(alloc));
         let mut logs = Vec::new(alloc);
         logs.push(old.second)?;
         logs.push(old.first)?;
         logs.push(old.server)?;
-        let Ok(journal) = merge(alloc, logs) else {
-            return Err(AllocError);
-        };
+        let journal = merge(alloc, logs)?;
         let mut places = Vec::new(alloc);
         for entry in journal.entries.as_slice() {
             places.push((entry.node, entry.clock))?;
@@ -53,15 +52,13 @@ impl Logs {
 }
 
 /// Adds a flush to the log, having heard a clock.
-fn added_to(alloc: Global, log: &mut NodeLog, heard: u64) -> Result<String, AllocError> {
+fn added_to(alloc: Global, log: &mut NodeLog, heard: u64) -> Result<String, NoMemory> {
     if heard >= 1 << 60 || log.last_clock() >= 1 << 60 {
         return debugged(alloc, "too late");
     }
-    match log.reserve() {
-        Ok(()) => debugged(
-            alloc,
-            log.add(heard, Input::Flush(1), Vec::new(alloc), None),
-        ),
-        Err(_) => Err(AllocError),
-    }
+    log.reserve()?;
+    debugged(
+        alloc,
+        log.add(heard, Input::Flush(1), Vec::new(alloc), None),
+    )
 }

@@ -18,9 +18,11 @@ mod ends;
 mod logs;
 mod words;
 
+use case_words::{first_of, row_answer};
+use dso_base::NoMemory;
 use ends::Ends;
 use logs::Logs;
-use std::alloc::{AllocError, Global};
+use std::alloc::Global;
 use std::io;
 
 fn main(rt: HostRuntime) -> io::Result<()> {
@@ -34,20 +36,21 @@ fn main(rt: HostRuntime) -> io::Result<()> {
             println!(rt; "{line}")?;
             continue;
         };
-        let answer = answered(rt.alloc(), &mut ends, &mut logs, command)?;
-        println!(rt; "{name}: {answer}")?;
+        let answer = told(rt.alloc(), &mut ends, &mut logs, command);
+        let row = row_answer(rt.alloc(), name, answer)?;
+        println!(rt; "{row}")?;
     }
     Ok(())
 }
 
 /// The answer to a command.
-fn answered(
+fn told(
     alloc: Global,
     ends: &mut Ends,
     logs: &mut Logs,
     command: &str,
-) -> Result<String, AllocError> {
-    let (word, rest) = words::first_of(command);
+) -> Result<String, NoMemory> {
+    let (word, rest) = first_of(command);
     match word {
         "server" => ends::told(alloc, &mut ends.server, rest),
         "client" => ends::told(alloc, &mut ends.client, rest),

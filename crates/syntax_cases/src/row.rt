@@ -2,9 +2,8 @@
 //!
 //! In a text `~` stands before the two hexadecimal digits of a byte, and `` `64 (` `` stands for 64 times what is behind the space.
 
-ghost use Rattle.std.specs.Prelude.{◌≤◌};
-
 use crate::tree_text::program;
+use case_words::unescaped;
 use dso_syntax::parse;
 use std::alloc::{AllocError, Global};
 use std::fmt::Write;
@@ -20,7 +19,7 @@ pub fn answered(alloc: Global, row: &str) -> Result<String, AllocError> {
     };
     answer.push_str(sentence)?;
     answer.push_str(": ")?;
-    let text = text_of(alloc, written)?;
+    let text = unescaped(alloc, written)?;
     tell(alloc, &mut answer, text.as_slice(), written.contains('`'))?;
     Ok(answer)
 }
@@ -31,57 +30,5 @@ fn tell(alloc: Global, answer: &mut String, text: &[u8], short: bool) -> Result<
         Ok(_) if short => answer.push_str("a program"),
         Ok(ast) => program(answer, &ast),
         Err(fault) => write!(answer, "{fault:?}"),
-    }
-}
-
-/// The bytes of a text as it is written in a row.
-fn text_of(alloc: Global, written: &str) -> Result<Vec<u8>, AllocError> {
-    let mut text = Vec::new(alloc);
-    let mut repeats = false;
-    for part in written.split('`') {
-        if repeats {
-            repeated(&mut text, part)?;
-        } else {
-            unescaped(&mut text, part)?;
-        }
-        repeats = !repeats;
-    }
-    Ok(text)
-}
-
-/// Adds so many times what is behind the space; nothing where there is no number before one.
-fn repeated(text: &mut Vec<u8>, part: &str) -> Result<(), AllocError> {
-    let Some((number, part)) = part.split_once(' ') else {
-        return Ok(());
-    };
-    let count: u32 = number.parse().unwrap_or(0);
-    for _ in 0..count {
-        unescaped(text, part)?;
-    }
-    Ok(())
-}
-
-/// Adds the bytes, where `~` and two hexadecimal digits stand for one.
-fn unescaped(text: &mut Vec<u8>, part: &str) -> Result<(), AllocError> {
-    for (at, piece) in part.split('~').enumerate() {
-        match piece.as_bytes() {
-            [high, low, rest @ ..] if at > 0 => {
-                text.push(16 * digit(*high) + digit(*low))?;
-                text.extend_from_slice(rest)?;
-            }
-            bytes => text.extend_from_slice(bytes)?,
-        }
-    }
-    Ok(())
-}
-
-/// The value of a hexadecimal digit, 0 of another byte.
-fn digit(byte: u8) -> u8
-    ensures { result ≤ 15 }
-{
-    match byte {
-        b'0'..=b'9' => byte - b'0',
-        b'a'..=b'f' => byte - b'a' + 10,
-        _ => 0,
     }
 }

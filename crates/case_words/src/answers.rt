@@ -1,0 +1,52 @@
+//! How answers are written.
+
+use dso_base::{NoMemory, Set, Value};
+use std::alloc::{AllocError, Global};
+use std::fmt::{Debug, Display};
+
+/// The answer as text.
+pub fn shown<T: Display + Drop>(alloc: Global, answer: T) -> Result<String, NoMemory> {
+    let text = format!(in alloc; "{answer}")?;
+    Ok(text)
+}
+
+/// The answer as Rust's own words for it.
+pub fn debugged<T: Debug + Drop>(alloc: Global, answer: T) -> Result<String, NoMemory> {
+    let text = format!(in alloc; "{answer:?}")?;
+    Ok(text)
+}
+
+/// What is printed for a row: its name, and its answer.
+pub fn row_answer(
+    alloc: Global,
+    name: &str,
+    answer: Result<String, NoMemory>,
+) -> Result<String, AllocError> {
+    match answer {
+        Ok(answer) => format!(in alloc; "{name}: {answer}"),
+        Err(NoMemory) => Err(AllocError),
+    }
+}
+
+/// The text with the values behind it.
+pub fn with_values(alloc: Global, text: String, values: &[Value]) -> Result<String, NoMemory> {
+    let mut text = text;
+    for value in values {
+        text = format!(in alloc; "{text} {value:?}")?;
+    }
+    Ok(text)
+}
+
+/// The text with the sets behind it, each as `5.0=Long(7)`.
+pub fn with_sets(alloc: Global, text: String, sets: &[Set]) -> Result<String, NoMemory> {
+    let mut text = text;
+    for set in sets {
+        let Set {
+            object,
+            field,
+            value,
+        } = *set;
+        text = format!(in alloc; "{text} {object}.{field}={value:?}")?;
+    }
+    Ok(text)
+}
