@@ -4,7 +4,6 @@ use Rattle.dso_base.specs.declared.no_memory.NoMemory.{NoMemory}
 use Rattle.dso_config.specs.declared.config.Config.{Config}
 use Rattle.dso_config.specs.declared.fault.ConfigFault.{ConfigFault}
 use Rattle.dso_config.specs.declared.fault.ConfigFault.TheVariants as fault
-use Rattle.dso_config.specs.Config.{empty}
 use Rattle.dso_config.specs.Configuration.{IsConfigurationOf, IsFaultOf}
 use Rattle.dso_io.specs.Environment.{Told, MayGive}
 use Rattle.dso_run.specs.declared.verdict.Verdict.{Verdict}
@@ -17,7 +16,6 @@ use Rattle.dso_run.specs.Accepted.{IsConfigRefusal}
 use Rattle.dso_run.specs.Headline.{CallInput, HasCause, IsAccepted, most_read}
 use Rattle.dso_run.specs.Verdict.{IsVerdictOnFiles, IsVerdictOnGiven, IsVerdictOnProgram, IsVerdictOnTexts}
 use Rattle.dso_words.specs.Words.{AreLawful, Sim, SimCall}
-use Rattle.dso_run.proofs.ConfigFaults.{never_unbuilt}
 
 -- A configuration that has a fault is refused for it.
 pub fault_refused : (config program : List ℕ) (wrong : ConfigFault) → wrong ≢ fault.NoMemory → IsFaultOf config wrong → IsConfigRefusal config program wrong
@@ -30,7 +28,7 @@ fault_refused config program (fault.BadGuard spot) enough is = is
 fault_refused config program (fault.Twice spot) enough is = is
 fault_refused config program fault.TooLong enough is = is
 fault_refused config program (fault.BadName spot) enough is = is
-fault_refused config program fault.NotBuilt enough is = absurd (never_unbuilt config is)
+fault_refused config program fault.NotBuilt enough is = is
 fault_refused config program fault.NoMemory enough is = absurd (enough refl)
 
 -- what a program's text comes to under the configuration is what the texts come to
@@ -38,19 +36,9 @@ module _ (config_text program_text : List ℕ) (config : Config) (says : IsConfi
   texts_on : (verdict : Verdict) → IsVerdictOnProgram config program_text verdict → IsVerdictOnTexts config_text program_text verdict
   texts_on (Refused Words) never = absurd never
   texts_on (Refused Reading) never = absurd never
-  texts_on (Refused (refusal.Config fault.NotToml)) never = absurd never
-  texts_on (Refused (refusal.Config (fault.UnknownKey spot))) never = absurd never
-  texts_on (Refused (refusal.Config (fault.WrongKind spot))) never = absurd never
-  texts_on (Refused (refusal.Config (fault.OutOfRange spot))) never = absurd never
-  texts_on (Refused (refusal.Config (fault.BadMethodPattern spot))) never = absurd never
-  texts_on (Refused (refusal.Config (fault.BadGuard spot))) never = absurd never
-  texts_on (Refused (refusal.Config (fault.Twice spot))) never = absurd never
-  texts_on (Refused (refusal.Config fault.TooLong)) never = absurd never
-  texts_on (Refused (refusal.Config (fault.BadName spot))) never = absurd never
-  texts_on (Refused (refusal.Config fault.NoMemory)) never = absurd never
-  texts_on (Refused (refusal.Config fault.NotBuilt)) is = record { config = config; says = says; holds = is }
+  texts_on (Refused (refusal.Config wrong)) never = absurd never
   texts_on (Refused (Program which)) is = record { config = config; says = says; holds = is }
-  texts_on (Accepted p) is = (subst (IsConfigurationOf config_text) is.0 says, is.1)
+  texts_on (Accepted p) is = record { config = config; says = says; holds = is }
 
   pub texts_if_ok : (result : Result Verdict NoMemory) → IfOk result (IsVerdictOnProgram config program_text)
       → IfOk result (IsVerdictOnTexts config_text program_text)
@@ -112,12 +100,10 @@ module _ (input : CallInput) (call : SimCall) (words : AreLawful input.words (Si
   }
 
   -- a program that is taken is accepted
-  pub accepted_of : (p : whole.Program) → IsVerdictOnFiles input.content failed call.config call.program (Accepted p) → IsAccepted input p call.steps
+  pub accepted_of : (p : whole.Program) → IsVerdictOnFiles input.content failed call.config call.program (Accepted p) → IsAccepted input call p
   accepted_of p is = record {
-    call = call;
     config = is.config_text;
     program = is.program_text;
     read = record { words = words; config_given = is.config_given; program_given = is.program_given };
     taken = is.verdict;
-    bounded = refl;
   }

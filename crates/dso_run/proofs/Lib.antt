@@ -1,5 +1,5 @@
-pub mod first_path
-pub mod ConfigFaults
+pub mod runs
+pub mod Completing
 pub mod Judging
 pub mod Replaying
 pub mod StatusMeaning

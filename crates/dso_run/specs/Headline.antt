@@ -1,7 +1,7 @@
 -- The program's theorem: what each status of a call means, from the bytes that were read to those that were written.
 -- `StatusMeans`, at the end, is the clause `answer` of `dso_main`. What it is made of stands above it, in the order of
 -- the work.
-use Rattle.std.specs.Prelude.{◌≡◌, ℕ, suc, ◌⊎◌, List, [], Option, reverse}
+use Rattle.std.specs.Prelude.{◌≡◌, ℕ, suc, ◌⊎◌, true, false, List, [], Option, reverse}
 use Rattle.dso_base.specs.declared.journal.Entry.{Entry}
 use Rattle.dso_base.specs.declared.lock.ThreadId.{ThreadId}
 use Rattle.dso_base.specs.declared.request.Event.{Event}
@@ -13,19 +13,19 @@ use Rattle.dso_legal.specs.Committed.{committed}
 use Rattle.dso_machine.specs.Next.{next_request}
 use Rattle.dso_plain.specs.History.{last_state}
 use Rattle.dso_report.specs.Report.{IsReport}
-use Rattle.dso_run.specs.declared.cluster.Outcome.{Outcome}
-use Rattle.dso_run.specs.declared.cluster.Outcome.TheVariants as outcome
+use Rattle.dso_run.specs.declared.running.Outcome.{Outcome}
+use Rattle.dso_run.specs.declared.running.Outcome.TheVariants as outcome
 use Rattle.dso_config.specs.declared.fault.ConfigFault.{ConfigFault}
 use Rattle.dso_run.specs.declared.status.ProgramFault.{ProgramFault}
 use Rattle.dso_run.specs.declared.status.Refusal.{Refusal}
 use Rattle.dso_run.specs.declared.status.Refusal.TheVariants as refusal
 use Rattle.dso_run.specs.declared.status.Status.{Status}
-use Rattle.dso_run.specs.declared.status.Status.TheVariants.{Finished, Usage, BadConfig, BadProgram}
+use Rattle.dso_run.specs.declared.status.Status.TheVariants.{Finished, FinishedFault, Usage, BadConfig, BadProgram}
 use Rattle.dso_run.specs.declared.status.Status.TheVariants.{ReadFault, WriteFault, Stuck, Budget, NoMemory}
 use Rattle.dso_syntax.specs.TextLimits.{longest_text}
 use Rattle.dso_run.specs.Accepted.{settings_of, AreTaken, IsConfigRefusal, IsProgramRefusal}
 use Rattle.dso_io.specs.Environment.{Told, MayGive, Rose, taken_after, TookPrefix}
-use Rattle.dso_run.specs.RoundRobin.{EndsFinished, EndsStuck, EndsOverBudget}
+use Rattle.dso_run.specs.RunEnds.{EndsFinished, EndsStuck, EndsOverBudget}
 use Rattle.dso_run.specs.Status.{line_of}
 use Rattle.dso_words.specs.Words.{AreLawful, AreUnlawful, Sim, SimCall}
 
@@ -59,14 +59,12 @@ module _ (input : CallInput) where
     pub config_given : MayGive (input.content call.config) most_read config
     pub program_given : MayGive (input.content call.program) most_read program
 
-  -- Both files were read, and their texts are taken as this program, for a run of at most so many steps.
-  pub record IsAccepted (p : Program) (steps : ℕ) : Type 0 where
-    pub call : SimCall
+  -- The words ask for this run, both files were read, and their texts are taken as this program.
+  pub record IsAccepted (call : SimCall) (p : Program) : Type 0 where
     pub config : List ℕ
     pub program : List ℕ
     pub read : WereRead call config program
     pub taken : AreTaken config program p
-    pub bounded : steps ≡ call.steps
 
   -- The words are lawful, and a read failed.
   pub record IsUnread : Type 0 where
@@ -97,26 +95,30 @@ module _ (input : CallInput) where
   HasCause (refusal.Config fault) = IsConfigRefused fault
   HasCause (refusal.Program fault) = IsProgramRefused fault
 
--- THE RUN, for the settings of a program, what each of its threads asks next after its events, and a budget: how much
--- its journal may weigh before it is cut off. Entries stand with the newest first.
-module _ (p : Settings) (next : ThreadId → List Event → Option Request) (budget : ℕ) where
-  -- The entries are a lawful journal that was made by round robin within the budget, and the run ended so: finished, or
-  -- stuck, or out of its budget.
+-- THE RUN, for the settings of a program, what each of its threads asks next after its events, round robin or a seed,
+-- and a budget: how much its journal may weigh before it is cut off. Entries stand with the newest first.
+module _ (p : Settings) (next : ThreadId → List Event → Option Request) (seed : Option ℕ) (budget : ℕ) where
+  -- The entries are a lawful journal that was made by the schedule within the budget, and the run ended so: finished,
+  -- without a fault of a kept thread or with one, or stuck, or out of its budget.
   abbrev pub EndsAs : Outcome → List Entry → Type 0
-  EndsAs outcome.Finished es = EndsFinished p next budget es
-  EndsAs outcome.Stuck es = EndsStuck p next budget es
-  EndsAs outcome.Budget es = EndsOverBudget p next budget es
+  EndsAs outcome.Finished es = EndsFinished p next seed budget false es
+  EndsAs outcome.FinishedFault es = EndsFinished p next seed budget true es
+  EndsAs outcome.Stuck es = EndsStuck p next seed budget es
+  EndsAs outcome.Budget es = EndsOverBudget p next seed budget es
 
   -- A run that ended so. What its journal commits is a legal history of one heap with plain monitors, in which each
-  -- thread follows the program. The history has the first of each thread's events, each once and in order, and all of them
-  -- where the run is finished, but for whom the server chose to wake.
+  -- thread follows the program. The history has the first of each thread's events, each once and in order, and all of
+  -- a kept thread's where the run is finished, but for whom the server chose to wake; of a lost client it has the
+  -- blocks of its first endings, and of what was cut nothing.
   pub record HasRun (outcome : Outcome) (es : List Entry) : Type 0 where
     pub ended : EndsAs outcome es
     pub commits : CommitsLegally p next es
 
--- the journal, its first entry first, is that of a run of this program within this budget that ended so
-abbrev pub IsRunOf : Program → ℕ → Outcome → List Entry → Type 0
-IsRunOf p budget outcome journal = HasRun (settings_of p) (next_request p.code) budget outcome (reverse journal)
+-- the journal, its first entry first, is that of a run of this program by this schedule within this budget that ended
+-- so
+abbrev pub IsRunOf : Program → Option ℕ → ℕ → Outcome → List Entry → Type 0
+IsRunOf p seed budget outcome journal =
+    HasRun (settings_of p) (next_request p.code) seed budget outcome (reverse journal)
 
 -- the text is the report of the history that the journal commits, with the program's names
 abbrev pub IsRunReport : Program → List Entry → List ℕ → Type 0
@@ -128,10 +130,10 @@ module _ (input : CallInput) (output : CallOutput) where
   -- A program was accepted, the journal is that of a run of it that ended so, and the text is the report of what the
   -- journal commits.
   pub record IsReportDue (outcome : Outcome) (text : List ℕ) : Type 0 where
+    pub call : SimCall
     pub program : Program
-    pub steps : ℕ
-    pub accepted : IsAccepted input program steps
-    pub ran : IsRunOf program steps outcome output.journal
+    pub accepted : IsAccepted input call program
+    pub ran : IsRunOf program call.seed call.steps outcome output.journal
     pub is_report : IsRunReport program output.journal text
 
   -- The refusal has its cause, the text is its line, and nothing was run.
@@ -165,6 +167,7 @@ module _ (input : CallInput) (output : CallOutput) where
   -- WHAT EACH STATUS MEANS
   abbrev pub StatusMeans : Status → Type 0
   StatusMeans Finished = WroteWhole (IsReportDue outcome.Finished)
+  StatusMeans FinishedFault = WroteWhole (IsReportDue outcome.FinishedFault)
   StatusMeans Stuck = WroteWhole (IsReportDue outcome.Stuck)
   StatusMeans Budget = WroteWhole (IsReportDue outcome.Budget)
   StatusMeans Usage = WroteWhole (IsLineDue refusal.Words)

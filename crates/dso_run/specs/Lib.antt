@@ -1,7 +1,9 @@
 pub mod Accepted
+pub mod Completeness
+pub mod Failing
 pub mod Headline
-pub mod RoundRobin
+pub mod RunEnds
 pub mod Status
+pub mod Stepping
 pub mod Verdict
 pub mod Writing
-pub mod first_path

@@ -7,8 +7,8 @@ use Rattle.dso_class.specs.declared.fault.NameKind.{NameKind}
 use Rattle.dso_class.specs.declared.fault.NameKind.TheVariants as kind
 use Rattle.dso_syntax.specs.declared.fault.SyntaxFault.{SyntaxFault}
 use Rattle.dso_syntax.specs.declared.fault.SyntaxFault.TheVariants as syntax
-use Rattle.dso_run.specs.declared.cluster.Outcome.{Outcome}
-use Rattle.dso_run.specs.declared.cluster.Outcome.TheVariants as outcome
+use Rattle.dso_run.specs.declared.running.Outcome.{Outcome}
+use Rattle.dso_run.specs.declared.running.Outcome.TheVariants as outcome
 use Rattle.dso_run.specs.declared.status.ProgramFault.{ProgramFault}
 use Rattle.dso_config.specs.declared.fault.ConfigFault.{ConfigFault}
 use Rattle.dso_config.specs.declared.fault.ConfigFault.TheVariants as config
@@ -20,7 +20,7 @@ use Rattle.dso_run.specs.declared.status.ProgramFault.TheVariants as program
 use Rattle.dso_run.specs.declared.status.Refusal.{Refusal}
 use Rattle.dso_run.specs.declared.status.Refusal.TheVariants.{Words, Reading, Config, Program}
 use Rattle.dso_run.specs.declared.status.Status.{Status}
-use Rattle.dso_run.specs.declared.status.Status.TheVariants.{Finished, Usage, BadConfig, BadProgram}
+use Rattle.dso_run.specs.declared.status.Status.TheVariants.{Finished, FinishedFault, Usage, BadConfig, BadProgram}
 use Rattle.dso_run.specs.declared.status.Status.TheVariants.{ReadFault, WriteFault, Stuck, Budget, NoMemory}
 
 -- the number that the process ends with
@@ -34,10 +34,12 @@ exit_number_of WriteFault = 5
 exit_number_of Stuck = 6
 exit_number_of Budget = 7
 exit_number_of NoMemory = 8
+exit_number_of FinishedFault = 9
 
 -- the status of a run that ended so
 abbrev pub status_of_run : Outcome → Status
 status_of_run outcome.Finished = Finished
+status_of_run outcome.FinishedFault = FinishedFault
 status_of_run outcome.Stuck = Stuck
 status_of_run outcome.Budget = Budget
 
@@ -89,7 +91,6 @@ name_text name.NoMemory = []
 
 -- what is said of a fault of the program
 abbrev pub fault_text : ProgramFault → List ℕ
-fault_text program.NotBuilt = codes "NotBuilt"
 fault_text (program.Syntax fault) = syntax_text fault
 fault_text (program.Name fault) = name_text fault
 

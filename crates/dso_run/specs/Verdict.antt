@@ -1,32 +1,27 @@
 -- The verdict on the two files: why nothing is run, or which program is accepted.
-use Rattle.std.specs.Prelude.{◌≡◌, ℕ, List}
+use Rattle.std.specs.Prelude.{ℕ, List}
 use Rattle.dso_config.specs.declared.config.Config.{Config}
-use Rattle.dso_config.specs.declared.fault.ConfigFault.TheVariants as config_fault
-use Rattle.dso_config.specs.Config.{empty}
 use Rattle.dso_syntax.specs.declared.tree.Ast.{Ast}
 use Rattle.dso_run.specs.declared.status.Refusal.TheVariants as refusal
 use Rattle.dso_run.specs.declared.verdict.Verdict.{Verdict}
 use Rattle.dso_run.specs.declared.verdict.Verdict.TheVariants.{Refused, Accepted}
-use Rattle.dso_run.specs.Accepted.{AreTaken, IsConfigRefusal, IsProgramRefusal, IsTaken, IsTakenText}
-use Rattle.dso_run.specs.Accepted.{IsTextFault, IsTreeFault, IsUnbuiltCluster}
+use Rattle.dso_run.specs.Accepted.{AreTaken, IsConfigRefusal, IsProgramRefusal, IsResolved}
+use Rattle.dso_run.specs.Accepted.{IsTakenText, IsTextFault, IsTreeFault}
 use Rattle.dso_io.specs.Environment.{Told, MayGive}
 use Rattle.dso_run.specs.Headline.{most_read}
-use Rattle.dso_form.specs.Spelling.{IsPlainlySpelled}
 
 -- UNDER A CONFIGURATION
 module _ (config : Config) where
-  -- what a text of this tree comes to: it is refused for a fault, or taken as a program where it is spelled so
-  abbrev pub IsVerdictOnTree : List ℕ → Ast → Verdict → Type 0
-  IsVerdictOnTree text tree (Refused (refusal.Config config_fault.NotBuilt)) = IsUnbuiltCluster config text
-  IsVerdictOnTree text tree (Refused (refusal.Program fault)) = IsTreeFault config text tree fault
-  IsVerdictOnTree text tree (Accepted p) = (config ≡ empty) × IsTaken tree p × IsPlainlySpelled text tree
-  IsVerdictOnTree text tree verdict = ⊥
+  -- what a tree comes to: it is refused for a fault of its names, or taken as a program
+  abbrev pub IsVerdictOnTree : Ast → Verdict → Type 0
+  IsVerdictOnTree tree (Refused (refusal.Program fault)) = IsTreeFault config tree fault
+  IsVerdictOnTree tree (Accepted p) = IsResolved config tree p
+  IsVerdictOnTree tree verdict = ⊥
 
   -- what a program's text comes to
   abbrev pub IsVerdictOnProgram : List ℕ → Verdict → Type 0
-  IsVerdictOnProgram text (Refused (refusal.Config config_fault.NotBuilt)) = IsUnbuiltCluster config text
   IsVerdictOnProgram text (Refused (refusal.Program fault)) = IsTextFault config text fault
-  IsVerdictOnProgram text (Accepted p) = (config ≡ empty) × IsTakenText text p
+  IsVerdictOnProgram text (Accepted p) = IsTakenText config text p
   IsVerdictOnProgram text verdict = ⊥
 
 -- what the texts of a configuration and of a program come to

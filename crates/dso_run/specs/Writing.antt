@@ -2,10 +2,10 @@
 use Rattle.std.specs.Prelude.{◌≡◌, ◌⊎◌, ℕ, List, [], Option}
 use Rattle.dso_base.specs.declared.journal.Entry.{Entry}
 use Rattle.dso_class.specs.declared.program.Program.{Program}
-use Rattle.dso_run.specs.declared.cluster.Outcome.{Outcome}
-use Rattle.dso_run.specs.declared.cluster.Outcome.TheVariants as outcome
+use Rattle.dso_run.specs.declared.running.Outcome.{Outcome}
+use Rattle.dso_run.specs.declared.running.Outcome.TheVariants as outcome
 use Rattle.dso_run.specs.declared.status.Status.{Status}
-use Rattle.dso_run.specs.declared.status.Status.TheVariants.{Finished, WriteFault, Stuck, Budget, NoMemory}
+use Rattle.dso_run.specs.declared.status.Status.TheVariants.{Finished, FinishedFault, WriteFault, Stuck, Budget, NoMemory}
 use Rattle.dso_io.specs.Environment.{taken_after, TookPrefix}
 use Rattle.dso_run.specs.Headline.{IsRunOf, IsRunReport}
 
@@ -16,19 +16,20 @@ Wrote before now sink_rose text status answer =
     ((answer ≡ status) × (now ≡ taken_after before text))
     ⊎ ((answer ≡ WriteFault) × TookPrefix before text now × sink_rose)
 
--- How many steps the run may make; what the sink had taken before, and has taken now; that its count of faults rose; the journal.
-module _ (steps : ℕ) (p : Program) (before now : Option (List ℕ)) (sink_rose : Type 0) (journal : List Entry) where
+-- By round robin or a seed, and how many steps the run may make; its program; what the sink had taken before, and has
+-- taken now; that its count of faults rose; the journal.
+module _ (seed : Option ℕ) (steps : ℕ) (p : Program) (before now : Option (List ℕ)) (sink_rose : Type 0) (journal : List Entry) where
   -- the run ended so, and the report of what it commits was written whole
   abbrev pub WroteWholeReport : Outcome → Type 0
   WroteWholeReport outcome =
-      IsRunOf p steps outcome journal
+      IsRunOf p seed steps outcome journal
       × ((report : List ℕ) × IsRunReport p journal report × (now ≡ taken_after before report))
 
-  -- the run ended in one of the three ways, and a prefix of the report of what it commits was written
+  -- the run ended in one of the four ways, and a prefix of the report of what it commits was written
   abbrev pub WroteReportPrefix : Type 0
   WroteReportPrefix =
       ((report : List ℕ) × IsRunReport p journal report × TookPrefix before report now)
-      × sink_rose × ((outcome : Outcome) × IsRunOf p steps outcome journal)
+      × sink_rose × ((outcome : Outcome) × IsRunOf p seed steps outcome journal)
 
   -- The report of what the run commits was written: whole, with the run's outcome for an answer, or a prefix; or memory
   -- ran out before.
@@ -36,6 +37,7 @@ module _ (steps : ℕ) (p : Program) (before now : Option (List ℕ)) (sink_rose
   WroteReport NoMemory = (now ≡ before) × (journal ≡ [])
   WroteReport WriteFault = WroteReportPrefix
   WroteReport Finished = WroteWholeReport outcome.Finished
+  WroteReport FinishedFault = WroteWholeReport outcome.FinishedFault
   WroteReport Stuck = WroteWholeReport outcome.Stuck
   WroteReport Budget = WroteWholeReport outcome.Budget
   WroteReport answer = ⊥

@@ -1,19 +1,15 @@
 //! The top call: from the words and the files to what is printed.
 #![tactic(auto)]
 
-mod client;
-mod cluster;
-mod known;
+mod failing;
 pub mod laws;
 mod main_call;
 mod refusal_lines;
 mod replay;
 mod report;
-mod server;
+mod running;
 mod status;
-mod turn;
 mod verdict;
-mod weighing;
 
 pub use main_call::dso_main;
 pub use status::{Done, ProgramFault, Status};

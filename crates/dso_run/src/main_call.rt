@@ -1,17 +1,16 @@
 ghost use Rattle.std.specs.Prelude.{◌≡◌, ℕ, ◌≤◌, List, [], Option, map, IfOk};
 ghost use Rattle.std.specs.String.{string_bytes};
-ghost use Rattle.dso_syntax.specs.declared.tree.Ast.{Ast};
-ghost use Rattle.dso_run.specs.Accepted.{IsTaken};
+ghost use Rattle.dso_class.specs.Sound.{IsSound};
 ghost use Rattle.dso_io.specs.Environment.{Rose};
-ghost use Rattle.dso_run.specs.Headline.{StatusMeans, IsRunOf, IsUsage};
+ghost use Rattle.dso_run.specs.Headline.{StatusMeans, IsUsage};
 ghost use Rattle.dso_run.specs.Status.{HasLine, line_of, status_of, status_of_run};
 ghost use Rattle.dso_run.specs.Verdict.{IsVerdictOnFiles};
 ghost use Rattle.dso_words.specs.Words.{AreLawful, AreUnlawful, Sim};
 ghost use Rattle.dso_run.specs.Writing.{Wrote, WroteReport};
 
-use crate::cluster::{Outcome, Run, run_program};
 use crate::refusal_lines::line_of;
 use crate::report::report;
+use crate::running::{Outcome, Schedule, run_program};
 use crate::status::Refusal;
 use crate::verdict::{Verdict, judge_texts};
 use crate::{Done, Status};
@@ -67,22 +66,18 @@ fn refuse<K: Sink>(refusal: Refusal, out: &mut K) -> Status
     }
 }
 
-/// Runs a program that is taken, for at most so many steps.
-fn run(alloc: Global, program: &Program, steps: u64) -> Result<Run, NoMemory>
-    requires taken { (tree : Ast) × IsTaken tree program.now }
-    requires steps { steps ≤ BUDGET }
-    ensures { IfOk result (λ run. IsRunOf program.now steps run.outcome run.journal.entries) }
+/// Runs a program by this schedule, and writes the report of what was committed.
+fn run_and_report<K: Sink>(
+    alloc: Global,
+    program: &Program,
+    out: &mut K,
+    schedule: Schedule,
+) -> Done
+    requires sound { IsSound program.now }
+    requires steps { schedule.steps ≤ BUDGET }
+    ensures { WroteReport schedule.seed schedule.steps program.now (K.taken out.old) (K.taken out.new) (Rose (K.faults out.old) (K.faults out.new)) result.journal.entries result.status }
 {
-    run_program(alloc, &program.code, steps)
-}
-
-/// Runs a program that is taken, for at most so many steps, and writes the report of what was committed.
-fn run_and_report<K: Sink>(alloc: Global, program: &Program, out: &mut K, steps: u64) -> Done
-    requires taken { (tree : Ast) × IsTaken tree program.now }
-    requires steps { steps ≤ BUDGET }
-    ensures { WroteReport steps program.now (K.taken out.old) (K.taken out.new) (Rose (K.faults out.old) (K.faults out.new)) result.journal.entries result.status }
-{
-    let Ok(run) = run(alloc, program, steps) else {
+    let Ok(run) = run_program(alloc, program, schedule) else {
         return nothing_ran(alloc, Status::NoMemory);
     };
     let Ok(text) = report(alloc, program, &run.journal) else {
@@ -104,6 +99,7 @@ fn status_of_run(outcome: Outcome) -> Status
 {
     match outcome {
         Outcome::Finished => Status::Finished,
+        Outcome::FinishedFault => Status::FinishedFault,
         Outcome::Stuck => Status::Stuck,
         Outcome::Budget => Status::Budget,
     }
@@ -125,7 +121,7 @@ fn nothing_ran(alloc: Global, status: Status) -> Done
 /// Does all that the program does: it reads the words and the files, runs the program and writes what is to be printed.
 ///
 /// The words are those after the program's name. The order is: the words, reading the configuration, reading the
-/// program, judging the configuration, judging the program, what isn't built of the two, the run, writing. Clause
+/// program, judging the configuration, judging the program, the run, writing. Clause
 /// `answer` is the table of the statuses: what each means of the words, the files, the journal and the sink. So each
 /// status has its cause, and where the cause of one is there no other can be answered but `WriteFault`, where the sink's
 /// count rose, and `NoMemory`, where an allocation was refused.
@@ -162,10 +158,11 @@ pub fn dso_main<F: Files, K: Sink>(
             Command::Sim {
                 config,
                 program,
+                seed,
                 steps,
                 ..
             },
-        ) => simulate(alloc, config, program, steps, files, out),
+        ) => simulate(alloc, config, program, Schedule { seed, steps }, files, out),
         _ => nothing_ran(alloc, refuse(Refusal::Words, out)),
     }
 }
@@ -175,13 +172,13 @@ fn simulate<F: Files, K: Sink>(
     alloc: Global,
     config: &str,
     program: &str,
-    steps: u64,
+    schedule: Schedule,
     files: &mut F,
     out: &mut K,
 ) -> Done
-    requires { steps ≤ BUDGET }
-    ensures answer { (words : List (List ℕ)) (seed : Option ℕ) (journal : Option (List ℕ))
-        → AreLawful words (Sim (record { config = config.now; program = program.now; seed = seed; steps = steps; journal = journal }))
+    requires { schedule.steps ≤ BUDGET }
+    ensures answer { (words : List (List ℕ)) (journal : Option (List ℕ))
+        → AreLawful words (Sim (record { config = config.now; program = program.now; seed = schedule.seed; steps = schedule.steps; journal = journal }))
         → StatusMeans
         (record {
           words = words;
@@ -201,7 +198,7 @@ fn simulate<F: Files, K: Sink>(
 {
     match judge(alloc, config, program, files) {
         Ok(Verdict::Refused(refusal)) => nothing_ran(alloc, refuse(refusal, out)),
-        Ok(Verdict::Accepted(program)) => run_and_report(alloc, &program, out, steps),
+        Ok(Verdict::Accepted(program)) => run_and_report(alloc, &program, out, schedule),
         Err(NoMemory) => nothing_ran(alloc, Status::NoMemory),
     }
 }

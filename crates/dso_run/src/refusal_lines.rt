@@ -97,7 +97,6 @@ fn program_line(fault: ProgramFault) -> Line
     match fault {
         ProgramFault::Syntax(fault) => syntax_line(fault),
         ProgramFault::Name(fault) => name_line(fault),
-        ProgramFault::NotBuilt => line("dsorun: BadProgram NotBuilt\n"),
     }
 }
 

@@ -16,16 +16,15 @@ pub enum ProgramFault {
     /// Its names break a rule.
     #[error("a name of the program breaks a rule: {0}")]
     Name(NameFault),
-    /// It asks for what isn't built yet.
-    #[error("the program asks for something that is not built yet")]
-    NotBuilt,
 }
 
 /// How a call of the program ended.
 #[derive(Clone, Copy, Debug, PartialEq, Eq)]
 pub enum Status {
-    /// Every thread ended, and no message is in flight.
+    /// Every thread of a client that wasn't lost ended, none of them by a fault, and no message is in flight.
     Finished,
+    /// The same, but some thread of a client that wasn't lost ended by a fault.
+    FinishedFault,
     /// The words are none that the program takes.
     Usage,
     /// The configuration is refused.
@@ -59,6 +58,7 @@ impl Status {
             Status::Stuck => 6,
             Status::Budget => 7,
             Status::NoMemory => 8,
+            Status::FinishedFault => 9,
         }
     }
 }

@@ -5,7 +5,6 @@ ghost use Rattle.dso_syntax.specs.Grammar.{Tokens};
 ghost use Rattle.dso_syntax.specs.TextLimits.{most_levels};
 ghost use Rattle.dso_syntax.specs.ProgramGrammar.{IsProgram};
 ghost use Rattle.dso_run.specs.declared.status.Refusal.TheVariants as refusal;
-ghost use Rattle.dso_run.specs.Accepted.{HasTree, IsResolved};
 ghost use Rattle.dso_run.specs.Verdict.{IsVerdictOnProgram, IsVerdictOnTexts, IsVerdictOnTree};
 
 use crate::ProgramFault;
@@ -13,7 +12,6 @@ use crate::status::Refusal;
 use dso_base::NoMemory;
 use dso_class::{NameFault, Program, resolve};
 use dso_config::{Config, ConfigFault, read_config};
-use dso_form::{has_unbuilt, is_of_form, says_nothing};
 use dso_syntax::{Ast, SyntaxFault, parse};
 use std::alloc::Global;
 
@@ -35,46 +33,30 @@ pub(crate) fn judge_texts(alloc: Global, config: &[u8], program: &[u8]) -> Resul
     }
 }
 
-/// Judges the bytes of a program: by the grammar, by its names under the configuration, and by what is built.
+/// Judges the bytes of a program: by the grammar, and by its names under the configuration.
 fn judge_program(alloc: Global, config: &Config, text: &[u8]) -> Result<Verdict, NoMemory>
     requires { IsInRange config.now }
     ensures { IfOk result (IsVerdictOnProgram config.now text.now) }
 {
     match parse(alloc, text) {
-        Ok(tree) => judge_tree(alloc, config, text, &tree),
+        Ok(tree) => judge_tree(alloc, config, &tree),
         Err(SyntaxFault::NoMemory) => Err(NoMemory),
         Err(fault) => Ok(refused(ProgramFault::Syntax(fault))),
     }
 }
 
-/// Judges a text of this tree: by its names under the configuration, and by what is built.
-fn judge_tree(alloc: Global, config: &Config, text: &[u8], tree: &Ast) -> Result<Verdict, NoMemory>
+/// Judges the tree of a program by its names under the configuration.
+fn judge_tree(alloc: Global, config: &Config, tree: &Ast) -> Result<Verdict, NoMemory>
     requires in_range { IsInRange config.now }
     requires program { (tokens : Tokens) × IsProgram most_levels tokens tree.now }
-    requires has_tree { HasTree text.now tree.now }
-    ensures { IfOk result (IsVerdictOnTree config.now text.now tree.now) }
+    ensures { IfOk result (IsVerdictOnTree config.now tree.now) }
 {
     match resolve(alloc, tree, config) {
-        Ok(program) => Ok(judge_code(config, text, tree, program)),
+        Ok(program) => Ok(Verdict::Accepted(program)),
         Err(NameFault::NoMemory) => Err(NoMemory),
         Err(NameFault::At { kind, line }) => {
             Ok(refused(ProgramFault::Name(NameFault::At { kind, line })))
         }
-    }
-}
-
-/// Judges a program by what is built: the configuration asks for nothing that isn't, and the program is taken where the
-/// configuration says nothing and the text is of the first path's form.
-fn judge_code(config: &Config, text: &[u8], tree: &Ast, program: Program) -> Verdict
-    requires { HasTree text.now tree.now }
-    ensures { IsResolved config.now tree.now program → IsVerdictOnTree config.now text.now tree.now result }
-{
-    if has_unbuilt(config) {
-        Verdict::Refused(Refusal::Config(ConfigFault::NotBuilt))
-    } else if says_nothing(config) && is_of_form(text, tree, &program.code) {
-        Verdict::Accepted(program)
-    } else {
-        refused(ProgramFault::NotBuilt)
     }
 }
 

@@ -1,15 +1,20 @@
 //! The cases of the top call: reads settings and trials from standard input, and prints what each trial comes to.
 //!
-//! A line is a word, a space and the rest. `try NAME` calls the program with what the lines before it set, and prints the
-//! name, the status, the exit number and the bytes that the sink took; `journal NAME` prints the journal too, `reason NAME`
-//! only why nothing was run. Then all but the program is set back. `words LINE` tells what becomes of a command line. The
-//! other words are those of `Trial::set`. In texts `\n`, `\t`, `\r` and `\1` stand for bytes.
+//! A line is a word, a space and the rest. `try NAME` calls the program with what the lines before it set, and
+//! prints the name, the status, the exit number and the bytes that the sink took; `journal NAME` prints the journal
+//! too, `reason NAME` only why nothing was run. `seeds NAME` calls it by round robin and by seeds 0 to 9, and
+//! prints what differs from the call before; `afters NAME` does so with the numbers 0 to 60 in the place of `K` in
+//! the configuration; `sends NAME` prints for each schedule how many leases are granted and recalled, and how many
+//! objects are flushed. Then all but the program is set back. `words LINE` tells what becomes of a command line.
+//! The other words are those of `Trial::set`. In texts `\n`, `\t`, `\r` and `\1` stand for bytes.
 #![tactic(auto)]
 
 mod trial;
+mod variants;
 
 use std::io;
 use trial::{Trial, show_journal, show_reason, show_trial, show_words};
+use variants::{show_afters, show_seeds, show_sends};
 
 fn main(rt: HostRuntime) -> io::Result<()> {
     let text = io::read_to_string(rt.alloc(), rt.reader())?;
@@ -26,6 +31,18 @@ fn main(rt: HostRuntime) -> io::Result<()> {
             }
             Some(("reason", name)) => {
                 show_reason(&rt, name, &trial)?;
+                trial = Trial::of_program(trial.program);
+            }
+            Some(("seeds", name)) => {
+                show_seeds(&rt, name, &trial)?;
+                trial = Trial::of_program(trial.program);
+            }
+            Some(("afters", name)) => {
+                show_afters(&rt, name, &trial)?;
+                trial = Trial::of_program(trial.program);
+            }
+            Some(("sends", name)) => {
+                show_sends(&rt, name, &trial)?;
                 trial = Trial::of_program(trial.program);
             }
             Some(("words", line)) => show_words(&rt, line)?,

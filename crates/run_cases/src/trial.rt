@@ -13,8 +13,8 @@ const ROOM: usize = 4096;
 #[derive(Clone, Copy)]
 pub struct Trial<'a> {
     /// The command line, with the program's name first and a space between two words.
-    line: &'a str,
-    config: &'a str,
+    pub line: &'a str,
+    pub config: &'a str,
     pub program: &'a str,
     /// What is replaced in the program, and by what.
     old: &'a str,
@@ -31,9 +31,9 @@ pub struct Trial<'a> {
 
 /// What a call leaves, and what its sink took.
 #[derive(Drop)]
-struct Answer {
-    done: Done,
-    taken: Vec<u8>,
+pub struct Answer {
+    pub done: Done,
+    pub taken: Vec<u8>,
 }
 
 impl<'a> Trial<'a> {
@@ -160,7 +160,7 @@ impl<'a> Trial<'a> {
     }
 
     /// Calls the program.
-    fn answer(&self, alloc: Global) -> Result<Answer, NoMemory> {
+    pub fn answer(&self, alloc: Global) -> Result<Answer, NoMemory> {
         let words = self.words(alloc)?;
         let mut files = self.files(alloc)?;
         self.called(alloc, words.as_slice(), &mut files)
@@ -227,7 +227,7 @@ pub fn show_reason(rt: &HostRuntime, name: &str, trial: &Trial<'_>) -> io::Resul
 }
 
 /// Prints how a call ended, and what its sink took.
-fn show_answer(rt: &HostRuntime, name: &str, answer: &Answer) -> io::Result<()> {
+pub fn show_answer(rt: &HostRuntime, name: &str, answer: &Answer) -> io::Result<()> {
     let status = answer.done.status;
     println!(rt; "{name}: {status:?}, exit {}", status.exit_number())?;
     rt.write_all(answer.taken.as_slice())?;

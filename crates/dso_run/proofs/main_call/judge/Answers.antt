@@ -1,4 +1,3 @@
-use Rattle.std.proofs.Common.{◌≡◌}
 use Rattle.dso_io.specs.Environment.{Rose}
 use Rattle.dso_run.proofs.Judging.{verdict_if_ok}
 use Rattle.dso_run.proofs.main_call.judge.Goals as goal

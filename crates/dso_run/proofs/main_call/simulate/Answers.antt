@@ -8,12 +8,12 @@ use Rattle.dso_run.proofs.main_call.simulate.Goals as goal
 
 -- an accepted program
 pub returns-in-Ok-Accepted-clause-answer : goal.returns-in-Ok-Accepted-clause-answer
-returns-in-Ok-Accepted-clause-answer g c = λ words seed journal lawful.
+returns-in-Ok-Accepted-clause-answer g c = λ words journal lawful.
     let call : SimCall = record {
       config = c.args.config.now;
       program = c.args.program.now;
-      seed = seed;
-      steps = c.args.steps;
+      seed = c.args.schedule.seed;
+      steps = c.args.schedule.steps;
       journal = journal;
     } in
     let input : CallInput = record {
@@ -29,18 +29,18 @@ returns-in-Ok-Accepted-clause-answer g c = λ words seed journal lawful.
       failed_after = g.K.Sink.faults c.run_and_report.new.out;
       journal = c.run_and_report.result.journal.entries;
     } in
-    run_means input output c.in-Ok-Accepted.program c.args.steps c.run_and_report.result.status
+    run_means input output call c.in-Ok-Accepted.program c.run_and_report.result.status
     (accepted_of input call lawful (Rose input.failed_before input.failed_after) c.in-Ok-Accepted.program
     (rw c.in-Ok-Accepted.field-0-is at c.in-Ok-Accepted.ensures.verdict)) c.run_and_report.ensures
 
 -- a refusal
 pub returns-in-Ok-Refused-clause-answer : goal.returns-in-Ok-Refused-clause-answer
-returns-in-Ok-Refused-clause-answer g c = λ words seed journal lawful.
+returns-in-Ok-Refused-clause-answer g c = λ words journal lawful.
     let call : SimCall = record {
       config = c.args.config.now;
       program = c.args.program.now;
-      seed = seed;
-      steps = c.args.steps;
+      seed = c.args.schedule.seed;
+      steps = c.args.schedule.steps;
       journal = journal;
     } in
     let input : CallInput = record {

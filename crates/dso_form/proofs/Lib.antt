@@ -1,2 +1,0 @@
-pub mod CallLists
-pub mod PlainLists

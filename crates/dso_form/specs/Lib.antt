@@ -1,3 +1,0 @@
-pub mod Counter
-pub mod Spelling
-pub mod Form

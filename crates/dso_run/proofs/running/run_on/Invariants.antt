@@ -1,0 +1,13 @@
+use Rattle.std.proofs.Common.{◌-◌}
+use Rattle.dso_legal.specs.Slots.{weight}
+use Rattle.dso_run.specs.Stepping.{RunsOn}
+use Rattle.dso_world.specs.WorldStands.{entries_in}
+use Rattle.dso_run.proofs.running.run_on.Given as goal
+
+-- the run goes on by the schedule
+abbrev pub invariant-loop-world : goal.invariant-loop-world
+invariant-loop-world l = RunsOn l.program l.schedule.seed l.schedule.steps l.world
+
+-- each entry weighs something
+abbrev pub decreases-loop-world : goal.decreases-loop-world
+decreases-loop-world l = l.schedule.steps - weight (entries_in l.world)

@@ -1,0 +1,4 @@
+-- The run over the cluster: its failures, its steps and its ends.
+pub mod Failures
+pub mod ChosenOpen
+pub mod Going

@@ -1,0 +1,114 @@
+//! The run of a program over the simulated cluster, step by step.
+ghost use Rattle.std.specs.Prelude.{◌≡◌, ◌≤◌, ◌<◌, false, reverse, IfOk, OnOk};
+ghost use Rattle.dso_class.specs.Sound.{IsSound};
+ghost use Rattle.dso_legal.specs.Slots.{weight};
+ghost use Rattle.dso_run.specs.Headline.{IsRunOf};
+ghost use Rattle.dso_run.specs.RunEnds.{is_faulty};
+ghost use Rattle.dso_run.specs.Stepping.{IsTurn, RunsOn, finish_by};
+ghost use Rattle.dso_world.specs.WorldStands.{WorldStands, entries_in};
+
+use crate::failing::is_faulty;
+use dso_base::{Journal, NoMemory};
+use dso_class::Program;
+use dso_words::BUDGET;
+use dso_world::World;
+use std::alloc::Global;
+
+/// How a run ended.
+#[derive(Clone, Copy, Debug, PartialEq, Eq)]
+pub(crate) enum Outcome {
+    Finished,
+    FinishedFault,
+    Stuck,
+    Budget,
+}
+
+/// A run: how it ended, and its journal.
+#[derive(Drop)]
+pub(crate) struct Run {
+    pub(crate) outcome: Outcome,
+    pub(crate) journal: Journal,
+}
+
+/// How a run goes: by round robin, or by a seed, and how many steps it may make.
+#[derive(Clone, Copy, Debug)]
+pub(crate) struct Schedule {
+    pub(crate) seed: Option<u64>,
+    pub(crate) steps: u64,
+}
+
+/// Runs the program until it is finished, has used up its steps, or is stuck. These are tested in that order after each
+/// step, the first also before the first step.
+pub(crate) fn run_program(
+    alloc: Global,
+    program: &Program,
+    schedule: Schedule,
+) -> Result<Run, NoMemory>
+    requires sound { IsSound program.now }
+    requires steps { schedule.steps ≤ BUDGET }
+    ensures { IfOk result (λ run. IsRunOf program.now schedule.seed schedule.steps run.outcome run.journal.entries) }
+{
+    let mut world = World::new(alloc, program)?;
+    let ended = run_on(alloc, program, &mut world, schedule);
+    let journal = world.into_journal();
+    Ok(Run {
+        outcome: ended?,
+        journal,
+    })
+}
+
+/// The run of a cluster from where it stands to its end.
+fn run_on(
+    alloc: Global,
+    program: &Program,
+    world: &mut World,
+    schedule: Schedule,
+) -> Result<Outcome, NoMemory>
+    requires sound { IsSound program.now }
+    requires steps { schedule.steps ≤ BUDGET }
+    requires runs { RunsOn program.now schedule.seed schedule.steps world.old }
+    ensures { IfOk result (λ outcome. IsRunOf program.now schedule.seed schedule.steps outcome world.new.journal.entries) }
+{
+    while !world.finished() && world.weight() < schedule.steps {
+        if !take_step(alloc, program, world, schedule)? {
+            return Ok(Outcome::Stuck);
+        }
+    }
+    if world.finished() {
+        Ok(finish_of(program, world.journal()))
+    } else {
+        Ok(Outcome::Budget)
+    }
+}
+
+/// How a run that is finished ended: with a fault of a kept thread, or without one.
+fn finish_of(program: &Program, journal: &Journal) -> Outcome
+    ensures { result ≡ finish_by (is_faulty program.now.threads (reverse journal.now.entries)) }
+{
+    if is_faulty(program.threads.as_slice(), journal.entries.as_slice()) {
+        Outcome::FinishedFault
+    } else {
+        Outcome::Finished
+    }
+}
+
+/// The step at the chosen slot: true where one was made, false where no slot is open.
+fn take_step(
+    alloc: Global,
+    program: &Program,
+    world: &mut World,
+    schedule: Schedule,
+) -> Result<bool, NoMemory>
+    requires sound { IsSound program.now }
+    requires stands { WorldStands program.now world.old }
+    requires whole { world.old.is_spent ≡ false }
+    requires light { weight (entries_in world.old) < BUDGET }
+    ensures turn { IfOk result (λ made. IsTurn program.now schedule.seed made world.old world.new) }
+    ensures stands { OnOk result (WorldStands program.now world.new) }
+    ensures whole { OnOk result (world.new.is_spent ≡ false) }
+{
+    match world.choose(schedule.seed) {
+        Some(step) => world.step(alloc, program, step),
+        None => Ok(false),
+    }
+}

@@ -1,0 +1,134 @@
+//! The same call by each schedule, or with each number in its configuration.
+use crate::trial::{Answer, Trial, show_answer};
+use dso_base::{Down, Entry, Input, NoMemory, Sent};
+use std::io;
+
+/// How many seeds are tried.
+const SEEDS: u64 = 10;
+
+/// The last number that stands in a configuration in the place of `K`.
+const LAST_NUMBER: u64 = 60;
+
+/// Tries the call by round robin and by each seed, and prints what it comes to where that differs from the one before.
+pub fn show_seeds(rt: &HostRuntime, name: &str, trial: &Trial<'_>) -> io::Result<()> {
+    let mut last = show_next(rt, name, "round robin", trial, None)?;
+    for seed in 0..SEEDS {
+        let label = format!(in rt.alloc(); "seed {seed}")?;
+        let line = format!(in rt.alloc(); "{} --seed {seed}", trial.line)?;
+        let seeded = trial.set("line", line.as_str());
+        last = show_next(rt, name, label.as_str(), &seeded, last)?;
+    }
+    Ok(())
+}
+
+/// Tries the call with each number in the place of `K` in its configuration, and prints what it comes to where that
+/// differs from the one before.
+pub fn show_afters(rt: &HostRuntime, name: &str, trial: &Trial<'_>) -> io::Result<()> {
+    let mut last = None;
+    for number in 0..LAST_NUMBER + 1 {
+        let label = format!(in rt.alloc(); "after {number}")?;
+        let number = format!(in rt.alloc(); "{number}")?;
+        let config = trial.config.replace(rt.alloc(), "K", number.as_str())?;
+        let numbered = trial.set("config", config.as_str());
+        last = show_next(rt, name, label.as_str(), &numbered, last)?;
+    }
+    Ok(())
+}
+
+/// Tries the call by round robin and by each seed, and prints how many leases its journal grants and recalls, and how
+/// many objects it flushes.
+pub fn show_sends(rt: &HostRuntime, name: &str, trial: &Trial<'_>) -> io::Result<()> {
+    show_counts(rt, name, "round robin", trial)?;
+    for seed in 0..SEEDS {
+        let label = format!(in rt.alloc(); "seed {seed}")?;
+        let line = format!(in rt.alloc(); "{} --seed {seed}", trial.line)?;
+        let seeded = trial.set("line", line.as_str());
+        show_counts(rt, name, label.as_str(), &seeded)?;
+    }
+    Ok(())
+}
+
+/// Tries the call, prints what it comes to unless the last one came to the same, and hands it on.
+fn show_next(
+    rt: &HostRuntime,
+    name: &str,
+    label: &str,
+    trial: &Trial<'_>,
+    last: Option<Answer>,
+) -> io::Result<Option<Answer>> {
+    match trial.answer(rt.alloc()) {
+        Ok(answer) => {
+            if !is_same(&answer, &last) {
+                let name = format!(in rt.alloc(); "{name}, from {label} on")?;
+                show_answer(rt, name.as_str(), &answer)?;
+            }
+            Ok(Some(answer))
+        }
+        Err(NoMemory) => {
+            println!(rt; "{name}, {label}: no memory")?;
+            Ok(None)
+        }
+    }
+}
+
+/// Whether the two calls came to the same.
+fn is_same(answer: &Answer, last: &Option<Answer>) -> bool {
+    match last {
+        Some(last) => {
+            answer.done.status == last.done.status
+                && answer.taken.as_slice() == last.taken.as_slice()
+        }
+        None => false,
+    }
+}
+
+/// Tries the call, and prints how much of each kind its journal has.
+fn show_counts(rt: &HostRuntime, name: &str, label: &str, trial: &Trial<'_>) -> io::Result<()> {
+    match trial.answer(rt.alloc()) {
+        Ok(answer) => {
+            let entries = answer.done.journal.entries.as_slice();
+            let grants = grant_count(entries);
+            let recalls = recall_count(entries);
+            let flushes = flush_count(entries);
+            println!(rt; "{name}, {label}: {grants} grants, {recalls} recalls, {flushes} flushes")
+        }
+        Err(NoMemory) => println!(rt; "{name}, {label}: no memory"),
+    }
+}
+
+/// How many leases the entries grant.
+fn grant_count(entries: &[Entry]) -> u64 {
+    let mut count: u64 = 0;
+    for entry in entries {
+        for sent in entry.sent.as_slice() {
+            if matches!(sent, Sent::ToClient(_, Down::Grant(..))) {
+                count = count.saturating_add(1);
+            }
+        }
+    }
+    count
+}
+
+/// How many leases the entries recall.
+fn recall_count(entries: &[Entry]) -> u64 {
+    let mut count: u64 = 0;
+    for entry in entries {
+        for sent in entry.sent.as_slice() {
+            if matches!(sent, Sent::ToClient(_, Down::Recall(..))) {
+                count = count.saturating_add(1);
+            }
+        }
+    }
+    count
+}
+
+/// How many of the entries flush an object.
+fn flush_count(entries: &[Entry]) -> u64 {
+    let mut count: u64 = 0;
+    for entry in entries {
+        if matches!(entry.input, Input::Flush(_)) {
+            count = count.saturating_add(1);
+        }
+    }
+    count
+}
