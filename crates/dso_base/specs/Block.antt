@@ -1,5 +1,7 @@
 -- The record of a block: what a thread did since its previous ending, as its client hands it to the server.
-use Rattle.std.specs.Prelude.{ℕ, zero, suc, Bool, true, false, cond, not, eqb, ltb, ◌&&◌, ◌||◌, is_some, pos, Option, Some, None, List, [], ◌∷◌, ◌++◌, map, filter, find, slice_set}
+use Rattle.std.specs.Prelude.{
+  ℕ, zero, suc, Bool, true, false, cond, not, eqb, ltb, ◌&&◌, ◌||◌, is_some, pos, Option, Some, None, List, [], ◌∷◌,
+  ◌++◌, map, filter, find, slice_set}
 use Rattle.dso_base.specs.declared.lock.LockName.{LockName}
 use Rattle.dso_base.specs.declared.lock.ThreadId.{ThreadId}
 use Rattle.dso_base.specs.declared.record.Body.{Body}
@@ -14,7 +16,8 @@ use Rattle.dso_base.specs.declared.request.Event.TheVariants.{Act, Lost}
 use Rattle.dso_base.specs.declared.request.Reply.{Reply}
 use Rattle.dso_base.specs.declared.request.Reply.TheVariants.{Done, Made}
 use Rattle.dso_base.specs.declared.request.Request.{Request}
-use Rattle.dso_base.specs.declared.request.Request.TheVariants.{New, Look, Get, Put, Enter, Exit, Wait, Tick, Timeout, Resume, Notify, NotifyAll, Print, End, Pause, Settle}
+use Rattle.dso_base.specs.declared.request.Request.TheVariants.{
+  New, Look, Get, Put, Enter, Exit, Wait, Tick, Timeout, Resume, Notify, NotifyAll, Print, End, Pause, Settle}
 use Rattle.dso_base.specs.declared.shape.Shape.{Shape}
 use Rattle.dso_base.specs.declared.value.ClassId.{ClassId}
 use Rattle.dso_base.specs.declared.value.Kind.{Kind}
@@ -60,7 +63,8 @@ opening_body shape class n o = record { object = o; class = class; values = open
 
 -- the bodies with this value in this field of the object
 abbrev pub with_value : ℕ → ℕ → Value → List Body → List Body
-with_value o f v bodies = map (λ body. cond (eqb body.object o) (record body { values = slice_set body.values f v }) body) bodies
+with_value o f v bodies = map
+    (λ body. cond (eqb body.object o) (record body { values = slice_set body.values f v }) body) bodies
 
 -- whether one of the values is a reference to the object
 abbrev pub has_reference : ℕ → List Value → Bool
@@ -76,12 +80,14 @@ body_names (Some body) o = has_reference o body.values
 -- whether the object is one of these and found from the value through fields of these: what the value publishes
 -- where it is stored in a shared object
 abbrev pub is_published : List Body → Value → ℕ → Bool
-is_published privates v o = reach (λ a. is_some (body_in a privates)) (λ a b. body_names (body_in a privates) b) (map (λ body. body.object) privates) v o
+is_published privates v o = reach (λ a. is_some (body_in a privates)) (λ a b. body_names (body_in a privates) b)
+    (map (λ body. body.object) privates) v o
 
 -- the bodies with one more, by rising id
 abbrev pub insert_body : Body → List Body → List Body
 insert_body body [] = body ∷ []
-insert_body body (first ∷ rest) = cond (ltb body.object first.object) (body ∷ first ∷ rest) (first ∷ insert_body body rest)
+insert_body body (first ∷ rest) = cond (ltb body.object first.object) (body ∷ first ∷ rest)
+    (first ∷ insert_body body rest)
 
 -- the bodies with all of these beside them, by rising id
 abbrev pub insert_bodies : List Body → List Body → List Body
@@ -99,7 +105,8 @@ is_field_before a b = ltb a.object b.object || (eqb a.object b.object && ltb a.f
 -- the sets with this one in its place by rising object and field, instead of an earlier one of the same field
 abbrev pub insert_set : Set → List Set → List Set
 insert_set set [] = set ∷ []
-insert_set set (first ∷ rest) = cond (is_same_field set first) (set ∷ rest) (cond (is_field_before set first) (set ∷ first ∷ rest) (first ∷ insert_set set rest))
+insert_set set (first ∷ rest) = cond (is_same_field set first) (set ∷ rest)
+    (cond (is_field_before set first) (set ∷ first ∷ rest) (first ∷ insert_set set rest))
 
 -- what the value publishes is no longer private, and stands among the objects published
 abbrev pub publish : Value → Work → Work
@@ -132,7 +139,8 @@ noted l choice work = record work { notes = work.notes ++ record { lock = l; cho
 -- What an act makes of the work in hand, by its request and reply. Refusals leave it as it is, and so do the requests
 -- that read, that enter or leave a lock, that wait or go on, and the thread's end.
 abbrev pub work_by : Shape → Request → Reply → Option ThreadId → Work → Work
-work_by shape (New class n) (Made o) woken work = record work { privates = opening_body shape class n o ∷ work.privates }
+work_by shape (New class n) (Made o) woken work = record work
+    { privates = opening_body shape class n o ∷ work.privates }
 work_by shape (New class n) reply woken work = work
 work_by shape (Look o) reply woken work = work
 work_by shape (Get o f) reply woken work = work

@@ -28,5 +28,6 @@ names_within mine names a b = mine a && (mine b && names a b)
 -- The same set as a test, for a list that has every private object of the thread: `reach` is true exactly where
 -- `Reached` holds.
 abbrev pub reach : (ℕ → Bool) → (ℕ → ℕ → Bool) → List ℕ → Value → ℕ → Bool
-reach mine names objects (value.Ref a) o = mine a && (mine o && (eqb o a || has_way (names_within mine names) objects a o))
+reach mine names objects (value.Ref a) o = mine a
+    && (mine o && (eqb o a || has_way (names_within mine names) objects a o))
 reach mine names objects v o = false

@@ -10,5 +10,7 @@ use Rattle.dso_change.specs.Hands.{record_from}
 
 -- Records: the record of a block's events is that of the work in hand after them.
 abbrev pub RecordsAgree : Type 0
-RecordsAgree = (shape : Shape) (seq : ℕ) (thread : ThreadId) (privates : List Body) (events : List Event) (ending : Ending)
-    → txn_of shape seq thread privates events ending ≡ record_from seq thread (worked shape events (start privates)) ending
+RecordsAgree = (shape : Shape) (seq : ℕ) (thread : ThreadId) (privates : List Body) (events : List Event)
+    (ending : Ending)
+    → txn_of shape seq thread privates events ending
+      ≡ record_from seq thread (worked shape events (start privates)) ending

@@ -89,7 +89,8 @@ HoldsEnough level None = ⊥
 HoldsEnough level (Some held) = is_lower level held ≡ false
 
 -- Thread u is another one that holds the lock in conflict with an entry of thread t at the level.
-pub record IsInConflict (t : ThreadId) (l : LockName) (level : Level) (holds : LockName × ThreadId → Option Held) (u : ThreadId) : Type 0 where
+pub record IsInConflict (t : ThreadId) (l : LockName) (level : Level) (holds : LockName × ThreadId → Option Held)
+    (u : ThreadId) : Type 0 where
   pub other : u ≢ t
   pub excludes : option_map_or (excludes level) (holds (l, u)) false ≡ true
 
@@ -98,7 +99,8 @@ abbrev pub NoConflict : ThreadId → LockName → Level → (LockName × ThreadI
 NoConflict t l level holds = (u : ThreadId) → IsInConflict t l level holds u → ⊥
 
 -- thread w holds the lock in conflict, and none that does stands before it
-pub record IsFirstInConflict (t : ThreadId) (l : LockName) (level : Level) (holds : LockName × ThreadId → Option Held) (w : ThreadId) : Type 0 where
+pub record IsFirstInConflict (t : ThreadId) (l : LockName) (level : Level) (holds : LockName × ThreadId → Option Held)
+    (w : ThreadId) : Type 0 where
   pub conflict : IsInConflict t l level holds w
   pub first : (u : ThreadId) → IsInConflict t l level holds u → is_before u w ≡ false
 

@@ -13,7 +13,8 @@ pub record Ids : Type 0 where
 
 -- they are stored as a pair
 abbrev pub ids_code : Coded Ids
-ids_code = code_by (ℕ × ℕ) (coded× coded_ℕ coded_ℕ) (λ ids. (ids.next, ids.end)) (λ pair. record { next = pair.0; end = pair.1 }) (λ _. refl)
+ids_code = code_by (ℕ × ℕ) (coded× coded_ℕ coded_ℕ) (λ ids. (ids.next, ids.end))
+    (λ pair. record { next = pair.0; end = pair.1 }) (λ _. refl)
 
 -- none is left
 abbrev pub IsEmpty : Ids → Type 0

@@ -55,7 +55,8 @@ lease_by_taken l m lease = lease
 
 -- an entry of the lock enters it
 abbrev pub lease_by_event : LockName → Event → Option Lease → Option Lease
-lease_by_event l event lease = option_map (λ (s : Lease). record s { is_entered = entered_by l event s.is_entered }) lease
+lease_by_event l event lease = option_map
+    (λ (s : Lease). record s { is_entered = entered_by l event s.is_entered }) lease
 
 -- where a thread wants it at Write, a lease of level Read closes
 abbrev pub lease_by_wants : Bool → Option Lease → Option Lease

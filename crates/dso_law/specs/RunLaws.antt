@@ -1,6 +1,7 @@
 -- Laws of runs of one client.
 use Rattle.std.specs.List.{list_any}
-use Rattle.std.specs.Prelude.{ℕ, suc, ◌+◌, ◌*◌, ◌≤◌, ◌≡◌, true, false, cond, eqb, ltb, Option, Some, None, List, [], ◌∷◌, length}
+use Rattle.std.specs.Prelude.{
+  ℕ, suc, ◌+◌, ◌*◌, ◌≤◌, ◌≡◌, true, false, cond, eqb, ltb, Option, Some, None, List, [], ◌∷◌, length}
 use Rattle.dso_base.specs.declared.journal.Entry.{Entry}
 use Rattle.dso_base.specs.declared.journal.Input.TheVariants as input
 use Rattle.dso_base.specs.declared.lock.Level.TheVariants.{Read}
@@ -20,12 +21,14 @@ use Rattle.dso_law.specs.ChangeMarks.{AcksInOrder}
 use Rattle.dso_law.specs.IdsAhead.{ids_from}
 use Rattle.dso_law.specs.Closing.{due}
 use Rattle.dso_law.specs.ClientStep.{ClientStep}
-use Rattle.dso_law.specs.LeaseHeld.{Lease, awaits_lease, kept_lease, lease_by_taken, lease_by_event, lease_by_wants, lease_by_return}
+use Rattle.dso_law.specs.LeaseHeld.{
+  Lease, awaits_lease, kept_lease, lease_by_taken, lease_by_event, lease_by_wants, lease_by_return}
 use Rattle.dso_law.specs.ClientRun.{ClientRun, AreSameFor, next_in}
 
 -- Own requests: the client rule looks at the next requests of the client's own threads alone.
 abbrev pub OwnRequestsCount : Type 0
-OwnRequestsCount = (p : Settings) (c : ℕ) (before other_before later other_later : ThreadId → Option Request) (e : Entry) (es : List Entry)
+OwnRequestsCount = (p : Settings) (c : ℕ) (before other_before later other_later : ThreadId → Option Request)
+    (e : Entry) (es : List Entry)
     → AreSameFor c before other_before → AreSameFor c later other_later
     → ClientStep p c before later e es → ClientStep p c other_before other_later e es
 
@@ -52,11 +55,13 @@ abbrev pub lease_after : Settings → ℕ → (ThreadId → List Event → Optio
     → Option Lease
 lease_after p c next l e es = lease_by_return (list_any (is_lock l) (due p c (next_in next (e ∷ es)) (unsent e ∷ es)))
     (lease_by_wants (list_any (awaits_lease p c (next_in next (e ∷ es)) l (e ∷ es)) (threads_of p c))
-    (by_event (lease_by_event l) e.event (by_taken_down (lease_by_taken l) e.input (kept_lease p c (next_in next es) l es))))
+    (by_event (lease_by_event l) e.event
+        (by_taken_down (lease_by_taken l) e.input (kept_lease p c (next_in next es) l es))))
 
 -- Kept: in a run the lease of a lock that stays closing is kept from entry to entry.
 abbrev pub LeasesAreKept : Type 0
-LeasesAreKept = (p : Settings) (c : ℕ) (next : ThreadId → List Event → Option Request) (l : LockName) (e : Entry) (es : List Entry)
+LeasesAreKept = (p : Settings) (c : ℕ) (next : ThreadId → List Event → Option Request) (l : LockName) (e : Entry)
+    (es : List Entry)
     → ClientRun p c next (e ∷ es) → kept_lease p c (next_in next (e ∷ es)) l (e ∷ es) ≡ lease_after p c next l e es
 
 -- the records have the numbers behind k, one after the other

@@ -47,7 +47,8 @@ answer level inner (Some standing) = answer_of level inner standing
 -- a lease of a lower level than a thread wants is closing
 abbrev pub wanted : Level → Standing → Standing
 wanted level Asked = Asked
-wanted level (Leased lease) = Leased (record lease { is_closing = lease.is_closing || not (suffices lease.level level) })
+wanted level (Leased lease) = Leased
+    (record lease { is_closing = lease.is_closing || not (suffices lease.level level) })
 
 -- the lock once a thread wanted it: an idle one is asked for
 abbrev pub after_want : Level → Option Standing → Standing

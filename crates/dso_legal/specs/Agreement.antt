@@ -19,7 +19,8 @@ EachMay may step (m ∷ ms) s = may m s × EachMay may step ms (step m s)
 
 -- The two ends agree: each message in flight to the server may come where it stands from the server's status on, each
 -- in flight to the client from the client's on, and once all in flight is taken both have one status.
-pub record Agree {U D S : Type 0} (may_up : U → S → Type 0) (step_up : U → S → S) (may_down : D → S → Type 0) (step_down : D → S → S) (up : List U) (down : List D) (server client : S) : Type 0 where
+pub record Agree {U D S : Type 0} (may_up : U → S → Type 0) (step_up : U → S → S) (may_down : D → S → Type 0)
+    (step_down : D → S → S) (up : List U) (down : List D) (server client : S) : Type 0 where
   pub ups : EachMay may_up step_up up server
   pub downs : EachMay may_down step_down down client
   pub meet : after step_up up server ≡ after step_down down client

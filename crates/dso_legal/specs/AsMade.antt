@@ -15,7 +15,8 @@ use Rattle.dso_legal.specs.Committed.{ended_blocks, block_numbered}
 
 -- what an entry of the server gives: a record of a client that isn't lost its block as it was made, a loss its event
 abbrev pub made_by : Input → List Entry → List Event
-made_by (input.TookUp c (up.Commit txn)) es = cond (is_lost c (entries_of Server es)) [] (block_numbered txn.seq (ended_blocks (entries_of (Client c) es)))
+made_by (input.TookUp c (up.Commit txn)) es = cond (is_lost c (entries_of Server es)) []
+    (block_numbered txn.seq (ended_blocks (entries_of (Client c) es)))
 made_by (input.Lose c) es = Lost c ∷ []
 made_by other es = []
 

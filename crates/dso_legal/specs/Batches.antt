@@ -46,9 +46,11 @@ given_to c (e ∷ es) = by_sent_down (given_by c) e.sent (given_to c es)
 -- The batches of a client, in flight and at both ends: each in flight was asked for; and those that the server gave
 -- are those that the client has and behind them those in flight, each above those before it.
 pub record BatchesInOrder (c : ℕ) (es : List Entry) : Type 0 where
-  pub asked : Agree MayAskIds batch_asked_by_sent MayGiveIds batch_asked_by_taken (messages (up_in_flight c es)) (messages (down_in_flight c es))
+  pub asked : Agree MayAskIds batch_asked_by_sent MayGiveIds batch_asked_by_taken (messages (up_in_flight c es))
+      (messages (down_in_flight c es))
       false (is_batch_asked (entries_of (Client c) es))
-  pub above : Agree Always unchanged IsAbove batches_by_taken (messages (up_in_flight c es)) (messages (down_in_flight c es))
+  pub above : Agree Always unchanged IsAbove batches_by_taken (messages (up_in_flight c es))
+      (messages (down_in_flight c es))
       (given_to c (counted (entries_of Server es))) (batches (entries_of (Client c) es))
 
 -- In a lawful journal the batches of each client that isn't lost are so.

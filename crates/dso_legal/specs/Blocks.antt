@@ -19,7 +19,9 @@ use Rattle.dso_legal.specs.Lawful.{IsLawful}
 use Rattle.dso_legal.specs.Committed.{ended_blocks, committed}
 use Rattle.dso_legal.specs.Resolved.{AreResolved}
 use Rattle.dso_legal.specs.WithoutWaits.{WithoutWaits}
-use Rattle.dso_legal.specs.PendingBlocks.{joined, handed_in, taken_in, records_in, records_sent, no_locks, locks_through, privates_through, StaysOpen, AreRecordsOf}
+use Rattle.dso_legal.specs.PendingBlocks.{
+  joined, handed_in, taken_in, records_in, records_sent, no_locks, locks_through, privates_through, StaysOpen,
+  AreRecordsOf}
 
 -- whether the event is an act of a thread of the client
 abbrev pub is_act_at : ℕ → Event → Bool
@@ -55,7 +57,8 @@ BlocksAreKept = (p : Settings) (next : ThreadId → List Event → Option Reques
 -- and the server did not take
 pub record IsHandedIn (c : ℕ) (es : List Entry) : Type 0 where
   pub few : handed_in c es ≤ length (ended_blocks (entries_of (Client c) es))
-  pub in_flight : records_in (messages (up_in_flight c es)) ≡ drop (handed_in c es) (records_sent (entries_of (Client c) es))
+  pub in_flight : records_in (messages (up_in_flight c es))
+      ≡ drop (handed_in c es) (records_sent (entries_of (Client c) es))
 
 -- Blocks are handed in, in every lawful journal, by each client that isn't lost.
 abbrev pub BlocksAreHandedIn : Type 0

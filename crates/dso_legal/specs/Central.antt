@@ -32,7 +32,8 @@ use Rattle.dso_legal.specs.CopiesStand.{state_at, CopiesStand}
 -- What a client did and the server didn't take in yet can still be done, whatever is marked: its messages in flight
 -- from the history as made on, and each thread's open block, by itself, from where they end; and its copies stand.
 pub record ClientStands (p : Settings) (c : ℕ) (es : List Entry) : Type 0 where
-  pub line : Line p.shape c (messages (up_in_flight c es)) (pending c es) (λ l. standing_with c l (counted (entries_of Server es))) (last_state p.shape (as_made es))
+  pub line : Line p.shape c (messages (up_in_flight c es)) (pending c es)
+      (λ l. standing_with c l (counted (entries_of Server es))) (last_state p.shape (as_made es))
   pub opens : (t : ThreadId) → t.client ≡ c
       → RunsButMarks p.shape (open_block t (entries_of (Client c) es)) (state_at p c es)
   pub copies : CopiesStand p.shape c (state_at p c es) (messages (down_in_flight c es)) (entries_of (Client c) es)
@@ -46,7 +47,8 @@ pub record ClusterStands (p : Settings) (es : List Entry) : Type 0 where
 -- too, the blocks of its first endings, in order and nothing else; of each thread a prefix of its events, each once and
 -- in order, resolved by the server; and, where the journal is finished, all events of each thread whose client isn't
 -- lost.
-pub record CommitsLegally (p : Settings) (next : ThreadId → List Event → Option Request) (es : List Entry) : Type 0 where
+pub record CommitsLegally (p : Settings) (next : ThreadId → List Event → Option Request)
+    (es : List Entry) : Type 0 where
   pub legal : IsLegal next (Listed next) p.shape (committed es)
   pub endings : (c : ℕ) → HasFirstEndings c es
   pub parts : (t : ThreadId)

@@ -17,7 +17,8 @@ use Rattle.dso_base.specs.declared.request.Event.TheVariants.{Act, Lost}
 use Rattle.dso_base.specs.declared.request.Reply.{Reply}
 use Rattle.dso_base.specs.declared.request.Reply.TheVariants.{Done}
 use Rattle.dso_base.specs.declared.request.Request.{Request}
-use Rattle.dso_base.specs.declared.request.Request.TheVariants.{New, Look, Get, Put, Enter, Exit, Wait, Tick, Timeout, Resume, Notify, NotifyAll, Print, End, Pause, Settle}
+use Rattle.dso_base.specs.declared.request.Request.TheVariants.{
+  New, Look, Get, Put, Enter, Exit, Wait, Tick, Timeout, Resume, Notify, NotifyAll, Print, End, Pause, Settle}
 use Rattle.dso_law.specs.Entries.{newest_first, entries_of, by_event}
 use Rattle.dso_law.specs.Threads.{locks_of, ending_of, open_block}
 use Rattle.dso_law.specs.Replies.{first_of_list}
@@ -31,7 +32,9 @@ block_if (Some ending) block = block ∷ []
 
 -- the block that the event ends: the open block of its thread with it, as a list
 abbrev pub ended_by : Event → List Entry → List (List Event)
-ended_by (Act thread request reply woken) es = block_if (ending_of (Act thread request reply woken) (locks_of thread es)) (open_block thread es ++ Act thread request reply woken ∷ [])
+ended_by (Act thread request reply woken) es = block_if
+    (ending_of (Act thread request reply woken) (locks_of thread es))
+    (open_block thread es ++ Act thread request reply woken ∷ [])
 ended_by (Lost client) es = []
 
 -- the blocks of a client's threads in the order of their endings, by the client's entries
@@ -108,7 +111,8 @@ resolved (event ∷ events) lists = resolved_event event lists ∷ resolved even
 
 -- the block of client c's ending of this number, resolved at the server's lists
 abbrev pub block_taken : ℕ → ℕ → List Entry → List Event
-block_taken c seq es = resolved (block_numbered seq (ended_blocks (entries_of (Client c) es))) (λ l. waiters_of l (counted (entries_of Server es)))
+block_taken c seq es = resolved (block_numbered seq (ended_blocks (entries_of (Client c) es)))
+    (λ l. waiters_of l (counted (entries_of Server es)))
 
 -- what an entry of the server gives: a record of a client that isn't lost its block, a loss its event
 abbrev pub committed_by : Input → List Entry → List Event

@@ -16,7 +16,8 @@ use Rattle.dso_plain.specs.History.{end_of, last_state}
 use Rattle.dso_law.specs.Settings.{Settings}
 use Rattle.dso_law.specs.declared.readings.Standing.{Standing}
 use Rattle.dso_law.specs.Leases.{standing, standing_down}
-use Rattle.dso_law.specs.Copies.{is_resident, resident_by_taken, value_held, value_by_taken, class_held, class_by_taken, is_set_of}
+use Rattle.dso_law.specs.Copies.{
+  is_resident, resident_by_taken, value_held, value_by_taken, class_held, class_by_taken, is_set_of}
 use Rattle.dso_legal.specs.Agreement.{after, EachMay}
 use Rattle.dso_legal.specs.AsMade.{as_made}
 use Rattle.dso_legal.specs.PendingBlocks.{joined, pending}
@@ -83,7 +84,8 @@ pub record FieldStands (l : LockName) (c o f : ℕ) (s : PlainState) (ms : List 
 
 -- by a client's entries
 abbrev pub field_copy : LockName → ℕ → ℕ → List Entry → FieldCopy
-field_copy l o f client = record { resident = is_resident o client; value = value_held o f client; guard = standing l client }
+field_copy l o f client = record
+    { resident = is_resident o client; value = value_held o f client; guard = standing l client }
 
 -- what a client knows of an object: whether it is resident, and the class and size held for it
 pub record ClassCopy : Type 0 where
@@ -92,7 +94,8 @@ pub record ClassCopy : Type 0 where
 
 -- what a message taken makes of it
 abbrev pub class_copy_by : ℕ → Down → ClassCopy → ClassCopy
-class_copy_by o m copy = record { resident = resident_by_taken o m copy.resident; class = class_by_taken o m copy.class }
+class_copy_by o m copy = record
+    { resident = resident_by_taken o m copy.resident; class = class_by_taken o m copy.class }
 
 -- while the object is resident, it is shared, and of the class and size
 pub record IsSharedCopy (o : ℕ) (s : PlainState) (copy : ClassCopy) : Type 0 where

@@ -1,6 +1,7 @@
 -- The committed history by one pass over a journal: what is kept after some entries, and what one more entry makes of
 -- it.
-use Rattle.std.specs.Prelude.{ℕ, suc, ◌-◌, ◌<◌, ◌^◌, Bool, true, false, cond, eqb, is_some, Option, Some, None, List, [], ◌∷◌, ◌++◌}
+use Rattle.std.specs.Prelude.{
+  ℕ, suc, ◌-◌, ◌<◌, ◌^◌, Bool, true, false, cond, eqb, is_some, Option, Some, None, List, [], ◌∷◌, ◌++◌}
 use Rattle.std.specs.Option.{unwrap_or, option_map}
 use Rattle.dso_base.specs.declared.journal.Entry.{Entry}
 use Rattle.dso_base.specs.declared.journal.Input.{Input}
@@ -17,7 +18,8 @@ use Rattle.dso_base.specs.declared.request.Event.TheVariants.{Act, Lost}
 use Rattle.dso_base.specs.declared.request.Reply.{Reply}
 use Rattle.dso_base.specs.declared.request.Reply.TheVariants.{Done}
 use Rattle.dso_base.specs.declared.request.Request.{Request}
-use Rattle.dso_base.specs.declared.request.Request.TheVariants.{New, Look, Get, Put, Enter, Exit, Wait, Tick, Timeout, Resume, Notify, NotifyAll, Print, End, Pause, Settle}
+use Rattle.dso_base.specs.declared.request.Request.TheVariants.{
+  New, Look, Get, Put, Enter, Exit, Wait, Tick, Timeout, Resume, Notify, NotifyAll, Print, End, Pause, Settle}
 use Rattle.dso_lookup.specs.Maps.{written, writes}
 use Rattle.dso_plain.specs.KeyTests.{is_lock}
 use Rattle.dso_plain.specs.History.{is_act_of}
@@ -69,7 +71,8 @@ thread_state_of locks block = record {
 
 -- of a client, by its entries,
 abbrev pub client_state_of : List Entry → ClientState
-client_state_of own = record { threads = λ t. thread_state_of (locks_of t own) (open_block t own); ended = ended_blocks own }
+client_state_of own = record
+    { threads = λ t. thread_state_of (locks_of t own) (open_block t own); ended = ended_blocks own }
 
 -- of the server, by its entries,
 abbrev pub server_state_of : List Entry → ServerState
@@ -98,7 +101,8 @@ with_entry l state = record state { counts = with_count l (Some (suc (unwrap_or 
 
 -- a wait gives all of the lock up, and keeps its count
 abbrev pub with_wait : LockName → ThreadState → ThreadState
-with_wait l state = record state { counts = with_count l None state.counts; waiting = Some (unwrap_or (state.counts l) 0) }
+with_wait l state = record state
+    { counts = with_count l None state.counts; waiting = Some (unwrap_or (state.counts l) 0) }
 
 -- a thread that goes on after a wait has the lock as often as before
 abbrev pub with_resume : LockName → Option ℕ → ThreadState → ThreadState
@@ -166,14 +170,18 @@ block_ended ends event block = cond ends ((block ++ event ∷ []) ∷ []) []
 
 -- what an act makes of what is kept of its thread
 abbrev pub thread_state_after : Request → Reply → Event → ThreadState → ThreadState
-thread_state_after request reply event state = record (counts_after request reply state) { block = block_left (ends_block request reply state) event state.block }
+thread_state_after request reply event state = record (counts_after request reply state)
+    { block = block_left (ends_block request reply state) event state.block }
 
 -- what an event makes of what is kept of its client
 abbrev pub client_state_after : Event → ClientState → ClientState
 client_state_after (Act thread request reply woken) threads = record {
-  threads = written (writes (λ t. is_act_of t (Act thread request reply woken)) (λ _. thread_state_after request reply (Act thread request reply woken) (threads.threads thread))) threads.threads;
+  threads = written (writes (λ t. is_act_of t (Act thread request reply woken))
+      (λ _. thread_state_after request reply (Act thread request reply woken) (threads.threads thread)))
+      threads.threads;
   ended = threads.ended
-      ++ block_ended (ends_block request reply (threads.threads thread)) (Act thread request reply woken) (threads.threads thread).block;
+      ++ block_ended (ends_block request reply (threads.threads thread)) (Act thread request reply woken)
+          (threads.threads thread).block;
 }
 client_state_after (Lost client) threads = threads
 
@@ -199,13 +207,16 @@ given_block seq ended lost waiters = cond lost [] (resolved (block_numbered seq 
 
 -- what an entry of the server gives to the history
 abbrev pub given_events : Input → PassState → List Event
-given_events (TookUp c (Commit txn)) kept = given_block txn.seq (kept.clients c).ended (kept.lists.lost c) kept.lists.waiters
+given_events (TookUp c (Commit txn)) kept = given_block txn.seq (kept.clients c).ended
+    (kept.lists.lost c) kept.lists.waiters
 given_events (Lose c) kept = Lost c ∷ []
 given_events input kept = []
 
 -- what an entry of a client makes of all that is kept
 abbrev pub pass_state_at_client : ℕ → Option Event → PassState → PassState
-pass_state_at_client c event kept = record kept { clients = written (writes (λ d. eqb d c) (λ _. by_event client_state_after event (kept.clients c))) kept.clients }
+pass_state_at_client c event kept = record kept
+    { clients = written (writes (λ d. eqb d c) (λ _. by_event client_state_after event (kept.clients c))) kept.clients
+    }
 
 -- what an entry makes of all that is kept
 abbrev pub pass_state_after : Node → Input → List Sent → Option Event → PassState → PassState

@@ -29,7 +29,8 @@ thread_state_at (Some state) = thread_state_in state
 
 -- what is kept of a client
 abbrev pub client_state_in : table_client.ClientState → ClientState
-client_state_in threads = record { threads = λ t. thread_state_at (look thread_order threads.threads t); ended = threads.ended }
+client_state_in threads = record
+    { threads = λ t. thread_state_at (look thread_order threads.threads t); ended = threads.ended }
 
 -- a client of which nothing is known yet
 abbrev pub no_client_state : ClientState
@@ -50,7 +51,8 @@ no_server_state = record { lost = λ c. false; waiters = λ l. [] }
 
 -- what is kept of the server
 abbrev pub server_state_in : table_server.ServerState → ServerState
-server_state_in lists = record { lost = λ c. unwrap_or (look nat_cmp lists.lost c) false; waiters = waiters_in lists.waiters }
+server_state_in lists = record
+    { lost = λ c. unwrap_or (look nat_cmp lists.lost c) false; waiters = waiters_in lists.waiters }
 
 -- before the first entry
 abbrev pub no_pass_state : PassState

@@ -34,7 +34,8 @@ TouchesWithin shape events standings s = (l : LockName) (x : Level) → TouchesI
     → is_enough x (standings l).lease ≡ true
 
 -- a block of a thread of the client can run, and touches what is within the leases
-pub record CanRun (shape : Shape) (c : ℕ) (txn : Txn) (block : List Event) (standings : Standings) (s : PlainState) : Type 0 where
+pub record CanRun (shape : Shape) (c : ℕ) (txn : Txn) (block : List Event) (standings : Standings)
+    (s : PlainState) : Type 0 where
   pub its : txn.thread.client ≡ c
   pub acts : AreActsOf txn.thread block
   pub runs : RunsButMarks shape block s

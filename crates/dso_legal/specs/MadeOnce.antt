@@ -67,7 +67,8 @@ pub record MadeOnce (es : List Entry) : Type 0 where
   pub by_one : (c d o : ℕ) → is_made c o es ≡ true → is_made d o es ≡ true → c ≡ d
   pub next_is_new : (c d o : ℕ) → next_id (entries_of (Client c) es) ≡ Some o → is_made d o es ≡ false
   pub apart : (t u : ThreadId) → is_thread t u ≡ false
-      → NoCommonId (MakesIn (events_in t (entries_of (Client t.client) es))) (MakesIn (events_in u (entries_of (Client u.client) es)))
+      → NoCommonId (MakesIn (events_in t (entries_of (Client t.client) es)))
+        (MakesIn (events_in u (entries_of (Client u.client) es)))
 
 -- Objects are made once, in every lawful journal, by lost clients too.
 abbrev pub ObjectsAreMadeOnce : Type 0

@@ -46,9 +46,11 @@ IsOfFirst m txns = Unit {0}
 -- server's last one, up to the client's; and those that the client has unacknowledged are those in flight to the
 -- server behind those whose acknowledgements are in flight to the client, which come in their order.
 pub record RecordsInOrder (c : ℕ) (es : List Entry) : Type 0 where
-  pub numbers : Agree HasNextNumber number_sent Always unchanged (messages (up_in_flight c es)) (messages (down_in_flight c es))
+  pub numbers : Agree HasNextNumber number_sent Always unchanged (messages (up_in_flight c es))
+      (messages (down_in_flight c es))
       (last_number c (counted (entries_of Server es))) (records (entries_of (Client c) es))
-  pub acknowledged : Agree Always unacked_by_sent IsOfFirst unacked_by_taken (messages (up_in_flight c es)) (messages (down_in_flight c es))
+  pub acknowledged : Agree Always unacked_by_sent IsOfFirst unacked_by_taken (messages (up_in_flight c es))
+      (messages (down_in_flight c es))
       [] (unacked (entries_of (Client c) es))
 
 -- In a lawful journal the records of each client that isn't lost are so.

@@ -38,7 +38,8 @@ count_in_hand o work = count_bodies o work.privates + count_bodies o work.news
 
 -- whether the thread has the object in hand: it is private to it, or published in its open block
 abbrev pub has_in_hand : Settings → ThreadId → ℕ → List Entry → Bool
-has_in_hand p t o es = let work = work_of p.shape t (entries_of (Client t.client) es) in is_among o work.privates || is_among o work.news
+has_in_hand p t o es = let work = work_of p.shape t (entries_of (Client t.client) es) in is_among o work.privates
+    || is_among o work.news
 
 -- An object that the thread has in hand: it made it, has it once, no client sent a record that publishes it, and no
 -- other thread has it in hand.

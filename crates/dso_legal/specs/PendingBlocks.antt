@@ -67,12 +67,14 @@ locks_through t (event ∷ events) locks = locks_through t events (locks_after t
 
 -- the private objects that a block of the thread leaves; another thread's block leaves them as they are
 abbrev pub privates_by : Shape → ThreadId → List Event → List Body → List Body
-privates_by shape t block privates = cond (list_any (is_act_of t) block) (worked shape block (start privates)).privates privates
+privates_by shape t block privates = cond (list_any (is_act_of t) block)
+    (worked shape block (start privates)).privates privates
 
 -- the thread's private objects after these blocks, by those before them
 abbrev pub privates_through : Shape → ThreadId → List (List Event) → List Body → List Body
 privates_through shape t [] privates = privates
-privates_through shape t (block ∷ blocks) privates = privates_through shape t blocks (privates_by shape t block privates)
+privates_through shape t (block ∷ blocks) privates = privates_through shape t blocks
+    (privates_by shape t block privates)
 
 -- none of these events of the thread, which has these locks, is an ending
 abbrev pub StaysOpen : ThreadId → List Event → Locks → Type 0
@@ -91,7 +93,8 @@ pub record EndsWith (t : ThreadId) (ending : Ending) (block : List Event) (locks
 pub record IsRecordOf (shape : Shape) (before : List (List Event)) (txn : Txn) (block : List Event) : Type 0 where
   pub acts : AreActsOf txn.thread block
   pub ends : EndsWith txn.thread txn.ending block (locks_through txn.thread (joined before) no_locks)
-  pub whole : txn ≡ txn_of shape (suc (length before)) txn.thread (privates_through shape txn.thread before []) block txn.ending
+  pub whole : txn ≡ txn_of shape (suc (length before)) txn.thread
+      (privates_through shape txn.thread before []) block txn.ending
 
 -- the records are those of the blocks, one for one, which stand behind the first ones
 abbrev pub AreRecordsOf : Shape → List (List Event) → List Txn → List (List Event) → Type 0

@@ -111,12 +111,14 @@ place_of l t (e ∷ es) = by_sent_up (place_up l t) e.sent (by_taken_down (place
 -- and by the server's entries that count, by the messages to and from client c
 abbrev pub place_with : ℕ → LockName → ThreadId → List Entry → Place
 place_with c l t [] = Away
-place_with c l t (e ∷ es) = by_sent_down (if_to c (place_down l t)) e.sent (by_taken_up (if_to c (place_up l t)) e.input (place_with c l t es))
+place_with c l t (e ∷ es) = by_sent_down (if_to c (place_down l t)) e.sent
+    (by_taken_up (if_to c (place_up l t)) e.input (place_with c l t es))
 
 -- The client and the server agree on the thread: each message in flight may come where it stands, and once all is taken
 -- both tell the same place.
 abbrev pub AgreeOnWaiter : ℕ → LockName → ThreadId → List Entry → Type 0
-AgreeOnWaiter c l t es = Agree (MayPlaceUp l t) (place_up l t) (MayPlaceDown l t) (place_down l t) (messages (up_in_flight c es)) (messages (down_in_flight c es))
+AgreeOnWaiter c l t es = Agree (MayPlaceUp l t) (place_up l t) (MayPlaceDown l t) (place_down l t)
+    (messages (up_in_flight c es)) (messages (down_in_flight c es))
     (place_with c l t (counted (entries_of Server es))) (place_of l t (entries_of (Client c) es))
 
 -- Waiters are tokens: after entries each of which follows those before it, of a sound program, each client that isn't

@@ -87,11 +87,13 @@ asked_or_resident false false = Absent
 
 -- how the object stands at the client, where it is said whether its id is the client's own
 abbrev pub residency_at : Bool → ℕ → List Entry → Residency
-residency_at own o es = cond (own && not (was_published o es)) Unpublished (asked_or_resident (is_object_asked o es) (is_resident o es))
+residency_at own o es = cond (own && not (was_published o es)) Unpublished
+    (asked_or_resident (is_object_asked o es) (is_resident o es))
 
 -- and how it stands with client c at the server
 abbrev pub residency_with : Bool → ℕ → ℕ → List Entry → Residency
-residency_with own c o es = cond (own && not (is_published_by c o es)) Unpublished (cond (holds_object c o es) Resident Absent)
+residency_with own c o es = cond (own && not (is_published_by c o es)) Unpublished
+    (cond (holds_object c o es) Resident Absent)
 
 -- whether the id was given to the client
 abbrev pub is_own : ℕ → ℕ → List Entry → Bool
@@ -101,8 +103,10 @@ is_own c o es = is_given_to c o (counted (entries_of Server es))
 -- flush and each record that sets it where it is resident, each record that publishes it where it isn't published,
 -- and it stands in flight to the client where it is asked for; once all is taken both say the same.
 abbrev pub AgreeOnObject : ℕ → ℕ → List Entry → Type 0
-AgreeOnObject c o es = Agree (MayMove o) (residency_up o) (MayCome o) (residency_down o) (messages (up_in_flight c es)) (messages (down_in_flight c es))
-    (residency_with (is_own c o es) c o (counted (entries_of Server es))) (residency_at (is_own c o es) o (entries_of (Client c) es))
+AgreeOnObject c o es = Agree (MayMove o) (residency_up o) (MayCome o) (residency_down o)
+    (messages (up_in_flight c es)) (messages (down_in_flight c es))
+    (residency_with (is_own c o es) c o (counted (entries_of Server es)))
+        (residency_at (is_own c o es) o (entries_of (Client c) es))
 
 -- Residency agrees: in a lawful journal, for each client that isn't lost, both agree on each object.
 abbrev pub ResidencyAgrees : Type 0

@@ -27,7 +27,8 @@ pub record HasEndings (t : ThreadId) (own : List Entry) (history : List Event) :
 -- Settled is committed: of entries each of which follows those before it, where one is a thread's Settle, the history
 -- of all of them has each block that the thread ended before it. So it is of every program, with losses at any place.
 abbrev pub SettledAreCommitted : Type 0
-SettledAreCommitted = (p : Settings) (next : ThreadId → List Event → Option Request) (later : List Entry) (e : Entry) (es : List Entry) → AllFollow p next (later ++ e ∷ es)
+SettledAreCommitted = (p : Settings) (next : ThreadId → List Event → Option Request) (later : List Entry) (e : Entry)
+    (es : List Entry) → AllFollow p next (later ++ e ∷ es)
     → (t : ThreadId) (reply : Reply) (woken : Option ThreadId) → e.node ≡ Client t.client
     → e.event ≡ Some (Act t Settle reply woken)
     → HasEndings t (entries_of (Client t.client) es) (committed (later ++ e ∷ es))

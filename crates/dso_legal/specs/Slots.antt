@@ -1,6 +1,7 @@
 -- Which steps are open after a journal, and when it is finished or stuck. Entries stand with the newest first.
 use Rattle.std.specs.List.{list_any}
-use Rattle.std.specs.Prelude.{ℕ, ◌+◌, Bool, true, false, cond, not, ltb, ◌&&◌, ◌||◌, Option, List, [], ◌∷◌, ◌++◌, map, filter, flat_map}
+use Rattle.std.specs.Prelude.{
+  ℕ, ◌+◌, Bool, true, false, cond, not, ltb, ◌&&◌, ◌||◌, Option, List, [], ◌∷◌, ◌++◌, map, filter, flat_map}
 use Rattle.dso_base.specs.declared.journal.Entry.{Entry}
 use Rattle.dso_base.specs.declared.journal.Node.TheVariants.{Server, Client}
 use Rattle.dso_base.specs.declared.lock.ThreadId.{ThreadId}
@@ -52,17 +53,20 @@ module _ (p : Settings) where
 
   -- whether the client took its broken connection up as often as it was broken
   abbrev pub has_rejoined : ℕ → List Entry → Bool
-  has_rejoined c es = not (ltb (count_inputs (rejoins c) (entries_of (Client c) es)) (count_inputs (breaks c) (entries_of Server es)))
+  has_rejoined c es = not (ltb (count_inputs (rejoins c) (entries_of (Client c) es))
+      (count_inputs (breaks c) (entries_of Server es)))
 
   -- A client can take: while its connection isn't broken, where a message is in flight to the client; while it is
   -- broken, where it hasn't taken the connection up as often as it was broken.
   abbrev pub can_take_down : ℕ → List Entry → Bool
-  can_take_down c es = cond (is_broken c (entries_of Server es)) (not (has_rejoined c es)) (is_any (down_in_flight c es))
+  can_take_down c es = cond (is_broken c (entries_of Server es)) (not (has_rejoined c es))
+      (is_any (down_in_flight c es))
 
   -- The server can take of a client: never where its loss or a break is due; else, while the connection isn't broken,
   -- where a message is in flight to the server; while it is broken, where the client has taken it up.
   abbrev pub can_take_up : ℕ → List Entry → Bool
-  can_take_up c es = not (is_due c es) && cond (is_broken c (entries_of Server es)) (has_rejoined c es) (is_any (up_in_flight c es))
+  can_take_up c es = not (is_due c es)
+      && cond (is_broken c (entries_of Server es)) (has_rejoined c es) (is_any (up_in_flight c es))
 
   -- the slots of a client: its threads' acts, taking a message, flushing
   abbrev pub client_slots : ℕ → List Slot

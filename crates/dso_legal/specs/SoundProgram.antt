@@ -12,7 +12,8 @@ use Rattle.dso_base.specs.declared.request.Event.TheVariants.{Act, Lost}
 use Rattle.dso_base.specs.declared.request.Reply.{Reply}
 use Rattle.dso_base.specs.declared.request.Reply.TheVariants.{Done, Made, Val}
 use Rattle.dso_base.specs.declared.request.Request.{Request}
-use Rattle.dso_base.specs.declared.request.Request.TheVariants.{New, Look, Get, Put, Enter, Exit, Wait, Tick, Timeout, Resume, Notify, NotifyAll, Print, End, Pause, Settle}
+use Rattle.dso_base.specs.declared.request.Request.TheVariants.{
+  New, Look, Get, Put, Enter, Exit, Wait, Tick, Timeout, Resume, Notify, NotifyAll, Print, End, Pause, Settle}
 use Rattle.dso_base.specs.declared.shape.Shape.{Shape}
 use Rattle.dso_base.specs.declared.value.Value.{Value}
 use Rattle.dso_base.specs.declared.value.Value.TheVariants as value
@@ -130,7 +131,8 @@ IsOfWaiter Settle = ⊥
 -- the latest ending of a thread after these events of its own, by its locks and its latest ending before them
 abbrev pub latest_ending : ThreadId → List Event → Locks → Option Ending → Option Ending
 latest_ending t [] locks latest = latest
-latest_ending t (event ∷ events) locks latest = latest_ending t events (locks_after t event locks) (or_else (ending_of event locks) latest)
+latest_ending t (event ∷ events) locks latest = latest_ending t events (locks_after t event locks)
+    (or_else (ending_of event locks) latest)
 
 -- It times out once: only where its latest ending is the wait on that lock.
 abbrev pub TimesOutOnce : Request → Option Ending → Type 0

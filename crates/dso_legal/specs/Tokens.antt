@@ -48,7 +48,8 @@ MayGoDown l m s = Unit {0}
 -- each return where it is leased, each grant in flight to the client where it is asked for; once all is taken both
 -- say the same.
 abbrev pub AgreeOnLock : ℕ → LockName → List Entry → Type 0
-AgreeOnLock c l es = Agree (MayGoUp l) (standing_up l) (MayGoDown l) (standing_down l) (messages (up_in_flight c es)) (messages (down_in_flight c es))
+AgreeOnLock c l es = Agree (MayGoUp l) (standing_up l) (MayGoDown l) (standing_down l) (messages (up_in_flight c es))
+    (messages (down_in_flight c es))
     (standing_with c l (counted (entries_of Server es))) (standing l (entries_of (Client c) es))
 
 -- Leases are tokens: in a lawful journal, for each client that isn't lost, both agree on each lock.

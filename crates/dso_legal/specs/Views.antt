@@ -75,7 +75,8 @@ pub record IsOrderly (p : Settings) (t : ThreadId) (client : List Entry) : Type 
 -- Acts are possible: what a client answers, where all needs are met and the program keeps to what it must, the one heap
 -- allows, whatever is marked.
 abbrev pub ActsArePossible : Type 0
-ActsArePossible = (p : Settings) (next : ThreadId → Option Request) (t : ThreadId) (request : Request) (reply : Reply) (client : List Entry) (start_state s : PlainState)
+ActsArePossible = (p : Settings) (next : ThreadId → Option Request) (t : ThreadId) (request : Request) (reply : Reply)
+    (client : List Entry) (start_state s : PlainState)
     → Sees p t client start_state s → IsOrderly p t client → KeepsTo p.shape t (events_in t client) request
     → unmet p t.client next t request client ≡ None → reply_of p t request client ≡ Some reply
     → IsPossibleButMarks p.shape t request reply s

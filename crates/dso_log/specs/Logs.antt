@@ -27,7 +27,8 @@ next_clock heard log = suc (max (last_clock log) heard)
 
 -- the next entry
 abbrev pub entry_of : ℕ → Input → List Sent → Option Event → Log → Entry
-entry_of heard input sent event log = record { clock = next_clock heard log; node = log.node; input = input; sent = sent; event = event }
+entry_of heard input sent event log = record
+    { clock = next_clock heard log; node = log.node; input = input; sent = sent; event = event }
 
 -- with one entry more, in the room that was made for it
 abbrev pub with_entry : Entry → Log → Log

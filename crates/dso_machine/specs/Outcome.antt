@@ -154,8 +154,8 @@ level_of grade.Read = Read
 level_of grade.Write = Write
 level_of grade.Synchronous = Write
 
--- a lock was left that was entered at this grade: after an entry at synchronous write the thread settles, and then it is
--- as before
+-- a lock was left that was entered at this grade: after an entry at synchronous write the thread settles, and then it
+-- is as before
 abbrev pub settling : Grade → Meaning → Meaning
 settling grade.Read m at = m at
 settling grade.Write m at = m at

@@ -1,5 +1,6 @@
 -- What a statement means, and what a thread's code comes to.
-use Rattle.std.specs.Prelude.{ℕ, zero, suc, true, false, ℤ, pos, List, [], ◌∷◌, map, slice_get, slice_set, Option, None, Some}
+use Rattle.std.specs.Prelude.{
+  ℕ, zero, suc, true, false, ℤ, pos, List, [], ◌∷◌, map, slice_get, slice_set, Option, None, Some}
 use Rattle.dso_base.specs.declared.lock.Grade.{Grade}
 use Rattle.dso_base.specs.declared.lock.Grade.TheVariants as grade
 use Rattle.dso_base.specs.declared.lock.LockName.{LockName}
@@ -24,7 +25,9 @@ use Rattle.dso_machine.specs.declared.tree.Stmt.{Stmt, Stmt-F, fold-Stmt}
 use Rattle.dso_machine.specs.declared.tree.Stmt.TheOpen as s
 use Rattle.dso_machine.specs.Calls.{lookup, MethodMeanings}
 use Rattle.dso_machine.specs.Expressions.{within, expr}
-use Rattle.dso_machine.specs.Outcome.{Gives, Leaves, Fails, Stopped, Meaning, choose, on_value, on_reply, on_next, ask, unwanted, tell, get, put, look, on_object, moving, under}
+use Rattle.dso_machine.specs.Outcome.{
+  Gives, Leaves, Fails, Stopped, Meaning, choose, on_value, on_reply, on_next, ask, unwanted, tell, get, put, look,
+  on_object, moving, under}
 use Rattle.dso_machine.specs.Values.{takes}
 
 -- ---- what is written
@@ -168,7 +171,8 @@ stmt_step code bodies n (s.If a yes_block no_block) at =
 stmt_step code bodies n (s.While a body) at = moving (spun (expr code bodies a) (seq body) n) at
 stmt_step code bodies n (s.Sync a grade body) at = on_value (sync grade (seq body)) (expr code bodies a at)
 stmt_step code bodies n (s.Wait a) at = on_value (on_object (λ object. wait 0 (Mon object))) (expr code bodies a at)
-stmt_step code bodies n (s.TimedWait a b) at = on_value (on_next timed_wait (expr code bodies b)) (expr code bodies a at)
+stmt_step code bodies n (s.TimedWait a b) at = on_value (on_next timed_wait (expr code bodies b))
+    (expr code bodies a at)
 stmt_step code bodies n (s.Notify a) at =
     on_value (on_object (λ object. tell (request.Notify (Mon object)))) (expr code bodies a at)
 stmt_step code bodies n (s.NotifyAll a) at =

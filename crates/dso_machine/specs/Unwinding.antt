@@ -1,6 +1,7 @@
 -- What a thread does with its locks: after a fault it leaves those that it has, the innermost first, and ends with the
 -- fault; and it settles behind the exit of an entry at synchronous write.
-use Rattle.std.specs.Prelude.{◌≡◌, ℕ, ◌≤◌, Bool, true, false, cond, List, [], ◌∷◌, ◌++◌, length, map, slice_get, Option, Some}
+use Rattle.std.specs.Prelude.{
+  ◌≡◌, ℕ, ◌≤◌, Bool, true, false, cond, List, [], ◌∷◌, ◌++◌, length, map, slice_get, Option, Some}
 use Rattle.dso_base.specs.declared.lock.Grade.{Grade}
 use Rattle.dso_base.specs.declared.lock.Grade.TheVariants as grade
 use Rattle.dso_base.specs.declared.lock.Level.{Level}
@@ -12,7 +13,8 @@ use Rattle.dso_base.specs.declared.request.Fault.{Fault}
 use Rattle.dso_base.specs.declared.request.Reply.{Reply}
 use Rattle.dso_base.specs.declared.request.Reply.TheVariants.{Done}
 use Rattle.dso_base.specs.declared.request.Request.{Request}
-use Rattle.dso_base.specs.declared.request.Request.TheVariants.{New, Look, Get, Put, Enter, Exit, Wait, Tick, Timeout, Resume, Notify, NotifyAll, Print, End, Pause, Settle}
+use Rattle.dso_base.specs.declared.request.Request.TheVariants.{
+  New, Look, Get, Put, Enter, Exit, Wait, Tick, Timeout, Resume, Notify, NotifyAll, Print, End, Pause, Settle}
 use Rattle.dso_base.specs.declared.value.Value.{Value}
 use Rattle.dso_base.specs.Following.{Listed, FollowsProgram}
 use Rattle.dso_machine.specs.declared.code.Code.{Code}
@@ -54,8 +56,8 @@ abbrev pub locks_after_reply : Request → Reply → List LockName → List Lock
 locks_after_reply q r locks = stack_after_reply (λ l. l) q r locks
 
 -- The locks that a thread has after its events, the innermost first, by those that it had before them. A wait gives
--- its lock up until the Resume, which takes the lock again where it was, and before which the thread does nothing with a
--- lock: so the list stays.
+-- its lock up until the Resume, which takes the lock again where it was, and before which the thread does nothing
+-- with a lock: so the list stays.
 abbrev pub locks_after : List LockName → List Event → List LockName
 locks_after locks [] = locks
 locks_after locks (Act thread q r woken ∷ events) = locks_after (locks_after_reply q r locks) events
@@ -130,8 +132,8 @@ pub record FailsAfter (code : Code) (body : ThreadBody) (past : List Reply) (fau
 abbrev pub FollowsCode : Code → ThreadId → List Event → Type 0
 FollowsCode code = FollowsProgram (next_request code) (Listed (next_request code))
 
--- what is asked after a fault: an exit of each lock, the innermost first, with Settle behind it where the lock was entered
--- at synchronous write, and then the end with the fault
+-- what is asked after a fault: an exit of each lock, the innermost first, with Settle behind it where the lock was
+-- entered at synchronous write, and then the end with the fault
 abbrev pub unwinding : Fault → List Hold → List Request
 unwinding fault [] = End (Some fault) ∷ []
 unwinding fault (hold ∷ holds) =

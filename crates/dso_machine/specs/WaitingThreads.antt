@@ -6,11 +6,12 @@ use Rattle.dso_base.specs.declared.request.Event.TheVariants.{Act, Lost}
 use Rattle.dso_base.specs.declared.request.Reply.{Reply}
 use Rattle.dso_base.specs.declared.request.Reply.TheVariants.{Done, Val}
 use Rattle.dso_base.specs.declared.request.Request.{Request}
-use Rattle.dso_base.specs.declared.request.Request.TheVariants.{New, Look, Get, Put, Enter, Exit, Wait, Tick, Timeout, Resume, Notify, NotifyAll, Print, End, Pause, Settle}
+use Rattle.dso_base.specs.declared.request.Request.TheVariants.{
+  New, Look, Get, Put, Enter, Exit, Wait, Tick, Timeout, Resume, Notify, NotifyAll, Print, End, Pause, Settle}
 use Rattle.dso_base.specs.declared.value.Value.TheVariants as value
 
--- whether a thread waits: it is awake; it waits on the lock; it waits on it still, but was told that it was woken, or its
--- wait timed out
+-- whether a thread waits: it is awake; it waits on the lock; it waits on it still, but was told that it was woken, or
+-- its wait timed out
 pub data Waiting : Type 0 where
   Awake : Waiting
   Asleep : LockName → Waiting
@@ -67,8 +68,8 @@ abbrev pub waited_on_by : Option Request → Option LockName
 waited_on_by None = None
 waited_on_by (Some q) = waited_on q
 
--- A thread that is awake asks for no tick, no timeout and no lock again; one that waits on a lock asks for nothing else,
--- and of that lock; once it was told that it was woken, or its wait timed out, it asks for the lock again.
+-- A thread that is awake asks for no tick, no timeout and no lock again; one that waits on a lock asks for nothing
+-- else, and of that lock; once it was told that it was woken, or its wait timed out, it asks for the lock again.
 abbrev pub AsksAsItWaits : Waiting → Option Request → Type 0
 AsksAsItWaits Awake next = waited_on_by next ≡ None
 AsksAsItWaits (Asleep l) next = waited_on_by next ≡ Some l

@@ -1,5 +1,7 @@
 -- What an event leaves: what it writes into each part of the state.
-use Rattle.std.specs.Prelude.{ℕ, zero, suc, ◌-◌, ◌≡◌, Bool, true, false, cond, eqb, ltb, ◌&&◌, ◌||◌, is_some, pos, Option, Some, None, List, [], ◌∷◌, length}
+use Rattle.std.specs.Prelude.{
+  ℕ, zero, suc, ◌-◌, ◌≡◌, Bool, true, false, cond, eqb, ltb, ◌&&◌, ◌||◌, is_some, pos, Option, Some, None, List, [],
+  ◌∷◌, length}
 use Rattle.dso_base.specs.declared.lock.Level.{Level}
 use Rattle.dso_base.specs.declared.lock.Level.TheVariants.{Write}
 use Rattle.dso_base.specs.declared.lock.LockName.{LockName}
@@ -10,7 +12,8 @@ use Rattle.dso_base.specs.declared.request.Fault.{Fault}
 use Rattle.dso_base.specs.declared.request.Reply.{Reply}
 use Rattle.dso_base.specs.declared.request.Reply.TheVariants.{Done, Made, Val}
 use Rattle.dso_base.specs.declared.request.Request.{Request}
-use Rattle.dso_base.specs.declared.request.Request.TheVariants.{New, Look, Get, Put, Enter, Exit, Wait, Tick, Timeout, Resume, Notify, NotifyAll, Print, End, Pause, Settle}
+use Rattle.dso_base.specs.declared.request.Request.TheVariants.{
+  New, Look, Get, Put, Enter, Exit, Wait, Tick, Timeout, Resume, Notify, NotifyAll, Print, End, Pause, Settle}
 use Rattle.dso_base.specs.declared.shape.Shape.{Shape}
 use Rattle.dso_base.specs.declared.value.ClassId.{ClassId}
 use Rattle.dso_base.specs.declared.value.Kind.{Kind}
@@ -125,7 +128,8 @@ abbrev pub put : ThreadId → ℕ → ℕ → Value → Bool → PlainState → 
 put t o f v true s = record nothing {
   objects = writes (published t v s) (λ key. shared (s.objects key));
   heap = writes (is_field o f) (λ key. Some v);
-  past = λ key. cond (is_field o f key) (Some (v ∷ s.past (o, f))) (writes (λ key. published t v s key.0) (λ key. present (s.heap key)) key);
+  past = λ key. cond (is_field o f key) (Some (v ∷ s.past (o, f)))
+      (writes (λ key. published t v s key.0) (λ key. present (s.heap key)) key);
   seen = writes (is_view t o f) (λ key. length (s.past (o, f)));
 }
 put t o f v false s = record nothing { heap = writes (is_field o f) (λ key. Some v) }
@@ -188,9 +192,11 @@ change_of shape t (Get o f) (Val v) woken s = read shape t o f (is_shared (s.obj
 change_of shape t (Get o f) reply woken s = nothing
 change_of shape t (Put o f v) Done woken s = put t o f v (is_shared (s.objects o)) s
 change_of shape t (Put o f v) reply woken s = nothing
-change_of shape t (Enter l level) Done woken s = record nothing { monitors = writes (is_place l t) (λ key. entered level (s.monitors (l, t))) }
+change_of shape t (Enter l level) Done woken s = record nothing
+    { monitors = writes (is_place l t) (λ key. entered level (s.monitors (l, t))) }
 change_of shape t (Enter l level) reply woken s = nothing
-change_of shape t (Exit l) Done woken s = record nothing { monitors = writes (is_place l t) (λ key. exited (s.monitors (l, t))) }
+change_of shape t (Exit l) Done woken s = record nothing
+    { monitors = writes (is_place l t) (λ key. exited (s.monitors (l, t))) }
 change_of shape t (Exit l) reply woken s = nothing
 change_of shape t (Wait l) Done woken s = waits t l s
 change_of shape t (Wait l) reply woken s = nothing

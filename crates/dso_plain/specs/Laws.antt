@@ -61,7 +61,8 @@ RunsInParts = (shape : Shape) (first second : List Event) (s : PlainState)
 -- Parts: so it is of a run whatever is marked.
 abbrev pub RunsButMarksInParts : Type 0
 RunsButMarksInParts = (shape : Shape) (first second : List Event) (s : PlainState)
-    → RunsButMarks shape (first ++ second) s ↔ (RunsButMarks shape first s × RunsButMarks shape second (end_of shape first s))
+    → RunsButMarks shape (first ++ second) s
+      ↔ (RunsButMarks shape first s × RunsButMarks shape second (end_of shape first s))
 
 -- Parts: a run of two lists of events in order ends where the second does from the end of the first.
 abbrev pub EndsInParts : Type 0
@@ -80,7 +81,11 @@ Growth = (shape : Shape) (es : List Event) (s : PlainState)
 -- Going on: a legal history with more events behind it is legal where these run from its last state and each thread's
 -- events among them follow the program after those that it has.
 abbrev pub LegalGoesOn : Type 0
-LegalGoesOn = (next : ThreadId → List Event → Option Request) (listed : ThreadId → List Event → Reply → Bool) (shape : Shape) (h more : List Event) → IsLegal next (λ t es reply. listed t es reply ≡ true) shape h → Runs shape more (last_state shape h) → ((t : ThreadId) → FollowsFrom next (λ t es reply. listed t es reply ≡ true) t (events_of t h) (events_of t more)) → IsLegal next (λ t es reply. listed t es reply ≡ true) shape (h ++ more)
+LegalGoesOn = (next : ThreadId → List Event → Option Request) (listed : ThreadId → List Event → Reply → Bool)
+    (shape : Shape) (h more : List Event) → IsLegal next (λ t es reply. listed t es reply ≡ true) shape h
+    → Runs shape more (last_state shape h)
+    → ((t : ThreadId) → FollowsFrom next (λ t es reply. listed t es reply ≡ true) t (events_of t h)
+    (events_of t more)) → IsLegal next (λ t es reply. listed t es reply ≡ true) shape (h ++ more)
 
 -- Monitors: what is said of monitors holds in each state that a run from the opening state reaches.
 abbrev pub Monitors : Type 0

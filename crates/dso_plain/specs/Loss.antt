@@ -56,4 +56,7 @@ WaitersLeft = (shape : Shape) (client : ℕ) (s : PlainState) (l : LockName) (w 
 -- Choice: where a thread of another client could notify somebody or nobody, it can notify, after the loss, whom it
 -- chooses among the waiters left, and nobody exactly where none is left.
 abbrev pub ChoiceAfterLoss : Type 0
-ChoiceAfterLoss = (shape : Shape) (client : ℕ) (s : PlainState) (t : ThreadId) (l : LockName) (before chosen : Option ThreadId) → t.client ≢ client → IsPossible shape t (Notify l) Done before s → IsPossible shape t (Notify l) Done chosen (after shape (Lost client) s) ↔ Wakes (Notify l) Done chosen (after shape (Lost client) s)
+ChoiceAfterLoss = (shape : Shape) (client : ℕ) (s : PlainState) (t : ThreadId) (l : LockName)
+    (before chosen : Option ThreadId) → t.client ≢ client → IsPossible shape t (Notify l) Done before s
+    → IsPossible shape t (Notify l) Done chosen (after shape (Lost client) s)
+    ↔ Wakes (Notify l) Done chosen (after shape (Lost client) s)

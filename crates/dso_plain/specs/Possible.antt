@@ -7,18 +7,21 @@ use Rattle.dso_base.specs.declared.lock.LockName.TheVariants.{Mon, Name}
 use Rattle.dso_base.specs.declared.lock.ThreadId.{ThreadId}
 use Rattle.dso_base.specs.declared.request.Event.{Event}
 use Rattle.dso_base.specs.declared.request.Event.TheVariants.{Act, Lost}
-use Rattle.dso_base.specs.declared.request.Fault.TheVariants.{UnlockedSharedObject, WrongLock, ReadOnly, LockUpgrade, IllegalMonitor}
+use Rattle.dso_base.specs.declared.request.Fault.TheVariants.{
+  UnlockedSharedObject, WrongLock, ReadOnly, LockUpgrade, IllegalMonitor}
 use Rattle.dso_base.specs.declared.request.Reply.{Reply}
 use Rattle.dso_base.specs.declared.request.Reply.TheVariants.{Done, Made, Seen, Val, Local, Refused}
 use Rattle.dso_base.specs.declared.request.Request.{Request}
-use Rattle.dso_base.specs.declared.request.Request.TheVariants.{New, Look, Get, Put, Enter, Exit, Wait, Tick, Timeout, Resume, Notify, NotifyAll, Print, End, Pause, Settle}
+use Rattle.dso_base.specs.declared.request.Request.TheVariants.{
+  New, Look, Get, Put, Enter, Exit, Wait, Tick, Timeout, Resume, Notify, NotifyAll, Print, End, Pause, Settle}
 use Rattle.dso_base.specs.declared.shape.ClassShape.{ClassShape}
 use Rattle.dso_base.specs.declared.shape.Shape.{Shape}
 use Rattle.dso_base.specs.declared.value.ClassId.{ClassId}
 use Rattle.dso_base.specs.declared.value.ClassId.TheVariants as class
 use Rattle.dso_base.specs.declared.value.Value.{Value}
 use Rattle.dso_base.specs.declared.value.Value.TheVariants as value
-use Rattle.dso_plain.specs.State.{Object, Hold, PlainState, IsPrivate, IsShared, HasField, HoldsGuard, HoldsNothing, hold_on_guard, level_of}
+use Rattle.dso_plain.specs.State.{
+  Object, Hold, PlainState, IsPrivate, IsShared, HasField, HoldsGuard, HoldsNothing, hold_on_guard, level_of}
 
 -- the number of fields of a class that is there
 abbrev pub IsFieldCount : Option ClassShape → ℕ → Type 0
@@ -70,7 +73,8 @@ ReadsUnguarded shape t o f v s = IsShared o s × (hold_on_guard shape t o f s �
 
 -- Get: one of the three.
 abbrev pub AnswersGet : Shape → ThreadId → ℕ → ℕ → Reply → PlainState → Type 0
-AnswersGet shape t o f (Val v) s = ReadsPrivate t o f v s ⊎ ReadsGuarded shape t o f v s ⊎ ReadsUnguarded shape t o f v s
+AnswersGet shape t o f (Val v) s = ReadsPrivate t o f v s ⊎ ReadsGuarded shape t o f v s ⊎ ReadsUnguarded shape t o f
+    v s
 AnswersGet shape t o f reply s = ⊥
 
 -- Put, with the object's having the field asked for beside it. Done: the object is private to the thread, or it is
@@ -255,14 +259,16 @@ IsAwakeFor Settle t s = IsAwake t s
 
 -- What an act needs, whatever is marked: its client is not lost, the thread has not ended and does not wait (but to
 -- tick, time out or resume), and the reply is possible for the request.
-pub record IsPossibleButMarks (shape : Shape) (t : ThreadId) (request : Request) (reply : Reply) (s : PlainState) : Type 0 where
+pub record IsPossibleButMarks (shape : Shape) (t : ThreadId) (request : Request) (reply : Reply)
+    (s : PlainState) : Type 0 where
   pub connected : s.lost t.client ≡ false
   pub going : s.ended t ≡ None
   pub awake : IsAwakeFor request t s
   pub answers : Answers shape t request reply s
 
 -- What an act needs: all this, its thread's mark where it asks for one, and that it wakes whom it says.
-pub record IsPossible (shape : Shape) (t : ThreadId) (request : Request) (reply : Reply) (woken : Option ThreadId) (s : PlainState) : Type 0 where
+pub record IsPossible (shape : Shape) (t : ThreadId) (request : Request) (reply : Reply) (woken : Option ThreadId)
+    (s : PlainState) : Type 0 where
   pub connected : s.lost t.client ≡ false
   pub going : s.ended t ≡ None
   pub awake : IsAwakeFor request t s

@@ -1,5 +1,6 @@
 -- What each step keeps: of the past, and of monitors and waits.
-use Rattle.std.specs.Prelude.{ℕ, ◌-◌, ◌≤◌, ◌≡◌, ◌≢◌, ◌⊎◌, Bool, true, false, ltb, is_some, Option, Some, None, List, [], length}
+use Rattle.std.specs.Prelude.{
+  ℕ, ◌-◌, ◌≤◌, ◌≡◌, ◌≢◌, ◌⊎◌, Bool, true, false, ltb, is_some, Option, Some, None, List, [], length}
 use Rattle.dso_base.specs.declared.lock.Level.{Level}
 use Rattle.dso_base.specs.declared.lock.LockName.{LockName}
 use Rattle.dso_base.specs.declared.lock.ThreadId.{ThreadId}
@@ -11,7 +12,8 @@ use Rattle.dso_plain.specs.Past.{newest}
 use Rattle.dso_lookup.specs.Reaching.{IsListed}
 
 -- What each step keeps of pasts, said of the parts of a state that it speaks of.
-pub record PastInvariantOf (objects : ℕ → Option Object) (made : ThreadId → List ℕ) (heap : ℕ × ℕ → Option Value) (past : ℕ × ℕ → List Value) (seen : ThreadId × ℕ × ℕ → ℕ) : Type 0 where
+pub record PastInvariantOf (objects : ℕ → Option Object) (made : ThreadId → List ℕ) (heap : ℕ × ℕ → Option Value)
+    (past : ℕ × ℕ → List Value) (seen : ThreadId × ℕ × ℕ → ℕ) : Type 0 where
   pub newest_is_heap : (o f : ℕ) → is_shared (objects o) ≡ true → newest (past (o, f)) ≡ heap (o, f)
   pub none_before : (o f : ℕ) → is_shared (objects o) ≡ false → past (o, f) ≡ []
   pub within : (t : ThreadId) (o f : ℕ) → seen (t, o, f) ≤ length (past (o, f)) - 1
@@ -27,7 +29,8 @@ abbrev pub HasLeft : (ℕ → Bool) → (ThreadId → Option (Option Fault)) →
 HasLeft lost ended t = (lost t.client ≡ true) ⊎ (ended t ≢ None)
 
 -- What each step keeps of monitors and waits, said of the parts of a state that it speaks of.
-pub record MonitorInvariantOf (monitors : LockName × ThreadId → Option Hold) (asleep : LockName × ThreadId → Option ℕ) (marked : LockName × ThreadId → Bool) (ended : ThreadId → Option (Option Fault)) (lost : ℕ → Bool) : Type 0 where
+pub record MonitorInvariantOf (monitors : LockName × ThreadId → Option Hold) (asleep : LockName × ThreadId → Option ℕ)
+    (marked : LockName × ThreadId → Bool) (ended : ThreadId → Option (Option Fault)) (lost : ℕ → Bool) : Type 0 where
   pub compatible : (l : LockName) (t w : ThreadId) (x : Level) → t ≢ w → level_of (monitors (l, t)) ≡ Some x
       → IsCompatible x (level_of (monitors (l, w)))
   pub counted : (l : LockName) (t : ThreadId) (hold : Hold) → monitors (l, t) ≡ Some hold → 1 ≤ hold.count

@@ -49,7 +49,8 @@ state_of tables = record {
   past = pasts_of tables.past;
   seen = λ key. unwrap_or (look view_order tables.seen key) 0;
   monitors = λ key. option_map hold_of (look_in lock_order thread_order tables.holds key);
-  asleep = λ key. either (look_in lock_order thread_order tables.waits key) (look_in lock_order thread_order tables.marked key);
+  asleep = λ key. either (look_in lock_order thread_order tables.waits key)
+      (look_in lock_order thread_order tables.marked key);
   marked = λ key. is_some (look_in lock_order thread_order tables.marked key);
   output = λ t. newest_first (look thread_order tables.output t);
   ended = λ t. look thread_order tables.ended t;

@@ -12,7 +12,8 @@ use Rattle.dso_reply.specs.declared.waiting.AfterWait.TheVariants as wait
 use Rattle.dso_reply.specs.declared.roots.Binding.{Binding}
 use Rattle.dso_reply.specs.declared.roots.Binding.TheVariants as binding
 
--- a thread waits for so many ticks, 0 of which stand for no limit: with a limit its ticks come, else it has its lock again
+-- a thread waits for so many ticks, 0 of which stand for no limit: with a limit its ticks come, else it has its lock
+-- again
 abbrev pub after_wait : Reply → ℕ → AfterWait
 after_wait Done zero = wait.Resumes
 after_wait Done (suc n) = wait.Ticks

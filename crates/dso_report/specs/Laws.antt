@@ -12,7 +12,8 @@ use Rattle.dso_report.specs.WholeState.{IsWholeState, IsClosedOrder}
 
 -- A state has one report.
 abbrev pub OneReport : Type 0
-OneReport = (names : Names) (threads : List ThreadId) (s : PlainState) (a b : List ℕ) → IsReport names threads s a → IsReport names threads s b → a ≡ b
+OneReport = (names : Names) (threads : List ThreadId) (s : PlainState) (a b : List ℕ) → IsReport names threads s a
+    → IsReport names threads s b → a ≡ b
 
 -- In each state that a run of a sound program leads to, nothing is missing that its report names.
 abbrev pub StatesAreWhole : Type 0

@@ -1,5 +1,5 @@
--- The report of a history: its threads with what they printed, the count of unguarded reads, and the graph. What names something that
--- isn't there has no text, so a state that lacks something that its report names has no report.
+-- The report of a history: its threads with what they printed, the count of unguarded reads, and the graph. What
+-- names something that isn't there has no text, so a state that lacks something that its report names has no report.
 use Rattle.std.specs.Prelude.{ℕ, ◌≡◌, true, false, Option, Some, None, List, ◌++◌, codes, map, reverse, slice_get}
 use Rattle.std.specs.Fmt.{decimal, ◌++?◌}
 use Rattle.std.specs.List.{All}
@@ -56,7 +56,8 @@ standing_text Open = codes "open"
 
 -- the line of a thread
 abbrev pub thread_line : ThreadId → Standing → List ℕ
-thread_line t standing = codes "thread " ++ (decimal t.client ++ (codes "." ++ (decimal t.index ++ (codes " " ++ (standing_text standing ++ codes "\n")))))
+thread_line t standing = codes "thread "
+    ++ (decimal t.client ++ (codes "." ++ (decimal t.index ++ (codes " " ++ (standing_text standing ++ codes "\n")))))
 
 -- the line of a value that a thread printed
 abbrev pub output_line : List (List ℕ) → Value → Option (List ℕ)
@@ -64,7 +65,8 @@ output_line texts v = Some (codes "| ") ++? printed texts v ++? Some (codes "\n"
 
 -- the line of a thread, and a line for each value that it printed, the oldest first
 abbrev pub thread_text : Names → PlainState → ThreadId → Standing → Option (List ℕ)
-thread_text names s t standing = Some (thread_line t standing) ++? each_of (output_line names.texts) (reverse (s.output t))
+thread_text names s t standing = Some (thread_line t standing) ++? each_of (output_line names.texts)
+    (reverse (s.output t))
 
 -- the text is that of the threads in their order, each as it stands
 pub record IsThreadsText (names : Names) (s : PlainState) (threads : List ThreadId) (text : List ℕ) : Type 0 where
@@ -83,11 +85,13 @@ root_name root = root.class ++ (codes "." ++ root.field)
 
 -- the line of a root, by its number
 abbrev pub root_line : Names → List ℕ → PlainState → ℕ → Option (List ℕ)
-root_line names order s r = Some (codes "root ") ++? option_map root_name (slice_get names.roots r) ++? Some (codes " ") ++? shown_in names.texts order (s.heap (0, r)) ++? Some (codes "\n")
+root_line names order s r = Some (codes "root ") ++? option_map root_name (slice_get names.roots r) ++? Some
+    (codes " ") ++? shown_in names.texts order (s.heap (0, r)) ++? Some (codes "\n")
 
 -- a field of an object: its name and its value
 abbrev pub field_text : Names → List ℕ → PlainState → ℕ → List (List ℕ) → ℕ → Option (List ℕ)
-field_text names order s o fields f = Some (codes " ") ++? slice_get fields f ++? Some (codes "=") ++? shown_in names.texts order (s.heap (o, f))
+field_text names order s o fields f = Some (codes " ") ++? slice_get fields f ++? Some
+    (codes "=") ++? shown_in names.texts order (s.heap (o, f))
 
 -- an element of an array: its value
 abbrev pub element_text : Names → List ℕ → PlainState → ℕ → ℕ → Option (List ℕ)
@@ -98,11 +102,13 @@ abbrev pub fields_text : Names → List ℕ → PlainState → ℕ → ℕ → O
 fields_text names order s o size None = None
 fields_text names order s o size (Some fields) = each_below (field_text names order s o fields) size
 
--- an object by its class: one of a class of the program with the class and its fields, an array with its kind, size and elements; the
--- roots' object is none of the graph
+-- an object by its class: one of a class of the program with the class and its fields, an array with its kind, size
+-- and elements; the roots' object is none of the graph
 abbrev pub body_text : Names → List ℕ → PlainState → ℕ → ℕ → ClassId → Option (List ℕ)
-body_text names order s o size (class.Plain c) = slice_get names.classes c ++? fields_text names order s o size (slice_get names.fields c)
-body_text names order s o size (class.Array kind) = Some (kind_text kind ++ (codes "[" ++ (decimal size ++ codes "]"))) ++? each_below (element_text names order s o) size
+body_text names order s o size (class.Plain c) = slice_get names.classes c ++? fields_text names order s o size
+    (slice_get names.fields c)
+body_text names order s o size (class.Array kind) = Some
+    (kind_text kind ++ (codes "[" ++ (decimal size ++ codes "]"))) ++? each_below (element_text names order s o) size
 body_text names order s o size class.Roots = None
 
 -- an object, if it is there
@@ -112,14 +118,16 @@ object_text names order s o (Some object) = body_text names order s o object.siz
 
 -- the line of an object
 abbrev pub object_line : Names → List ℕ → PlainState → ℕ → Option (List ℕ)
-object_line names order s o = numbered order o ++? Some (codes " ") ++? object_text names order s o (s.objects o) ++? Some (codes "\n")
+object_line names order s o = numbered order o ++? Some (codes " ") ++? object_text names order s o
+    (s.objects o) ++? Some (codes "\n")
 
 -- the roots' lines in their order, and the objects' lines by their numbers
 abbrev pub graph_text : Names → List ℕ → PlainState → Option (List ℕ)
-graph_text names order s = each_below (root_line names order s) (fields_of s 0) ++? each_of (object_line names order s) order
+graph_text names order s = each_below (root_line names order s) (fields_of s 0) ++? each_of
+    (object_line names order s) order
 
--- The bytes are the report of the state: the threads, the count of unguarded reads, and the graph. How a thread stands and
--- the order of the objects are what the state says of them.
+-- The bytes are the report of the state: the threads, the count of unguarded reads, and the graph. How a thread
+-- stands and the order of the objects are what the state says of them.
 pub record IsReport (names : Names) (threads : List ThreadId) (s : PlainState) (bytes : List ℕ) : Type 0 where
   pub lines : List ℕ
   pub order : List ℕ

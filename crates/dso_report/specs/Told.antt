@@ -1,4 +1,5 @@
--- What a thread may name: a text of its program, and what replies told it, which are objects that it made or read, and texts that it read.
+-- What a thread may name: a text of its program, and what replies told it, which are objects that it made or read,
+-- and texts that it read.
 use Rattle.std.specs.Prelude.{ℕ, ◌≡◌, ◌<◌, ◌⊎◌, List, [], ◌∷◌, Some}
 use Rattle.dso_base.specs.declared.lock.LockName.{LockName}
 use Rattle.dso_base.specs.declared.lock.LockName.TheVariants.{Mon, Name}
@@ -8,7 +9,8 @@ use Rattle.dso_base.specs.declared.request.Event.TheVariants.{Act, Lost}
 use Rattle.dso_base.specs.declared.request.Reply.{Reply}
 use Rattle.dso_base.specs.declared.request.Reply.TheVariants.{Made, Val}
 use Rattle.dso_base.specs.declared.request.Request.{Request}
-use Rattle.dso_base.specs.declared.request.Request.TheVariants.{New, Look, Get, Put, Enter, Exit, Wait, Tick, Timeout, Resume, Notify, NotifyAll, Print, End, Pause, Settle}
+use Rattle.dso_base.specs.declared.request.Request.TheVariants.{
+  New, Look, Get, Put, Enter, Exit, Wait, Tick, Timeout, Resume, Notify, NotifyAll, Print, End, Pause, Settle}
 use Rattle.dso_base.specs.declared.value.Value.{Value}
 use Rattle.dso_base.specs.declared.value.Value.TheVariants as value
 use Rattle.dso_base.specs.Following.{FollowsProgram, Listed}
@@ -68,8 +70,9 @@ IsTextOf code events text = (text < code.shape.texts) ⊎ WasTold events (value.
 abbrev pub IsObjectOf : List Event → ℕ → Type 0
 IsObjectOf events object = WasTold events (value.Ref object)
 
--- Wherever a thread of sound code follows its program with listed replies, its next request names only texts of the program, and texts
--- and objects that it was told of.
+-- Wherever a thread of sound code follows its program with listed replies, its next request names only texts of the
+-- program, and texts and objects that it was told of.
 abbrev pub ThreadsNameWhatTheyWereTold : Type 0
-ThreadsNameWhatTheyWereTold = (code : Code) (t : ThreadId) (events : List Event) (request : Request) → IsSound code → FollowsProgram (next_request code) (Listed (next_request code)) t events
+ThreadsNameWhatTheyWereTold = (code : Code) (t : ThreadId) (events : List Event) (request : Request) → IsSound code
+    → FollowsProgram (next_request code) (Listed (next_request code)) t events
     → next_request code t events ≡ Some request → NamesOnlyKnown (IsTextOf code events) (IsObjectOf events) request

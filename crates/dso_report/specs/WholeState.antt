@@ -27,8 +27,8 @@ HasWords names size (class.Plain c) = HasClassWords names c size
 HasWords names size (class.Array kind) = Unit {0}
 HasWords names size class.Roots = ⊥
 
--- Nothing is missing: each root has a name, each field has a value, each value that stands in a field or was printed names what is
--- there, and each object but object 0 has its words.
+-- Nothing is missing: each root has a name, each field has a value, each value that stands in a field or was printed
+-- names what is there, and each object but object 0 has its words.
 pub record IsWholeState (names : Names) (s : PlainState) : Type 0 where
   pub roots : size_of (s.objects 0) ≡ length names.roots
   pub fields : (o f : ℕ) → HasField o f s → s.heap (o, f) ≢ None
@@ -38,4 +38,5 @@ pub record IsWholeState (names : Names) (s : PlainState) : Type 0 where
 
 -- The order has each object that a field of object 0 or of an object of the order names.
 pub record IsClosedOrder (s : PlainState) (order : List ℕ) : Type 0 where
-  pub closed : (o f named : ℕ) → ((o ≡ 0) ⊎ Contains order o) → HasField o f s → s.heap (o, f) ≡ Some (value.Ref named) → Contains order named
+  pub closed : (o f named : ℕ) → ((o ≡ 0) ⊎ Contains order o) → HasField o f s → s.heap (o, f)
+      ≡ Some (value.Ref named) → Contains order named

@@ -1,5 +1,7 @@
 -- The two ends of a connection: what each keeps, which frame is next, and what it makes of a frame of the other end.
-use Rattle.std.specs.Prelude.{ℕ, zero, suc, ◌+◌, ◌-◌, ◌^◌, ◌<◌, ◌≤◌, Bool, true, false, cond, eqb, leb, ltb, not, ◌&&◌, ◌||◌, Option, Some, None, List, [], ◌∷◌, ◌++◌, drop, length, max, slice_get}
+use Rattle.std.specs.Prelude.{
+  ℕ, zero, suc, ◌+◌, ◌-◌, ◌^◌, ◌<◌, ◌≤◌, Bool, true, false, cond, eqb, leb, ltb, not, ◌&&◌, ◌||◌, Option, Some, None,
+  List, [], ◌∷◌, ◌++◌, drop, length, max, slice_get}
 use Rattle.dso_session.specs.declared.frame.Accepted.{Accepted}
 use Rattle.dso_session.specs.declared.frame.Accepted.TheVariants as accepted
 use Rattle.dso_session.specs.declared.frame.Frame.{Frame}
@@ -35,11 +37,13 @@ pub record IsInOrder {M : Type 0} (end : End M) : Type 0 where
 
 -- at first: ready, with nothing sent or accepted
 abbrev pub opened : {M : Type 0} → Role → End M
-opened role = record { role = role; epoch = 0; is_ready = true; owes_hello = false; accepted = 0; seen = 0; given = 0; kept = []; clock = 0 }
+opened role = record { role = role; epoch = 0; is_ready = true; owes_hello = false; accepted = 0; seen = 0; given = 0;
+    kept = []; clock = 0 }
 
 -- with one message more
 abbrev pub posted : {M : Type 0} → M → ℕ → End M → End M
-posted message clock end = record end { kept = end.kept ++ record { message = message; clock = clock } ∷ []; clock = clock }
+posted message clock end = record end
+    { kept = end.kept ++ record { message = message; clock = clock } ∷ []; clock = clock }
 
 -- the next message that may go
 abbrev pub next_kept : {M : Type 0} → End M → Option (Posted M)
@@ -67,7 +71,8 @@ behind_frame end = cond end.owes_hello (record end { owes_hello = false }) (gone
 abbrev pub answer_carry : {M : Type 0} → ℕ → ℕ → ℕ → ℕ → M → End M → Accepted M
 answer_carry epoch number seen clock message end = cond (not (eqb epoch end.epoch)) (accepted.OldConnection epoch)
     (cond (leb number end.accepted) (accepted.Again number)
-    (cond (ltb (suc end.accepted) number || ltb (sent_count end) seen) (accepted.Gap number) (accepted.Up message clock)))
+    (cond (ltb (suc end.accepted) number || ltb (sent_count end) seen) (accepted.Gap number)
+        (accepted.Up message clock)))
 
 -- A connection begins anew: for the client by a later epoch, for the server by its own, while it waits for that.
 abbrev pub is_new : {M : Type 0} → ℕ → End M → Role → Bool
@@ -86,7 +91,8 @@ answer (Hello epoch seen clock) end = answer_hello epoch seen end
 
 -- what the other end has seen is kept no longer
 abbrev pub forgotten : {M : Type 0} → ℕ → End M → End M
-forgotten seen end = record end { seen = max end.seen seen; given = max end.given seen; kept = drop (seen - end.seen) end.kept }
+forgotten seen end = record end
+    { seen = max end.seen seen; given = max end.given seen; kept = drop (seen - end.seen) end.kept }
 
 -- whether a Hello is to go first, once the connection begins anew: the client's end answers one
 abbrev pub answers_hello : Role → Bool → Bool
@@ -95,11 +101,13 @@ answers_hello role.Server owes = owes
 
 -- the connection begins anew: messages go again behind the last one seen
 abbrev pub rejoined : {M : Type 0} → ℕ → ℕ → End M → End M
-rejoined epoch seen end = record (forgotten seen end) { epoch = epoch; is_ready = true; owes_hello = answers_hello end.role end.owes_hello; given = seen }
+rejoined epoch seen end = record (forgotten seen end)
+    { epoch = epoch; is_ready = true; owes_hello = answers_hello end.role end.owes_hello; given = seen }
 
 -- what a frame makes of the end that answers it so
 abbrev pub after_answer : {M : Type 0} → Frame M → Accepted M → End M → End M
-after_answer (Carry epoch number seen clock message) (accepted.Up m c) end = record (forgotten seen end) { accepted = number }
+after_answer (Carry epoch number seen clock message) (accepted.Up m c) end = record (forgotten seen end)
+    { accepted = number }
 after_answer (Hello epoch seen clock) (accepted.Rejoined n) end = rejoined epoch seen end
 after_answer frame other end = end
 

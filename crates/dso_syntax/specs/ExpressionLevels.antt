@@ -1,5 +1,5 @@
--- The reader of expressions, part by part, where so many levels may still be opened within: the number bounds how deep the parts hold each
--- other. Each is what `ExpressionReader` has, under a name of its own.
+-- The reader of expressions, part by part, where so many levels may still be opened within: the number bounds how
+-- deep the parts hold each other. Each is what `ExpressionReader` has, under a name of its own.
 use Rattle.std.specs.Prelude.{ℕ, List, Ok}
 use Rattle.dso_syntax.specs.declared.tree.ExprTree.{ExprTree}
 use Rattle.dso_syntax.specs.declared.tree.ExprForm.TheVariants as e
@@ -24,7 +24,8 @@ climb levels rank = reader.climb (reader.unary (reader.whole levels) levels leve
 
 -- the operators of a rank behind an operand; the last number bounds how many
 unfoldable pub operations : ℕ → ℕ → ℕ → ExprTree → Parser ExprTree
-operations levels rank more = reader.operations (reader.climb (reader.unary (reader.whole levels) levels levels) levels rank) rank more
+operations levels rank more = reader.operations
+    (reader.climb (reader.unary (reader.whole levels) levels levels) levels rank) rank more
 
 -- a primary expression
 unfoldable pub primary : ℕ → Parser ExprTree

@@ -1,8 +1,9 @@
 -- The grammar of the language: which tokens are which tree.
 --
--- Each form is told with its room: how many levels of nesting may still be opened before it and, where that differs, behind it. A token that
--- opens a level takes one from the room. A form in brackets gives its level back with its closing bracket, a sign with the end of its operand;
--- a binary operator, a dot and the bracket of an element keep theirs to the end of the expression.
+-- Each form is told with its room: how many levels of nesting may still be opened before it and, where that differs,
+-- behind it. A token that opens a level takes one from the room. A form in brackets gives its level back with its
+-- closing bracket, a sign with the end of its operand; a binary operator, a dot and the bracket of an element keep
+-- theirs to the end of the expression.
 use Rattle.std.specs.Prelude.{◌≡◌, ℕ, zero, suc, true, false, List, [], ◌∷◌, ◌++◌, Option, Some, None}
 use Rattle.dso_base.specs.declared.op.Op.{Op}
 use Rattle.dso_base.specs.declared.value.Kind.{Kind}
@@ -56,44 +57,57 @@ plain_of (form.Keyword k.This) = Some e.This
 plain_of other = None
 
 mutual
-  -- An expression of a rank. It is one of the rank below, or one of its own rank, an operator of the rank below and one of the rank below: so
-  -- the operators of a rank group to the left, and those of lower ranks bind tighter.
+  -- An expression of a rank. It is one of the rank below, or one of its own rank, an operator of the rank below and
+  -- one of the rank below: so the operators of a rank group to the left, and those of lower ranks bind tighter.
   pub data Binary : ℕ → ℕ → ℕ → Tokens → ExprTree → Type 0 where
     operand : {room left : ℕ} {ts : Tokens} {a : ExprTree} → Unary room left ts a → Binary zero room left ts a
-    tighter : {rank room left : ℕ} {ts : Tokens} {a : ExprTree} → Binary rank room left ts a → Binary (suc rank) room left ts a
-    operation : {rank room between left : ℕ} {ts us : Tokens} {a b : ExprTree} (t : Token) (mark : Mark) (o : Op) → IsMark mark t → operator_of mark ≡ Some (rank, o) →
+    tighter : {rank room left : ℕ} {ts : Tokens} {a : ExprTree} → Binary rank room left ts a
+        → Binary (suc rank) room left ts a
+    operation : {rank room between left : ℕ} {ts us : Tokens} {a b : ExprTree} (t : Token) (mark : Mark) (o : Op)
+        → IsMark mark t → operator_of mark ≡ Some (rank, o) →
         Binary (suc rank) room (suc between) ts a → Binary rank between left us b →
         Binary (suc rank) room left (ts ++ t ∷ us) (expression (line_of a) (e.Binary o a b))
 
   -- a sign before an operand, or none
   pub data Unary : ℕ → ℕ → Tokens → ExprTree → Type 0 where
     plain : {room left : ℕ} {ts : Tokens} {a : ExprTree} → Postfix room left ts a → Unary room left ts a
-    signed : {room left : ℕ} {ts : Tokens} {a : ExprTree} (t : Token) (mark : Mark) (o : Op) → IsMark mark t → sign_of mark ≡ Some o →
+    signed : {room left : ℕ} {ts : Tokens} {a : ExprTree} (t : Token) (mark : Mark) (o : Op) → IsMark mark t
+        → sign_of mark ≡ Some o →
         Unary room left ts a → Unary (suc room) (suc left) (t ∷ ts) (expression t.line (e.Unary o a))
 
   -- a primary expression with its suffixes: fields, calls, elements
   pub data Postfix : ℕ → ℕ → Tokens → ExprTree → Type 0 where
     primary : {room : ℕ} {ts : Tokens} {a : ExprTree} → Primary room ts a → Postfix room room ts a
-    field : {room left : ℕ} {ts : Tokens} {a : ExprTree} (dot named : Token) (name : Ident) → IsMark m.Dot dot → IsName name named →
-        Postfix room (suc left) ts a → Postfix room left (ts ++ dot ∷ named ∷ []) (expression (line_of a) (e.Field a name))
-    call : {room left : ℕ} {ts us : Tokens} {a : ExprTree} {all : List ExprTree} (dot named opening closing : Token) (name : Ident) →
+    field : {room left : ℕ} {ts : Tokens} {a : ExprTree} (dot named : Token) (name : Ident) → IsMark m.Dot dot
+        → IsName name named →
+        Postfix room (suc left) ts a
+            → Postfix room left (ts ++ dot ∷ named ∷ []) (expression (line_of a) (e.Field a name))
+    call : {room left : ℕ} {ts us : Tokens} {a : ExprTree} {all : List ExprTree} (dot named opening closing : Token)
+        (name : Ident) →
         IsMark m.Dot dot → IsName name named → IsMark m.OpenParen opening → IsMark m.CloseParen closing →
         Postfix room (suc (suc left)) ts a → Arguments left us all →
-        Postfix room (suc left) (ts ++ (dot ∷ named ∷ opening ∷ us ++ closing ∷ [])) (expression (line_of a) (e.Call a name all))
-    element : {room left : ℕ} {ts us : Tokens} {a b : ExprTree} (opening closing : Token) → IsMark m.OpenBracket opening → IsMark m.CloseBracket closing →
+        Postfix room (suc left) (ts ++ (dot ∷ named ∷ opening ∷ us ++ closing ∷ []))
+            (expression (line_of a) (e.Call a name all))
+    element : {room left : ℕ} {ts us : Tokens} {a b : ExprTree} (opening closing : Token)
+        → IsMark m.OpenBracket opening → IsMark m.CloseBracket closing →
         Postfix room (suc left) ts a → Whole left us b →
         Postfix room left (ts ++ (opening ∷ us ++ closing ∷ [])) (expression (line_of a) (e.Elem a b))
 
   -- an expression of one token, in parentheses, or after `new`
   pub data Primary : ℕ → Tokens → ExprTree → Type 0 where
-    single : {room : ℕ} (t : Token) (this : ExprForm) → plain_of t.form ≡ Some this → Primary room (t ∷ []) (expression t.line this)
-    parens : {room : ℕ} {ts : Tokens} {a : ExprTree} (opening closing : Token) → IsMark m.OpenParen opening → IsMark m.CloseParen closing →
+    single : {room : ℕ} (t : Token) (this : ExprForm) → plain_of t.form ≡ Some this
+        → Primary room (t ∷ []) (expression t.line this)
+    parens : {room : ℕ} {ts : Tokens} {a : ExprTree} (opening closing : Token) → IsMark m.OpenParen opening
+        → IsMark m.CloseParen closing →
         Whole room ts a → Primary (suc room) (opening ∷ ts ++ closing ∷ []) (expression opening.line (e.Paren a))
-    object : {room : ℕ} (new named opening closing : Token) (name : Ident) → IsKeyword k.New new → IsName name named → IsMark m.OpenParen opening → IsMark m.CloseParen closing →
+    object : {room : ℕ} (new named opening closing : Token) (name : Ident) → IsKeyword k.New new → IsName name named
+        → IsMark m.OpenParen opening → IsMark m.CloseParen closing →
         Primary (suc room) (new ∷ named ∷ opening ∷ closing ∷ []) (expression new.line (e.NewObject name))
     array : {room : ℕ} {ts : Tokens} {a : ExprTree} (new made opening closing : Token) (word : Keyword) (this : Kind) →
-        IsKeyword k.New new → IsKeyword word made → kind_of word ≡ Some this → IsMark m.OpenBracket opening → IsMark m.CloseBracket closing →
-        Whole room ts a → Primary (suc room) (new ∷ made ∷ opening ∷ ts ++ closing ∷ []) (expression new.line (e.NewArray this a))
+        IsKeyword k.New new → IsKeyword word made → kind_of word ≡ Some this → IsMark m.OpenBracket opening
+            → IsMark m.CloseBracket closing →
+        Whole room ts a → Primary (suc room) (new ∷ made ∷ opening ∷ ts ++ closing ∷ [])
+            (expression new.line (e.NewArray this a))
 
   -- a whole expression
   pub data Whole : ℕ → Tokens → ExprTree → Type 0 where

@@ -61,8 +61,8 @@ abbrev pub Answers : Result Ast SyntaxFault → Result Ast SyntaxFault → Type 
 Answers (Err fault.NoMemory) answer = Unit {0}
 Answers result answer = result ≡ answer
 
--- What a refusal says of a text: nothing where memory ran out; that it is too long; else that it is the program of no tree, and that this is its
--- fault.
+-- What a refusal says of a text: nothing where memory ran out; that it is too long; else that it is the program of no
+-- tree, and that this is its fault.
 abbrev pub Refuses : Text → SyntaxFault → Type 0
 Refuses text fault.NoMemory = Unit {0}
 Refuses text fault.TooLong = longest_text < length text

@@ -1,4 +1,5 @@
--- The grammar of statements, members, classes, threads and whole programs: which tokens are which tree, with which room for levels of nesting.
+-- The grammar of statements, members, classes, threads and whole programs: which tokens are which tree, with which
+-- room for levels of nesting.
 use Rattle.std.specs.Prelude.{◌≡◌, ℕ, suc, Bool, true, false, List, [], ◌∷◌, ◌++◌, Option, Some, None, ℤ}
 use Rattle.dso_base.specs.declared.value.Kind.{Kind}
 use Rattle.dso_tokens.specs.declared.token.Keyword.{Keyword}
@@ -46,7 +47,8 @@ is_place other = false
 
 -- something in parentheses, which take a level
 pub data Parenthesized {A : Type 0} (R : ℕ → Tokens → A → Type 0) : ℕ → Tokens → A → Type 0 where
-  parenthesized : {room : ℕ} {ts : Tokens} {a : A} (opening closing : Token) → IsMark m.OpenParen opening → IsMark m.CloseParen closing →
+  parenthesized : {room : ℕ} {ts : Tokens} {a : A} (opening closing : Token) → IsMark m.OpenParen opening
+      → IsMark m.CloseParen closing →
       R room ts a → Parenthesized R (suc room) (opening ∷ ts ++ closing ∷ []) a
 
 -- what is waited on and, behind a comma, for how many ticks at most
@@ -59,52 +61,65 @@ mutual
   -- statements in a row
   pub data Body : ℕ → Tokens → List StmtTree → Type 0 where
     done : {room : ℕ} → Body room [] []
-    next : {room : ℕ} {ts us : Tokens} {a : StmtTree} {all : List StmtTree} → Statement room ts a → Body room us all → Body room (ts ++ us) (a ∷ all)
+    next : {room : ℕ} {ts us : Tokens} {a : StmtTree} {all : List StmtTree} → Statement room ts a → Body room us all
+        → Body room (ts ++ us) (a ∷ all)
 
   -- statements in braces, which take a level
   pub data Block : ℕ → Tokens → List StmtTree → Type 0 where
-    block : {room : ℕ} {ts : Tokens} {all : List StmtTree} (opening closing : Token) → IsMark m.OpenBrace opening → IsMark m.CloseBrace closing →
+    block : {room : ℕ} {ts : Tokens} {all : List StmtTree} (opening closing : Token) → IsMark m.OpenBrace opening
+        → IsMark m.CloseBrace closing →
         Body room ts all → Block (suc room) (opening ∷ ts ++ closing ∷ []) all
 
   -- one statement, by its first tokens
   pub data Statement : ℕ → Tokens → StmtTree → Type 0 where
     variable : {room : ℕ} {ts : Tokens} {a : ExprTree} (word named equals ending : Token) (name : Ident) →
-        IsKeyword k.Var word → IsName name named → IsMark m.Assign equals → IsMark m.Semicolon ending → Whole room ts a →
+        IsKeyword k.Var word → IsName name named → IsMark m.Assign equals → IsMark m.Semicolon ending
+            → Whole room ts a →
         Statement room (word ∷ named ∷ equals ∷ ts ++ ending ∷ []) (statement word.line (s.Var name a))
-    assigned : {room : ℕ} {ts us : Tokens} {a b : ExprTree} (equals ending : Token) → IsMark m.Assign equals → IsMark m.Semicolon ending →
+    assigned : {room : ℕ} {ts us : Tokens} {a b : ExprTree} (equals ending : Token) → IsMark m.Assign equals
+        → IsMark m.Semicolon ending →
         Whole room ts a → is_place (out-ExprForm (out-ExprTree a).form) ≡ true → Whole room us b →
         Statement room (ts ++ (equals ∷ us ++ ending ∷ [])) (statement (line_of a) (s.Assign a b))
     evaluated : {room : ℕ} {ts : Tokens} {a : ExprTree} (ending : Token) → IsMark m.Semicolon ending →
         Whole room ts a → Statement room (ts ++ ending ∷ []) (statement (line_of a) (s.Eval a))
     conditional : {room : ℕ} {ts : Tokens} {a : StmtTree} → Conditional room ts a → Statement room ts a
-    guarded : {room : ℕ} {ts us : Tokens} {a : ExprTree} {all : List StmtTree} (word : Token) (which : Keyword) (made : ExprTree → List StmtTree → StmtForm) →
+    guarded : {room : ℕ} {ts us : Tokens} {a : ExprTree} {all : List StmtTree} (word : Token) (which : Keyword)
+        (made : ExprTree → List StmtTree → StmtForm) →
         IsKeyword which word → guarded_of which ≡ Some made → Parenthesized Whole room ts a → Block room us all →
         Statement room (word ∷ ts ++ us) (statement word.line (made a all))
-    command : {room : ℕ} {ts : Tokens} {a : ExprTree} (word ending : Token) (which : Keyword) (made : ExprTree → StmtForm) →
-        IsKeyword which word → command_of which ≡ Some made → IsMark m.Semicolon ending → Parenthesized Whole room ts a →
+    command : {room : ℕ} {ts : Tokens} {a : ExprTree} (word ending : Token) (which : Keyword)
+        (made : ExprTree → StmtForm) →
+        IsKeyword which word → command_of which ≡ Some made → IsMark m.Semicolon ending
+            → Parenthesized Whole room ts a →
         Statement room (word ∷ ts ++ ending ∷ []) (statement word.line (made a))
-    waiting : {room : ℕ} {ts : Tokens} {form : StmtForm} (word ending : Token) → IsKeyword k.Wait word → IsMark m.Semicolon ending →
+    waiting : {room : ℕ} {ts : Tokens} {form : StmtForm} (word ending : Token) → IsKeyword k.Wait word
+        → IsMark m.Semicolon ending →
         Parenthesized Waited room ts form → Statement room (word ∷ ts ++ ending ∷ []) (statement word.line form)
     returned : {room : ℕ} (word ending : Token) → IsKeyword k.Return word → IsMark m.Semicolon ending →
         Statement room (word ∷ ending ∷ []) (statement word.line (s.Return None))
-    returned_with : {room : ℕ} {ts : Tokens} {a : ExprTree} (word ending : Token) → IsKeyword k.Return word → IsMark m.Semicolon ending →
+    returned_with : {room : ℕ} {ts : Tokens} {a : ExprTree} (word ending : Token) → IsKeyword k.Return word
+        → IsMark m.Semicolon ending →
         Whole room ts a → Statement room (word ∷ ts ++ ending ∷ []) (statement word.line (s.Return (Some a)))
 
   -- An `if`: alone, with an `else` and a block, or with an `else` and an `if` of its own, whose word takes a level.
   pub data Conditional : ℕ → Tokens → StmtTree → Type 0 where
-    alone : {room : ℕ} {ts us : Tokens} {a : ExprTree} {all : List StmtTree} (word : Token) → IsKeyword k.If word → Parenthesized Whole room ts a → Block room us all →
+    alone : {room : ℕ} {ts us : Tokens} {a : ExprTree} {all : List StmtTree} (word : Token) → IsKeyword k.If word
+        → Parenthesized Whole room ts a → Block room us all →
         Conditional room (word ∷ ts ++ us) (statement word.line (s.If a all []))
-    otherwise : {room : ℕ} {ts us vs : Tokens} {a : ExprTree} {all others : List StmtTree} (word else' : Token) → IsKeyword k.If word → IsKeyword k.Else else' →
+    otherwise : {room : ℕ} {ts us vs : Tokens} {a : ExprTree} {all others : List StmtTree} (word else' : Token)
+        → IsKeyword k.If word → IsKeyword k.Else else' →
         Parenthesized Whole room ts a → Block room us all → Block room vs others →
         Conditional room (word ∷ ts ++ (us ++ else' ∷ vs)) (statement word.line (s.If a all others))
-    chained : {room : ℕ} {ts us vs : Tokens} {a : ExprTree} {all : List StmtTree} {other : StmtTree} (word else' : Token) → IsKeyword k.If word → IsKeyword k.Else else' →
+    chained : {room : ℕ} {ts us vs : Tokens} {a : ExprTree} {all : List StmtTree} {other : StmtTree}
+        (word else' : Token) → IsKeyword k.If word → IsKeyword k.Else else' →
         Parenthesized Whole (suc room) ts a → Block (suc room) us all → Conditional room vs other →
         Conditional (suc room) (word ∷ ts ++ (us ++ else' ∷ vs)) (statement word.line (s.If a all (other ∷ [])))
 
 -- the names of a method's parameters, with commas between them
 pub data Names : Tokens → List Ident → Type 0 where
   last : (named : Token) (name : Ident) → IsName name named → Names (named ∷ []) (name ∷ [])
-  more : {ts : Tokens} {names : List Ident} (named comma : Token) (name : Ident) → IsName name named → IsMark m.Comma comma → Names ts names →
+  more : {ts : Tokens} {names : List Ident} (named comma : Token) (name : Ident) → IsName name named
+      → IsMark m.Comma comma → Names ts names →
       Names (named ∷ comma ∷ ts) (name ∷ names)
 
 -- the parameters of a method, none or some
@@ -120,22 +135,28 @@ pub data Declared : ℕ → Tokens → Member → Type 0 where
   static : {room : ℕ} (word made named ending : Token) (name : Ident) →
       IsKeyword k.Static word → IsKeyword k.Ref made → IsName name named → IsMark m.Semicolon ending →
       Declared room (word ∷ made ∷ named ∷ ending ∷ []) (member.Static word.line name)
-  method : {room : ℕ} {ts us : Tokens} {names : List Ident} {all : List StmtTree} (named opening closing : Token) (name : Ident) →
-      IsName name named → IsMark m.OpenParen opening → IsMark m.CloseParen closing → Parameters ts names → Block (suc room) us all →
+  method : {room : ℕ} {ts us : Tokens} {names : List Ident} {all : List StmtTree} (named opening closing : Token)
+      (name : Ident) →
+      IsName name named → IsMark m.OpenParen opening → IsMark m.CloseParen closing → Parameters ts names
+          → Block (suc room) us all →
       Declared (suc room) (named ∷ opening ∷ ts ++ closing ∷ us) (member.Method named.line false name names all)
-  synchronized : {room : ℕ} {ts us : Tokens} {names : List Ident} {all : List StmtTree} (word named opening closing : Token) (name : Ident) →
-      IsKeyword k.Synchronized word → IsName name named → IsMark m.OpenParen opening → IsMark m.CloseParen closing → Parameters ts names → Block (suc room) us all →
+  synchronized : {room : ℕ} {ts us : Tokens} {names : List Ident} {all : List StmtTree}
+      (word named opening closing : Token) (name : Ident) →
+      IsKeyword k.Synchronized word → IsName name named → IsMark m.OpenParen opening → IsMark m.CloseParen closing
+          → Parameters ts names → Block (suc room) us all →
       Declared (suc room) (word ∷ named ∷ opening ∷ ts ++ closing ∷ us) (member.Method word.line true name names all)
 
 -- members in a row
 pub data Members : ℕ → Tokens → List Member → Type 0 where
   done : {room : ℕ} → Members room [] []
-  next : {room : ℕ} {ts us : Tokens} {a : Member} {all : List Member} → Declared room ts a → Members room us all → Members room (ts ++ us) (a ∷ all)
+  next : {room : ℕ} {ts us : Tokens} {a : Member} {all : List Member} → Declared room ts a → Members room us all
+      → Members room (ts ++ us) (a ∷ all)
 
 -- a class, whose braces take a level, or a thread
 pub data Top : ℕ → Tokens → Item → Type 0 where
   class : {room : ℕ} {ts : Tokens} {members : List Member} (word named opening closing : Token) (name : Ident) →
-      IsKeyword k.Class word → IsName name named → IsMark m.OpenBrace opening → IsMark m.CloseBrace closing → Members room ts members →
+      IsKeyword k.Class word → IsName name named → IsMark m.OpenBrace opening → IsMark m.CloseBrace closing
+          → Members room ts members →
       Top (suc room) (word ∷ named ∷ opening ∷ ts ++ closing ∷ []) (item.Class word.line name members)
   thread : {room : ℕ} {ts : Tokens} {all : List StmtTree} (word counted : Token) (number : ℤ) →
       IsKeyword k.Thread word → counted.form ≡ form.Number (Some number) → Block room ts all →
@@ -144,7 +165,8 @@ pub data Top : ℕ → Tokens → Item → Type 0 where
 -- classes and threads in a row
 pub data Tops : ℕ → Tokens → List Item → Type 0 where
   done : {room : ℕ} → Tops room [] []
-  next : {room : ℕ} {ts us : Tokens} {a : Item} {all : List Item} → Top room ts a → Tops room us all → Tops room (ts ++ us) (a ∷ all)
+  next : {room : ℕ} {ts us : Tokens} {a : Item} {all : List Item} → Top room ts a → Tops room us all
+      → Tops room (ts ++ us) (a ∷ all)
 
 -- the tokens are a program of this tree, with so many levels of nesting at most
 abbrev pub IsProgram : ℕ → Tokens → Ast → Type 0

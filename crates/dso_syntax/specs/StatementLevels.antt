@@ -1,5 +1,5 @@
--- The reader of statements, part by part, where so many levels of blocks may still be opened within. Each is what `ProgramReader` has, under a
--- name of its own.
+-- The reader of statements, part by part, where so many levels of blocks may still be opened within. Each is what
+-- `ProgramReader` has, under a name of its own.
 use Rattle.std.specs.Prelude.{ℕ, zero, suc, if◌then◌else◌, List, [], ◌∷◌, Ok}
 use Rattle.dso_tokens.specs.declared.token.Keyword.TheVariants as k
 use Rattle.dso_tokens.specs.declared.token.Mark.TheVariants as m
@@ -16,7 +16,9 @@ use Rattle.dso_syntax.specs.declared.blockless.Guarding.{Guarding}
 use Rattle.dso_syntax.specs.declared.blockless.Guarding.TheVariants as guarding
 use Rattle.dso_syntax.specs.declared.blockless.Else.{Else}
 use Rattle.dso_syntax.specs.declared.blockless.Else.TheVariants as part
-use Rattle.dso_syntax.specs.ExpressionReader.{Parser, and_then, pure, refuse, is_mark, is_keyword, next_mark, next_keyword, take_any, take_mark, take_keyword, take_name, enter, leave, open_mark, close_mark}
+use Rattle.dso_syntax.specs.ExpressionReader.{
+  Parser, and_then, pure, refuse, is_mark, is_keyword, next_mark, next_keyword, take_any, take_mark, take_keyword,
+  take_name, enter, leave, open_mark, close_mark}
 use Rattle.dso_syntax.specs.TextLimits.{most_levels}
 use Rattle.dso_syntax.specs.ProgramReader.{Lead}
 use Rattle.dso_syntax.specs.ProgramGrammar as program
@@ -50,12 +52,15 @@ wait_end i = and_then (close_mark m.CloseParen i) (λ _. take_mark m.Semicolon)
 abbrev pub behind_waited : ℕ → ExprTree → Parser StmtTree
 behind_waited line a i =
     if is_mark m.Comma (next_mark i.tokens)
-    then and_then (take_any i) (λ _ j. and_then (expr j) (λ b l. and_then (wait_end l) (λ _. pure (program.statement line (s.TimedWait a b)))))
+    then and_then (take_any i)
+        (λ _ j. and_then (expr j)
+        (λ b l. and_then (wait_end l) (λ _. pure (program.statement line (s.TimedWait a b)))))
     else and_then (wait_end i) (λ _. pure (program.statement line (s.Wait a)))
 
 -- a `wait`
 abbrev pub waiting : Parser StmtTree
-waiting i = and_then (take_any i) (λ t j. and_then (open_mark m.OpenParen j) (λ _ l. and_then (expr l) (behind_waited t.line)))
+waiting i = and_then (take_any i)
+    (λ t j. and_then (open_mark m.OpenParen j) (λ _ l. and_then (expr l) (behind_waited t.line)))
 
 -- the line of the next token, and an expression in parentheses behind it
 abbrev pub guard : Parser (ℕ × ExprTree)
@@ -74,7 +79,9 @@ held other = 0
 abbrev pub else_part : Parser Else
 else_part i =
     if is_keyword k.Else (next_keyword i.tokens)
-    then and_then (take_any i) (λ _ j. if is_keyword k.If (next_keyword j.tokens) then and_then (enter j) (λ _. pure part.Chained) else Ok (part.Block, j))
+    then and_then (take_any i)
+        (λ _ j. if is_keyword k.If (next_keyword j.tokens) then and_then (enter j) (λ _. pure part.Chained)
+        else Ok (part.Block, j))
     else Ok (part.Nothing, i)
 
 -- a statement without a block, by its lead
@@ -118,9 +125,14 @@ body = block (suc most_levels)
 
 -- a class, from its word on
 abbrev pub class : Parser Item
-class i = and_then (take_any i) (λ t j. and_then (take_name j) (λ name l. and_then (reader.braced (reader.one_member body) l) (λ members. pure (item.Class t.line name members))))
+class i = and_then (take_any i)
+    (λ t j. and_then (take_name j)
+    (λ name l. and_then (reader.braced (reader.one_member body) l)
+    (λ members. pure (item.Class t.line name members))))
 
 -- a thread
 abbrev pub thread : Parser Item
 thread i =
-    and_then (take_keyword k.Thread i) (λ t j. and_then (reader.number_from j.room j.tokens) (λ n l. and_then (body l) (λ all. pure (item.Thread t.line n.0 n.1 all))))
+    and_then (take_keyword k.Thread i)
+        (λ t j. and_then (reader.number_from j.room j.tokens)
+        (λ n l. and_then (body l) (λ all. pure (item.Thread t.line n.0 n.1 all))))

@@ -23,9 +23,13 @@ pub data Reads : ℕ → ℕ → Text → List Token → Ending → Type 0 where
   -- a token
   takes : {place line : ℕ} {text rest : Text} {tokens : List Token} {end : Ending} (word : Text) (form : Form) →
       text ≡ word ++ rest → begins_comment text ≡ false → IsToken form word rest →
-      Reads (place + length word) line rest tokens end → Reads place line text (record { place = place; line = line; form = form } ∷ tokens) end
+      Reads (place + length word) line rest tokens end
+          → Reads place line text (record { place = place; line = line; form = form } ∷ tokens) end
   -- a byte that no program has
-  bad_byte : {place line b : ℕ} {rest : Text} → is_allowed b ≡ false → Reads place line (b ∷ rest) [] (ending.BadByte place)
+  bad_byte : {place line b : ℕ} {rest : Text} → is_allowed b ≡ false
+      → Reads place line (b ∷ rest) [] (ending.BadByte place)
   -- a byte that begins no white space, no comment and no token
-  bad_token : {place line b : ℕ} {rest : Text} → is_allowed b ≡ true → is_white b ≡ false → begins_comment (b ∷ rest) ≡ false →
-      ((word behind : Text) (form : Form) → b ∷ rest ≡ word ++ behind → IsToken form word behind → ⊥) → Reads place line (b ∷ rest) [] (ending.BadToken place)
+  bad_token : {place line b : ℕ} {rest : Text} → is_allowed b ≡ true → is_white b ≡ false → begins_comment (b ∷ rest)
+      ≡ false →
+      ((word behind : Text) (form : Form) → b ∷ rest ≡ word ++ behind → IsToken form word behind → ⊥)
+          → Reads place line (b ∷ rest) [] (ending.BadToken place)

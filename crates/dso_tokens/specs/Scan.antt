@@ -1,6 +1,8 @@
 -- What stands at the front of a text, by its first bytes: how the reader of tokens finds it.
 -- `Token` says what a token is; `TokenLaws` of the proofs says that this finds exactly that.
-use Rattle.std.specs.Prelude.{ℕ, ◌+◌, ◌||◌, ◌&&◌, ◌==◌, nat_le, Bool, true, false, if◌then◌else◌, List, [], ◌∷◌, length, take, drop, find, Option, Some, None}
+use Rattle.std.specs.Prelude.{
+  ℕ, ◌+◌, ◌||◌, ◌&&◌, ◌==◌, nat_le, Bool, true, false, if◌then◌else◌, List, [], ◌∷◌, length, take, drop, find,
+  Option, Some, None}
 use Rattle.std.specs.List.{prefix_len, starts_with}
 use Rattle.std.specs.Str.{bytes_eq}
 use Rattle.std.specs.Prelude.{nat_eq}
@@ -12,7 +14,8 @@ use Rattle.dso_tokens.specs.declared.literal.LiteralByte.{LiteralByte}
 use Rattle.dso_tokens.specs.declared.literal.LiteralByte.TheVariants as literal_byte
 use Rattle.dso_tokens.specs.declared.scan.Front.{Front}
 use Rattle.dso_tokens.specs.declared.scan.Front.TheVariants as front
-use Rattle.dso_tokens.specs.Bytes.{Text, is_white, is_allowed, is_of_line, is_letter, is_digit, is_word, is_printable, begins}
+use Rattle.dso_tokens.specs.Bytes.{
+  Text, is_white, is_allowed, is_of_line, is_letter, is_digit, is_word, is_printable, begins}
 use Rattle.dso_tokens.specs.Spelling.{word_of, symbol_of, every_keyword, double_marks, single_marks}
 use Rattle.dso_tokens.specs.TokenLimits.{longest_name, longest_content}
 use Rattle.dso_tokens.specs.Token.{number_of}
@@ -54,10 +57,13 @@ abbrev pub one_further : Option (Text × ℕ) → Option (Text × ℕ)
 one_further None = None
 one_further (Some found) = Some (found.0, found.1 + 1)
 
--- what a byte of a text literal is: behind a backslash a quote or a backslash, else the closing quote, a backslash or a printable byte
+-- what a byte of a text literal is: behind a backslash a quote or a backslash, else the closing quote, a backslash or
+-- a printable byte
 abbrev pub literal_byte_of : Bool → ℕ → LiteralByte
 literal_byte_of true b = if b == 34 || b == 92 then literal_byte.Content else literal_byte.Bad
-literal_byte_of false b = if b == 34 then literal_byte.Close else (if b == 92 then literal_byte.Backslash else (if is_printable b then literal_byte.Content else literal_byte.Bad))
+literal_byte_of false b = if b == 34 then literal_byte.Close
+    else (if b == 92 then literal_byte.Backslash
+    else (if is_printable b then literal_byte.Content else literal_byte.Bad))
 
 -- what is found from a byte on, by what that byte is and what is found behind it, where it is a backslash and where not
 abbrev pub content_by : LiteralByte → ℕ → Option (Text × ℕ) → Option (Text × ℕ) → Option (Text × ℕ)
@@ -66,16 +72,18 @@ content_by literal_byte.Backslash b plain after = one_further after
 content_by literal_byte.Content b plain after = with_byte b plain
 content_by literal_byte.Bad b plain after = None
 
--- The content of a text literal, from behind its opening quote or, where that is told, from behind a backslash, and how many bytes there
--- are up to its end and with the closing quote.
+-- The content of a text literal, from behind its opening quote or, where that is told, from behind a backslash, and
+-- how many bytes there are up to its end and with the closing quote.
 abbrev pub content_at : Bool → Text → Option (Text × ℕ)
 content_at after_backslash [] = None
-content_at after_backslash (b ∷ rest) = content_by (literal_byte_of after_backslash b) b (content_at false rest) (content_at true rest)
+content_at after_backslash (b ∷ rest) = content_by (literal_byte_of after_backslash b) b (content_at false rest)
+    (content_at true rest)
 
 -- a literal whose content is not too long
 abbrev pub literal_of : Option (Text × ℕ) → Found
 literal_of None = None
-literal_of (Some found) = if nat_le (length found.0) longest_content then Some (form.Text found.0, found.1 + 1) else None
+literal_of (Some found) = if nat_le (length found.0) longest_content then Some (form.Text found.0, found.1 + 1)
+    else None
 
 -- the symbol of these that stands at the front
 abbrev pub mark_among : List Mark → Text → Option Mark

@@ -60,7 +60,8 @@ symbol_of m.OrOr = codes "||"
 
 -- every reserved word
 abbrev pub every_keyword : List Keyword
-every_keyword = k.Class ∷ k.Static ∷ k.Synchronized ∷ k.Thread ∷ k.Var ∷ k.If ∷ k.Else ∷ k.While ∷ k.Wait ∷ k.Notify ∷ k.NotifyAll ∷ k.Print
+every_keyword = k.Class ∷ k.Static ∷ k.Synchronized ∷ k.Thread ∷ k.Var ∷ k.If ∷ k.Else ∷ k.While ∷ k.Wait ∷ k.Notify
+    ∷ k.NotifyAll ∷ k.Print
     ∷ k.Return ∷ k.New ∷ k.This ∷ k.Null ∷ k.True ∷ k.False ∷ k.Long ∷ k.Boolean ∷ k.Text ∷ k.Ref ∷ []
 
 -- the symbols of two bytes
@@ -69,5 +70,6 @@ double_marks = m.EqualTo ∷ m.NotEqual ∷ m.LessEqual ∷ m.GreaterEqual ∷ m
 
 -- the symbols of one byte
 abbrev pub single_marks : List Mark
-single_marks = m.OpenBrace ∷ m.CloseBrace ∷ m.OpenParen ∷ m.CloseParen ∷ m.OpenBracket ∷ m.CloseBracket ∷ m.Semicolon ∷ m.Comma ∷ m.Dot
+single_marks = m.OpenBrace ∷ m.CloseBrace ∷ m.OpenParen ∷ m.CloseParen ∷ m.OpenBracket ∷ m.CloseBracket ∷ m.Semicolon
+    ∷ m.Comma ∷ m.Dot
     ∷ m.Assign ∷ m.Less ∷ m.Greater ∷ m.Plus ∷ m.Minus ∷ m.Star ∷ m.Slash ∷ m.Percent ∷ m.Bang ∷ []

@@ -18,9 +18,11 @@ pub record IsLegalRun (p : Program) (run : LegalRun) : Type 0 where
   pub legal : IsLegal (next_request p.code) (Listed (next_request p.code)) p.code.shape run.events.items
   pub is_last : state_of run.plain ≡ last_state p.code.shape run.events.items
 
--- the event is the loss of a client, or the next request of its thread after its events so far, with a reply that is listed for it
+-- the event is the loss of a client, or the next request of its thread after its events so far, with a reply that is
+-- listed for it
 abbrev pub IsNextEvent : Code → List Event → Event → Type 0
-IsNextEvent code events (Act thread request reply woken) = (next_request code thread (events_of thread events) ≡ Some request) × IsListed request reply
+IsNextEvent code events (Act thread request reply woken) =
+    (next_request code thread (events_of thread events) ≡ Some request) × IsListed request reply
 IsNextEvent code events (Lost client) = Unit {0}
 
 -- the thread's events among these follow the code

@@ -33,7 +33,8 @@ asked_first (Ticks l rest) = Some (Tick l)
 asked_first (TimesOut l rest) = Some (Timeout l)
 asked_first (Does request rest) = Some request
 
--- how it goes on after a reply: it asks no more where the reply isn't the one that it goes on from, or object 0 was made
+-- how it goes on after a reply: it asks no more where the reply isn't the one that it goes on from, or object 0 was
+-- made
 abbrev pub after_reply : Course → Reply → Course
 after_reply (Makes class n rest) (Made (suc o)) = rest (suc o)
 after_reply (Looks o rest) (Seen class n) = rest
@@ -47,7 +48,8 @@ after_reply course reply = Stops
 -- what the thread asks after its events; after what is no event of its own, nothing
 abbrev pub asks_after : ThreadId → Course → List Event → Option Request
 asks_after t course [] = asked_first course
-asks_after t course (Act thread request reply woken ∷ events) = cond (is_thread t thread) (asks_after t (after_reply course reply) events) None
+asks_after t course (Act thread request reply woken ∷ events) = cond (is_thread t thread)
+    (asks_after t (after_reply course reply) events) None
 asks_after t course (Lost client ∷ events) = None
 
 -- the course of a thread; one that has none asks nothing

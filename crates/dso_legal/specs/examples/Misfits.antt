@@ -59,11 +59,18 @@ pub record MisfitsAtServer : Type 0 where
   pub return_of_stranger : MisfitsUp (up.Return (Name 0) (thread 2 1 ∷ [])) entries
   pub record_of_another_number : MisfitsUp (recorded 3 [] [] (ending.Exit (Name 0))) (first 14 entries)
   pub record_after_the_end : MisfitsUp (recorded 5 [] [] (ending.Exit (Name 0))) entries
-  pub object_of_an_id_not_given : MisfitsUp (recorded 1 (body 300 (class.Plain 0) (value.Long (pos 0) ∷ []) ∷ []) [] (ending.Exit (Name 0))) (first 14 entries)
-  pub object_published_again : MisfitsUp (recorded 2 (body 1 (class.Plain 0) (value.Long (pos 0) ∷ []) ∷ []) [] (ending.Exit (Name 0))) (first 15 entries)
-  pub set_of_object_not_held : MisfitsUp (recorded 2 [] (set 7 0 (value.Long (pos 5)) ∷ []) (ending.Exit (Name 0))) (first 15 entries)
-  pub set_without_lease : MisfitsUp (recorded 2 [] (set 1 0 (value.Long (pos 5)) ∷ []) (ending.Exit (Name 0))) (first 15 entries)
-  pub set_of_another_kind : MisfitsUp (recorded 2 [] (set 0 0 (value.Long (pos 5)) ∷ []) (ending.Exit (Name 0))) (first 15 entries)
+  pub object_of_an_id_not_given : MisfitsUp
+      (recorded 1 (body 300 (class.Plain 0) (value.Long (pos 0) ∷ []) ∷ []) [] (ending.Exit (Name 0)))
+      (first 14 entries)
+  pub object_published_again : MisfitsUp
+      (recorded 2 (body 1 (class.Plain 0) (value.Long (pos 0) ∷ []) ∷ []) [] (ending.Exit (Name 0)))
+      (first 15 entries)
+  pub set_of_object_not_held : MisfitsUp (recorded 2 [] (set 7 0 (value.Long (pos 5)) ∷ []) (ending.Exit (Name 0)))
+      (first 15 entries)
+  pub set_without_lease : MisfitsUp (recorded 2 [] (set 1 0 (value.Long (pos 5)) ∷ []) (ending.Exit (Name 0)))
+      (first 15 entries)
+  pub set_of_another_kind : MisfitsUp (recorded 2 [] (set 0 0 (value.Long (pos 5)) ∷ []) (ending.Exit (Name 0)))
+      (first 15 entries)
   pub timeout_without_wait : MisfitsUp (recorded 2 [] [] (ending.Timeout (Name 0))) (first 15 entries)
   pub ending_without_lease : MisfitsUp (recorded 2 [] [] (ending.Exit (Mon 1))) (first 15 entries)
 

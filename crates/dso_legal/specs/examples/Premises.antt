@@ -1,5 +1,5 @@
--- What the central law asks of a journal is met by journals of finished runs, each with a program that asks what the run's
--- scripts do, goes by the replies, and is sound.
+-- What the central law asks of a journal is met by journals of finished runs, each with a program that asks what the
+-- run's scripts do, goes by the replies, and is sound.
 use Rattle.std.specs.Prelude.{pos, cond, Option, None, List, [], ◌∷◌}
 use Rattle.dso_base.specs.declared.journal.Entry.{Entry}
 use Rattle.dso_base.specs.declared.lock.Level.TheVariants.{Read, Write}
@@ -246,4 +246,5 @@ LostWaitersMeets = MeetsPremises lost_waiters.settings (program_of two_waits_cou
 
 -- so does that of one that is lost after its thread settled
 abbrev pub SettledThenLostMeets : Type 0
-SettledThenLostMeets = MeetsCalmly settled_then_lost.settings (program_of two_sections_courses) settled_then_lost.entries
+SettledThenLostMeets = MeetsCalmly settled_then_lost.settings
+    (program_of two_sections_courses) settled_then_lost.entries

@@ -58,44 +58,77 @@ acted clock index request event = entry clock (Client 1) (input.Act index) [] (S
 
 -- the second thread of the first client holds the name, after the first one waited on it and timed out
 abbrev pub after_timeout : List Entry
-after_timeout = acted 10 2 (request.Enter (Name 0) Write) (act (thread 1 2) (request.Enter (Name 0) Write) reply.Done None)
+after_timeout = acted 10 2 (request.Enter (Name 0) Write)
+    (act (thread 1 2) (request.Enter (Name 0) Write) reply.Done None)
     ∷ first 10 timed_out.entries
 
 -- the refusals that are no matter of what is sent
 pub record Refusals : Type 0 where
-  pub clock_stands_still : Refused counter.settings counter.next (record (numbered 2 counter.entries) { clock = 1 }) (first 1 counter.entries)
-  pub message_is_not_first : Refused counter.settings counter.next (record (numbered 2 counter.entries) { input = input.TookUp 1 (up.Fault 0) }) (first 1 counter.entries)
-  pub get_without_copy : Refused counter.settings counter.next (acted 9 1 (request.Get 0 0) (act (thread 1 1) (request.Get 0 0) (reply.Val value.Null) None)) (first 8 counter.entries)
-  pub enter_without_lease : Refused counter.settings counter.next (acted 5 1 (request.Enter (Name 0) Write) (act (thread 1 1) (request.Enter (Name 0) Write) reply.Done None)) (first 4 counter.entries)
-  pub second_request : Refused counter.settings counter.next (record (numbered 5 counter.entries) { clock = 6 }) (first 5 counter.entries)
+  pub clock_stands_still : Refused counter.settings counter.next (record (numbered 2 counter.entries) { clock = 1 })
+      (first 1 counter.entries)
+  pub message_is_not_first : Refused counter.settings counter.next
+      (record (numbered 2 counter.entries) { input = input.TookUp 1 (up.Fault 0) }) (first 1 counter.entries)
+  pub get_without_copy : Refused counter.settings counter.next
+      (acted 9 1 (request.Get 0 0) (act (thread 1 1) (request.Get 0 0) (reply.Val value.Null) None))
+      (first 8 counter.entries)
+  pub enter_without_lease : Refused counter.settings counter.next
+      (acted 5 1 (request.Enter (Name 0) Write) (act (thread 1 1) (request.Enter (Name 0) Write) reply.Done None))
+      (first 4 counter.entries)
+  pub second_request : Refused counter.settings counter.next (record (numbered 5 counter.entries) { clock = 6 })
+      (first 5 counter.entries)
   pub act_after_end : Refused counter.settings counter.next (entry 36 (Client 1) (input.Act 1) [] None) counter.entries
-  pub closing_lease_admits : Refused two_threads (always (request.Enter (Name 0) Write)) (acted 12 2 (request.Enter (Name 0) Write) (act (thread 1 2) (request.Enter (Name 0) Write) reply.Done None)) (first 19 recall.entries)
-  pub entered_beside_other_thread : Refused two_threads (always (request.Enter (Name 0) Write)) (acted 11 2 (request.Enter (Name 0) Write) (act (thread 1 2) (request.Enter (Name 0) Write) reply.Done None)) (first 18 recall.entries)
-  pub unguarded_write_done : Refused counter.settings (always (request.Put 1 0 (value.Long (pos 5)))) (acted 21 1 (request.Put 1 0 (value.Long (pos 5))) (act (thread 1 1) (request.Put 1 0 (value.Long (pos 5))) reply.Done None)) (first 22 counter.entries)
-  pub settled_unacknowledged : Refused settling.settings settling.next (acted 6 1 request.Settle (act (thread 1 1) request.Settle reply.Done None)) (first 5 settling.entries)
-  pub timed_out_thread_chosen : Refused two_threads (always (request.Notify (Name 0))) (acted 11 2 (request.Notify (Name 0)) (act (thread 1 2) (request.Notify (Name 0)) reply.Done (Some (thread 1 1)))) after_timeout
-  pub flush_unacknowledged : Refused flush.settings flush.next (entry 18 (Client 1) (input.Flush 1) (ToServer (up.Flushed 1) ∷ []) None) (first 17 flush.entries)
-  pub flush_of_few : Refused counter.settings counter.next (entry 36 (Client 1) (input.Flush 1) (ToServer (up.Flushed 1) ∷ []) None) counter.entries
-  pub rejoin_unbroken : Refused counter.settings counter.next (entry 1 Server (input.Rejoin 1) [] None) (first 1 counter.entries)
-  pub break_not_due : Refused counter.settings counter.next (entry 1 Server (input.Break 1) [] None) (first 1 counter.entries)
-  pub loss_not_due : Refused counter.settings counter.next (entry 1 Server (input.Lose 1) [] None) (first 1 counter.entries)
-  pub taken_where_break_is_due : Refused broken.settings broken.next (entry 2 Server (input.TookUp 1 up.IdAsk) (ToClient 1 (down.Ids 1) ∷ []) None) (first 1 broken.entries)
-  pub padded : IsLawful counter.settings counter.next (entry 36 (Client 1) (input.Rejoin 1) [] None ∷ counter.entries) → ⊥
+  pub closing_lease_admits : Refused two_threads (always (request.Enter (Name 0) Write))
+      (acted 12 2 (request.Enter (Name 0) Write) (act (thread 1 2) (request.Enter (Name 0) Write) reply.Done None))
+      (first 19 recall.entries)
+  pub entered_beside_other_thread : Refused two_threads (always (request.Enter (Name 0) Write))
+      (acted 11 2 (request.Enter (Name 0) Write) (act (thread 1 2) (request.Enter (Name 0) Write) reply.Done None))
+      (first 18 recall.entries)
+  pub unguarded_write_done : Refused counter.settings (always (request.Put 1 0 (value.Long (pos 5))))
+      (acted 21 1 (request.Put 1 0 (value.Long (pos 5)))
+      (act (thread 1 1) (request.Put 1 0 (value.Long (pos 5))) reply.Done None)) (first 22 counter.entries)
+  pub settled_unacknowledged : Refused settling.settings settling.next
+      (acted 6 1 request.Settle (act (thread 1 1) request.Settle reply.Done None)) (first 5 settling.entries)
+  pub timed_out_thread_chosen : Refused two_threads (always (request.Notify (Name 0)))
+      (acted 11 2 (request.Notify (Name 0))
+      (act (thread 1 2) (request.Notify (Name 0)) reply.Done (Some (thread 1 1)))) after_timeout
+  pub flush_unacknowledged : Refused flush.settings flush.next
+      (entry 18 (Client 1) (input.Flush 1) (ToServer (up.Flushed 1) ∷ []) None) (first 17 flush.entries)
+  pub flush_of_few : Refused counter.settings counter.next
+      (entry 36 (Client 1) (input.Flush 1) (ToServer (up.Flushed 1) ∷ []) None) counter.entries
+  pub rejoin_unbroken : Refused counter.settings counter.next (entry 1 Server (input.Rejoin 1) [] None)
+      (first 1 counter.entries)
+  pub break_not_due : Refused counter.settings counter.next (entry 1 Server (input.Break 1) [] None)
+      (first 1 counter.entries)
+  pub loss_not_due : Refused counter.settings counter.next (entry 1 Server (input.Lose 1) [] None)
+      (first 1 counter.entries)
+  pub taken_where_break_is_due : Refused broken.settings broken.next
+      (entry 2 Server (input.TookUp 1 up.IdAsk) (ToClient 1 (down.Ids 1) ∷ []) None) (first 1 broken.entries)
+  pub padded : IsLawful counter.settings counter.next (entry 36 (Client 1) (input.Rejoin 1) [] None ∷ counter.entries)
+      → ⊥
 
 -- the refusals of what is sent
 pub record WrongSendings : Type 0 where
-  pub extra_return : Refused counter.settings counter.next (record (numbered 14 counter.entries) { sent = ToServer (up.Return (Name 0) []) ∷ (numbered 14 counter.entries).sent }) (first 13 counter.entries)
-  pub record_missing : Refused counter.settings counter.next (record (numbered 14 counter.entries) { sent = [] }) (first 13 counter.entries)
-  pub ack_missing : Refused counter.settings counter.next (record (numbered 15 counter.entries) { sent = [] }) (first 14 counter.entries)
+  pub extra_return : Refused counter.settings counter.next
+      (record (numbered 14 counter.entries)
+      { sent = ToServer (up.Return (Name 0) []) ∷ (numbered 14 counter.entries).sent }) (first 13 counter.entries)
+  pub record_missing : Refused counter.settings counter.next (record (numbered 14 counter.entries) { sent = [] })
+      (first 13 counter.entries)
+  pub ack_missing : Refused counter.settings counter.next (record (numbered 15 counter.entries) { sent = [] })
+      (first 14 counter.entries)
   pub output_missing : Refused counter.settings counter.next (record (numbered 34 counter.entries) {
-    sent = ToServer (up.Commit (txn 3 (thread 1 1) [] (set 1 0 (value.Long (pos 1)) ∷ []) [] [] (ending.Exit (Mon 1)))) ∷ [];
+    sent = ToServer (up.Commit
+        (txn 3 (thread 1 1) [] (set 1 0 (value.Long (pos 1)) ∷ []) [] [] (ending.Exit (Mon 1)))) ∷ [];
   }) (first 33 counter.entries)
-  pub write_granted_beside_write : Refused recall.settings recall.next (record (numbered 16 recall.entries) { sent = ToClient 2 (down.Grant (Name 0) Write) ∷ [] }) (first 15 recall.entries)
+  pub write_granted_beside_write : Refused recall.settings recall.next
+      (record (numbered 16 recall.entries) { sent = ToClient 2 (down.Grant (Name 0) Write) ∷ [] })
+      (first 15 recall.entries)
   pub changes_miss_a_holder : Refused waiting.settings waiting.next (record (numbered 76 waiting.entries) {
     sent = ToClient 2 (down.Ack 3) ∷ ToClient 1 (down.Wake (Mon 1) (thread 1 1)) ∷ [];
   }) (first 75 waiting.entries)
   pub notify_wakes_nobody : Refused waiting.settings waiting.next (record (numbered 76 waiting.entries) {
     sent = ToClient 2 (down.Ack 3) ∷ ToClient 1 (down.Changes (set 1 0 (value.Bool true) ∷ [])) ∷ [];
   }) (first 75 waiting.entries)
-  pub lost_client_answered : Refused lost.settings lost.next (record (numbered 28 lost.entries) { sent = ToClient 1 (down.Ack 1) ∷ [] }) (first 27 lost.entries)
-  pub loss_serves_nobody : Refused lost.settings lost.next (record (numbered 18 lost.entries) { sent = [] }) (first 17 lost.entries)
+  pub lost_client_answered : Refused lost.settings lost.next
+      (record (numbered 28 lost.entries) { sent = ToClient 1 (down.Ack 1) ∷ [] }) (first 27 lost.entries)
+  pub loss_serves_nobody : Refused lost.settings lost.next (record (numbered 18 lost.entries) { sent = [] })
+      (first 17 lost.entries)

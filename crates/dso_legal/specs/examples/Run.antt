@@ -14,9 +14,10 @@ abbrev pub open_before : Settings → (ThreadId → List Event → Option Reques
 open_before p next [] = []
 open_before p next (e ∷ es) = open_slots p next es ∷ open_before p next es
 
--- the entries, the newest first, are those of a finished run: a lawful journal, with these open slots before each entry,
--- this committed history and this weight
-pub record IsRun (p : Settings) (next : ThreadId → List Event → Option Request) (es : List Entry) (open_slots : List (List Slot)) (history : List Event) (n : ℕ) : Type 0 where
+-- the entries, the newest first, are those of a finished run: a lawful journal, with these open slots before each
+-- entry, this committed history and this weight
+pub record IsRun (p : Settings) (next : ThreadId → List Event → Option Request) (es : List Entry)
+    (open_slots : List (List Slot)) (history : List Event) (n : ℕ) : Type 0 where
   pub lawful : IsLawful p next es
   pub finished : is_finished p es ≡ true
   pub opens : open_before p next es ≡ open_slots

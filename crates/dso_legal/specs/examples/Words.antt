@@ -41,7 +41,8 @@ note l choice = record { lock = l; choice = choice }
 
 -- a record of the product
 abbrev pub txn : ℕ → ThreadId → List Body → List Set → List Value → List Note → Ending → Txn
-txn seq t news sets outs notes ending = record { seq = seq; thread = t; news = news; sets = sets; outs = outs; notes = notes; ending = ending }
+txn seq t news sets outs notes ending = record
+    { seq = seq; thread = t; news = news; sets = sets; outs = outs; notes = notes; ending = ending }
 
 -- an act of a thread
 abbrev pub act : ThreadId → Request → Reply → Option ThreadId → Event

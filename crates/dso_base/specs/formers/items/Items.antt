@@ -42,14 +42,16 @@ the_items_listed X items = list-listed X items
 
 -- the vector inside, as the one field
 abbrev the_field : Former {0}
-the_field = via (vec.the_former this Global) Inside (λ X fields. fields.items) (λ X held. record { items = held }) (λ X fields. refl)
+the_field = via (vec.the_former this Global) Inside (λ X fields. fields.items) (λ X held. record { items = held })
+    (λ X fields. refl)
     (λ X held. refl)
 
 module _ (R S : RattleType) (h : R.Denot → S.Denot) where
   -- where two kinds of item lie alike, so do the lists of them
   pub the_places : Alike R S h → Alike (outside.the_row R) (outside.the_row S) ((the_former this).map R.Denot S.Denot h)
   the_places alike = view_places the_field (list this) view (λ X Y k fields. refl) (λ X fields. refl) R.Denot S.Denot h
-      (outside.the_row R).coded (outside.the_row S).coded (invariant R.Denot) (invariant S.Denot) (λ fields p q. refl) (λ fields p q. refl)
+      (outside.the_row R).coded (outside.the_row S).coded (invariant R.Denot) (invariant S.Denot) (λ fields p q. refl)
+          (λ fields p q. refl)
       (λ fields same. tt) (λ fields same. tt) (over (inside.the_row R)) (over (inside.the_row S))
       (struct_places (inside.the_type R) (inside.the_type S) (vec.mapped h, tt) _ (λ fields. refl) refl
       (laid _ _ _ (vec.the_places heap.the_row ghosts R S h alike), tt))
