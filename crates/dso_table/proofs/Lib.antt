@@ -1,10 +1,3 @@
-pub mod Numbers
-pub mod Lists
-pub mod AtPlaces
-pub mod Orders
-pub mod OrderCalls
-pub mod Joining
-pub mod StateChanges
-pub mod TableChanges
-pub mod FirstNotes
-pub mod LookedAt
+pub mod lists
+pub mod objects
+pub mod uses

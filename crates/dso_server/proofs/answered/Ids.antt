@@ -11,12 +11,12 @@ use Rattle.dso_server.specs.Answering.{Answers}
 use Rattle.dso_server.specs.Batches.{batches_to}
 use Rattle.dso_server.specs.Sending.{sent_of, took}
 use Rattle.dso_server.specs.ServerStands.{ServerStands}
-use Rattle.dso_server.proofs.BatchesGiven.{length_to}
-use Rattle.dso_server.proofs.GraphTook.{graph_same}
-use Rattle.dso_server.proofs.LocksTook.{locks_same}
-use Rattle.dso_server.proofs.Taking.{stands_took}
-use Rattle.dso_server.proofs.ThreadsTook.{threads_same}
-use Rattle.dso_server.proofs.WaitersTook.{waiters_same}
+use Rattle.dso_server.proofs.standing.BatchesGiven.{length_to}
+use Rattle.dso_server.proofs.standing.GraphTook.{graph_same}
+use Rattle.dso_server.proofs.standing.LocksTook.{locks_same}
+use Rattle.dso_server.proofs.standing.Taking.{stands_took}
+use Rattle.dso_server.proofs.standing.ThreadsTook.{threads_same}
+use Rattle.dso_server.proofs.standing.WaitersTook.{waiters_same}
 
 pub answered_ids : (old : Server) (ids : List ℕ) (c first : ℕ) (messages : List (ℕ × Down)) → first ≡ first_of_batch (length old.ids) → ids ≡ c ∷ old.ids → messages ≡ (c, down.Ids first) ∷ []
     → Answers c up.IdAsk messages old (record old { ids = ids })

@@ -21,13 +21,13 @@ use Rattle.dso_server.specs.declared.server.Server.{Server}
 use Rattle.dso_server.specs.Answering.{Answers}
 use Rattle.dso_server.specs.Sending.{sent_of}
 use Rattle.dso_server.specs.Waiters.{lists_in, lists_returned}
-use Rattle.dso_server.proofs.Each.{each_weaker}
-use Rattle.dso_server.proofs.GraphTook.{graph_same}
-use Rattle.dso_server.proofs.LocksTook.{locks_told, requested_within, returned_within, served_now}
-use Rattle.dso_server.proofs.Quiet.{OffIds, OffWaiters, ids_stay, told_off_ids, told_off_waiters}
-use Rattle.dso_server.proofs.Taking.{stands_took}
-use Rattle.dso_server.proofs.ThreadsTook.{threads_same}
-use Rattle.dso_server.proofs.WaitersTook.{waiters_returned, waiters_same}
+use Rattle.dso_server.proofs.lists.Each.{each_weaker}
+use Rattle.dso_server.proofs.standing.GraphTook.{graph_same}
+use Rattle.dso_server.proofs.standing.LocksTook.{locks_told, requested_within, returned_within, served_now}
+use Rattle.dso_server.proofs.standing.Quiet.{OffIds, OffWaiters, ids_stay, told_off_ids, told_off_waiters}
+use Rattle.dso_server.proofs.standing.Taking.{stands_took}
+use Rattle.dso_server.proofs.standing.ThreadsTook.{threads_same}
+use Rattle.dso_server.proofs.standing.WaitersTook.{waiters_returned, waiters_same}
 
 pub answered_request : (old : Server) (table : Tables) (c : ℕ) (l : LockName) (level : Level) (told : List Told) (messages : List (ℕ × Down))
     → ((p : Settings) → IsWithin p (requested_by c level (locks_in old.locks l)) → messages_of told ≡ serves p l (requested_by c level (locks_in old.locks l)))

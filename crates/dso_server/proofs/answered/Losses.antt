@@ -25,10 +25,10 @@ use Rattle.dso_server.specs.Answering.{IsLost}
 use Rattle.dso_server.specs.Sending.{lost, sent_of}
 use Rattle.dso_server.specs.ServerStands.{ServerStands}
 use Rattle.dso_server.specs.Waiters.{lists_in, lists_without}
-use Rattle.dso_server.proofs.GraphTook.{graph_lost}
-use Rattle.dso_server.proofs.LocksTook.{locks_lost, lost_within}
-use Rattle.dso_server.proofs.Quiet.{OffIds, OffWaiters, ids_stay, told_off_ids, told_off_waiters}
-use Rattle.dso_server.proofs.WaitersTook.{waiters_lost}
+use Rattle.dso_server.proofs.standing.GraphTook.{graph_lost}
+use Rattle.dso_server.proofs.standing.LocksTook.{locks_lost, lost_within}
+use Rattle.dso_server.proofs.standing.Quiet.{OffIds, OffWaiters, ids_stay, told_off_ids, told_off_waiters}
+use Rattle.dso_server.proofs.standing.WaitersTook.{waiters_lost}
 use Rattle.dso_store.specs.declared.store.Store.{Store}
 use Rattle.dso_store.specs.Graph.{body_in, holds_in, last_in}
 

@@ -11,12 +11,12 @@ use Rattle.dso_law.specs.Store.{held_by}
 use Rattle.dso_server.specs.declared.server.Server.{Server}
 use Rattle.dso_server.specs.Answering.{Answers}
 use Rattle.dso_server.specs.Sending.{sent_of}
-use Rattle.dso_server.proofs.GraphTook.{graph_took}
-use Rattle.dso_server.proofs.LocksTook.{locks_same}
-use Rattle.dso_server.proofs.Quiet.{OffIds, OffLocks, OffWaiters, ids_stay}
-use Rattle.dso_server.proofs.Taking.{stands_took}
-use Rattle.dso_server.proofs.ThreadsTook.{threads_same}
-use Rattle.dso_server.proofs.WaitersTook.{waiters_same}
+use Rattle.dso_server.proofs.standing.GraphTook.{graph_took}
+use Rattle.dso_server.proofs.standing.LocksTook.{locks_same}
+use Rattle.dso_server.proofs.standing.Quiet.{OffIds, OffLocks, OffWaiters, ids_stay}
+use Rattle.dso_server.proofs.standing.Taking.{stands_took}
+use Rattle.dso_server.proofs.standing.ThreadsTook.{threads_same}
+use Rattle.dso_server.proofs.standing.WaitersTook.{waiters_same}
 use Rattle.dso_store.specs.declared.store.Store.{Store}
 use Rattle.dso_store.specs.Graph.{body_in, holds_in, last_in}
 

@@ -24,14 +24,14 @@ use Rattle.dso_server.specs.Answering.{Answers}
 use Rattle.dso_server.specs.Sending.{sent_of}
 use Rattle.dso_server.specs.Threads.{known_in, last_in}
 use Rattle.dso_server.specs.Waiters.{lists_in, lists_woken}
-use Rattle.dso_server.proofs.GraphTook.{graph_took}
-use Rattle.dso_server.proofs.Lists.{each_append}
-use Rattle.dso_server.proofs.LocksTook.{locks_same}
-use Rattle.dso_server.proofs.Quiet.{OffIds, OffLocks, changes_off_ids, changes_off_locks, changes_off_waiters, ids_stay, wakes_off_ids, wakes_off_locks}
-use Rattle.dso_server.proofs.Taking.{stands_took}
-use Rattle.dso_server.proofs.ThreadTables.{threads_of_client}
-use Rattle.dso_server.proofs.ThreadsTook.{threads_ended}
-use Rattle.dso_server.proofs.WaitersTook.{waiters_woken_by}
+use Rattle.dso_server.proofs.standing.GraphTook.{graph_took}
+use Rattle.dso_server.proofs.lists.Lists.{each_append}
+use Rattle.dso_server.proofs.standing.LocksTook.{locks_same}
+use Rattle.dso_server.proofs.standing.Quiet.{OffIds, OffLocks, changes_off_ids, changes_off_locks, changes_off_waiters, ids_stay, wakes_off_ids, wakes_off_locks}
+use Rattle.dso_server.proofs.standing.Taking.{stands_took}
+use Rattle.dso_server.proofs.lists.ThreadTables.{threads_of_client}
+use Rattle.dso_server.proofs.standing.ThreadsTook.{threads_ended}
+use Rattle.dso_server.proofs.standing.WaitersTook.{waiters_woken_by}
 use Rattle.dso_store.specs.declared.store.Store.{Store}
 use Rattle.dso_store.specs.Changes.{messages_of}
 use Rattle.dso_store.specs.Graph as graph

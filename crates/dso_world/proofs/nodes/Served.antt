@@ -21,7 +21,7 @@ use Rattle.dso_server.specs.declared.taken.Taken.TheVariants.{Done, Gone, Unfit}
 use Rattle.dso_server.specs.Answering.{IsLost, IsTaken, given_by}
 use Rattle.dso_server.specs.Sending.{broke, rejoined, sent_of, took}
 use Rattle.dso_server.specs.ServerStands.{ServerStands}
-use Rattle.dso_server.proofs.ByRule.{breaks_change_nothing, lost_by_rule, lost_change_nothing, rejoins_change_nothing, taken_by_rule}
+use Rattle.dso_server.proofs.standing.ByRule.{breaks_change_nothing, lost_by_rule, lost_change_nothing, rejoins_change_nothing, taken_by_rule}
 use Rattle.dso_world.specs.declared.both.Both.{Both}
 use Rattle.dso_world.specs.declared.both.Both.TheVariants as both
 use Rattle.dso_world.specs.declared.made.Made.{Made}

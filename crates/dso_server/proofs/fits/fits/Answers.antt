@@ -1,7 +1,7 @@
 use Rattle.std.proofs.Common.{sym, ◌∙◌}
 use Rattle.dso_law.specs.FitsUp.{FitsReturn, FitsUp}
 use Rattle.dso_law.specs.ServerReadings.{counted}
-use Rattle.dso_server.proofs.Telling.{told_at}
+use Rattle.dso_server.proofs.lists.Telling.{told_at}
 use Rattle.dso_server.proofs.fits.fits.Goals as goal
 
 pub returns-in-Flushed-clause-tells : goal.returns-in-Flushed-clause-tells

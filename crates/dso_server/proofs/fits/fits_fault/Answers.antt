@@ -1,7 +1,7 @@
 use Rattle.std.proofs.Common.{sym, ◌∙◌}
 use Rattle.dso_law.specs.ServerReadings.{counted}
 use Rattle.dso_law.specs.Store.{stored}
-use Rattle.dso_server.proofs.Telling.{no, some_there, there_some}
+use Rattle.dso_server.proofs.lists.Telling.{no, some_there, there_some}
 use Rattle.dso_server.proofs.fits.fits_fault.Goals as goal
 
 pub returns-then-holds : goal.returns-then-holds

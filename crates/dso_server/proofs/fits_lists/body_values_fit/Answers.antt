@@ -1,8 +1,8 @@
 use Rattle.std.proofs.Common.{sym, ◌∙◌, subst}
 use Rattle.std.specs.List.{AllByRecursion}
 use Rattle.dso_law.specs.ServerReadings.{counted}
-use Rattle.dso_server.proofs.Lists.{each_at, each_next, each_so_far}
-use Rattle.dso_server.proofs.Telling.{no, told_at, yes}
+use Rattle.dso_server.proofs.lists.Lists.{each_at, each_next, each_so_far}
+use Rattle.dso_server.proofs.lists.Telling.{no, told_at, yes}
 use Rattle.dso_server.specs.Records.{FitsValue}
 use Rattle.dso_server.proofs.fits_lists.body_values_fit.Goals as goal
 

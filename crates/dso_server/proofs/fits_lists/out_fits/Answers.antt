@@ -1,5 +1,5 @@
 use Rattle.std.proofs.Common.{sym, ◌∙◌}
-use Rattle.dso_server.proofs.Telling.{no, told_by}
+use Rattle.dso_server.proofs.lists.Telling.{no, told_by}
 use Rattle.dso_server.proofs.fits_lists.out_fits.Goals as goal
 
 pub returns-then-not-is_printed : goal.returns-then-not-is_printed

@@ -1,7 +1,7 @@
 use Rattle.std.proofs.Common.{sym, ◌∙◌}
 use Rattle.dso_law.specs.ServerReadings.{counted}
-use Rattle.dso_server.proofs.Lists.{each_at, each_next, each_so_far}
-use Rattle.dso_server.proofs.Telling.{no, yes}
+use Rattle.dso_server.proofs.lists.Lists.{each_at, each_next, each_so_far}
+use Rattle.dso_server.proofs.lists.Telling.{no, yes}
 use Rattle.dso_server.specs.Records.{FitsOut}
 use Rattle.dso_server.proofs.fits_lists.outs_fit.Goals as goal
 

@@ -2,9 +2,9 @@ use Rattle.std.proofs.Common.{sym, ◌∙◌, subst}
 use Rattle.std.proofs.lemmas.List.{take_all}
 use Rattle.dso_law.specs.FitsUp.{AreDistinct, IsNewWaiter}
 use Rattle.dso_law.specs.ServerReadings.{counted}
-use Rattle.dso_server.proofs.Lists.{each_at, each_next, each_so_far}
-use Rattle.dso_server.proofs.NewWaiters.{distinct_next, named_twice}
-use Rattle.dso_server.proofs.Telling.{no, yes}
+use Rattle.dso_server.proofs.lists.Lists.{each_at, each_next, each_so_far}
+use Rattle.dso_server.proofs.standing.NewWaiters.{distinct_next, named_twice}
+use Rattle.dso_server.proofs.lists.Telling.{no, yes}
 use Rattle.dso_server.proofs.fits_locks.are_new_waiters.Goals as goal
 
 pub returns-then-is_before : goal.returns-then-is_before

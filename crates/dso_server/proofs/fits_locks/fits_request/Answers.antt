@@ -1,5 +1,5 @@
 use Rattle.std.proofs.Common.{sym, ◌∙◌}
-use Rattle.dso_server.proofs.Telling.{no, told_by}
+use Rattle.dso_server.proofs.lists.Telling.{no, told_by}
 use Rattle.dso_server.proofs.fits_locks.fits_request.Goals as goal
 
 pub returns-in-Some-clause-tells : goal.returns-in-Some-clause-tells

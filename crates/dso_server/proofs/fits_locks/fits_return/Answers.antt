@@ -2,7 +2,7 @@ use Rattle.std.proofs.Common.{sym, ◌∙◌, ap, subst, Some}
 use Rattle.std.specs.List.{AllByRecursion}
 use Rattle.dso_law.specs.FitsUp.{AreDistinct, IsNewWaiter}
 use Rattle.dso_law.specs.ServerReadings.{counted}
-use Rattle.dso_server.proofs.Telling.{no, told_by}
+use Rattle.dso_server.proofs.lists.Telling.{no, told_by}
 use Rattle.dso_server.proofs.fits_locks.fits_return.Goals as goal
 
 pub returns-in-Some-Write : goal.returns-in-Some-Write

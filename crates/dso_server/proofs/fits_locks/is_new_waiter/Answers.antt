@@ -1,5 +1,5 @@
 use Rattle.std.proofs.Common.{sym, ◌∙◌}
-use Rattle.dso_server.proofs.Telling.{is_false, isnt_true}
+use Rattle.dso_server.proofs.lists.Telling.{is_false, isnt_true}
 use Rattle.dso_server.proofs.fits_locks.is_new_waiter.Goals as goal
 
 pub returns : goal.returns

@@ -2,7 +2,7 @@ use Rattle.std.proofs.Common.{sym, ◌∙◌, ap, subst, is_some}
 use Rattle.dso_law.specs.FitsDown.{FitsShape}
 use Rattle.dso_law.specs.ServerReadings.{counted}
 use Rattle.dso_law.specs.Store.{stored}
-use Rattle.dso_server.proofs.Telling.{no, none_there, told_by}
+use Rattle.dso_server.proofs.lists.Telling.{no, none_there, told_by}
 use Rattle.dso_server.proofs.fits_parts.fits_news.Goals as goal
 
 pub returns-then-not-is_given_to : goal.returns-then-not-is_given_to

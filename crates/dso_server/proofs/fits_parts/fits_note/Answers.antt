@@ -1,6 +1,6 @@
 use Rattle.std.proofs.Common.{sym, ◌∙◌, subst}
 use Rattle.dso_law.specs.FitsUp.{FitsChoice}
-use Rattle.dso_server.proofs.Telling.{no, yes}
+use Rattle.dso_server.proofs.lists.Telling.{no, yes}
 use Rattle.dso_server.proofs.fits_parts.fits_note.Goals as goal
 
 pub returns-then-not-may_write : goal.returns-then-not-may_write

@@ -5,7 +5,7 @@ use Rattle.dso_base.specs.Value.{Fits}
 use Rattle.dso_law.specs.FitsUp.{FitsStored}
 use Rattle.dso_law.specs.Granting.{leased_to}
 use Rattle.dso_law.specs.ServerReadings.{counted}
-use Rattle.dso_server.proofs.Telling.{no}
+use Rattle.dso_server.proofs.lists.Telling.{no}
 use Rattle.dso_server.proofs.fits_parts.fits_set.Goals as goal
 
 pub returns-then-not-holds : goal.returns-then-not-holds

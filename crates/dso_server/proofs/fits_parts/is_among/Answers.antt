@@ -1,6 +1,6 @@
 use Rattle.std.proofs.Common.{◌∙◌, ap, subst}
 use Rattle.dso_server.specs.Records.{IsPlaceOf}
-use Rattle.dso_server.proofs.Among.{among_at, is_there}
+use Rattle.dso_server.proofs.lists.Among.{among_at, is_there}
 use Rattle.dso_server.proofs.fits_parts.is_among.Goals as goal
 
 pub returns-in-Some : goal.returns-in-Some

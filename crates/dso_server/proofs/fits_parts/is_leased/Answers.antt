@@ -1,5 +1,5 @@
 use Rattle.std.proofs.Common.{sym, ◌∙◌}
-use Rattle.dso_server.proofs.Telling.{no, yes}
+use Rattle.dso_server.proofs.lists.Telling.{no, yes}
 use Rattle.dso_server.proofs.fits_parts.is_leased.Goals as goal
 
 pub returns-in-Some : goal.returns-in-Some

@@ -1,7 +1,7 @@
 use Rattle.std.proofs.Common.{arith, ltb, rules}
 use Rattle.std.proofs.lemmas.Bool.Decides.{nat_tests}
 use Rattle.std.proofs.lemmas.List.Sorted.{IsPartitionedBy-ltb, IsPartitionPoint-from_clause}
-use Rattle.dso_server.proofs.Among.{non_decreasing}
+use Rattle.dso_server.proofs.lists.Among.{non_decreasing}
 use Rattle.dso_server.proofs.fits_parts.place_of.Goals as goal
 
 pub returns : goal.returns

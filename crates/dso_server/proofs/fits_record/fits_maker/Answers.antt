@@ -1,5 +1,5 @@
 use Rattle.std.proofs.Common.{sym, ◌∙◌, ap, suc}
-use Rattle.dso_server.proofs.Telling.{is_false, isnt_true, no}
+use Rattle.dso_server.proofs.lists.Telling.{is_false, isnt_true, no}
 use Rattle.dso_server.proofs.fits_record.fits_maker.Goals as goal
 
 pub returns-then-not-is_next : goal.returns-then-not-is_next

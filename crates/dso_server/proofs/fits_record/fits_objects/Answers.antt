@@ -3,7 +3,7 @@ use Rattle.std.specs.List.{AllByRecursion}
 use Rattle.dso_base.specs.Block.{is_field_before}
 use Rattle.dso_law.specs.FitsUp.{FitsNews, FitsSet, Rises}
 use Rattle.dso_law.specs.ServerReadings.{counted}
-use Rattle.dso_server.proofs.Telling.{no, told_at, told_by}
+use Rattle.dso_server.proofs.lists.Telling.{no, told_at, told_by}
 use Rattle.dso_server.proofs.fits_record.fits_objects.Goals as goal
 
 pub returns-then-not-all_news_fit : goal.returns-then-not-all_news_fit

@@ -1,8 +1,8 @@
 use Rattle.std.proofs.Common.{sym, ◌∙◌, subst}
 use Rattle.dso_law.specs.ServerReadings.{counted}
 use Rattle.dso_server.specs.Records.{FitsValues, IsRising}
-use Rattle.dso_server.proofs.RecordFits.{objects_fit, record_fits, rest_fits, values_fit}
-use Rattle.dso_server.proofs.Telling.{no, told_at, told_by}
+use Rattle.dso_server.proofs.fits.RecordFits.{objects_fit, record_fits, rest_fits, values_fit}
+use Rattle.dso_server.proofs.lists.Telling.{no, told_at, told_by}
 use Rattle.dso_server.proofs.fits_record.fits_record.Goals as goal
 
 pub returns-then-not-fits_objects : goal.returns-then-not-fits_objects

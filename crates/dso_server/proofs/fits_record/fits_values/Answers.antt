@@ -2,7 +2,7 @@ use Rattle.std.proofs.Common.{sym, ◌∙◌}
 use Rattle.std.specs.List.{AllByRecursion}
 use Rattle.dso_law.specs.ServerReadings.{counted}
 use Rattle.dso_server.specs.Records.{FitsOut, FitsValue}
-use Rattle.dso_server.proofs.Telling.{no, told_at, told_by}
+use Rattle.dso_server.proofs.lists.Telling.{no, told_at, told_by}
 use Rattle.dso_server.proofs.fits_record.fits_values.Goals as goal
 
 pub returns-then-not-body_values_fit : goal.returns-then-not-body_values_fit

@@ -1,5 +1,5 @@
 use Rattle.std.proofs.Common.{sym, ◌∙◌, ap, eqb, ◌&&◌}
-use Rattle.dso_server.proofs.ThreadTables.{threads_of_client}
+use Rattle.dso_server.proofs.lists.ThreadTables.{threads_of_client}
 use Rattle.dso_server.proofs.known.is_thread_of.Goals as goal
 
 pub returns : goal.returns

@@ -1,4 +1,4 @@
-use Rattle.dso_server.proofs.ByRule.{lost_by_rule, taken_by_rule}
+use Rattle.dso_server.proofs.standing.ByRule.{lost_by_rule, taken_by_rule}
 use Rattle.dso_server.proofs.laws.calls_follow_the_rule.Goals as goal
 
 pub returns-clause-taken : goal.returns-clause-taken

@@ -1,4 +1,4 @@
-use Rattle.dso_server.proofs.ByRule.{breaks_change_nothing, lost_change_nothing, rejoins_change_nothing}
+use Rattle.dso_server.proofs.standing.ByRule.{breaks_change_nothing, lost_change_nothing, rejoins_change_nothing}
 use Rattle.dso_server.proofs.laws.others_change_nothing.Goals as goal
 
 pub returns-clause-breaks : goal.returns-clause-breaks

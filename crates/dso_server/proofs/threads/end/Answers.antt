@@ -1,6 +1,6 @@
 use Rattle.std.proofs.Common.{Some}
 use Rattle.std.proofs.lemmas.Result.{on_ok_weaker}
-use Rattle.dso_server.proofs.ThreadTables.{known_written, last_written}
+use Rattle.dso_server.proofs.lists.ThreadTables.{known_written, last_written}
 use Rattle.dso_server.proofs.threads.end.Goals as goal
 
 pub returns-clause-known : goal.returns-clause-known

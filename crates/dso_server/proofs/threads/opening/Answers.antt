@@ -1,5 +1,5 @@
 use Rattle.std.proofs.Common.{◌∙◌, sym, None}
-use Rattle.dso_server.proofs.ThreadTables.{known_written, last_written, known_next, known_all, none_last}
+use Rattle.dso_server.proofs.lists.ThreadTables.{known_written, last_written, known_next, known_all, none_last}
 use Rattle.dso_server.specs.Threads.{known_in, last_in}
 use Rattle.dso_server.proofs.threads.opening.Goals as goal
 

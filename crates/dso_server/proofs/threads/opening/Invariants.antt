@@ -2,7 +2,7 @@ use Rattle.std.proofs.Common.{◌≡◌, None, drop}
 use Rattle.std.specs.List.{list_any}
 use Rattle.dso_base.specs.Following.{is_thread}
 use Rattle.dso_server.specs.Threads.{known_in, last_in}
-use Rattle.dso_server.proofs.ThreadTables.{with_left}
+use Rattle.dso_server.proofs.lists.ThreadTables.{with_left}
 use Rattle.dso_server.proofs.threads.opening.Given as goal
 
 abbrev pub invariant-loop-thread : goal.invariant-loop-thread

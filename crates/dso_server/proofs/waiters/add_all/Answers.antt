@@ -1,6 +1,6 @@
 use Rattle.std.proofs.Common.{◌∙◌, sym}
 use Rattle.dso_server.specs.Waiters.{lists_in}
-use Rattle.dso_server.proofs.ListTables.{returned_next, returned_all}
+use Rattle.dso_server.proofs.lists.ListTables.{returned_next, returned_all}
 use Rattle.dso_server.proofs.waiters.add_all.Goals as goal
 
 pub loop-thread-preserved : goal.loop-thread-preserved

@@ -1,4 +1,4 @@
-use Rattle.dso_table.proofs.TableChanges.{told_out, agree_out}
+use Rattle.dso_table.proofs.objects.TableChanges.{told_out, agree_out}
 use Rattle.dso_table.proofs.flush.flush.Goals as goal
 
 pub returns-clause-flushed : goal.returns-clause-flushed

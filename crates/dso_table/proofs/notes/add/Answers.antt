@@ -3,7 +3,7 @@ use Rattle.std.specs.Ordering.{nat_cmp}
 use Rattle.dso_base.specs.declared.no_memory.NoMemory.{NoMemory}
 use Rattle.dso_lookup.specs.Orders.{thread_order}
 use Rattle.dso_lookup.specs.Rows.{is_at_pair}
-use Rattle.dso_table.proofs.StateChanges.{note_added}
+use Rattle.dso_table.proofs.objects.StateChanges.{note_added}
 use Rattle.dso_table.proofs.notes.add.Goals as goal
 
 -- what follows from one follows from the other

@@ -1,5 +1,5 @@
 use Rattle.std.proofs.Common.{◌≡◌, sym, ◌∙◌, ap, cond, Some}
-use Rattle.dso_table.proofs.FirstNotes.{first_noting, nobody_noted, first_noted}
+use Rattle.dso_table.proofs.objects.FirstNotes.{first_noting, nobody_noted, first_noted}
 use Rattle.dso_table.proofs.notes.first_thread.Goals as goal
 
 pub returns-then-contains_key-clause-first : goal.returns-then-contains_key-clause-first

@@ -1,6 +1,6 @@
 use Rattle.std.proofs.Common.{◌∙◌, ap}
 use Rattle.lru.specs.LruCache.{lru_cache}
-use Rattle.dso_table.proofs.Joining.{put_absent}
+use Rattle.dso_table.proofs.uses.Joining.{put_absent}
 use Rattle.dso_table.proofs.order.push.Goals as goal
 
 pub returns-then-len-get-clause-pushed : goal.returns-then-len-get-clause-pushed

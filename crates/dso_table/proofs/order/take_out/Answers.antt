@@ -1,5 +1,5 @@
 use Rattle.std.proofs.Common.{rules}
-use Rattle.dso_table.proofs.OrderCalls.{popped}
+use Rattle.dso_table.proofs.uses.OrderCalls.{popped}
 use Rattle.dso_table.proofs.order.take_out.Goals as goal
 
 pub returns-in-Some : goal.returns-in-Some

@@ -1,6 +1,6 @@
 use Rattle.std.proofs.Common.{rules, ◌∙◌, sym}
-use Rattle.dso_table.proofs.Lists.{listed_keys}
-use Rattle.dso_table.proofs.OrderCalls.{promoted_by, pushed}
+use Rattle.dso_table.proofs.lists.Lists.{listed_keys}
+use Rattle.dso_table.proofs.uses.OrderCalls.{promoted_by, pushed}
 use Rattle.dso_table.proofs.order.touch.Goals as goal
 
 pub push-requires-clause-new : goal.push-requires-clause-new

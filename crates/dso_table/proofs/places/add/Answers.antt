@@ -1,4 +1,4 @@
-use Rattle.dso_table.proofs.AtPlaces.{placed_new}
+use Rattle.dso_table.proofs.objects.AtPlaces.{placed_new}
 use Rattle.dso_table.proofs.places.add.Goals as goal
 
 pub returns : goal.returns

@@ -1,5 +1,5 @@
 use Rattle.std.proofs.Common.{refl, sym, ◌∙◌}
-use Rattle.dso_table.proofs.AtPlaces.{placed_back}
+use Rattle.dso_table.proofs.objects.AtPlaces.{placed_back}
 use Rattle.dso_table.proofs.places.replace.Goals as goal
 
 pub returns-in-Some-get_mut : goal.returns-in-Some-get_mut

@@ -1,5 +1,5 @@
 use Rattle.std.proofs.Common.{sym}
-use Rattle.dso_table.proofs.AtPlaces.{placed_out}
+use Rattle.dso_table.proofs.objects.AtPlaces.{placed_out}
 use Rattle.dso_table.proofs.places.take_out.Goals as goal
 
 pub returns-in-Some : goal.returns-in-Some

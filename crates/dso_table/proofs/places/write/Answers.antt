@@ -1,5 +1,5 @@
 use Rattle.std.proofs.Common.{sym, ◌∙◌}
-use Rattle.dso_table.proofs.AtPlaces.{placed_written}
+use Rattle.dso_table.proofs.objects.AtPlaces.{placed_written}
 use Rattle.dso_table.proofs.places.write.Goals as goal
 
 pub returns-in-Some-get_mut : goal.returns-in-Some-get_mut

@@ -4,8 +4,8 @@ use Rattle.dso_table.specs.Slots.{changed_last}
 use Rattle.dso_table.specs.Tables.{state_in, put_slot}
 use Rattle.dso_table.specs.declared.slot.Slot.{Slot}
 use Rattle.dso_table.specs.declared.slot.Standing.TheVariants as standing
-use Rattle.dso_table.proofs.StateChanges.{put_as_slot}
-use Rattle.dso_table.proofs.TableChanges.{told_over, agree_over}
+use Rattle.dso_table.proofs.objects.StateChanges.{put_as_slot}
+use Rattle.dso_table.proofs.objects.TableChanges.{told_over, agree_over}
 use Rattle.dso_table.proofs.tables.put.Goals as goal
 
 -- what follows from one follows from the other

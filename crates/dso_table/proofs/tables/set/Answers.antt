@@ -7,7 +7,7 @@ use Rattle.dso_table.specs.States.{with_at, set}
 use Rattle.dso_table.specs.Tables.{slot_in, state_in, PlacesAgree, TablesAgree}
 use Rattle.dso_table.specs.declared.places.Places.{Places}
 use Rattle.dso_table.specs.declared.tables.Tables.{Tables}
-use Rattle.dso_table.proofs.TableChanges.{same_order, told_same, agree_same, told_written, agree_over, written_resident}
+use Rattle.dso_table.proofs.objects.TableChanges.{same_order, told_same, agree_same, told_written, agree_over, written_resident}
 use Rattle.dso_table.proofs.tables.set.Goals as goal
 
 -- what is told after the write, where the call answered so

@@ -1,7 +1,7 @@
 use Rattle.std.proofs.Common.{sym, ◌∙◌, ap, subst, List, ℕ, []}
 use Rattle.std.specs.Map.{keys_of}
 use Rattle.std.specs.Option.{option_map_or}
-use Rattle.dso_table.proofs.LookedAt.{AreLater, all_later, fewer_later, found_later, none_later, keys_behind}
+use Rattle.dso_table.proofs.objects.LookedAt.{AreLater, all_later, fewer_later, found_later, none_later, keys_behind}
 use Rattle.dso_table.proofs.victim.least_recent.Goals as goal
 
 pub loop-object-init : goal.loop-object-init

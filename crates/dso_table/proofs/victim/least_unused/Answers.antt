@@ -1,5 +1,5 @@
 use Rattle.std.proofs.Common.{sym, ◌∙◌, subst, List, ℕ}
-use Rattle.dso_table.proofs.LookedAt.{AreLeft, all_left, fewer_left, found_left, none_left}
+use Rattle.dso_table.proofs.objects.LookedAt.{AreLeft, all_left, fewer_left, found_left, none_left}
 use Rattle.dso_table.proofs.victim.least_unused.Goals as goal
 
 pub loop-object-init : goal.loop-object-init

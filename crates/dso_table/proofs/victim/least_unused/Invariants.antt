@@ -1,4 +1,4 @@
-use Rattle.dso_table.proofs.LookedAt.{AreLeft}
+use Rattle.dso_table.proofs.objects.LookedAt.{AreLeft}
 use Rattle.dso_table.proofs.victim.least_unused.Given as goal
 
 abbrev pub invariant-loop-object : goal.invariant-loop-object

@@ -3,7 +3,7 @@ use Rattle.std.proofs.lemmas.List.{length-reverse}
 use Rattle.std.specs.List.{list_any}
 use Rattle.dso_law.specs.ServerReadings.{is_in_batch}
 use Rattle.dso_server.specs.Batches.{batches_to}
-use Rattle.dso_server.proofs.BatchesGiven.{given_is, none_given}
+use Rattle.dso_server.proofs.standing.BatchesGiven.{given_is, none_given}
 use Rattle.dso_server.proofs.batches.Batches.is_given.Goals as goal
 
 pub returns-then-object-ne0 : goal.returns-then-object-ne0

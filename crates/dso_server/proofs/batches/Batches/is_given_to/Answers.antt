@@ -2,7 +2,7 @@ use Rattle.std.proofs.Common.{sym, ◌∙◌, ap, eqb, ◌&&◌, Some, None}
 use Rattle.std.specs.List.{list_any}
 use Rattle.dso_law.specs.ServerReadings.{is_in_batch}
 use Rattle.dso_server.specs.Batches.{batches_to}
-use Rattle.dso_server.proofs.BatchesGiven.{owner_is, none_owned}
+use Rattle.dso_server.proofs.standing.BatchesGiven.{owner_is, none_owned}
 use Rattle.dso_server.proofs.batches.Batches.is_given_to.Goals as goal
 
 pub returns-then-object-eq0 : goal.returns-then-object-eq0

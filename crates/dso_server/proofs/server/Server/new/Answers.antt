@@ -6,7 +6,7 @@ use Rattle.std.specs.BTreeMap.{is_at}
 use Rattle.std.specs.List.{list_any}
 use Rattle.std.specs.Ordering.{nat_cmp}
 use Rattle.dso_server.specs.Threads.{threads_in}
-use Rattle.dso_server.proofs.Opening.{stands_opening}
+use Rattle.dso_server.proofs.standing.Opening.{stands_opening}
 use Rattle.dso_server.proofs.server.Server.new.Goals as goal
 
 pub returns-clause-stands : goal.returns-clause-stands

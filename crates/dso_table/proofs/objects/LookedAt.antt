@@ -14,7 +14,7 @@ use Rattle.dso_lookup.specs.Search.{is_listed}
 use Rattle.dso_table.specs.declared.tables.Tables.{Tables}
 use Rattle.dso_table.specs.Tables.{used_in, state_in, TablesAgree}
 use Rattle.dso_table.specs.Victims.{IsFlushable, IsLeastUnused, IsLeastRecent}
-use Rattle.dso_table.proofs.Numbers.{at_it, is_at_itself}
+use Rattle.dso_table.proofs.lists.Numbers.{at_it, is_at_itself}
 
 -- the object is among these, by their order
 abbrev pub among : ℕ → List ℕ → Bool

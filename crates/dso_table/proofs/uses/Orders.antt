@@ -10,8 +10,8 @@ use Rattle.dso_lookup.specs.Search.{is_listed}
 use Rattle.dso_table.specs.declared.order.Order.{Order}
 use Rattle.dso_table.specs.States.{without, with_at}
 use Rattle.dso_table.specs.Tables.{used_in, limit_in, is_ordered, number_in, JoinedBy, IsEachOnce, OrderAgrees}
-use Rattle.dso_table.proofs.Lists.{neither, listed_without, without_absent, length_without, once_without, once_front, apart_rest}
-use Rattle.dso_table.proofs.Numbers.{either_way, with_at_told}
+use Rattle.dso_table.proofs.lists.Lists.{neither, listed_without, without_absent, length_without, once_without, once_front, apart_rest}
+use Rattle.dso_table.proofs.lists.Numbers.{either_way, with_at_told}
 
 -- what is told of the order after a change: who is used, who is in it, how many, and that it agrees
 pub record IsMoved (new : Order) (objects : List ℕ) (are_in : ℕ → Bool) (n : ℕ) : Type 0 where

@@ -7,7 +7,7 @@ use Rattle.lru.specs.LruCache.{promoted}
 use Rattle.dso_lookup.specs.Search.{is_listed}
 use Rattle.dso_table.specs.States.{without}
 use Rattle.dso_table.specs.Tables.{IsEachOnce}
-use Rattle.dso_table.proofs.Numbers.{either_way}
+use Rattle.dso_table.proofs.lists.Numbers.{either_way}
 
 -- neither of two tests holds
 pub neither : (a b : Bool) → (a || b) ≡ false → (a ≡ false) × (b ≡ false)

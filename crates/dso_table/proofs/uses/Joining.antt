@@ -11,8 +11,8 @@ use Rattle.std.proofs.lemmas.List.Folds.{list_any-append}
 use Rattle.lru.specs.LruCache.{LruCache, put_entries}
 use Rattle.dso_lookup.specs.Search.{is_listed}
 use Rattle.dso_table.specs.Tables.{JoinedBy}
-use Rattle.dso_table.proofs.Lists.{entry_absent, listed_keys}
-use Rattle.dso_table.proofs.Numbers.{at_number, either_way}
+use Rattle.dso_table.proofs.lists.Lists.{entry_absent, listed_keys}
+use Rattle.dso_table.proofs.lists.Numbers.{at_number, either_way}
 
 -- a new entry goes before the first of the others
 pub put_absent : (recent : LruCache ℕ (Unit {0})) (o : ℕ) → is_listed o (keys_of recent.entries) ≡ false → put_entries nat_eq recent o tt ≡ (o, tt) ∷ take (recent.cap - 1) recent.entries

@@ -12,7 +12,7 @@ use Rattle.dso_table.specs.declared.tables.Tables.{Tables}
 use Rattle.dso_table.specs.Slots.{wrote, changed_last, changed_before, has_slot_value}
 use Rattle.dso_table.specs.States.{State, is_resident, body_of, later_than, with_at, with_value, marked, put}
 use Rattle.dso_table.specs.Tables.{slot_in, standing_of, mark_of, is_ordered, state_in, put_slot, TablesAgree}
-use Rattle.dso_table.proofs.Numbers.{with_at_map, with_at_same}
+use Rattle.dso_table.proofs.lists.Numbers.{with_at_map, with_at_same}
 
 -- states of which each part is the same
 pub same_state : (s t : State) → s.standing ≡ t.standing → s.marks ≡ t.marks → s.opened ≡ t.opened → s.wanted ≡ t.wanted → s.used ≡ t.used → s.residents ≡ t.residents → s.acked ≡ t.acked → s.limit ≡ t.limit → s ≡ t

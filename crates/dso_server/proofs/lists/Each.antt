@@ -1,7 +1,7 @@
 -- What holds of each item, under more tests and in lists made of others.
 use Rattle.std.proofs.Common.{List, [], ◌∷◌, map, flat_map}
 use Rattle.std.specs.List.{AllByRecursion}
-use Rattle.dso_server.proofs.Lists.{each_append, each_before, each_behind}
+use Rattle.dso_server.proofs.lists.Lists.{each_append, each_before, each_behind}
 
 -- a weaker fact
 pub each_weaker : {X : Type 0} (P Q : X → Type 0) → ((x : X) → P x → Q x) → (xs : List X) → AllByRecursion P xs → AllByRecursion Q xs

@@ -25,9 +25,9 @@ use Rattle.dso_law.proofs.client.ClientLaws.{lock_either_way}
 use Rattle.dso_law.proofs.client.TimedOut.{lock_self}
 use Rattle.dso_plain.proofs.keys.SameKeys.{same_lock, thread_self}
 use Rattle.dso_plain.specs.KeyTests.{is_lock}
-use Rattle.dso_server.proofs.Lists.{any_append}
-use Rattle.dso_server.proofs.Quiet.{OffWaiters, waiters_stay}
-use Rattle.dso_server.proofs.ThreadTables.{thread_either_way}
+use Rattle.dso_server.proofs.lists.Lists.{any_append}
+use Rattle.dso_server.proofs.standing.Quiet.{OffWaiters, waiters_stay}
+use Rattle.dso_server.proofs.lists.ThreadTables.{thread_either_way}
 use Rattle.dso_server.specs.Sending.{lost, took}
 use Rattle.dso_server.specs.ServerStands.{WaitersStand}
 use Rattle.dso_server.specs.Waiters.{lists_in, lists_returned, lists_timed_out, lists_without, lists_woken}

@@ -7,8 +7,8 @@ use Rattle.dso_base.specs.declared.value.Value.{Value}
 use Rattle.dso_base.specs.declared.value.Value.TheVariants as value
 use Rattle.dso_law.specs.FitsUp.{FitsRecord, IsLiteral, IsNamed, IsPrinted, stored_values}
 use Rattle.dso_law.specs.Settings.{Settings}
-use Rattle.dso_server.proofs.Each.{each_both, each_flat, each_list, each_made, each_maker, each_weaker}
-use Rattle.dso_server.proofs.Lists.{each_append, each_before, each_behind}
+use Rattle.dso_server.proofs.lists.Each.{each_both, each_flat, each_list, each_made, each_maker, each_weaker}
+use Rattle.dso_server.proofs.lists.Lists.{each_append, each_before, each_behind}
 use Rattle.dso_server.specs.Records.{FitsMaker, FitsObjects, FitsOut, FitsRest, FitsValue, FitsValues, IsLiteralOf, IsRising}
 
 module _ (p : Settings) (c : ℕ) (txn : Txn) (es : List Entry) where

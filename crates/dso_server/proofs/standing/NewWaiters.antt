@@ -6,8 +6,8 @@ use Rattle.std.specs.List.{list_any}
 use Rattle.dso_base.specs.declared.lock.ThreadId.{ThreadId}
 use Rattle.dso_base.specs.Following.{is_thread}
 use Rattle.dso_law.specs.FitsUp.{AreDistinct}
-use Rattle.dso_server.proofs.Lists.{any_append}
-use Rattle.dso_server.proofs.ThreadTables.{thread_either_way}
+use Rattle.dso_server.proofs.lists.Lists.{any_append}
+use Rattle.dso_server.proofs.lists.ThreadTables.{thread_either_way}
 
 or_false : (b : Bool) → (b || false) ≡ b
 or_false true = refl

@@ -24,8 +24,8 @@ use Rattle.dso_locks.specs.Tables.{locks_in, requested_in}
 use Rattle.dso_locks.proofs.Following.{follows_entries}
 use Rattle.dso_plain.proofs.keys.SameKeys.{number_self, same_lock, same_number}
 use Rattle.dso_plain.specs.KeyTests.{is_lock}
-use Rattle.dso_server.proofs.Lists.{any_append, each_append}
-use Rattle.dso_server.proofs.Quiet.{OffLocks, locks_stay}
+use Rattle.dso_server.proofs.lists.Lists.{any_append, each_append}
+use Rattle.dso_server.proofs.standing.Quiet.{OffLocks, locks_stay}
 use Rattle.dso_server.specs.Sending.{lost, took}
 use Rattle.dso_server.specs.ServerStands.{LocksStand}
 

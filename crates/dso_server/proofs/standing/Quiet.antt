@@ -19,7 +19,7 @@ use Rattle.dso_locks.specs.declared.told.Told.TheVariants as told
 use Rattle.dso_locks.specs.Locks as locks
 use Rattle.dso_locks.specs.Locks.{LockState, told_to}
 use Rattle.dso_store.specs.Changes as changes
-use Rattle.dso_server.proofs.Lists.{each_append}
+use Rattle.dso_server.proofs.lists.Lists.{each_append}
 
 -- it gives no batch of ids
 abbrev pub OffIds : Sent → Type 0

@@ -17,9 +17,9 @@ use Rattle.dso_table.specs.Slots.{wrote, has_slot_value}
 use Rattle.dso_table.specs.States.{State, is_resident, later_than, with_at, with_note, without, asked, flushed}
 use Rattle.dso_table.specs.States as states
 use Rattle.dso_table.specs.Tables.{slot_in, standing_of, mark_of, notes_in, used_in, limit_in, number_in, is_ordered, state_in, put_slot, PlacesAgree, OrderAgrees, TablesAgree}
-use Rattle.dso_table.proofs.Lists.{neither, without_absent}
-use Rattle.dso_table.proofs.Numbers.{with_at_same, with_at_again}
-use Rattle.dso_table.proofs.StateChanges.{standing_is, marks_are, residents_agree, residents_kept, marks_last, standing_written, mark_written}
+use Rattle.dso_table.proofs.lists.Lists.{neither, without_absent}
+use Rattle.dso_table.proofs.lists.Numbers.{with_at_same, with_at_again}
+use Rattle.dso_table.proofs.objects.StateChanges.{standing_is, marks_are, residents_agree, residents_kept, marks_last, standing_written, mark_written}
 
 -- notes of threads of objects
 abbrev pub Notes : Type 0

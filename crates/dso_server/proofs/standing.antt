@@ -1,0 +1,10 @@
+pub mod Quiet
+pub mod GraphTook
+pub mod LocksTook
+pub mod WaitersTook
+pub mod ThreadsTook
+pub mod BatchesGiven
+pub mod Taking
+pub mod Opening
+pub mod NewWaiters
+pub mod ByRule

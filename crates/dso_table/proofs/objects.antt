@@ -1,0 +1,5 @@
+pub mod AtPlaces
+pub mod StateChanges
+pub mod TableChanges
+pub mod FirstNotes
+pub mod LookedAt
