@@ -6,7 +6,7 @@ ghost use Rattle.dso_server.specs.Fitting.{IsFree, Tells, TellsIn};
 
 use crate::fits_locks::{fits_request, fits_return};
 use crate::fits_record::fits_record;
-use crate::known::{holds, is_stored};
+use crate::reads::{holds, is_stored};
 use crate::server::Server;
 use dso_base::{Shape, Up};
 

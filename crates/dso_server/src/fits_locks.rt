@@ -9,7 +9,7 @@ ghost use Rattle.dso_locks.specs.Locks.{waits};
 ghost use Rattle.dso_locks.specs.Tables.{locks_in};
 ghost use Rattle.dso_server.specs.Fitting.{Tells, TellsIn};
 
-use crate::known::{is_given, is_thread_of, is_waiter, lease, waits};
+use crate::reads::{is_given, is_thread_of, is_waiter, lease, waits};
 use crate::server::Server;
 use dso_base::{Level, LockName, Shape, ThreadId};
 

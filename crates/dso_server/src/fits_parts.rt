@@ -10,7 +10,7 @@ ghost use Rattle.dso_law.specs.ServerReadings.{last_ending};
 ghost use Rattle.dso_server.specs.Fitting.{Tells, TellsIn};
 ghost use Rattle.dso_server.specs.Records.{FitsField, IsLiteralOf, IsPlaceOf, IsRising};
 
-use crate::known::{
+use crate::reads::{
     holds, is_given, is_given_to, is_stored, is_thread_of, last_ending, lease, may_write, stored,
 };
 use crate::server::Server;

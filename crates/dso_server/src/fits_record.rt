@@ -9,7 +9,7 @@ use crate::fits_lists::{
     set_values_fit,
 };
 use crate::fits_parts::fits_ending;
-use crate::known::{is_ended, is_thread_of, last_number};
+use crate::reads::{is_ended, is_thread_of, last_number};
 use crate::server::Server;
 use dso_base::{Shape, Txn};
 

@@ -8,7 +8,7 @@ mod fits_lists;
 mod fits_locks;
 mod fits_parts;
 mod fits_record;
-mod known;
+mod reads;
 pub mod laws;
 mod messages;
 mod server;

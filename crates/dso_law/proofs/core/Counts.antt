@@ -28,48 +28,48 @@ living [] = []
 living (e ∷ es) = list_by_flush e.input (by_sent_up ever_resident_by_sent e.sent (by_taken_down ever_resident_by_taken e.input (living es)))
 
 -- a presence is that of a rising list
-record Stands (s : Presence) (xs : List ℕ) : Type 0 where
+record IsOfList (s : Presence) (xs : List ℕ) : Type 0 where
   rise : Rising xs
   has : (o : ℕ) → s.has o ≡ among o xs
   count : s.count ≡ length xs
 
-stands_come : (s : Presence) (xs : List ℕ) (o : ℕ) → Stands s xs → Stands (come s o) (insert_number o xs)
+stands_come : (s : Presence) (xs : List ℕ) (o : ℕ) → IsOfList s xs → IsOfList (come s o) (insert_number o xs)
 stands_come s xs o h = record {
   rise = rising_more o xs h.rise;
   has = λ x. ap (cond (eqb o x) true) (h.has x) ∙ sym (among_more o x xs);
   count = ap (λ n. cond (s.has o) n (suc n)) h.count ∙ ap (λ t. cond t (length xs) (suc (length xs))) (h.has o) ∙ sym (length_more o xs h.rise);
 }
 
-stands_gone : (s : Presence) (xs : List ℕ) (o : ℕ) → Stands s xs → Stands (gone s o) (but o xs)
+stands_gone : (s : Presence) (xs : List ℕ) (o : ℕ) → IsOfList s xs → IsOfList (gone s o) (but o xs)
 stands_gone s xs o h = record {
   rise = rising_some _ xs h.rise;
   has = λ x. ap (cond (eqb o x) false) (h.has x) ∙ sym (among_but o x xs);
   count = ap (λ n. cond (s.has o) (n - 1) n) h.count ∙ ap (λ t. cond t (length xs - 1) (length xs)) (h.has o) ∙ sym (length_but o xs h.rise);
 }
 
-stands_news : (bodies : List Body) (s : Presence) (xs : List ℕ) → Stands s xs → Stands (fold (λ s body. come s body.object) s bodies) (insert_objects bodies xs)
+stands_news : (bodies : List Body) (s : Presence) (xs : List ℕ) → IsOfList s xs → IsOfList (fold (λ s body. come s body.object) s bodies) (insert_objects bodies xs)
 stands_news [] s xs h = h
 stands_news (body ∷ bodies) s xs h = stands_news bodies (come s body.object) (insert_number body.object xs) (stands_come s xs body.object h)
 
-stands_taken : (i : Input) (s : Presence) (xs : List ℕ) → Stands s xs → Stands (by_taken_down presence_by_taken i s) (by_taken_down ever_resident_by_taken i xs)
+stands_taken : (i : Input) (s : Presence) (xs : List ℕ) → IsOfList s xs → IsOfList (by_taken_down presence_by_taken i s) (by_taken_down ever_resident_by_taken i xs)
 stands_taken (input.TookDown (down.Object body)) s xs h = stands_come s xs body.object h
 stands_taken (input.TookDown m) s xs h = h
 stands_taken i s xs h = h
 
-stands_said : (m : Up) (s : Presence) (xs : List ℕ) → Stands s xs → Stands (presence_by_sent m s) (ever_resident_by_sent m xs)
+stands_said : (m : Up) (s : Presence) (xs : List ℕ) → IsOfList s xs → IsOfList (presence_by_sent m s) (ever_resident_by_sent m xs)
 stands_said (up.Commit txn) s xs h = stands_news txn.news s xs h
 stands_said m s xs h = h
 
-stands_sent : (out : List Sent) (s : Presence) (xs : List ℕ) → Stands s xs → Stands (by_sent_up presence_by_sent out s) (by_sent_up ever_resident_by_sent out xs)
+stands_sent : (out : List Sent) (s : Presence) (xs : List ℕ) → IsOfList s xs → IsOfList (by_sent_up presence_by_sent out s) (by_sent_up ever_resident_by_sent out xs)
 stands_sent [] s xs h = h
 stands_sent (ToServer m ∷ out) s xs h = stands_sent out (presence_by_sent m s) (ever_resident_by_sent m xs) (stands_said m s xs h)
 stands_sent (ToClient c m ∷ out) s xs h = stands_sent out s xs h
 
-stands_flush : (i : Input) (s : Presence) (xs : List ℕ) → Stands s xs → Stands (presence_by_flush i s) (list_by_flush i xs)
+stands_flush : (i : Input) (s : Presence) (xs : List ℕ) → IsOfList s xs → IsOfList (presence_by_flush i s) (list_by_flush i xs)
 stands_flush (input.Flush o) s xs h = stands_gone s xs o h
 stands_flush i s xs h = h
 
-stands : (es : List Entry) → Stands (presence es) (living es)
+stands : (es : List Entry) → IsOfList (presence es) (living es)
 stands [] = record { rise = tt; has = λ o. refl; count = refl }
 stands (e ∷ es) = stands_flush e.input (by_sent_up presence_by_sent e.sent (by_taken_down presence_by_taken e.input (presence es)))
     (by_sent_up ever_resident_by_sent e.sent (by_taken_down ever_resident_by_taken e.input (living es)))

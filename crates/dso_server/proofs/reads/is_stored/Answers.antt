@@ -1,5 +1,5 @@
 use Rattle.std.proofs.Common.{ap, is_some}
-use Rattle.dso_server.proofs.known.is_stored.Goals as goal
+use Rattle.dso_server.proofs.reads.is_stored.Goals as goal
 
 pub returns-in-Some : goal.returns-in-Some
 returns-in-Some c = λ p es s. ap is_some (c.in-Some.ensures p es s)

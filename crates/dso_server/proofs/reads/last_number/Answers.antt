@@ -1,5 +1,5 @@
 use Rattle.std.proofs.Common.{◌∙◌, ap}
-use Rattle.dso_server.proofs.known.last_number.Goals as goal
+use Rattle.dso_server.proofs.reads.last_number.Goals as goal
 
 pub returns : goal.returns
 returns c = λ p es s. c.last.ensures ∙ ap (λ f. f c.args.client) s.store.last
