@@ -67,14 +67,14 @@ pub record JoinedStands {M : Type 0} (past : Past M) (line : Line M) : Type 0 wh
   pub up : AreCarried past.breaks past.up_taken past.down_taken (drop past.up_taken past.up) line.up
   pub down : AreCarried past.breaks past.down_taken past.up_taken (drop past.down_taken past.down) line.down
 
--- broken: nothing is on the way up, and down goes the server's Hello alone
+-- broken: nothing is in flight to the server, and to the client goes the server's Hello alone
 pub record BrokenStands {M : Type 0} (past : Past M) (line : Line M) : Type 0 where
   pub epochs : past.rejoins + 1 ≡ past.breaks
   pub ready : line.server.is_ready ≡ false
   pub up : line.up ≡ []
   pub down : GreetsFirst past.breaks past.up_taken (λ frames. frames ≡ []) line.down
 
--- half: nothing is on the way down, and up go the client's Hello and then the messages that were sent and not taken
+-- half: nothing is in flight to the client, and to the server go the client's Hello and then the messages that were sent and not taken
 pub record HalfStands {M : Type 0} (past : Past M) (line : Line M) : Type 0 where
   pub epochs : past.rejoins ≡ past.breaks
   pub ready : line.server.is_ready ≡ false

@@ -51,7 +51,7 @@ ChangesLine c change old new = (place : ℕ) → slice_get new place ≡ option_
 abbrev pub HasBreakLeft : ℕ → List Member → Type 0
 HasBreakLeft c members = (member : Member) → slice_get members (c - 1) ≡ Some member → member.link.server.epoch + 1 < 2 ^ 32
 
--- what the server makes of the first frame on the way up from a client, None where there is none
+-- what the server makes of the first frame in flight from a client, None where there is none
 abbrev pub first_up : ℕ → List Member → Option (Accepted Both)
 first_up c members = option_and_then (λ member. first_answer member.link.up member.link.server) (slice_get members (c - 1))
 
