@@ -46,10 +46,13 @@ gives end = hello_due end ++ carried end.epoch end.given end.accepted (left_to_g
 abbrev pub emptied : {M : Type 0} → End M → End M
 emptied end = record end { owes_hello = false; given = cond end.is_ready (sent_count end) end.given }
 
--- The client gives its frames. Those of a connection that the server knows to be broken are dropped: no step could take
--- them.
+-- The client gives its frames. Those of a connection that the server knows to be broken are dropped: no step could
+-- take them.
 abbrev pub pumped_up : {M : Type 0} → Line M → Line M
-pumped_up line = record line { client = emptied line.client; up = cond (eqb line.client.epoch line.server.epoch) (line.up ++ gives line.client) [] }
+pumped_up line = record line {
+  client = emptied line.client;
+  up = cond (eqb line.client.epoch line.server.epoch) (line.up ++ gives line.client) [];
+}
 
 -- the server gives its frames
 abbrev pub pumped_down : {M : Type 0} → Line M → Line M
