@@ -10,7 +10,7 @@ use Rattle.dso_client.specs.Entering.{count_owed}
 use Rattle.dso_client.specs.Living.{CountsAtMost}
 use Rattle.dso_client.specs.LivingSeats.{LivesOn, LiveOn}
 use Rattle.dso_client.specs.SeatPlaces.{seat_in}
-use Rattle.dso_client.proofs.KeptCounts.{keeps_most}
+use Rattle.dso_client.proofs.seats.KeptCounts.{keeps_most}
 
 -- a wait is to have no greater count again than a hold had
 pub waits_live : (locking : Locking) (act : Answered) (most : ℕ) → CountsAtMost most locking.holds → (old new : List Seat) → LiveOn locking act old new → ((index : ℕ) → count_again (seat_in old index) ≤ most)

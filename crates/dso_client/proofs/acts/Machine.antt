@@ -20,7 +20,7 @@ use Rattle.dso_client.specs.GoingOn.{HasGoneOn, with_next, with_seat}
 use Rattle.dso_client.specs.Living.{event_of, lived_entry}
 use Rattle.dso_client.specs.Openings.{thread_at, first_threads}
 use Rattle.dso_client.specs.SeatPlaces.{seat_in}
-use Rattle.dso_client.proofs.SeatsFound.{seat_is}
+use Rattle.dso_client.proofs.seats.SeatsFound.{seat_is}
 use Rattle.dso_client.proofs.acts.Places.{seat_set, seat_of_all, set_there, twice, changed_is}
 use Rattle.dso_client.proofs.sent.Parts.{other_thread}
 

@@ -28,9 +28,9 @@ use Rattle.dso_client.specs.Points.{Point}
 use Rattle.dso_client.specs.SeatPlaces.{seat_in, running}
 use Rattle.dso_client.specs.SeatStands.{SeatStands}
 use Rattle.dso_client.specs.TableStands.{TableStands}
-use Rattle.dso_client.proofs.SeatsFound.{seat_is, seat_there}
+use Rattle.dso_client.proofs.seats.SeatsFound.{seat_is, seat_there}
 use Rattle.dso_client.proofs.acts.Places.{changed_is, seat_of_all, set_there}
-use Rattle.dso_client.proofs.ChangedSeats.{told_unchanged}
+use Rattle.dso_client.proofs.seats.ChangedSeats.{told_unchanged}
 use Rattle.dso_client.proofs.acts.Seats.{WorkLives, rest_of, told_together, work_lives, seats_live}
 
 module _ (at : Point) (shape : Shape) (act : Answered) (old : Kept) (h : IsAnswering at shape act old) where

@@ -6,7 +6,7 @@ use Rattle.dso_client.specs.Committing.{changed_seat, replaced_at}
 use Rattle.dso_client.specs.GoingOn.{with_seat}
 use Rattle.dso_client.specs.Openings.{thread_at, first_threads}
 use Rattle.dso_client.specs.SeatPlaces.{seat_in}
-use Rattle.dso_client.proofs.SeatsFound.{all_at, seat_is}
+use Rattle.dso_client.proofs.seats.SeatsFound.{all_at, seat_is}
 use Rattle.dso_client.proofs.heard.Wakes.{all_from, set_get}
 
 -- what holds of each, where it goes on from each but one, and holds of the one in its place

@@ -21,7 +21,7 @@ use Rattle.dso_client.specs.Points.{Point}
 use Rattle.dso_client.specs.SeatPlaces.{seat_in, running}
 use Rattle.dso_client.specs.SeatStands.{SeatStands}
 use Rattle.dso_client.specs.GoingOn.{with_seat}
-use Rattle.dso_client.proofs.SeatsFound.{seat_is}
+use Rattle.dso_client.proofs.seats.SeatsFound.{seat_is}
 use Rattle.dso_client.proofs.acts.Places.{seat_set, seat_of_all}
 use Rattle.dso_client.proofs.sent.Parts.{other_thread}
 

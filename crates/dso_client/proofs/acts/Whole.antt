@@ -33,15 +33,15 @@ use Rattle.dso_client.specs.RunFacts.{RunFacts}
 use Rattle.dso_client.specs.SeatPlaces.{running, seat_in}
 use Rattle.dso_client.specs.Taking.{IsQuiet}
 use Rattle.dso_client.specs.Turns.{Answers}
-use Rattle.dso_client.proofs.AtStart.{all_as}
-use Rattle.dso_client.proofs.SeatsFound.{seat_is, seat_there}
+use Rattle.dso_client.proofs.seats.AtStart.{all_as}
+use Rattle.dso_client.proofs.seats.SeatsFound.{seat_is, seat_there}
 use Rattle.dso_client.proofs.due.Leased.{quiet_lease}
 use Rattle.dso_client.proofs.due.Took.{same_told}
 use Rattle.dso_client.proofs.acts.Going.{kept_gone, running_next}
 use Rattle.dso_client.proofs.acts.Machine.{asks_next, events_there, runs_gone_on, threads_gone_on}
 use Rattle.dso_client.proofs.acts.Next.{parts_then}
 use Rattle.dso_client.proofs.sent.Parts.{other_thread}
-use Rattle.dso_client.proofs.ChangedSeats.{told_unchanged}
+use Rattle.dso_client.proofs.seats.ChangedSeats.{told_unchanged}
 use Rattle.dso_client.proofs.acts.Step.{acted_stands, later}
 
 -- the parts alone

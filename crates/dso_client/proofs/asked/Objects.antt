@@ -28,7 +28,7 @@ use Rattle.dso_table.specs.Tables.{state_in}
 use Rattle.dso_client.specs.Asking.{asked}
 use Rattle.dso_client.specs.Points.{Point}
 use Rattle.dso_client.specs.TableStands.{TableStands}
-use Rattle.dso_client.proofs.Flushed.{at_number}
+use Rattle.dso_client.proofs.flushed.Flushed.{at_number}
 
 -- the wants without those of a thread
 dropped : (a b want note : Bool) → note ≡ (a && want) → or_old (cond (a && b) (Some false) None) note ≡ (a && cond b false want)

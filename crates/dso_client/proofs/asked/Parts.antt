@@ -14,7 +14,7 @@ use Rattle.dso_client.specs.LockingStands.{LockingStands}
 use Rattle.dso_client.specs.Points.{Point}
 use Rattle.dso_client.specs.SeatStands.{SeatStands}
 use Rattle.dso_client.specs.TableStands.{TableStands}
-use Rattle.dso_client.proofs.AtStart.{all_as}
+use Rattle.dso_client.proofs.seats.AtStart.{all_as}
 
 module _ (clock index : ℕ) (at : Point) where
   seat_asked : (m : Up) → IsMissing at.entries m → (seat : Seat) → SeatStands at seat → SeatStands (asked clock index m at) seat

@@ -35,7 +35,7 @@ use Rattle.dso_client.specs.RunFacts.{RunFacts}
 use Rattle.dso_client.specs.SeatStands.{SeatStands}
 use Rattle.dso_client.specs.Taking.{IsQuiet, Settles, settled}
 use Rattle.dso_client.specs.Touching.{touched}
-use Rattle.dso_client.proofs.AtStart.{all_as}
+use Rattle.dso_client.proofs.seats.AtStart.{all_as}
 use Rattle.dso_client.proofs.due.Touched.{none_due, one_due}
 use Rattle.dso_client.proofs.heard.Locks.{at_lock, without_list, on_true}
 

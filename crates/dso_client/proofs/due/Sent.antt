@@ -29,7 +29,7 @@ use Rattle.dso_client.specs.LockingStands.{LockingStands}
 use Rattle.dso_client.specs.Points.{Point}
 use Rattle.dso_client.specs.SeatStands.{SeatStands, last_by_sent, last_record}
 use Rattle.dso_client.specs.TableStands.{TableStands}
-use Rattle.dso_client.proofs.AtStart.{all_as}
+use Rattle.dso_client.proofs.seats.AtStart.{all_as}
 
 -- these are returns and requests
 abbrev pub AreOfLocks : List Up → Type 0

@@ -25,7 +25,7 @@ use Rattle.dso_client.specs.CodeRuns.{Runs, SeatRuns, RunsCode}
 use Rattle.dso_client.specs.Entries.{taken_entry}
 use Rattle.dso_client.specs.SeatPlaces.{running}
 use Rattle.dso_client.specs.Taking.{IsQuiet, Settles}
-use Rattle.dso_client.proofs.AtStart.{all_as}
+use Rattle.dso_client.proofs.seats.AtStart.{all_as}
 use Rattle.dso_client.proofs.due.Leased.{quiet_lease}
 use Rattle.dso_client.proofs.facts.All.{run_facts}
 

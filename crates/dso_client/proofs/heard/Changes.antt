@@ -21,7 +21,7 @@ use Rattle.dso_table.specs.Tables.{state_in}
 use Rattle.dso_client.specs.Hearing.{heard}
 use Rattle.dso_client.specs.Points.{Point}
 use Rattle.dso_client.specs.TableStands.{TableStands}
-use Rattle.dso_client.proofs.Flushed.{at_number}
+use Rattle.dso_client.proofs.flushed.Flushed.{at_number}
 
 -- a list in which a place past its end is set is as it was
 past : (values : List Value) (f : ℕ) (v : Value) → length values ≤ f → slice_set values f v ≡ values

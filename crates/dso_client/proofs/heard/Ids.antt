@@ -13,7 +13,7 @@ use Rattle.dso_client.specs.declared.ledger.Ledger.{Ledger}
 use Rattle.dso_client.specs.Hearing.{heard}
 use Rattle.dso_client.specs.LedgerStands.{LedgerStands, ids_in, ids_end}
 use Rattle.dso_client.specs.Points.{Point}
-use Rattle.dso_client.proofs.BatchEnds.{behind_all}
+use Rattle.dso_client.proofs.seats.BatchEnds.{behind_all}
 
 -- one more batch ends behind all others
 end_more : (first : ℕ) (bs : List ℕ) → ids_end bs ≤ first → ids_end (bs ++ first ∷ []) ≡ first + 256

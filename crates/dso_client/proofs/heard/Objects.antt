@@ -16,7 +16,7 @@ use Rattle.dso_table.specs.Tables.{state_in}
 use Rattle.dso_client.specs.Hearing.{heard}
 use Rattle.dso_client.specs.Points.{Point}
 use Rattle.dso_client.specs.TableStands.{TableStands}
-use Rattle.dso_client.proofs.Flushed.{at_number}
+use Rattle.dso_client.proofs.flushed.Flushed.{at_number}
 
 -- one more, where it wasn't there
 pub counted : (b : Bool) (n : ℕ) → n + cond b 0 1 ≡ cond b n (suc n)

@@ -19,7 +19,7 @@ use Rattle.dso_client.specs.Points.{Point}
 use Rattle.dso_client.specs.SeatPlaces.{with_mark}
 use Rattle.dso_client.specs.SeatStands.{SeatStands}
 use Rattle.dso_client.specs.TableStands.{TableStands}
-use Rattle.dso_client.proofs.AtStart.{all_as}
+use Rattle.dso_client.proofs.seats.AtStart.{all_as}
 use Rattle.dso_client.proofs.heard.Leaves.{LeavesSeat, seat_kept, table_kept, locking_kept, ledger_kept}
 use Rattle.dso_client.proofs.heard.Wakes.{ids_kept, wake_heard}
 

@@ -14,7 +14,7 @@ use Rattle.dso_client.specs.Openings.{thread_at, first_threads}
 use Rattle.dso_client.specs.Points.{Point}
 use Rattle.dso_client.specs.SeatPlaces.{running, marked_at, with_mark}
 use Rattle.dso_client.specs.SeatStands.{SeatStands}
-use Rattle.dso_client.proofs.SeatsFound.{all_at, seat_is}
+use Rattle.dso_client.proofs.seats.SeatsFound.{all_at, seat_is}
 
 -- what holds of the one at each place holds of each
 pub all_from : {X : Type 0} (P : X → Type 0) (xs : List X) → ((k : ℕ) (x : X) → slice_get xs k ≡ Some x → P x) → AllByRecursion P xs

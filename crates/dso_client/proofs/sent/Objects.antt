@@ -29,8 +29,8 @@ use Rattle.dso_client.specs.declared.answered.Answered.{Answered}
 use Rattle.dso_client.specs.Living.{acting}
 use Rattle.dso_client.specs.Points.{Point}
 use Rattle.dso_client.specs.TableStands.{TableStands}
-use Rattle.dso_client.proofs.Flushed.{at_number, not_asked}
-use Rattle.dso_client.proofs.HeldObjects.{held_object}
+use Rattle.dso_client.proofs.flushed.Flushed.{at_number, not_asked}
+use Rattle.dso_client.proofs.objects.HeldObjects.{held_object}
 use Rattle.dso_client.proofs.heard.Changes.{with_it, asked_as, no_field}
 use Rattle.dso_client.proofs.heard.Objects.{counted}
 

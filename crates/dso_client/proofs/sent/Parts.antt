@@ -26,8 +26,8 @@ use Rattle.dso_client.specs.Openings.{thread_at, first_threads}
 use Rattle.dso_client.specs.Points.{Point}
 use Rattle.dso_client.specs.SeatStands.{SeatStands, last_record}
 use Rattle.dso_client.specs.TableStands.{TableStands}
-use Rattle.dso_client.proofs.ChangedSeats.{all_changed, told_unchanged, length_unchanged}
-use Rattle.dso_client.proofs.Flushed.{at_number}
+use Rattle.dso_client.proofs.seats.ChangedSeats.{all_changed, told_unchanged, length_unchanged}
+use Rattle.dso_client.proofs.flushed.Flushed.{at_number}
 
 -- one thread of a client isn't another
 pub other_thread : (c k index : ℕ) → k ≢ index → is_thread (thread_at c k) (thread_at c index) ≡ false

@@ -11,7 +11,7 @@ use Rattle.dso_client.specs.declared.kept.Kept.{Kept}
 use Rattle.dso_client.specs.ClientStands.{ClientStands, point}
 use Rattle.dso_client.specs.KeptStands.{KeptStands}
 use Rattle.dso_client.specs.SeatStands.{SeatStands}
-use Rattle.dso_client.proofs.AtStart.{all_as}
+use Rattle.dso_client.proofs.seats.AtStart.{all_as}
 use Rattle.dso_client.proofs.facts.All.{run_facts}
 
 -- the client's entry in which it takes its connection up again

@@ -17,10 +17,10 @@ use Rattle.dso_client.specs.Points.{Point}
 use Rattle.dso_client.specs.Returning.{record_sent}
 use Rattle.dso_client.specs.RunFacts.{RunFacts}
 use Rattle.dso_client.specs.Taking.{IsQuiet}
-use Rattle.dso_client.proofs.Outcomes.{if_ok, on_any}
+use Rattle.dso_client.proofs.replies.Outcomes.{if_ok, on_any}
 use Rattle.dso_client.proofs.acts.Bounds.{most_kept}
 use Rattle.dso_client.proofs.acts.Going.{waits_gone}
-use Rattle.dso_client.proofs.ChangedSeats.{told_unchanged}
+use Rattle.dso_client.proofs.seats.ChangedSeats.{told_unchanged}
 use Rattle.dso_client.proofs.acts.Whole.{answered_stands, runs_answered}
 use Rattle.dso_client.proofs.acting.act_answering.Goals as goal
 

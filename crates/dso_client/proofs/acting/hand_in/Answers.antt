@@ -11,8 +11,8 @@ use Rattle.dso_client.specs.Points.{Point}
 use Rattle.dso_client.specs.Returning.{record_sent}
 use Rattle.dso_client.specs.RunFacts.{RunFacts}
 use Rattle.dso_client.specs.SeatPlaces.{running}
-use Rattle.dso_client.proofs.Outcomes.{if_ok, on_ok}
-use Rattle.dso_client.proofs.ChangedSeats.{told_unchanged}
+use Rattle.dso_client.proofs.replies.Outcomes.{if_ok, on_ok}
+use Rattle.dso_client.proofs.seats.ChangedSeats.{told_unchanged}
 use Rattle.dso_client.proofs.worked.Records.{may_send}
 use Rattle.dso_client.proofs.acting.hand_in.Goals as goal
 

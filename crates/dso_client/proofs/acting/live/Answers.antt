@@ -6,7 +6,7 @@ use Rattle.dso_client.specs.Acting.{HoldsAtMost, count_again}
 use Rattle.dso_client.specs.Entering.{count_owed}
 use Rattle.dso_client.specs.LockingStands.{LockingStands}
 use Rattle.dso_client.specs.SeatPlaces.{running, seat_in}
-use Rattle.dso_client.proofs.ChangedSeats.{alone_tells}
+use Rattle.dso_client.proofs.seats.ChangedSeats.{alone_tells}
 use Rattle.dso_client.proofs.acts.Bounds.{most_kept, waits_live}
 use Rattle.dso_client.proofs.acts.Parts.{stands_lived, lives, waits_so}
 use Rattle.dso_client.proofs.acts.Seats.{runs_together}

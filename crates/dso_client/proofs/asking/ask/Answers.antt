@@ -6,7 +6,7 @@ use Rattle.dso_table.specs.Tables.{state_in}
 use Rattle.dso_client.specs.Asking.{IsMissing, asked}
 use Rattle.dso_client.specs.KeptStands.{KeptStands, PartsStand}
 use Rattle.dso_client.specs.Points.{Point}
-use Rattle.dso_client.proofs.Outcomes.{on_ok}
+use Rattle.dso_client.proofs.replies.Outcomes.{on_ok}
 use Rattle.dso_client.proofs.asked.Locks.{lock_asked}
 use Rattle.dso_client.proofs.asked.Objects.{ids_asked, lease_asked, object_asked, absent}
 use Rattle.dso_client.proofs.asked.Parts.{locking_ids, locking_object, ledger_ids, ledger_kept, parts_asked}

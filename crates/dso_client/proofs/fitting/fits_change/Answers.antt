@@ -1,6 +1,6 @@
 use Rattle.std.proofs.Common.{ap, sym, ◌∙◌, subst, refl, Some}
 use Rattle.dso_law.specs.FitsDown.{FitsClass}
-use Rattle.dso_client.proofs.KnownObjects.{absent, resident_with, class_with}
+use Rattle.dso_client.proofs.objects.KnownObjects.{absent, resident_with, class_with}
 use Rattle.dso_client.proofs.fitting.fits_change.Goals as goal
 
 pub returns-in-Some : goal.returns-in-Some

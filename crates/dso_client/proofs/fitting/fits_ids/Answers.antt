@@ -2,7 +2,7 @@ use Rattle.std.proofs.Common.{◌≤◌, sym, ◌∙◌, arith}
 use Rattle.std.proofs.lemmas.Bool.{leb-true, le-leb}
 use Rattle.dso_law.specs.Records.{batches}
 use Rattle.dso_client.specs.LedgerStands.{ids_end}
-use Rattle.dso_client.proofs.BatchEnds.{behind_each, behind_all}
+use Rattle.dso_client.proofs.seats.BatchEnds.{behind_each, behind_all}
 use Rattle.dso_client.proofs.fitting.fits_ids.Goals as goal
 
 pub returns-then-first-end : goal.returns-then-first-end

@@ -11,7 +11,7 @@ use Rattle.dso_client.specs.Openings.{thread_at}
 use Rattle.dso_client.specs.Points.{Point}
 use Rattle.dso_client.specs.SeatPlaces.{running, with_mark}
 use Rattle.dso_client.specs.TableStands.{TableStands}
-use Rattle.dso_client.proofs.Outcomes.{on_ok}
+use Rattle.dso_client.proofs.replies.Outcomes.{on_ok}
 use Rattle.dso_client.proofs.heard.Acks.{acked_was_sent}
 use Rattle.dso_client.proofs.heard.Leaves.{table_kept, locking_kept, ledger_kept}
 use Rattle.dso_client.proofs.heard.Parts.{parts_heard, parts_woken}

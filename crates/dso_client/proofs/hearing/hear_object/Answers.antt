@@ -5,7 +5,7 @@ use Rattle.dso_table.specs.Tables.{state_in}
 use Rattle.dso_client.specs.Hearing.{heard}
 use Rattle.dso_client.specs.Points.{Point}
 use Rattle.dso_client.specs.TableStands.{TableStands}
-use Rattle.dso_client.proofs.Outcomes.{on_ok}
+use Rattle.dso_client.proofs.replies.Outcomes.{on_ok}
 use Rattle.dso_client.proofs.heard.Objects.{object_heard}
 use Rattle.dso_client.proofs.hearing.hear_object.Goals as goal
 

@@ -7,7 +7,7 @@ use Rattle.dso_client.specs.KeptStands.{KeptStands}
 use Rattle.dso_client.specs.Openings.{thread_at}
 use Rattle.dso_client.specs.Points.{Point}
 use Rattle.dso_client.specs.Touching.{resumed_lock, touched}
-use Rattle.dso_client.proofs.SeatsFound.{found_stands, found_is, never_missing}
+use Rattle.dso_client.proofs.seats.SeatsFound.{found_stands, found_is, never_missing}
 use Rattle.dso_client.proofs.hearing.touched.Goals as goal
 
 pub returns-in-Some : goal.returns-in-Some

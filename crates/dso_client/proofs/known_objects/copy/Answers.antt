@@ -1,5 +1,5 @@
 use Rattle.std.proofs.Common.{sym, ◌∙◌}
-use Rattle.dso_client.proofs.KnownObjects.{absent, value_of_copy}
+use Rattle.dso_client.proofs.objects.KnownObjects.{absent, value_of_copy}
 use Rattle.dso_client.proofs.known_objects.copy.Goals as goal
 
 pub returns-in-Some : goal.returns-in-Some

@@ -1,7 +1,7 @@
 use Rattle.std.proofs.Common.{◌≡◌, sym, ◌∙◌, ap, Bool, true, false, ◌||◌, is_some, Option, None}
 use Rattle.dso_law.specs.Copies.{is_resident, copy_of}
 use Rattle.dso_law.specs.Threads.{or_else, own}
-use Rattle.dso_client.proofs.KnownObjects.{value_known}
+use Rattle.dso_client.proofs.objects.KnownObjects.{value_known}
 use Rattle.dso_client.proofs.known_objects.field_value.Goals as goal
 
 pub returns-in-Some-value : goal.returns-in-Some-value

@@ -4,8 +4,8 @@ use Rattle.dso_law.specs.Closing.{admits}
 use Rattle.dso_law.specs.Leases.{leased}
 use Rattle.dso_law.specs.RequestNeeds.{NeedsLease, NeedsOthersOut, is_enough, is_in_conflict}
 use Rattle.dso_law.specs.Settings.{threads_of}
-use Rattle.dso_client.proofs.Found.{none_any, one_any}
-use Rattle.dso_client.proofs.TwoNeeds.{both_met, second_unmet}
+use Rattle.dso_client.proofs.objects.Found.{none_any, one_any}
+use Rattle.dso_client.proofs.replies.TwoNeeds.{both_met, second_unmet}
 use Rattle.dso_client.proofs.lack.entry_lack.Goals as goal
 
 pub returns-in-Some : goal.returns-in-Some

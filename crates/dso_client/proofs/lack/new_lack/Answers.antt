@@ -1,6 +1,6 @@
 use Rattle.std.proofs.Common.{sym, ap, is_some, arith}
 use Rattle.dso_law.specs.RequestNeeds.{unless, NeedsId}
-use Rattle.dso_client.proofs.NextIds.{next_there, next_gone}
+use Rattle.dso_client.proofs.seats.NextIds.{next_there, next_gone}
 use Rattle.dso_client.proofs.lack.new_lack.Goals as goal
 
 pub returns-then-next-end : goal.returns-then-next-end

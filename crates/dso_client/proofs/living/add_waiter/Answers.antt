@@ -4,7 +4,7 @@ use Rattle.dso_lookup.specs.Maps.{look, writes, written}
 use Rattle.dso_lookup.specs.Orders.{lock_order}
 use Rattle.dso_client.specs.Living.{HasList}
 use Rattle.dso_client.specs.LockingStands.{list_at}
-use Rattle.dso_client.proofs.Outcomes.{on_ok}
+use Rattle.dso_client.proofs.replies.Outcomes.{on_ok}
 use Rattle.dso_client.proofs.lived.Lists.{list_put}
 use Rattle.dso_client.proofs.living.add_waiter.Goals as goal
 

@@ -2,7 +2,7 @@ use Rattle.std.proofs.Common.{◌≡◌, ℕ}
 use Rattle.dso_base.specs.declared.request.Reply.TheVariants.{Done}
 use Rattle.dso_client.specs.Living.{ListsStand, lived}
 use Rattle.dso_client.specs.Points.{Point}
-use Rattle.dso_client.proofs.Outcomes.{on_ok}
+use Rattle.dso_client.proofs.replies.Outcomes.{on_ok}
 use Rattle.dso_client.proofs.living.live_lists.Goals as goal
 
 pub returns-in-Done : goal.returns-in-Done

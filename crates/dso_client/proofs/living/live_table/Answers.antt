@@ -5,7 +5,7 @@ use Rattle.dso_table.specs.Tables.{state_in}
 use Rattle.dso_client.specs.Living.{lived}
 use Rattle.dso_client.specs.Points.{Point}
 use Rattle.dso_client.specs.TableStands.{TableStands}
-use Rattle.dso_client.proofs.Outcomes.{on_ok}
+use Rattle.dso_client.proofs.replies.Outcomes.{on_ok}
 use Rattle.dso_client.proofs.lived.Objects.{block_closed, block_puts, block_goes_on}
 use Rattle.dso_client.proofs.living.live_table.Goals as goal
 

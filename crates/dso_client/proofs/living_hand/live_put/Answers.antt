@@ -3,7 +3,7 @@ use Rattle.std.proofs.lemmas.Result.{on_ok_weaker}
 use Rattle.dso_change.specs.Hands.{hand_of}
 use Rattle.dso_change.proofs.HandChanges.{private_put, shared_put}
 use Rattle.dso_txn.specs.InHand.{bodies_in}
-use Rattle.dso_client.proofs.Found.{copied_there}
+use Rattle.dso_client.proofs.objects.Found.{copied_there}
 use Rattle.dso_client.proofs.living_hand.live_put.Goals as goal
 
 pub returns-then-is_some-clause-work : goal.returns-then-is_some-clause-work

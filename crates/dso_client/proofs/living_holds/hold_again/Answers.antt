@@ -6,7 +6,7 @@ use Rattle.dso_hold.specs.declared.held.Held.{Held}
 use Rattle.dso_hold.specs.Holds.{NoConflict, count_at, entered, exited, hold_in, with_hold}
 use Rattle.dso_client.specs.Entering.{IsLetIn}
 use Rattle.dso_client.specs.Living.{CountsAtMost}
-use Rattle.dso_client.proofs.Outcomes.{on_ok}
+use Rattle.dso_client.proofs.replies.Outcomes.{on_ok}
 use Rattle.dso_client.proofs.lived.Counts.{counts_with, count_exited, none_held}
 use Rattle.dso_client.proofs.lived.Entered.{held_again, written_here}
 use Rattle.dso_client.proofs.lived.Holds.{none_left}

@@ -10,7 +10,7 @@ use Rattle.dso_client.specs.Living.{HoldsStand, lived}
 use Rattle.dso_client.specs.Points.{Point}
 use Rattle.dso_client.specs.RunFacts.{RunFacts}
 use Rattle.dso_client.specs.Turns.{Answers}
-use Rattle.dso_client.proofs.Outcomes.{on_ok}
+use Rattle.dso_client.proofs.replies.Outcomes.{on_ok}
 use Rattle.dso_client.proofs.lived.Entered.{entered_once, entry_let_in}
 use Rattle.dso_client.proofs.lived.Holds.{hold_changed}
 use Rattle.dso_client.proofs.living_holds.live_enter.Goals as goal

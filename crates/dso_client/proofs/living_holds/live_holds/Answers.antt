@@ -5,7 +5,7 @@ use Rattle.dso_client.specs.Living.{HoldsStand, lived}
 use Rattle.dso_client.specs.Points.{Point}
 use Rattle.dso_client.specs.RunFacts.{RunFacts}
 use Rattle.dso_client.specs.Turns.{Answers}
-use Rattle.dso_client.proofs.Outcomes.{on_ok}
+use Rattle.dso_client.proofs.replies.Outcomes.{on_ok}
 use Rattle.dso_client.proofs.living_holds.live_holds.Goals as goal
 
 pub returns-in-Done-clause-stands : goal.returns-in-Done-clause-stands

@@ -4,7 +4,7 @@ use Rattle.dso_base.specs.declared.lock.ThreadId.{ThreadId}
 use Rattle.dso_client.specs.Committing.{HasWork, changed_seat, object_of, with_work}
 use Rattle.dso_client.specs.Living.{lived}
 use Rattle.dso_client.specs.SeatPlaces.{seat_in}
-use Rattle.dso_client.proofs.ChangedSeats.{length_unchanged, changed_there, seat_there, changed_at_place}
+use Rattle.dso_client.proofs.seats.ChangedSeats.{length_unchanged, changed_there, seat_there, changed_at_place}
 use Rattle.dso_client.proofs.worked.Used.{used_stands}
 use Rattle.dso_client.proofs.living_objects.live_objects.Goals as goal
 

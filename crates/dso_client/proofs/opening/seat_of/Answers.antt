@@ -1,5 +1,5 @@
 use Rattle.std.proofs.Common.{refl}
-use Rattle.dso_client.proofs.Blank.{blank_hand}
+use Rattle.dso_client.proofs.objects.Blank.{blank_hand}
 use Rattle.dso_client.proofs.opening.seat_of.Goals as goal
 
 pub returns-clause-opening : goal.returns-clause-opening

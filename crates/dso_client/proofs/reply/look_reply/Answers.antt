@@ -1,6 +1,6 @@
 use Rattle.std.proofs.Common.{sym, ◌∙◌, ap, Some, option_map}
 use Rattle.dso_base.specs.declared.request.Reply.TheVariants.{Seen}
-use Rattle.dso_client.proofs.KnownObjects.{size_fits}
+use Rattle.dso_client.proofs.objects.KnownObjects.{size_fits}
 use Rattle.dso_client.proofs.reply.look_reply.Goals as goal
 
 pub returns-clause-known : goal.returns-clause-known

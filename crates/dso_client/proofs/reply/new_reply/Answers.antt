@@ -1,6 +1,6 @@
 use Rattle.std.proofs.Common.{sym, ◌∙◌, ap, arith, Some, option_map}
 use Rattle.dso_base.specs.declared.request.Reply.TheVariants.{Made}
-use Rattle.dso_client.proofs.NextIds.{next_there, next_gone}
+use Rattle.dso_client.proofs.seats.NextIds.{next_there, next_gone}
 use Rattle.dso_client.proofs.reply.new_reply.Goals as goal
 
 pub returns-then-next-end-clause-next : goal.returns-then-next-end-clause-next

@@ -5,7 +5,7 @@ use Rattle.dso_client.specs.KeptStands.{PartsStand}
 use Rattle.dso_client.specs.Points.{Point}
 use Rattle.dso_client.specs.Returning.{AddsDue, is_of, is_wanted_by}
 use Rattle.dso_client.specs.SeatStands.{SeatStands}
-use Rattle.dso_client.proofs.Outcomes.{on_ok}
+use Rattle.dso_client.proofs.replies.Outcomes.{on_ok}
 use Rattle.dso_client.proofs.due.Slices.{others, all_wanted}
 use Rattle.dso_client.proofs.returning.+add_wanted.Goals as goal
 

@@ -2,7 +2,7 @@ use Rattle.std.proofs.Common.{◌≡◌, ◌∙◌, ap, true, [], ◌∷◌, ◌
 use Rattle.std.specs.List.{AllByRecursion}
 use Rattle.dso_lease.specs.Leases.{standing_in}
 use Rattle.dso_client.specs.Returning.{AreGivenBack, Distinct, given_back, is_returnable}
-use Rattle.dso_client.proofs.Outcomes.{on_ok}
+use Rattle.dso_client.proofs.replies.Outcomes.{on_ok}
 use Rattle.dso_client.proofs.due.Slices.{others, all_given}
 use Rattle.dso_client.proofs.returning.+return_all.Goals as goal
 

@@ -1,7 +1,7 @@
 use Rattle.std.proofs.Common.{refl, ◌∙◌, ap, length}
 use Rattle.std.proofs.lemmas.List.{with_items_is}
 use Rattle.dso_client.specs.Committing.{changed_seat, with_record}
-use Rattle.dso_client.proofs.ChangedSeats.{length_unchanged}
+use Rattle.dso_client.proofs.seats.ChangedSeats.{length_unchanged}
 use Rattle.dso_client.proofs.sent.Parts.{parts_sent}
 use Rattle.dso_client.proofs.sending.send_record.Goals as goal
 

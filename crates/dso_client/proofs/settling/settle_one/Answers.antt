@@ -9,7 +9,7 @@ use Rattle.dso_client.specs.Points.{Point}
 use Rattle.dso_client.specs.RunFacts.{RunFacts}
 use Rattle.dso_client.specs.Taking.{IsQuiet, Settles}
 use Rattle.dso_client.specs.Touching.{touched}
-use Rattle.dso_client.proofs.Outcomes.{if_ok}
+use Rattle.dso_client.proofs.replies.Outcomes.{if_ok}
 use Rattle.dso_client.proofs.due.Returned.{one_settles}
 use Rattle.dso_client.proofs.settling.settle_one.Goals as goal
 

@@ -9,7 +9,7 @@ use Rattle.dso_client.specs.RunFacts.{RunFacts}
 use Rattle.dso_client.specs.SeatPlaces.{running}
 use Rattle.dso_client.specs.Taking.{IsQuiet, Settles, Takes}
 use Rattle.dso_client.specs.Touching.{touched}
-use Rattle.dso_client.proofs.Outcomes.{if_ok}
+use Rattle.dso_client.proofs.replies.Outcomes.{if_ok}
 use Rattle.dso_client.proofs.due.Took.{quiet, ids_taken, took}
 use Rattle.dso_client.proofs.taking.take.Goals as goal
 

@@ -1,6 +1,6 @@
 use Rattle.std.proofs.Common.{subst}
 use Rattle.dso_client.specs.Turns.{IsTurnOf, IsTurnOfSeat}
-use Rattle.dso_client.proofs.SeatsFound.{found_stands, found_is, never_missing}
+use Rattle.dso_client.proofs.seats.SeatsFound.{found_stands, found_is, never_missing}
 use Rattle.dso_client.proofs.turn.turn_at.Goals as goal
 
 pub returns-in-Some-clause-its : goal.returns-in-Some-clause-its

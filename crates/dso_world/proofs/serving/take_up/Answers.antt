@@ -18,7 +18,7 @@ use Rattle.dso_world.proofs.nodes.Served.{rejoined_follows_all}
 use Rattle.dso_world.proofs.nodes.TakenUp.{message_heard, no_other, rejoin_stands}
 use Rattle.dso_world.proofs.nodes.Told.{same_length}
 use Rattle.dso_world.proofs.places.Clients.{numbered_so}
-use Rattle.dso_client.proofs.Outcomes.{if_ok}
+use Rattle.dso_client.proofs.replies.Outcomes.{if_ok}
 use Rattle.dso_world.proofs.serving.take_up.Goals as goal
 
 pub take_frame-requires : goal.take_frame-requires

@@ -3,7 +3,7 @@ use Rattle.dso_law.specs.ClientRun.{next_in}
 use Rattle.dso_machine.specs.Next.{next_request}
 use Rattle.dso_client.specs.ClientStands.{point}
 use Rattle.dso_client.specs.Threads.{TellsAlive}
-use Rattle.dso_client.proofs.SeatsFound.{count_alive}
+use Rattle.dso_client.proofs.seats.SeatsFound.{count_alive}
 use Rattle.dso_client.proofs.client.Client.alive.Goals as goal
 
 pub returns : goal.returns

@@ -4,7 +4,7 @@ use Rattle.dso_law.specs.ClientStep.{may_act}
 use Rattle.dso_machine.specs.Next.{next_request}
 use Rattle.dso_client.specs.Threads.{IsEnabled}
 use Rattle.dso_client.specs.ClientStands.{point}
-use Rattle.dso_client.proofs.SeatsFound.{found_stands, found_is, never_missing}
+use Rattle.dso_client.proofs.seats.SeatsFound.{found_stands, found_is, never_missing}
 use Rattle.dso_client.proofs.client.Client.enabled.Goals as goal
 
 pub returns-in-Some : goal.returns-in-Some

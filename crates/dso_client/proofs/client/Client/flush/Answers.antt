@@ -3,7 +3,7 @@ use Rattle.std.specs.Option.{IfSome, IfNone}
 use Rattle.dso_client.specs.declared.kept.Kept.{Kept}
 use Rattle.dso_client.specs.Acting.{HoldsAtMost}
 use Rattle.dso_client.specs.Flushing.{Flushes, NoneDue}
-use Rattle.dso_client.proofs.FlushMade.{flush_made, flush_none}
+use Rattle.dso_client.proofs.flushed.FlushMade.{flush_made, flush_none}
 use Rattle.dso_client.proofs.client.Client.flush.Goals as goal
 
 pub returns-clause-made : goal.returns-clause-made

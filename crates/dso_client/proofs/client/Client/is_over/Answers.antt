@@ -5,7 +5,7 @@ use Rattle.dso_law.specs.ClientRun.{next_in}
 use Rattle.dso_machine.specs.Next.{next_request}
 use Rattle.dso_client.specs.Threads.{TellsOver}
 use Rattle.dso_client.specs.ClientStands.{point}
-use Rattle.dso_client.proofs.SeatsFound.{found_stands, found_is, never_missing}
+use Rattle.dso_client.proofs.seats.SeatsFound.{found_stands, found_is, never_missing}
 use Rattle.dso_client.proofs.client.Client.is_over.Goals as goal
 
 none_tells : (next : Option Request) → is_some next ≡ false → next ≡ None

@@ -2,7 +2,7 @@ use Rattle.std.proofs.Common.{◌∙◌, ap, subst, sym, map, length}
 use Rattle.std.specs.List.{AllByRecursion}
 use Rattle.dso_table.specs.Tables.{state_in}
 use Rattle.dso_client.specs.Openings.{IsOpening}
-use Rattle.dso_client.proofs.AtStart.{stands_at_start}
+use Rattle.dso_client.proofs.seats.AtStart.{stands_at_start}
 use Rattle.dso_client.proofs.client.Client.new.Goals as goal
 
 pub returns-in-Ok-clause-stands : goal.returns-in-Ok-clause-stands

@@ -2,7 +2,7 @@ use Rattle.std.proofs.Common.{sym, ◌∙◌, ap, subst}
 use Rattle.dso_client.specs.declared.kept.Kept.{Kept}
 use Rattle.dso_client.specs.Acting.{HoldsAtMost}
 use Rattle.dso_client.specs.CodeRuns.{RunsCode}
-use Rattle.dso_client.proofs.KeptCounts.{keeps_most}
+use Rattle.dso_client.proofs.seats.KeptCounts.{keeps_most}
 use Rattle.dso_client.proofs.due.Took.{runs_on}
 use Rattle.dso_client.proofs.client.Client.take.Goals as goal
 

@@ -1,7 +1,7 @@
 use Rattle.std.proofs.Common.{ap, ◌∙◌, is_some}
 use Rattle.dso_law.specs.Threads.{work_of}
-use Rattle.dso_client.proofs.Found.{copied_there}
-use Rattle.dso_client.proofs.Own.{private_tells}
+use Rattle.dso_client.proofs.objects.Found.{copied_there}
+use Rattle.dso_client.proofs.objects.Own.{private_tells}
 use Rattle.dso_client.proofs.seat.Seat.is_private.Goals as goal
 
 pub returns : goal.returns

@@ -1,7 +1,7 @@
 use Rattle.std.proofs.Common.{ap, ◌∙◌}
 use Rattle.dso_law.specs.Threads.{or_else, work_of}
 use Rattle.dso_txn.specs.InHand.{news_in}
-use Rattle.dso_client.proofs.Own.{own_tells}
+use Rattle.dso_client.proofs.objects.Own.{own_tells}
 use Rattle.dso_client.proofs.seat.Seat.own.Goals as goal
 
 pub returns-in-Some : goal.returns-in-Some

@@ -27,7 +27,7 @@ use Rattle.dso_client.specs.ClientStands.{ClientStands, point}
 use Rattle.dso_client.specs.Entries.{flush_entry}
 use Rattle.dso_client.specs.SeatStands.{SeatStands}
 use Rattle.dso_client.specs.TableStands.{TableStands}
-use Rattle.dso_client.proofs.AtStart.{all_as}
+use Rattle.dso_client.proofs.seats.AtStart.{all_as}
 use Rattle.dso_client.proofs.facts.All.{run_facts}
 
 -- a function with another value at one number

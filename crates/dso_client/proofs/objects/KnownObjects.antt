@@ -22,8 +22,8 @@ use Rattle.dso_client.specs.Points.{Point}
 use Rattle.dso_client.specs.RunFacts.{SizesAreKept}
 use Rattle.dso_client.specs.SeatStands.{SeatStands}
 use Rattle.dso_client.specs.TableStands.{TableStands}
-use Rattle.dso_client.proofs.Own.{own_tells}
-use Rattle.dso_client.proofs.SortedSets.{sets_rise, value_last}
+use Rattle.dso_client.proofs.objects.Own.{own_tells}
+use Rattle.dso_client.proofs.objects.SortedSets.{sets_rise, value_last}
 
 -- an object without a copy isn't resident
 pub absent : (at : Point) (table : Tables) (o : ℕ) → TableStands at table → body_of ((state_in table).standing o) ≡ None → is_resident o at.entries ≡ false

@@ -10,7 +10,7 @@ use Rattle.dso_client.specs.declared.seat.Seat.{Seat}
 use Rattle.dso_client.specs.Committing.{replaced_at, changed_seat, with_work, WorksAlone}
 use Rattle.dso_client.specs.Openings.{thread_at, first_threads}
 use Rattle.dso_client.specs.SeatPlaces.{seat_in}
-use Rattle.dso_client.proofs.SeatsFound.{all_at, seat_is}
+use Rattle.dso_client.proofs.seats.SeatsFound.{all_at, seat_is}
 use Rattle.dso_client.proofs.heard.Wakes.{all_from, set_get}
 
 module _ (change : Seat → Seat) where

@@ -10,9 +10,9 @@ use Rattle.dso_table.specs.Victims.{IsFlushable, IsVictim, NoVictim}
 use Rattle.dso_client.specs.declared.kept.Kept.{Kept}
 use Rattle.dso_client.specs.ClientStands.{point}
 use Rattle.dso_client.specs.Flushing.{Flushes, NoneDue, TellsFlush}
-use Rattle.dso_client.proofs.Flushable.{may_flush_it, none_due}
-use Rattle.dso_client.proofs.Flushed.{stands_flushed}
-use Rattle.dso_client.proofs.ResidentsListed.{may_flush_some}
+use Rattle.dso_client.proofs.flushed.Flushable.{may_flush_it, none_due}
+use Rattle.dso_client.proofs.flushed.Flushed.{stands_flushed}
+use Rattle.dso_client.proofs.flushed.ResidentsListed.{may_flush_some}
 
 victim_goes : (kept : Kept) (o : ℕ) → IsVictim (state_in kept.table) o → IsFlushable (state_in kept.table) o
 victim_goes kept o h = elim h.chosen [ inl first ↦ first.flushable | inr last ↦ last.flushable ]

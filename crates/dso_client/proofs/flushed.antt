@@ -1,0 +1,4 @@
+pub mod Flushable
+pub mod Flushed
+pub mod ResidentsListed
+pub mod FlushMade

@@ -1,0 +1,3 @@
+pub mod LockStands
+pub mod HoldsSome
+pub mod FirstAcked

@@ -1,0 +1,3 @@
+pub mod TwoNeeds
+pub mod Outcomes
+pub mod Listed
