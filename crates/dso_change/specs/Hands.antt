@@ -1,7 +1,6 @@
 -- What a thread has in hand, as look-ups by object and as the tables of a block keep it.
-use Rattle.std.specs.Prelude.{
-  ℕ, ◌<◌, ◌≡◌, Bool, true, false, cond, ltb, is_some, length, Option, Some, None, List, [], ◌∷◌, ◌++◌, map, filter,
-  fold, slice_set}
+use Rattle.std.specs.Prelude.{ℕ, ◌<◌, ◌≡◌, Bool, true, false, cond, ltb, is_some, length, Option, Some, None, List}
+use Rattle.std.specs.Prelude.{[], ◌∷◌, ◌++◌, map, filter, fold, slice_set}
 use Rattle.std.specs.BTreeMap.{BTreeMap, is_at}
 use Rattle.std.specs.List.{AllByRecursion}
 use Rattle.std.specs.Option.{option_map, option_map_or}

@@ -13,4 +13,4 @@ abbrev pub RecordsAgree : Type 0
 RecordsAgree = (shape : Shape) (seq : ℕ) (thread : ThreadId) (privates : List Body) (events : List Event)
     (ending : Ending)
     → txn_of shape seq thread privates events ending
-      ≡ record_from seq thread (worked shape events (start privates)) ending
+    ≡ record_from seq thread (worked shape events (start privates)) ending

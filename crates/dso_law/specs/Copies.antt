@@ -1,7 +1,7 @@
 -- A client's copies: which objects are resident, and what they hold.
 use Rattle.std.specs.List.{list_any}
-use Rattle.std.specs.Prelude.{
-  ℕ, Bool, true, false, cond, eqb, ◌&&◌, ltb, Option, Some, None, List, [], ◌∷◌, filter, length, slice_get, fold}
+use Rattle.std.specs.Prelude.{ℕ, Bool, true, false, cond, eqb, ◌&&◌, ltb, Option, Some, None, List, [], ◌∷◌, filter}
+use Rattle.std.specs.Prelude.{length, slice_get, fold}
 use Rattle.dso_base.specs.declared.journal.Entry.{Entry}
 use Rattle.dso_base.specs.declared.journal.Input.{Input}
 use Rattle.dso_base.specs.declared.journal.Input.TheVariants.{Flush}

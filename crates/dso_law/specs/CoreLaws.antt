@@ -1,9 +1,8 @@
 -- Laws of what a client's core keeps: each reading in the words of the client rule.
 use Rattle.std.specs.List.{list_any}
 use Rattle.std.specs.Option.{option_map, option_map_or}
-use Rattle.std.specs.Prelude.{
-  ℕ, ◌+◌, ◌*◌, ◌<◌, ◌≡◌, cond, false, not, ltb, ◌&&◌, ◌||◌, is_some, Option, Some, None, List, [], ◌∷◌, ◌++◌, length,
-  slice_get}
+use Rattle.std.specs.Prelude.{ℕ, ◌+◌, ◌*◌, ◌<◌, ◌≡◌, cond, false, not, ltb, ◌&&◌, ◌||◌, is_some, Option, Some, None}
+use Rattle.std.specs.Prelude.{List, [], ◌∷◌, ◌++◌, length, slice_get}
 use Rattle.dso_base.specs.declared.journal.Entry.{Entry}
 use Rattle.dso_base.specs.declared.lock.LockName.{LockName}
 use Rattle.dso_base.specs.declared.lock.ThreadId.{ThreadId}
@@ -74,7 +73,7 @@ pub record IdsAreAhead : Type 0 where
       → id_at (batches ++ first ∷ []) n ≡ id_at batches n
   pub more : (batches : List ℕ) (first n : ℕ)
       → id_at (batches ++ first ∷ []) (batch_size * length batches + n)
-        ≡ cond (ltb n batch_size) (Some (first + n)) None
+      ≡ cond (ltb n batch_size) (Some (first + n)) None
   pub none : (batches : List ℕ) (n : ℕ) → id_at batches (batch_size * length batches + n) ≡ None
 
 -- the objects counted are those resident, each once

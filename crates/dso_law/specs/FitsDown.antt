@@ -1,7 +1,7 @@
 -- Which messages of the server fit, at the client that takes them.
 use Rattle.std.specs.List.{list_any, AllByRecursion}
-use Rattle.std.specs.Prelude.{
-  ℕ, suc, ◌+◌, ◌^◌, ◌<◌, ◌≤◌, ◌≡◌, ◌↔◌, true, false, Option, Some, None, List, [], ◌∷◌, length}
+use Rattle.std.specs.Prelude.{ℕ, suc, ◌+◌, ◌^◌, ◌<◌, ◌≤◌, ◌≡◌, ◌↔◌, true, false, Option, Some, None, List, [], ◌∷◌}
+use Rattle.std.specs.Prelude.{length}
 use Rattle.dso_base.specs.declared.journal.Entry.{Entry}
 use Rattle.dso_base.specs.declared.lock.LockName.{LockName}
 use Rattle.dso_base.specs.declared.lock.ThreadId.{ThreadId}

@@ -1,7 +1,7 @@
 -- A client's ids and records.
 use Rattle.std.specs.List.{list_any}
-use Rattle.std.specs.Prelude.{
-  ℕ, suc, ◌+◌, ◌-◌, Bool, true, false, cond, not, ltb, Option, Some, None, List, [], ◌∷◌, ◌++◌, drop}
+use Rattle.std.specs.Prelude.{ℕ, suc, ◌+◌, ◌-◌, Bool, true, false, cond, not, ltb, Option, Some, None, List, [], ◌∷◌}
+use Rattle.std.specs.Prelude.{◌++◌, drop}
 use Rattle.dso_base.specs.declared.journal.Entry.{Entry}
 use Rattle.dso_base.specs.declared.lock.ThreadId.{ThreadId}
 use Rattle.dso_base.specs.declared.message.Down.{Down}

@@ -1,7 +1,7 @@
 -- Laws of runs of one client.
 use Rattle.std.specs.List.{list_any}
-use Rattle.std.specs.Prelude.{
-  ℕ, suc, ◌+◌, ◌*◌, ◌≤◌, ◌≡◌, true, false, cond, eqb, ltb, Option, Some, None, List, [], ◌∷◌, length}
+use Rattle.std.specs.Prelude.{ℕ, suc, ◌+◌, ◌*◌, ◌≤◌, ◌≡◌, true, false, cond, eqb, ltb, Option, Some, None, List, []}
+use Rattle.std.specs.Prelude.{◌∷◌, length}
 use Rattle.dso_base.specs.declared.journal.Entry.{Entry}
 use Rattle.dso_base.specs.declared.journal.Input.TheVariants as input
 use Rattle.dso_base.specs.declared.lock.Level.TheVariants.{Read}
@@ -21,8 +21,8 @@ use Rattle.dso_law.specs.ChangeMarks.{AcksInOrder}
 use Rattle.dso_law.specs.IdsAhead.{ids_from}
 use Rattle.dso_law.specs.Closing.{due}
 use Rattle.dso_law.specs.ClientStep.{ClientStep}
-use Rattle.dso_law.specs.LeaseHeld.{
-  Lease, awaits_lease, kept_lease, lease_by_taken, lease_by_event, lease_by_wants, lease_by_return}
+use Rattle.dso_law.specs.LeaseHeld.{Lease, awaits_lease, kept_lease, lease_by_taken, lease_by_event, lease_by_wants}
+use Rattle.dso_law.specs.LeaseHeld.{lease_by_return}
 use Rattle.dso_law.specs.ClientRun.{ClientRun, AreSameFor, next_in}
 
 -- Own requests: the client rule looks at the next requests of the client's own threads alone.
@@ -56,7 +56,7 @@ abbrev pub lease_after : Settings → ℕ → (ThreadId → List Event → Optio
 lease_after p c next l e es = lease_by_return (list_any (is_lock l) (due p c (next_in next (e ∷ es)) (unsent e ∷ es)))
     (lease_by_wants (list_any (awaits_lease p c (next_in next (e ∷ es)) l (e ∷ es)) (threads_of p c))
     (by_event (lease_by_event l) e.event
-        (by_taken_down (lease_by_taken l) e.input (kept_lease p c (next_in next es) l es))))
+    (by_taken_down (lease_by_taken l) e.input (kept_lease p c (next_in next es) l es))))
 
 -- Kept: in a run the lease of a lock that stays closing is kept from entry to entry.
 abbrev pub LeasesAreKept : Type 0

@@ -19,9 +19,8 @@ use Rattle.dso_legal.specs.Lawful.{IsLawful}
 use Rattle.dso_legal.specs.Committed.{ended_blocks, committed}
 use Rattle.dso_legal.specs.Resolved.{AreResolved}
 use Rattle.dso_legal.specs.WithoutWaits.{WithoutWaits}
-use Rattle.dso_legal.specs.PendingBlocks.{
-  joined, handed_in, taken_in, records_in, records_sent, no_locks, locks_through, privates_through, StaysOpen,
-  AreRecordsOf}
+use Rattle.dso_legal.specs.PendingBlocks.{joined, handed_in, taken_in, records_in, records_sent, no_locks}
+use Rattle.dso_legal.specs.PendingBlocks.{locks_through, privates_through, StaysOpen, AreRecordsOf}
 
 -- whether the event is an act of a thread of the client
 abbrev pub is_act_at : ℕ → Event → Bool

@@ -16,8 +16,8 @@ use Rattle.dso_plain.specs.History.{end_of, last_state}
 use Rattle.dso_law.specs.Settings.{Settings}
 use Rattle.dso_law.specs.declared.readings.Standing.{Standing}
 use Rattle.dso_law.specs.Leases.{standing, standing_down}
-use Rattle.dso_law.specs.Copies.{
-  is_resident, resident_by_taken, value_held, value_by_taken, class_held, class_by_taken, is_set_of}
+use Rattle.dso_law.specs.Copies.{is_resident, resident_by_taken, value_held, value_by_taken, class_held}
+use Rattle.dso_law.specs.Copies.{class_by_taken, is_set_of}
 use Rattle.dso_legal.specs.Agreement.{after, EachMay}
 use Rattle.dso_legal.specs.AsMade.{as_made}
 use Rattle.dso_legal.specs.PendingBlocks.{joined, pending}

@@ -1,7 +1,7 @@
 -- The committed history by one pass over a journal: what is kept after some entries, and what one more entry makes of
 -- it.
-use Rattle.std.specs.Prelude.{
-  ℕ, suc, ◌-◌, ◌<◌, ◌^◌, Bool, true, false, cond, eqb, is_some, Option, Some, None, List, [], ◌∷◌, ◌++◌}
+use Rattle.std.specs.Prelude.{ℕ, suc, ◌-◌, ◌<◌, ◌^◌, Bool, true, false, cond, eqb, is_some, Option, Some, None, List}
+use Rattle.std.specs.Prelude.{[], ◌∷◌, ◌++◌}
 use Rattle.std.specs.Option.{unwrap_or, option_map}
 use Rattle.dso_base.specs.declared.journal.Entry.{Entry}
 use Rattle.dso_base.specs.declared.journal.Input.{Input}
@@ -18,8 +18,8 @@ use Rattle.dso_base.specs.declared.request.Event.TheVariants.{Act, Lost}
 use Rattle.dso_base.specs.declared.request.Reply.{Reply}
 use Rattle.dso_base.specs.declared.request.Reply.TheVariants.{Done}
 use Rattle.dso_base.specs.declared.request.Request.{Request}
-use Rattle.dso_base.specs.declared.request.Request.TheVariants.{
-  New, Look, Get, Put, Enter, Exit, Wait, Tick, Timeout, Resume, Notify, NotifyAll, Print, End, Pause, Settle}
+use Rattle.dso_base.specs.declared.request.Request.TheVariants.{New, Look, Get, Put, Enter, Exit, Wait, Tick, Timeout}
+use Rattle.dso_base.specs.declared.request.Request.TheVariants.{Resume, Notify, NotifyAll, Print, End, Pause, Settle}
 use Rattle.dso_lookup.specs.Maps.{written, writes}
 use Rattle.dso_plain.specs.KeyTests.{is_lock}
 use Rattle.dso_plain.specs.History.{is_act_of}
@@ -181,7 +181,7 @@ client_state_after (Act thread request reply woken) threads = record {
       threads.threads;
   ended = threads.ended
       ++ block_ended (ends_block request reply (threads.threads thread)) (Act thread request reply woken)
-          (threads.threads thread).block;
+      (threads.threads thread).block;
 }
 client_state_after (Lost client) threads = threads
 
@@ -214,9 +214,9 @@ given_events input kept = []
 
 -- what an entry of a client makes of all that is kept
 abbrev pub pass_state_at_client : ℕ → Option Event → PassState → PassState
-pass_state_at_client c event kept = record kept
-    { clients = written (writes (λ d. eqb d c) (λ _. by_event client_state_after event (kept.clients c))) kept.clients
-    }
+pass_state_at_client c event kept = record kept {
+  clients = written (writes (λ d. eqb d c) (λ _. by_event client_state_after event (kept.clients c))) kept.clients;
+}
 
 -- what an entry makes of all that is kept
 abbrev pub pass_state_after : Node → Input → List Sent → Option Event → PassState → PassState

@@ -68,7 +68,7 @@ pub record MadeOnce (es : List Entry) : Type 0 where
   pub next_is_new : (c d o : ℕ) → next_id (entries_of (Client c) es) ≡ Some o → is_made d o es ≡ false
   pub apart : (t u : ThreadId) → is_thread t u ≡ false
       → NoCommonId (MakesIn (events_in t (entries_of (Client t.client) es)))
-        (MakesIn (events_in u (entries_of (Client u.client) es)))
+      (MakesIn (events_in u (entries_of (Client u.client) es)))
 
 -- Objects are made once, in every lawful journal, by lost clients too.
 abbrev pub ObjectsAreMadeOnce : Type 0

@@ -11,8 +11,8 @@ use Rattle.dso_base.specs.declared.request.Event.TheVariants.{Act, Lost}
 use Rattle.dso_base.specs.declared.request.Reply.{Reply}
 use Rattle.dso_base.specs.declared.request.Reply.TheVariants.{Done, Val}
 use Rattle.dso_base.specs.declared.request.Request.{Request}
-use Rattle.dso_base.specs.declared.request.Request.TheVariants.{
-  New, Look, Get, Put, Enter, Exit, Wait, Tick, Timeout, Resume, Notify, NotifyAll, Print, End, Pause, Settle}
+use Rattle.dso_base.specs.declared.request.Request.TheVariants.{New, Look, Get, Put, Enter, Exit, Wait, Tick, Timeout}
+use Rattle.dso_base.specs.declared.request.Request.TheVariants.{Resume, Notify, NotifyAll, Print, End, Pause, Settle}
 use Rattle.dso_base.specs.declared.value.Value.TheVariants as value
 use Rattle.dso_base.specs.Following.{is_thread}
 use Rattle.dso_plain.specs.KeyTests.{is_lock, is_place}
@@ -156,7 +156,7 @@ abbrev pub EachMayWake : List Event → KeptThreads → WaiterLists → Type 0
 EachMayWake [] kept lists = Unit {0}
 EachMayWake (Act t request reply woken ∷ events) kept lists = MayWake t request reply woken kept lists
     × EachMayWake events (kept_by t request reply woken kept)
-        (lists_timed_out t request reply (lists_after_act request reply woken lists))
+    (lists_timed_out t request reply (lists_after_act request reply woken lists))
 EachMayWake (Lost client ∷ events) kept lists = ⊥
 
 -- After the journal the marks are known in the one heap; and who is kept has a client with the lock at Write.

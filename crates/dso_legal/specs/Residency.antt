@@ -106,7 +106,7 @@ abbrev pub AgreeOnObject : ℕ → ℕ → List Entry → Type 0
 AgreeOnObject c o es = Agree (MayMove o) (residency_up o) (MayCome o) (residency_down o)
     (messages (up_in_flight c es)) (messages (down_in_flight c es))
     (residency_with (is_own c o es) c o (counted (entries_of Server es)))
-        (residency_at (is_own c o es) o (entries_of (Client c) es))
+    (residency_at (is_own c o es) o (entries_of (Client c) es))
 
 -- Residency agrees: in a lawful journal, for each client that isn't lost, both agree on each object.
 abbrev pub ResidencyAgrees : Type 0

@@ -1,7 +1,7 @@
 -- Which steps are open after a journal, and when it is finished or stuck. Entries stand with the newest first.
 use Rattle.std.specs.List.{list_any}
-use Rattle.std.specs.Prelude.{
-  ℕ, ◌+◌, Bool, true, false, cond, not, ltb, ◌&&◌, ◌||◌, Option, List, [], ◌∷◌, ◌++◌, map, filter, flat_map}
+use Rattle.std.specs.Prelude.{ℕ, ◌+◌, Bool, true, false, cond, not, ltb, ◌&&◌, ◌||◌, Option, List, [], ◌∷◌, ◌++◌, map}
+use Rattle.std.specs.Prelude.{filter, flat_map}
 use Rattle.dso_base.specs.declared.journal.Entry.{Entry}
 use Rattle.dso_base.specs.declared.journal.Node.TheVariants.{Server, Client}
 use Rattle.dso_base.specs.declared.lock.ThreadId.{ThreadId}

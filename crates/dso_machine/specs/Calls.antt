@@ -1,6 +1,6 @@
 -- What a call means: the object and the arguments, the method, its locks, the environment of its body.
-use Rattle.std.specs.Prelude.{
-  ℕ, ◌-◌, cond, eqb, nat_lt, List, [], ◌∷◌, ◌++◌, length, replicate, slice_get, Option, None, Some}
+use Rattle.std.specs.Prelude.{ℕ, ◌-◌, cond, eqb, nat_lt, List, [], ◌∷◌, ◌++◌, length, replicate, slice_get, Option}
+use Rattle.std.specs.Prelude.{None, Some}
 use Rattle.dso_base.specs.declared.lock.Grade.{Grade}
 use Rattle.dso_base.specs.declared.lock.LockName.TheVariants.{Mon, Name}
 use Rattle.dso_base.specs.declared.request.Fault.TheVariants.{NoSuchField, StackOverflow}
@@ -10,8 +10,8 @@ use Rattle.dso_base.specs.declared.value.Value.{Value}
 use Rattle.dso_base.specs.declared.value.Value.TheVariants as value
 use Rattle.dso_machine.specs.declared.code.Code.{Code}
 use Rattle.dso_machine.specs.declared.code.Method.{Method}
-use Rattle.dso_machine.specs.Outcome.{
-  Environment, Outcome, Gives, Leaves, Fails, Meaning, choose, on_value, look, on_object, moving, under}
+use Rattle.dso_machine.specs.Outcome.{Environment, Outcome, Gives, Leaves, Fails, Meaning, choose, on_value, look}
+use Rattle.dso_machine.specs.Outcome.{on_object, moving, under}
 
 -- the number that the list has for the class, the first one
 abbrev pub lookup : List (ℕ × ℕ) → ℕ → Option ℕ

@@ -33,15 +33,15 @@ use Rattle.dso_machine.specs.declared.continuation.Writing.TheVariants as write
 use Rattle.dso_machine.specs.declared.tree.Expr.{Expr}
 use Rattle.dso_machine.specs.declared.tree.Stmt.{Stmt}
 use Rattle.dso_machine.specs.Calls.{back_in, begin, invoke, under_monitor, call_in, call_on, arguments}
-use Rattle.dso_machine.specs.Expressions.{
-  field_of, field_in, element_of, element_in, new_array, a_boolean, second, expr}
+use Rattle.dso_machine.specs.Expressions.{field_of, field_in, element_of, element_in, new_array, a_boolean, second}
+use Rattle.dso_machine.specs.Expressions.{expr}
 use Rattle.dso_machine.specs.Limits.{most_moves}
-use Rattle.dso_machine.specs.Outcome.{
-  Environment, State, Outcome, Gives, Leaves, Fails, Over, Meaning, on_value, on_reply, on_next, on_object,
-  result_of, ask, done, made, got, seen, tell, get, moved, moving, settling, leave, entered}
-use Rattle.dso_machine.specs.Statements.{
-  assign, put_field, put_field_in, put_element, put_element_in, bind_null, put_root, sync, unless_woken, timed_out,
-  ticks, waiting, wait, timed_wait, branch, turn, spun, stmt, block, methods}
+use Rattle.dso_machine.specs.Outcome.{Environment, State, Outcome, Gives, Leaves, Fails, Over, Meaning, on_value}
+use Rattle.dso_machine.specs.Outcome.{on_reply, on_next, on_object, result_of, ask, done, made, got, seen, tell, get}
+use Rattle.dso_machine.specs.Outcome.{moved, moving, settling, leave, entered}
+use Rattle.dso_machine.specs.Statements.{assign, put_field, put_field_in, put_element, put_element_in, bind_null}
+use Rattle.dso_machine.specs.Statements.{put_root, sync, unless_woken, timed_out, ticks, waiting, wait, timed_wait}
+use Rattle.dso_machine.specs.Statements.{branch, turn, spun, stmt, block, methods}
 use Rattle.dso_machine.specs.Values.{binary, unary}
 use Rattle.dso_machine.specs.Next.{finish, whole}
 

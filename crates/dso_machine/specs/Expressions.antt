@@ -1,6 +1,6 @@
 -- What an expression means.
-use Rattle.std.specs.Prelude.{
-  ℕ, nat_lt, nat_le, true, false, ℤ, pos, negsuc, [], cond, length, slice_index_or, Option, None, Some}
+use Rattle.std.specs.Prelude.{ℕ, nat_lt, nat_le, true, false, ℤ, pos, negsuc, [], cond, length, slice_index_or}
+use Rattle.std.specs.Prelude.{Option, None, Some}
 use Rattle.dso_base.specs.declared.lock.Grade.TheVariants as grade
 use Rattle.dso_base.specs.declared.lock.LockName.TheVariants.{Name}
 use Rattle.dso_base.specs.declared.op.Op.{Op}
@@ -20,8 +20,8 @@ use Rattle.dso_machine.specs.declared.tree.Expr.TheOpen as e
 use Rattle.dso_machine.specs.declared.tree.FieldRef.{FieldRef}
 use Rattle.dso_machine.specs.Calls.{lookup, call_on, arguments, MethodMeanings}
 use Rattle.dso_machine.specs.Limits.{most_elements}
-use Rattle.dso_machine.specs.Outcome.{
-  Gives, Fails, Meaning, choose, on_value, on_next, on_reply, result_of, ask, made, get, look, on_object, under}
+use Rattle.dso_machine.specs.Outcome.{Gives, Fails, Meaning, choose, on_value, on_next, on_reply, result_of, ask}
+use Rattle.dso_machine.specs.Outcome.{made, get, look, on_object, under}
 use Rattle.dso_machine.specs.Values.{unary, binary}
 
 -- ---- fields and elements

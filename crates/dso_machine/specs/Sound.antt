@@ -1,7 +1,6 @@
 -- Which code is sound: every number in it names something that is there, and nothing is more than there may be.
-use Rattle.std.specs.Prelude.{
-  ◌≡◌, ◌≢◌, ℕ, suc, ◌<◌, ◌≤◌, Bool, true, false, List, [], ◌∷◌, length, map, All, AllPairs, Contains, slice_get,
-  Some, None, IfSome}
+use Rattle.std.specs.Prelude.{◌≡◌, ◌≢◌, ℕ, suc, ◌<◌, ◌≤◌, Bool, true, false, List, [], ◌∷◌, length, map, All}
+use Rattle.std.specs.Prelude.{AllPairs, Contains, slice_get, Some, None, IfSome}
 use Rattle.dso_base.specs.declared.lock.Grade.{Grade}
 use Rattle.dso_base.specs.declared.lock.ThreadId.{ThreadId}
 use Rattle.dso_base.specs.declared.op.Op.{Op}
@@ -23,9 +22,8 @@ use Rattle.dso_machine.specs.declared.tree.Expr.{Expr}
 use Rattle.dso_machine.specs.declared.tree.Expr.TheVariants as x
 use Rattle.dso_machine.specs.declared.tree.Stmt.{Stmt}
 use Rattle.dso_machine.specs.declared.tree.Stmt.TheVariants as s
-use Rattle.dso_machine.specs.Limits.{
-  most_clients, most_threads, most_classes, most_fields, most_roots, most_locks, most_methods, most_texts,
-  most_params, most_vars, most_nested}
+use Rattle.dso_machine.specs.Limits.{most_clients, most_threads, most_classes, most_fields, most_roots, most_locks}
+use Rattle.dso_machine.specs.Limits.{most_methods, most_texts, most_params, most_vars, most_nested}
 
 -- what a body may name: what the code has, so many variables, and `this` where it is a method's
 pub record Scope : Type 0 where

@@ -1,6 +1,6 @@
 -- What a statement means, and what a thread's code comes to.
-use Rattle.std.specs.Prelude.{
-  ℕ, zero, suc, true, false, ℤ, pos, List, [], ◌∷◌, map, slice_get, slice_set, Option, None, Some}
+use Rattle.std.specs.Prelude.{ℕ, zero, suc, true, false, ℤ, pos, List, [], ◌∷◌, map, slice_get, slice_set, Option}
+use Rattle.std.specs.Prelude.{None, Some}
 use Rattle.dso_base.specs.declared.lock.Grade.{Grade}
 use Rattle.dso_base.specs.declared.lock.Grade.TheVariants as grade
 use Rattle.dso_base.specs.declared.lock.LockName.{LockName}
@@ -25,9 +25,8 @@ use Rattle.dso_machine.specs.declared.tree.Stmt.{Stmt, Stmt-F, fold-Stmt}
 use Rattle.dso_machine.specs.declared.tree.Stmt.TheOpen as s
 use Rattle.dso_machine.specs.Calls.{lookup, MethodMeanings}
 use Rattle.dso_machine.specs.Expressions.{within, expr}
-use Rattle.dso_machine.specs.Outcome.{
-  Gives, Leaves, Fails, Stopped, Meaning, choose, on_value, on_reply, on_next, ask, unwanted, tell, get, put, look,
-  on_object, moving, under}
+use Rattle.dso_machine.specs.Outcome.{Gives, Leaves, Fails, Stopped, Meaning, choose, on_value, on_reply, on_next}
+use Rattle.dso_machine.specs.Outcome.{ask, unwanted, tell, get, put, look, on_object, moving, under}
 use Rattle.dso_machine.specs.Values.{takes}
 
 -- ---- what is written

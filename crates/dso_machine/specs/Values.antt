@@ -1,6 +1,6 @@
 -- What the operators give: arithmetic that wraps, comparisons, equality, and which values a field takes.
-use Rattle.std.specs.Prelude.{
-  Bool, true, false, cond, not, eqb, ℤ, pos, ◌+ℤ◌, ◌-ℤ◌, ◌*ℤ◌, int_lt, int_le, int_div, int_rem, Result, Ok, Err}
+use Rattle.std.specs.Prelude.{Bool, true, false, cond, not, eqb, ℤ, pos, ◌+ℤ◌, ◌-ℤ◌, ◌*ℤ◌, int_lt, int_le, int_div}
+use Rattle.std.specs.Prelude.{int_rem, Result, Ok, Err}
 use Rattle.std.specs.Int.{int_wrap}
 use Rattle.std.specs.Ordering.{int_eq}
 use mir.Syntax.{w64}

@@ -48,7 +48,7 @@ pub record Mirrors (tables : Tables) : Type 0 where
       → is_some (look_in thread_order lock_order tables.waiting (t, l)) ≡ is_some ((state_of tables).asleep (l, t))
   pub apart : (l : LockName) (t : ThreadId)
       → (is_some (look_in lock_order thread_order tables.waits (l, t))
-        && is_some (look_in lock_order thread_order tables.marked (l, t))) ≡ false
+      && is_some (look_in lock_order thread_order tables.marked (l, t))) ≡ false
 
 -- The threads of a row that are the client's have left all monitors and waits, and no thread of another client.
 pub record ClearsRow (client : ℕ) (row : ThreadId → Option (Unit {0})) (old new : Tables) : Type 0 where

@@ -62,7 +62,7 @@ RunsInParts = (shape : Shape) (first second : List Event) (s : PlainState)
 abbrev pub RunsButMarksInParts : Type 0
 RunsButMarksInParts = (shape : Shape) (first second : List Event) (s : PlainState)
     → RunsButMarks shape (first ++ second) s
-      ↔ (RunsButMarks shape first s × RunsButMarks shape second (end_of shape first s))
+    ↔ (RunsButMarks shape first s × RunsButMarks shape second (end_of shape first s))
 
 -- Parts: a run of two lists of events in order ends where the second does from the end of the first.
 abbrev pub EndsInParts : Type 0

@@ -7,21 +7,21 @@ use Rattle.dso_base.specs.declared.lock.LockName.TheVariants.{Mon, Name}
 use Rattle.dso_base.specs.declared.lock.ThreadId.{ThreadId}
 use Rattle.dso_base.specs.declared.request.Event.{Event}
 use Rattle.dso_base.specs.declared.request.Event.TheVariants.{Act, Lost}
-use Rattle.dso_base.specs.declared.request.Fault.TheVariants.{
-  UnlockedSharedObject, WrongLock, ReadOnly, LockUpgrade, IllegalMonitor}
+use Rattle.dso_base.specs.declared.request.Fault.TheVariants.{UnlockedSharedObject, WrongLock, ReadOnly, LockUpgrade}
+use Rattle.dso_base.specs.declared.request.Fault.TheVariants.{IllegalMonitor}
 use Rattle.dso_base.specs.declared.request.Reply.{Reply}
 use Rattle.dso_base.specs.declared.request.Reply.TheVariants.{Done, Made, Seen, Val, Local, Refused}
 use Rattle.dso_base.specs.declared.request.Request.{Request}
-use Rattle.dso_base.specs.declared.request.Request.TheVariants.{
-  New, Look, Get, Put, Enter, Exit, Wait, Tick, Timeout, Resume, Notify, NotifyAll, Print, End, Pause, Settle}
+use Rattle.dso_base.specs.declared.request.Request.TheVariants.{New, Look, Get, Put, Enter, Exit, Wait, Tick, Timeout}
+use Rattle.dso_base.specs.declared.request.Request.TheVariants.{Resume, Notify, NotifyAll, Print, End, Pause, Settle}
 use Rattle.dso_base.specs.declared.shape.ClassShape.{ClassShape}
 use Rattle.dso_base.specs.declared.shape.Shape.{Shape}
 use Rattle.dso_base.specs.declared.value.ClassId.{ClassId}
 use Rattle.dso_base.specs.declared.value.ClassId.TheVariants as class
 use Rattle.dso_base.specs.declared.value.Value.{Value}
 use Rattle.dso_base.specs.declared.value.Value.TheVariants as value
-use Rattle.dso_plain.specs.State.{
-  Object, Hold, PlainState, IsPrivate, IsShared, HasField, HoldsGuard, HoldsNothing, hold_on_guard, level_of}
+use Rattle.dso_plain.specs.State.{Object, Hold, PlainState, IsPrivate, IsShared, HasField, HoldsGuard, HoldsNothing}
+use Rattle.dso_plain.specs.State.{hold_on_guard, level_of}
 
 -- the number of fields of a class that is there
 abbrev pub IsFieldCount : Option ClassShape → ℕ → Type 0

@@ -1,6 +1,6 @@
 -- The state of one heap with plain monitors: look-ups by key.
-use Rattle.std.specs.Prelude.{
-  ℕ, ◌<◌, ◌≡◌, ◌≢◌, Bool, true, false, cond, eqb, ltb, ◌&&◌, is_none, Option, Some, None, List, [], ◌∷◌}
+use Rattle.std.specs.Prelude.{ℕ, ◌<◌, ◌≡◌, ◌≢◌, Bool, true, false, cond, eqb, ltb, ◌&&◌, is_none, Option, Some, None}
+use Rattle.std.specs.Prelude.{List, [], ◌∷◌}
 use Rattle.dso_base.specs.declared.lock.Level.{Level}
 use Rattle.dso_base.specs.declared.lock.LockName.{LockName}
 use Rattle.dso_base.specs.declared.lock.LockName.TheVariants.{Mon}

@@ -1,6 +1,6 @@
 -- What each step keeps: of the past, and of monitors and waits.
-use Rattle.std.specs.Prelude.{
-  ℕ, ◌-◌, ◌≤◌, ◌≡◌, ◌≢◌, ◌⊎◌, Bool, true, false, ltb, is_some, Option, Some, None, List, [], length}
+use Rattle.std.specs.Prelude.{ℕ, ◌-◌, ◌≤◌, ◌≡◌, ◌≢◌, ◌⊎◌, Bool, true, false, ltb, is_some, Option, Some, None, List}
+use Rattle.std.specs.Prelude.{[], length}
 use Rattle.dso_base.specs.declared.lock.Level.{Level}
 use Rattle.dso_base.specs.declared.lock.LockName.{LockName}
 use Rattle.dso_base.specs.declared.lock.ThreadId.{ThreadId}

@@ -18,7 +18,7 @@ pub record IndexesAgree (tables : Tables) : Type 0 where
       → is_some (look_in thread_order lock_order tables.waiting (t, l)) ≡ is_some ((state_of tables).asleep (l, t))
   pub apart : (l : LockName) (t : ThreadId)
       → (is_some (look_in lock_order thread_order tables.waits (l, t))
-        && is_some (look_in lock_order thread_order tables.marked (l, t))) ≡ false
+      && is_some (look_in lock_order thread_order tables.marked (l, t))) ≡ false
   pub listed : (l : LockName) (t : ThreadId)
       → (is_some ((state_of tables).monitors (l, t)) || is_some ((state_of tables).asleep (l, t))) ≡ true
       → is_some (look_in nat_cmp thread_order tables.threads (t.client, t)) ≡ true

@@ -1,6 +1,6 @@
 -- The order in which the graph's objects are numbered: breadth first, from the roots.
-use Rattle.std.specs.Prelude.{
-  ℕ, zero, suc, ◌≡◌, eqb, Option, Some, None, List, [], ◌∷◌, ◌++◌, if◌then◌else◌, length, slice_get}
+use Rattle.std.specs.Prelude.{ℕ, zero, suc, ◌≡◌, eqb, Option, Some, None, List, [], ◌∷◌, ◌++◌, if◌then◌else◌, length}
+use Rattle.std.specs.Prelude.{slice_get}
 use Rattle.std.specs.List.{list_any}
 use Rattle.dso_base.specs.declared.value.Value.{Value}
 use Rattle.dso_base.specs.declared.value.Value.TheVariants as value

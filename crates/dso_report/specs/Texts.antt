@@ -1,7 +1,7 @@
 -- How values are written: where a thread printed them, and in the graph. What names something that isn't there has no
 -- text.
-use Rattle.std.specs.Prelude.{
-  ℕ, zero, suc, eqb, cond, ◌||◌, true, false, Option, Some, None, List, [], ◌∷◌, ◌++◌, codes, flat_map, slice_get}
+use Rattle.std.specs.Prelude.{ℕ, zero, suc, eqb, cond, ◌||◌, true, false, Option, Some, None, List, [], ◌∷◌, ◌++◌}
+use Rattle.std.specs.Prelude.{codes, flat_map, slice_get}
 use Rattle.std.specs.Fmt.{decimal, signed_decimal, ◌++?◌}
 use Rattle.std.specs.List.{position}
 use Rattle.std.specs.Option.{option_map}

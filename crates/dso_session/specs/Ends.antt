@@ -1,7 +1,6 @@
 -- The two ends of a connection: what each keeps, which frame is next, and what it makes of a frame of the other end.
-use Rattle.std.specs.Prelude.{
-  ℕ, zero, suc, ◌+◌, ◌-◌, ◌^◌, ◌<◌, ◌≤◌, Bool, true, false, cond, eqb, leb, ltb, not, ◌&&◌, ◌||◌, Option, Some, None,
-  List, [], ◌∷◌, ◌++◌, drop, length, max, slice_get}
+use Rattle.std.specs.Prelude.{ℕ, zero, suc, ◌+◌, ◌-◌, ◌^◌, ◌<◌, ◌≤◌, Bool, true, false, cond, eqb, leb, ltb, not}
+use Rattle.std.specs.Prelude.{◌&&◌, ◌||◌, Option, Some, None, List, [], ◌∷◌, ◌++◌, drop, length, max, slice_get}
 use Rattle.dso_session.specs.declared.frame.Accepted.{Accepted}
 use Rattle.dso_session.specs.declared.frame.Accepted.TheVariants as accepted
 use Rattle.dso_session.specs.declared.frame.Frame.{Frame}
@@ -37,8 +36,17 @@ pub record IsInOrder {M : Type 0} (end : End M) : Type 0 where
 
 -- at first: ready, with nothing sent or accepted
 abbrev pub opened : {M : Type 0} → Role → End M
-opened role = record { role = role; epoch = 0; is_ready = true; owes_hello = false; accepted = 0; seen = 0; given = 0;
-    kept = []; clock = 0 }
+opened role = record {
+  role = role;
+  epoch = 0;
+  is_ready = true;
+  owes_hello = false;
+  accepted = 0;
+  seen = 0;
+  given = 0;
+  kept = [];
+  clock = 0;
+}
 
 -- with one message more
 abbrev pub posted : {M : Type 0} → M → ℕ → End M → End M
@@ -72,7 +80,7 @@ abbrev pub answer_carry : {M : Type 0} → ℕ → ℕ → ℕ → ℕ → M →
 answer_carry epoch number seen clock message end = cond (not (eqb epoch end.epoch)) (accepted.OldConnection epoch)
     (cond (leb number end.accepted) (accepted.Again number)
     (cond (ltb (suc end.accepted) number || ltb (sent_count end) seen) (accepted.Gap number)
-        (accepted.Up message clock)))
+    (accepted.Up message clock)))
 
 -- A connection begins anew: for the client by a later epoch, for the server by its own, while it waits for that.
 abbrev pub is_new : {M : Type 0} → ℕ → End M → Role → Bool

@@ -12,12 +12,12 @@ use Rattle.dso_syntax.specs.declared.tree.Ident.{Ident}
 use Rattle.dso_syntax.specs.declared.tree.ExprTree.{ExprTree}
 use Rattle.dso_syntax.specs.declared.tree.ExprForm.{ExprForm}
 use Rattle.dso_syntax.specs.declared.tree.ExprForm.TheVariants as e
-pub use Rattle.dso_tokens.specs.TokenReader.{
-  Input, StopCause, unexpected, too_wide, too_deep, Outcome, Parser, and_then, pure, refuse}
-pub use Rattle.dso_tokens.specs.TokenReader.{
-  mark_of, keyword_of, is_mark, is_keyword, next_form, next_mark, next_keyword, is_wide}
-pub use Rattle.dso_tokens.specs.TokenReader.{
-  take_from, take_any, take_mark, take_keyword, enter_at, enter, leave, open_mark, close_mark}
+pub use Rattle.dso_tokens.specs.TokenReader.{Input, StopCause, unexpected, too_wide, too_deep, Outcome, Parser}
+pub use Rattle.dso_tokens.specs.TokenReader.{and_then, pure, refuse}
+pub use Rattle.dso_tokens.specs.TokenReader.{mark_of, keyword_of, is_mark, is_keyword, next_form, next_mark}
+pub use Rattle.dso_tokens.specs.TokenReader.{next_keyword, is_wide}
+pub use Rattle.dso_tokens.specs.TokenReader.{take_from, take_any, take_mark, take_keyword, enter_at, enter, leave}
+pub use Rattle.dso_tokens.specs.TokenReader.{open_mark, close_mark}
 pub use Rattle.dso_tokens.specs.TokenReader.{of_rank, operator_at, sign_at, kind_at}
 use Rattle.dso_syntax.specs.Grammar.{Tokens, expression, line_of, plain_of, top_rank}
 
@@ -40,7 +40,7 @@ abbrev pub listed : Parser ExprTree → ℕ → Parser (List ExprTree)
 listed item zero i = refuse i
 listed item (suc n) i = and_then (item i) (λ a j.
     if is_mark m.Comma (next_mark j.tokens)
-        then and_then (take_any j) (λ _ l. and_then (listed item n l) (λ all. pure (a ∷ all))) else pure (a ∷ []) j)
+    then and_then (take_any j) (λ _ l. and_then (listed item n l) (λ all. pure (a ∷ all))) else pure (a ∷ []) j)
 
 -- the expression that the next token is by itself
 abbrev pub plain_at : Tokens → Option ExprForm
@@ -58,8 +58,8 @@ module _ (deeper : Parser ExprTree) where
   abbrev pub call_suffix : ExprTree → Ident → Parser ExprTree
   call_suffix a name i =
       and_then (open_mark m.OpenParen i)
-          (λ _ j. and_then (arguments j)
-          (λ all l. and_then (close_mark m.CloseParen l) (λ _. pure (expression (line_of a) (e.Call a name all)))))
+      (λ _ j. and_then (arguments j)
+      (λ all l. and_then (close_mark m.CloseParen l) (λ _. pure (expression (line_of a) (e.Call a name all)))))
 
   -- a field, or a call where an opening parenthesis follows the name
   abbrev pub field_suffix : ExprTree → Ident → Parser ExprTree
@@ -74,8 +74,8 @@ module _ (deeper : Parser ExprTree) where
   abbrev pub element_suffix : ExprTree → Parser ExprTree
   element_suffix a i =
       and_then (open_mark m.OpenBracket i)
-          (λ _ j. and_then (deeper j)
-          (λ b l. and_then (take_mark m.CloseBracket l) (λ _. pure (expression (line_of a) (e.Elem a b)))))
+      (λ _ j. and_then (deeper j)
+      (λ b l. and_then (take_mark m.CloseBracket l) (λ _. pure (expression (line_of a) (e.Elem a b)))))
 
   -- the suffixes behind an expression; the number bounds how many
   abbrev pub suffixes : ℕ → ExprTree → Parser ExprTree
@@ -84,7 +84,7 @@ module _ (deeper : Parser ExprTree) where
   suffixes (suc n) a i =
       if is_mark m.Dot (next_mark i.tokens) then and_then (dot_suffix a i) (suffixes n)
       else (if is_mark m.OpenBracket (next_mark i.tokens) then and_then (element_suffix a i) (suffixes n)
-          else Ok (a, i))
+      else Ok (a, i))
 
   -- behind the opening parenthesis
   abbrev pub parens : ℕ → Parser ExprTree
@@ -106,7 +106,7 @@ module _ (deeper : Parser ExprTree) where
   primary_other i =
       if is_mark m.OpenParen (next_mark i.tokens) then and_then (open_mark m.OpenParen i) (λ t. parens t.line)
       else (if is_wide (next_form i.tokens) then Err (too_wide, i.tokens)
-          else and_then (take_keyword k.New i) (λ t j. made t.line (kind_at (next_keyword j.tokens)) j))
+      else and_then (take_keyword k.New i) (λ t j. made t.line (kind_at (next_keyword j.tokens)) j))
 
   -- an expression of one token, or another primary expression
   abbrev pub primary_of : Option ExprForm → Parser ExprTree

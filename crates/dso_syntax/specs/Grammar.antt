@@ -81,13 +81,13 @@ mutual
     field : {room left : ℕ} {ts : Tokens} {a : ExprTree} (dot named : Token) (name : Ident) → IsMark m.Dot dot
         → IsName name named →
         Postfix room (suc left) ts a
-            → Postfix room left (ts ++ dot ∷ named ∷ []) (expression (line_of a) (e.Field a name))
+        → Postfix room left (ts ++ dot ∷ named ∷ []) (expression (line_of a) (e.Field a name))
     call : {room left : ℕ} {ts us : Tokens} {a : ExprTree} {all : List ExprTree} (dot named opening closing : Token)
         (name : Ident) →
         IsMark m.Dot dot → IsName name named → IsMark m.OpenParen opening → IsMark m.CloseParen closing →
         Postfix room (suc (suc left)) ts a → Arguments left us all →
         Postfix room (suc left) (ts ++ (dot ∷ named ∷ opening ∷ us ++ closing ∷ []))
-            (expression (line_of a) (e.Call a name all))
+        (expression (line_of a) (e.Call a name all))
     element : {room left : ℕ} {ts us : Tokens} {a b : ExprTree} (opening closing : Token)
         → IsMark m.OpenBracket opening → IsMark m.CloseBracket closing →
         Postfix room (suc left) ts a → Whole left us b →
@@ -105,9 +105,9 @@ mutual
         Primary (suc room) (new ∷ named ∷ opening ∷ closing ∷ []) (expression new.line (e.NewObject name))
     array : {room : ℕ} {ts : Tokens} {a : ExprTree} (new made opening closing : Token) (word : Keyword) (this : Kind) →
         IsKeyword k.New new → IsKeyword word made → kind_of word ≡ Some this → IsMark m.OpenBracket opening
-            → IsMark m.CloseBracket closing →
+        → IsMark m.CloseBracket closing →
         Whole room ts a → Primary (suc room) (new ∷ made ∷ opening ∷ ts ++ closing ∷ [])
-            (expression new.line (e.NewArray this a))
+        (expression new.line (e.NewArray this a))
 
   -- a whole expression
   pub data Whole : ℕ → Tokens → ExprTree → Type 0 where

@@ -16,9 +16,9 @@ use Rattle.dso_syntax.specs.declared.operand.Part.TheVariants as part
 use Rattle.dso_syntax.specs.declared.operand.Suffix.{Suffix}
 use Rattle.dso_syntax.specs.declared.operand.Suffix.TheVariants as suffix
 use Rattle.dso_syntax.specs.Grammar.{expression, line_of}
-use Rattle.dso_syntax.specs.ExpressionReader.{
-  too_wide, Parser, and_then, pure, is_mark, is_wide, next_form, next_mark, next_keyword, take_any, take_mark,
-  take_keyword, take_name, enter, open_mark, close_mark, plain_at, kind_at}
+use Rattle.dso_syntax.specs.ExpressionReader.{too_wide, Parser, and_then, pure, is_mark, is_wide, next_form}
+use Rattle.dso_syntax.specs.ExpressionReader.{next_mark, next_keyword, take_any, take_mark, take_keyword, take_name}
+use Rattle.dso_syntax.specs.ExpressionReader.{enter, open_mark, close_mark, plain_at, kind_at}
 
 -- a token that opens a level
 abbrev pub entered : Parser Token
@@ -46,9 +46,9 @@ abbrev pub opened_of : Option ExprForm → Parser Part
 opened_of (Some this) i = and_then (take_any i) (λ t. pure (part.Done (expression t.line this)))
 opened_of None i =
     if is_mark m.OpenParen (next_mark i.tokens)
-        then and_then (open_mark m.OpenParen i) (λ t. pure (part.Inside (bracket.Paren t.line)))
+    then and_then (open_mark m.OpenParen i) (λ t. pure (part.Inside (bracket.Paren t.line)))
     else (if is_wide (next_form i.tokens) then Err (too_wide, i.tokens)
-        else and_then (take_keyword k.New i) (λ t. made t.line))
+    else and_then (take_keyword k.New i) (λ t. made t.line))
 
 -- a primary expression up to the expression that it holds
 abbrev pub opened : Parser Part
@@ -72,7 +72,7 @@ closed bracket a i = and_then (close_mark (closing_of bracket) i) (λ _. pure (e
 abbrev pub named : Parser Suffix
 named i = and_then (open_mark m.Dot i) (λ _ j. and_then (take_name j) (λ name l.
     if is_mark m.OpenParen (next_mark l.tokens) then and_then (open_mark m.OpenParen l) (λ _. pure (suffix.Call name))
-        else Ok (suffix.Field name, l)))
+    else Ok (suffix.Field name, l)))
 
 -- whether a suffix begins with this symbol: a dot or an opening bracket
 abbrev pub begins_suffix : Option Mark → Bool

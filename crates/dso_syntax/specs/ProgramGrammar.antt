@@ -74,7 +74,7 @@ mutual
   pub data Statement : ℕ → Tokens → StmtTree → Type 0 where
     variable : {room : ℕ} {ts : Tokens} {a : ExprTree} (word named equals ending : Token) (name : Ident) →
         IsKeyword k.Var word → IsName name named → IsMark m.Assign equals → IsMark m.Semicolon ending
-            → Whole room ts a →
+        → Whole room ts a →
         Statement room (word ∷ named ∷ equals ∷ ts ++ ending ∷ []) (statement word.line (s.Var name a))
     assigned : {room : ℕ} {ts us : Tokens} {a b : ExprTree} (equals ending : Token) → IsMark m.Assign equals
         → IsMark m.Semicolon ending →
@@ -90,7 +90,7 @@ mutual
     command : {room : ℕ} {ts : Tokens} {a : ExprTree} (word ending : Token) (which : Keyword)
         (made : ExprTree → StmtForm) →
         IsKeyword which word → command_of which ≡ Some made → IsMark m.Semicolon ending
-            → Parenthesized Whole room ts a →
+        → Parenthesized Whole room ts a →
         Statement room (word ∷ ts ++ ending ∷ []) (statement word.line (made a))
     waiting : {room : ℕ} {ts : Tokens} {form : StmtForm} (word ending : Token) → IsKeyword k.Wait word
         → IsMark m.Semicolon ending →
@@ -138,12 +138,12 @@ pub data Declared : ℕ → Tokens → Member → Type 0 where
   method : {room : ℕ} {ts us : Tokens} {names : List Ident} {all : List StmtTree} (named opening closing : Token)
       (name : Ident) →
       IsName name named → IsMark m.OpenParen opening → IsMark m.CloseParen closing → Parameters ts names
-          → Block (suc room) us all →
+      → Block (suc room) us all →
       Declared (suc room) (named ∷ opening ∷ ts ++ closing ∷ us) (member.Method named.line false name names all)
   synchronized : {room : ℕ} {ts us : Tokens} {names : List Ident} {all : List StmtTree}
       (word named opening closing : Token) (name : Ident) →
       IsKeyword k.Synchronized word → IsName name named → IsMark m.OpenParen opening → IsMark m.CloseParen closing
-          → Parameters ts names → Block (suc room) us all →
+      → Parameters ts names → Block (suc room) us all →
       Declared (suc room) (word ∷ named ∷ opening ∷ ts ++ closing ∷ us) (member.Method word.line true name names all)
 
 -- members in a row
@@ -156,7 +156,7 @@ pub data Members : ℕ → Tokens → List Member → Type 0 where
 pub data Top : ℕ → Tokens → Item → Type 0 where
   class : {room : ℕ} {ts : Tokens} {members : List Member} (word named opening closing : Token) (name : Ident) →
       IsKeyword k.Class word → IsName name named → IsMark m.OpenBrace opening → IsMark m.CloseBrace closing
-          → Members room ts members →
+      → Members room ts members →
       Top (suc room) (word ∷ named ∷ opening ∷ ts ++ closing ∷ []) (item.Class word.line name members)
   thread : {room : ℕ} {ts : Tokens} {all : List StmtTree} (word counted : Token) (number : ℤ) →
       IsKeyword k.Thread word → counted.form ≡ form.Number (Some number) → Block room ts all →

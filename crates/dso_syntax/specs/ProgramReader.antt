@@ -1,6 +1,6 @@
 -- A reader of statements, members and whole programs over tokens, as a function, step by step as a parser goes.
-use Rattle.std.specs.Prelude.{
-  ℕ, zero, suc, Bool, true, false, if◌then◌else◌, List, [], ◌∷◌, length, Option, Some, None, Ok, Err, ℤ}
+use Rattle.std.specs.Prelude.{ℕ, zero, suc, Bool, true, false, if◌then◌else◌, List, [], ◌∷◌, length, Option, Some}
+use Rattle.std.specs.Prelude.{None, Ok, Err, ℤ}
 use Rattle.dso_base.specs.declared.value.Kind.{Kind}
 use Rattle.dso_tokens.specs.declared.token.Keyword.{Keyword}
 use Rattle.dso_tokens.specs.declared.token.Keyword.TheVariants as k
@@ -20,9 +20,9 @@ use Rattle.dso_syntax.specs.declared.tree.ExprTree.{ExprTree, out-ExprTree}
 use Rattle.dso_syntax.specs.declared.tree.ExprForm.{out-ExprForm}
 use Rattle.dso_syntax.specs.Grammar.{Tokens, line_of}
 use Rattle.dso_syntax.specs.ProgramGrammar.{statement, is_place}
-use Rattle.dso_syntax.specs.ExpressionReader.{
-  unexpected, too_wide, Outcome, Parser, and_then, pure, refuse, is_mark, is_keyword, next_mark, next_keyword,
-  take_any, take_mark, take_keyword, enter, leave, open_mark, close_mark, take_name, whole}
+use Rattle.dso_syntax.specs.ExpressionReader.{unexpected, too_wide, Outcome, Parser, and_then, pure, refuse, is_mark}
+use Rattle.dso_syntax.specs.ExpressionReader.{is_keyword, next_mark, next_keyword, take_any, take_mark, take_keyword}
+use Rattle.dso_syntax.specs.ExpressionReader.{enter, leave, open_mark, close_mark, take_name, whole}
 
 -- something in parentheses
 abbrev pub parenthesized : {A : Type 0} → Parser A → Parser A
@@ -71,8 +71,8 @@ behind_expression expr a i =
     if is_mark m.Assign (next_mark i.tokens)
     then (if is_place (out-ExprForm (out-ExprTree a).form)
     then and_then (take_any i)
-        (λ _ j. and_then (expr j)
-        (λ b l. and_then (take_mark m.Semicolon l) (λ _. pure (statement (line_of a) (s.Assign a b)))))
+    (λ _ j. and_then (expr j)
+    (λ b l. and_then (take_mark m.Semicolon l) (λ _. pure (statement (line_of a) (s.Assign a b)))))
     else refuse i)
     else and_then (take_mark m.Semicolon i) (λ _. pure (statement (line_of a) (s.Eval a)))
 
@@ -80,7 +80,7 @@ behind_expression expr a i =
 abbrev pub behind_waited : Parser ExprTree → ExprTree → Parser StmtForm
 behind_waited expr a i =
     if is_mark m.Comma (next_mark i.tokens)
-        then and_then (take_any i) (λ _ j. and_then (expr j) (λ b. pure (s.TimedWait a b)))
+    then and_then (take_any i) (λ _ j. and_then (expr j) (λ b. pure (s.TimedWait a b)))
     else Ok (s.Wait a, i)
 
 -- what stands in the parentheses of a `wait`
@@ -97,8 +97,8 @@ behind_return expr line i =
 abbrev pub behind_var : Parser ExprTree → ℕ → Parser StmtTree
 behind_var expr line i =
     and_then (take_name i) (λ name j. and_then (take_mark m.Assign j)
-        (λ _ l. and_then (expr l)
-        (λ a q. and_then (take_mark m.Semicolon q) (λ _. pure (statement line (s.Var name a))))))
+    (λ _ l. and_then (expr l)
+    (λ a q. and_then (take_mark m.Semicolon q) (λ _. pure (statement line (s.Var name a))))))
 
 -- behind the block of an `if`; `chain` reads an `if`
 abbrev pub behind_then : Parser StmtTree → Parser (List StmtTree) → ℕ → ExprTree → List StmtTree → Parser StmtTree
@@ -107,7 +107,7 @@ behind_then chain block line a all i =
     then and_then (take_any i) (λ _ j.
     if is_keyword k.If (next_keyword j.tokens)
     then and_then (enter j) (λ _ l. and_then (chain l)
-        (λ other q. and_then (leave q) (λ _. pure (statement line (s.If a all (other ∷ []))))))
+    (λ other q. and_then (leave q) (λ _. pure (statement line (s.If a all (other ∷ []))))))
     else and_then (block j) (λ others. pure (statement line (s.If a all others))))
     else Ok (statement line (s.If a all []), i)
 
@@ -149,7 +149,7 @@ abbrev pub names : ℕ → Parser (List Ident)
 names zero i = refuse i
 names (suc n) i = and_then (take_name i) (λ name j.
     if is_mark m.Comma (next_mark j.tokens)
-        then and_then (take_any j) (λ _ l. and_then (names n l) (λ all. pure (name ∷ all))) else pure (name ∷ []) j)
+    then and_then (take_any j) (λ _ l. and_then (names n l) (λ all. pure (name ∷ all))) else pure (name ∷ []) j)
 
 -- the parameters up to the closing parenthesis
 abbrev pub parameters : Parser (List Ident)
@@ -159,9 +159,9 @@ parameters i = if is_mark m.CloseParen (next_mark i.tokens) then Ok ([], i) else
 abbrev pub method : Parser (List StmtTree) → ℕ → Bool → Parser Member
 method block line synced i =
     and_then (take_name i) (λ name j. and_then (open_mark m.OpenParen j)
-        (λ _ l. and_then (parameters l)
-        (λ params q. and_then (close_mark m.CloseParen q)
-        (λ _ r. and_then (block r) (λ body. pure (member.Method line synced name params body))))))
+    (λ _ l. and_then (parameters l)
+    (λ params q. and_then (close_mark m.CloseParen q)
+    (λ _ r. and_then (block r) (λ body. pure (member.Method line synced name params body))))))
 
 -- what a member's first word makes of it
 pub data Start : Type 0 where
@@ -217,11 +217,11 @@ abbrev pub one_item : Parser (List StmtTree) → Parser Item
 one_item block i =
     if is_keyword k.Class (next_keyword i.tokens)
     then and_then (take_any i)
-        (λ t j. and_then (take_name j)
-        (λ name l. and_then (braced (one_member block) l) (λ members. pure (item.Class t.line name members))))
+    (λ t j. and_then (take_name j)
+    (λ name l. and_then (braced (one_member block) l) (λ members. pure (item.Class t.line name members))))
     else and_then (take_keyword k.Thread i)
-        (λ t j. and_then (number_from j.room j.tokens)
-        (λ n l. and_then (block l) (λ body. pure (item.Thread t.line n.0 n.1 body))))
+    (λ t j. and_then (number_from j.room j.tokens)
+    (λ n l. and_then (block l) (λ body. pure (item.Thread t.line n.0 n.1 body))))
 
 -- classes and threads up to the end; the number bounds how many
 abbrev pub items_from : Parser (List StmtTree) → ℕ → ℕ → Tokens → Outcome (List Item)
@@ -229,7 +229,7 @@ items_from block n room [] = Ok ([], record { tokens = []; room = room })
 items_from block zero room (t ∷ rest) = Err (unexpected, t ∷ rest)
 items_from block (suc n) room (t ∷ rest) =
     and_then (one_item block (record { tokens = t ∷ rest; room = room }))
-        (λ a j. and_then (items_from block n j.room j.tokens) (λ all. pure (a ∷ all)))
+    (λ a j. and_then (items_from block n j.room j.tokens) (λ all. pure (a ∷ all)))
 
 -- a whole program with so many levels of nesting at most
 abbrev pub program : ℕ → Tokens → Outcome (List Item)

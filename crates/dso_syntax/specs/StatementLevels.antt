@@ -16,9 +16,9 @@ use Rattle.dso_syntax.specs.declared.blockless.Guarding.{Guarding}
 use Rattle.dso_syntax.specs.declared.blockless.Guarding.TheVariants as guarding
 use Rattle.dso_syntax.specs.declared.blockless.Else.{Else}
 use Rattle.dso_syntax.specs.declared.blockless.Else.TheVariants as part
-use Rattle.dso_syntax.specs.ExpressionReader.{
-  Parser, and_then, pure, refuse, is_mark, is_keyword, next_mark, next_keyword, take_any, take_mark, take_keyword,
-  take_name, enter, leave, open_mark, close_mark}
+use Rattle.dso_syntax.specs.ExpressionReader.{Parser, and_then, pure, refuse, is_mark, is_keyword, next_mark}
+use Rattle.dso_syntax.specs.ExpressionReader.{next_keyword, take_any, take_mark, take_keyword, take_name, enter}
+use Rattle.dso_syntax.specs.ExpressionReader.{leave, open_mark, close_mark}
 use Rattle.dso_syntax.specs.TextLimits.{most_levels}
 use Rattle.dso_syntax.specs.ProgramReader.{Lead}
 use Rattle.dso_syntax.specs.ProgramGrammar as program
@@ -53,8 +53,8 @@ abbrev pub behind_waited : ℕ → ExprTree → Parser StmtTree
 behind_waited line a i =
     if is_mark m.Comma (next_mark i.tokens)
     then and_then (take_any i)
-        (λ _ j. and_then (expr j)
-        (λ b l. and_then (wait_end l) (λ _. pure (program.statement line (s.TimedWait a b)))))
+    (λ _ j. and_then (expr j)
+    (λ b l. and_then (wait_end l) (λ _. pure (program.statement line (s.TimedWait a b)))))
     else and_then (wait_end i) (λ _. pure (program.statement line (s.Wait a)))
 
 -- a `wait`
@@ -80,8 +80,8 @@ abbrev pub else_part : Parser Else
 else_part i =
     if is_keyword k.Else (next_keyword i.tokens)
     then and_then (take_any i)
-        (λ _ j. if is_keyword k.If (next_keyword j.tokens) then and_then (enter j) (λ _. pure part.Chained)
-        else Ok (part.Block, j))
+    (λ _ j. if is_keyword k.If (next_keyword j.tokens) then and_then (enter j) (λ _. pure part.Chained)
+    else Ok (part.Block, j))
     else Ok (part.Nothing, i)
 
 -- a statement without a block, by its lead
@@ -134,5 +134,5 @@ class i = and_then (take_any i)
 abbrev pub thread : Parser Item
 thread i =
     and_then (take_keyword k.Thread i)
-        (λ t j. and_then (reader.number_from j.room j.tokens)
-        (λ n l. and_then (body l) (λ all. pure (item.Thread t.line n.0 n.1 all))))
+    (λ t j. and_then (reader.number_from j.room j.tokens)
+    (λ n l. and_then (body l) (λ all. pure (item.Thread t.line n.0 n.1 all))))

@@ -24,7 +24,7 @@ pub data Reads : ℕ → ℕ → Text → List Token → Ending → Type 0 where
   takes : {place line : ℕ} {text rest : Text} {tokens : List Token} {end : Ending} (word : Text) (form : Form) →
       text ≡ word ++ rest → begins_comment text ≡ false → IsToken form word rest →
       Reads (place + length word) line rest tokens end
-          → Reads place line text (record { place = place; line = line; form = form } ∷ tokens) end
+      → Reads place line text (record { place = place; line = line; form = form } ∷ tokens) end
   -- a byte that no program has
   bad_byte : {place line b : ℕ} {rest : Text} → is_allowed b ≡ false
       → Reads place line (b ∷ rest) [] (ending.BadByte place)
@@ -32,4 +32,4 @@ pub data Reads : ℕ → ℕ → Text → List Token → Ending → Type 0 where
   bad_token : {place line b : ℕ} {rest : Text} → is_allowed b ≡ true → is_white b ≡ false → begins_comment (b ∷ rest)
       ≡ false →
       ((word behind : Text) (form : Form) → b ∷ rest ≡ word ++ behind → IsToken form word behind → ⊥)
-          → Reads place line (b ∷ rest) [] (ending.BadToken place)
+      → Reads place line (b ∷ rest) [] (ending.BadToken place)

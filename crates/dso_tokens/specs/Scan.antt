@@ -1,8 +1,7 @@
 -- What stands at the front of a text, by its first bytes: how the reader of tokens finds it.
 -- `Token` says what a token is; `TokenLaws` of the proofs says that this finds exactly that.
-use Rattle.std.specs.Prelude.{
-  ℕ, ◌+◌, ◌||◌, ◌&&◌, ◌==◌, nat_le, Bool, true, false, if◌then◌else◌, List, [], ◌∷◌, length, take, drop, find,
-  Option, Some, None}
+use Rattle.std.specs.Prelude.{ℕ, ◌+◌, ◌||◌, ◌&&◌, ◌==◌, nat_le, Bool, true, false, if◌then◌else◌, List, [], ◌∷◌}
+use Rattle.std.specs.Prelude.{length, take, drop, find, Option, Some, None}
 use Rattle.std.specs.List.{prefix_len, starts_with}
 use Rattle.std.specs.Str.{bytes_eq}
 use Rattle.std.specs.Prelude.{nat_eq}
@@ -14,8 +13,8 @@ use Rattle.dso_tokens.specs.declared.literal.LiteralByte.{LiteralByte}
 use Rattle.dso_tokens.specs.declared.literal.LiteralByte.TheVariants as literal_byte
 use Rattle.dso_tokens.specs.declared.scan.Front.{Front}
 use Rattle.dso_tokens.specs.declared.scan.Front.TheVariants as front
-use Rattle.dso_tokens.specs.Bytes.{
-  Text, is_white, is_allowed, is_of_line, is_letter, is_digit, is_word, is_printable, begins}
+use Rattle.dso_tokens.specs.Bytes.{Text, is_white, is_allowed, is_of_line, is_letter, is_digit, is_word, is_printable}
+use Rattle.dso_tokens.specs.Bytes.{begins}
 use Rattle.dso_tokens.specs.Spelling.{word_of, symbol_of, every_keyword, double_marks, single_marks}
 use Rattle.dso_tokens.specs.TokenLimits.{longest_name, longest_content}
 use Rattle.dso_tokens.specs.Token.{number_of}

@@ -1,7 +1,6 @@
 -- The tokens of a text: what bytes are which token, and where a token ends.
-use Rattle.std.specs.Prelude.{
-  ◌≡◌, ◌≢◌, ℕ, ◌+◌, ◌*◌, ◌-◌, ◌≤◌, ◌||◌, ◌==◌, nat_le, true, false, if◌then◌else◌, [], ◌∷◌, ◌++◌, length, fold,
-  flat_map, Option, Some, None, ℤ, pos}
+use Rattle.std.specs.Prelude.{◌≡◌, ◌≢◌, ℕ, ◌+◌, ◌*◌, ◌-◌, ◌≤◌, ◌||◌, ◌==◌, nat_le, true, false, if◌then◌else◌, []}
+use Rattle.std.specs.Prelude.{◌∷◌, ◌++◌, length, fold, flat_map, Option, Some, None, ℤ, pos}
 use Rattle.std.specs.List.{list_all}
 use Rattle.dso_tokens.specs.declared.token.Keyword.{Keyword}
 use Rattle.dso_tokens.specs.declared.token.Mark.{Mark}
@@ -27,16 +26,16 @@ escaped b = if b == 34 || b == 92 then 92 ∷ b ∷ [] else b ∷ []
 abbrev pub IsToken : Form → Text → Text → Type 0
 IsToken (form.Name name) word rest =
     (word ≡ name) × (begins is_letter word ≡ true) × (list_all is_word word ≡ true) × (begins is_word rest ≡ false) ×
-        (length word ≤ longest_name)
+    (length word ≤ longest_name)
     × ((reserved : Keyword) → word ≢ word_of reserved)
 IsToken (form.Keyword reserved) word rest = (word ≡ word_of reserved) × (begins is_word rest ≡ false)
 IsToken (form.Number value) word rest =
     (value ≡ number_of word) × (begins is_digit word ≡ true) × (list_all is_digit word ≡ true) ×
-        (begins is_word rest ≡ false)
+    (begins is_word rest ≡ false)
 IsToken (form.Text content) word rest =
     (word ≡ 34 ∷ flat_map escaped content ++ 34 ∷ []) × (list_all is_printable content ≡ true) ×
-        (length content ≤ longest_content)
+    (length content ≤ longest_content)
 IsToken (form.Mark mark) word rest =
     (word ≡ symbol_of mark) ×
-        ((other : Mark) (behind : Text) → word ++ rest ≡ symbol_of other ++ behind
-        → length (symbol_of other) ≤ length word)
+    ((other : Mark) (behind : Text) → word ++ rest ≡ symbol_of other ++ behind
+    → length (symbol_of other) ≤ length word)

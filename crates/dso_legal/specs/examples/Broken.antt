@@ -26,8 +26,13 @@ use Rattle.dso_legal.specs.examples.Words.{thread, txn, act, entry, trigger, cla
 -- one class with one long field, one client with one thread, whose connection breaks at once and after two messages
 abbrev pub settings : Settings
 settings = record {
-  shape = record { classes = class_of_fields (record { kind = kind.Long; guard = guard.Own } ∷ [])
-      ∷ []; roots = 0; names = 0; texts = 0 };
+  shape = record {
+    classes = class_of_fields (record { kind = kind.Long; guard = guard.Own } ∷ [])
+        ∷ [];
+    roots = 0;
+    names = 0;
+    texts = 0;
+  };
   clients = 1;
   resident = 4096;
   threads = thread 1 1 ∷ [];
@@ -37,8 +42,11 @@ settings = record {
 
 -- what each thread asks, in order
 abbrev pub scripts : List (ThreadId × List Request)
-scripts = (thread 1 1, (request.New (class.Plain 0) 1) ∷ (request.Enter (Mon 1) Write)
-    ∷ (request.Print (value.Long (pos 7))) ∷ (request.Print (value.Long (pos 8))) ∷ (request.End None) ∷ []) ∷ []
+scripts = (
+  thread 1 1,
+  (request.New (class.Plain 0) 1) ∷ (request.Enter (Mon 1) Write)
+      ∷ (request.Print (value.Long (pos 7))) ∷ (request.Print (value.Long (pos 8))) ∷ (request.End None) ∷ [],
+) ∷ []
 
 -- the next request of a thread: that of its script after as many events
 abbrev pub next : ThreadId → List Event → Option Request
@@ -51,12 +59,12 @@ entries = entry 11 (Client 1) (input.TookDown (down.Ack 1)) [] None
     ∷ entry 10 (Client 1) (input.Rejoin 1) [] None
     ∷ entry 11 Server (input.Break 1) [] None
     ∷ entry 10 Server (input.TookUp 1
-      (up.Commit (txn 1 (thread 1 1) [] [] ((value.Long (pos 7)) ∷ (value.Long (pos 8)) ∷ []) [] (ending.End None))))
-      ((ToClient 1 (down.Ack 1)) ∷ []) None
+    (up.Commit (txn 1 (thread 1 1) [] [] ((value.Long (pos 7)) ∷ (value.Long (pos 8)) ∷ []) [] (ending.End None))))
+    ((ToClient 1 (down.Ack 1)) ∷ []) None
     ∷ entry 9 (Client 1) (input.Act 1)
-      ((ToServer
-      (up.Commit (txn 1 (thread 1 1) [] [] ((value.Long (pos 7)) ∷ (value.Long (pos 8)) ∷ []) [] (ending.End None))))
-      ∷ []) (Some (act (thread 1 1) (request.End None) reply.Done None))
+    ((ToServer
+    (up.Commit (txn 1 (thread 1 1) [] [] ((value.Long (pos 7)) ∷ (value.Long (pos 8)) ∷ []) [] (ending.End None))))
+    ∷ []) (Some (act (thread 1 1) (request.End None) reply.Done None))
     ∷ entry 8 (Client 1) (input.Act 1) [] (Some (act (thread 1 1) (request.Print (value.Long (pos 8))) reply.Done None))
     ∷ entry 7 (Client 1) (input.Act 1) [] (Some (act (thread 1 1) (request.Print (value.Long (pos 7))) reply.Done None))
     ∷ entry 6 (Client 1) (input.Act 1) [] (Some (act (thread 1 1) (request.Enter (Mon 1) Write) reply.Local None))

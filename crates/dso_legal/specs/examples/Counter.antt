@@ -26,8 +26,13 @@ use Rattle.dso_legal.specs.examples.Words.{thread, body, set, txn, act, entry, c
 -- one class with one long field guarded by its monitor, one root, one client with one thread
 abbrev pub settings : Settings
 settings = record {
-  shape = record { classes = class_of_fields (record { kind = kind.Long; guard = guard.Own } ∷ [])
-      ∷ []; roots = 1; names = 1; texts = 0 };
+  shape = record {
+    classes = class_of_fields (record { kind = kind.Long; guard = guard.Own } ∷ [])
+        ∷ [];
+    roots = 1;
+    names = 1;
+    texts = 0;
+  };
   clients = 1;
   resident = 4096;
   threads = thread 1 1 ∷ [];
@@ -37,11 +42,14 @@ settings = record {
 
 -- what each thread asks, in order
 abbrev pub scripts : List (ThreadId × List Request)
-scripts = (thread 1 1, (request.New (class.Plain 0) 1) ∷ (request.Enter (Name 0) Write) ∷ (request.Get 0 0)
-    ∷ (request.Put 0 0 (value.Ref 1)) ∷ (request.Exit (Name 0)) ∷ (request.Enter (Name 0) Read) ∷ (request.Get 0 0)
-    ∷ (request.Exit (Name 0)) ∷ (request.Look 1) ∷ (request.Enter (Mon 1) Write) ∷ (request.Look 1)
-    ∷ (request.Get 1 0) ∷ (request.Look 1) ∷ (request.Put 1 0 (value.Long (pos 1))) ∷ (request.Look 1)
-    ∷ (request.Get 1 0) ∷ (request.Print (value.Long (pos 1))) ∷ (request.Exit (Mon 1)) ∷ (request.End None) ∷ [])
+scripts = (
+  thread 1 1,
+  (request.New (class.Plain 0) 1) ∷ (request.Enter (Name 0) Write) ∷ (request.Get 0 0)
+      ∷ (request.Put 0 0 (value.Ref 1)) ∷ (request.Exit (Name 0)) ∷ (request.Enter (Name 0) Read) ∷ (request.Get 0 0)
+      ∷ (request.Exit (Name 0)) ∷ (request.Look 1) ∷ (request.Enter (Mon 1) Write) ∷ (request.Look 1)
+      ∷ (request.Get 1 0) ∷ (request.Look 1) ∷ (request.Put 1 0 (value.Long (pos 1))) ∷ (request.Look 1)
+      ∷ (request.Get 1 0) ∷ (request.Print (value.Long (pos 1))) ∷ (request.Exit (Mon 1)) ∷ (request.End None) ∷ [],
+)
     ∷ []
 
 -- the next request of a thread: that of its script after as many events
@@ -52,60 +60,60 @@ next t events = slice_get (script_of t scripts) (length events)
 abbrev pub entries : List Entry
 entries = entry 35 (Client 1) (input.TookDown (down.Ack 4)) [] None
     ∷ entry 34 Server (input.TookUp 1 (up.Commit (txn 4 (thread 1 1) [] [] [] [] (ending.End None))))
-      ((ToClient 1 (down.Ack 4)) ∷ []) None
+    ((ToClient 1 (down.Ack 4)) ∷ []) None
     ∷ entry 34 (Client 1) (input.TookDown (down.Ack 3)) [] None
     ∷ entry 33 (Client 1) (input.Act 1)
-      ((ToServer (up.Commit (txn 4 (thread 1 1) [] [] [] [] (ending.End None)))) ∷ [])
-      (Some (act (thread 1 1) (request.End None) reply.Done None))
+    ((ToServer (up.Commit (txn 4 (thread 1 1) [] [] [] [] (ending.End None)))) ∷ [])
+    (Some (act (thread 1 1) (request.End None) reply.Done None))
     ∷ entry 33 Server (input.TookUp 1
-      (up.Commit (txn 3 (thread 1 1) [] ((set 1 0 (value.Long (pos 1))) ∷ []) ((value.Long (pos 1)) ∷ []) []
-      (ending.Exit (Mon 1))))) ((ToClient 1 (down.Ack 3)) ∷ []) None
+    (up.Commit (txn 3 (thread 1 1) [] ((set 1 0 (value.Long (pos 1))) ∷ []) ((value.Long (pos 1)) ∷ []) []
+    (ending.Exit (Mon 1))))) ((ToClient 1 (down.Ack 3)) ∷ []) None
     ∷ entry 32 (Client 1) (input.Act 1)
-      ((ToServer
-      (up.Commit (txn 3 (thread 1 1) [] ((set 1 0 (value.Long (pos 1))) ∷ []) ((value.Long (pos 1)) ∷ []) []
-      (ending.Exit (Mon 1))))) ∷ []) (Some (act (thread 1 1) (request.Exit (Mon 1)) reply.Done None))
+    ((ToServer
+    (up.Commit (txn 3 (thread 1 1) [] ((set 1 0 (value.Long (pos 1))) ∷ []) ((value.Long (pos 1)) ∷ []) []
+    (ending.Exit (Mon 1))))) ∷ []) (Some (act (thread 1 1) (request.Exit (Mon 1)) reply.Done None))
     ∷ entry 31 (Client 1) (input.Act 1) []
-      (Some (act (thread 1 1) (request.Print (value.Long (pos 1))) reply.Done None))
+    (Some (act (thread 1 1) (request.Print (value.Long (pos 1))) reply.Done None))
     ∷ entry 30 (Client 1) (input.Act 1) []
-      (Some (act (thread 1 1) (request.Get 1 0) (reply.Val (value.Long (pos 1))) None))
+    (Some (act (thread 1 1) (request.Get 1 0) (reply.Val (value.Long (pos 1))) None))
     ∷ entry 29 (Client 1) (input.Act 1) []
-      (Some (act (thread 1 1) (request.Look 1) (reply.Seen (class.Plain 0) 1) None))
+    (Some (act (thread 1 1) (request.Look 1) (reply.Seen (class.Plain 0) 1) None))
     ∷ entry 28 (Client 1) (input.Act 1) []
-      (Some (act (thread 1 1) (request.Put 1 0 (value.Long (pos 1))) reply.Done None))
+    (Some (act (thread 1 1) (request.Put 1 0 (value.Long (pos 1))) reply.Done None))
     ∷ entry 27 (Client 1) (input.Act 1) []
-      (Some (act (thread 1 1) (request.Look 1) (reply.Seen (class.Plain 0) 1) None))
+    (Some (act (thread 1 1) (request.Look 1) (reply.Seen (class.Plain 0) 1) None))
     ∷ entry 26 (Client 1) (input.Act 1) []
-      (Some (act (thread 1 1) (request.Get 1 0) (reply.Val (value.Long (pos 0))) None))
+    (Some (act (thread 1 1) (request.Get 1 0) (reply.Val (value.Long (pos 0))) None))
     ∷ entry 25 (Client 1) (input.Act 1) []
-      (Some (act (thread 1 1) (request.Look 1) (reply.Seen (class.Plain 0) 1) None))
+    (Some (act (thread 1 1) (request.Look 1) (reply.Seen (class.Plain 0) 1) None))
     ∷ entry 24 (Client 1) (input.Act 1) [] (Some (act (thread 1 1) (request.Enter (Mon 1) Write) reply.Done None))
     ∷ entry 23 (Client 1) (input.TookDown (down.Grant (Mon 1) Write)) [] None
     ∷ entry 22 Server (input.TookUp 1 (up.Request (Mon 1) Write)) ((ToClient 1 (down.Grant (Mon 1) Write)) ∷ []) None
     ∷ entry 21 (Client 1) (input.Act 1) ((ToServer (up.Request (Mon 1) Write)) ∷ []) None
     ∷ entry 20 (Client 1) (input.TookDown (down.Ack 2)) [] None
     ∷ entry 19 (Client 1) (input.Act 1) []
-      (Some (act (thread 1 1) (request.Look 1) (reply.Seen (class.Plain 0) 1) None))
+    (Some (act (thread 1 1) (request.Look 1) (reply.Seen (class.Plain 0) 1) None))
     ∷ entry 19 Server (input.TookUp 1 (up.Commit (txn 2 (thread 1 1) [] [] [] [] (ending.Exit (Name 0)))))
-      ((ToClient 1 (down.Ack 2)) ∷ []) None
+    ((ToClient 1 (down.Ack 2)) ∷ []) None
     ∷ entry 18 (Client 1) (input.Act 1)
-      ((ToServer (up.Commit (txn 2 (thread 1 1) [] [] [] [] (ending.Exit (Name 0))))) ∷ [])
-      (Some (act (thread 1 1) (request.Exit (Name 0)) reply.Done None))
+    ((ToServer (up.Commit (txn 2 (thread 1 1) [] [] [] [] (ending.Exit (Name 0))))) ∷ [])
+    (Some (act (thread 1 1) (request.Exit (Name 0)) reply.Done None))
     ∷ entry 17 (Client 1) (input.Act 1) [] (Some (act (thread 1 1) (request.Get 0 0) (reply.Val (value.Ref 1)) None))
     ∷ entry 16 (Client 1) (input.TookDown (down.Ack 1)) [] None
     ∷ entry 15 (Client 1) (input.Act 1) [] (Some (act (thread 1 1) (request.Enter (Name 0) Read) reply.Done None))
     ∷ entry 15 Server (input.TookUp 1
-      (up.Commit (txn 1 (thread 1 1) ((body 1 (class.Plain 0) ((value.Long (pos 0)) ∷ [])) ∷ [])
-      ((set 0 0 (value.Ref 1)) ∷ []) [] [] (ending.Exit (Name 0))))) ((ToClient 1 (down.Ack 1)) ∷ []) None
+    (up.Commit (txn 1 (thread 1 1) ((body 1 (class.Plain 0) ((value.Long (pos 0)) ∷ [])) ∷ [])
+    ((set 0 0 (value.Ref 1)) ∷ []) [] [] (ending.Exit (Name 0))))) ((ToClient 1 (down.Ack 1)) ∷ []) None
     ∷ entry 14 (Client 1) (input.Act 1)
-      ((ToServer
-      (up.Commit (txn 1 (thread 1 1) ((body 1 (class.Plain 0) ((value.Long (pos 0)) ∷ [])) ∷ [])
-      ((set 0 0 (value.Ref 1)) ∷ []) [] [] (ending.Exit (Name 0))))) ∷ [])
-      (Some (act (thread 1 1) (request.Exit (Name 0)) reply.Done None))
+    ((ToServer
+    (up.Commit (txn 1 (thread 1 1) ((body 1 (class.Plain 0) ((value.Long (pos 0)) ∷ [])) ∷ [])
+    ((set 0 0 (value.Ref 1)) ∷ []) [] [] (ending.Exit (Name 0))))) ∷ [])
+    (Some (act (thread 1 1) (request.Exit (Name 0)) reply.Done None))
     ∷ entry 13 (Client 1) (input.Act 1) [] (Some (act (thread 1 1) (request.Put 0 0 (value.Ref 1)) reply.Done None))
     ∷ entry 12 (Client 1) (input.Act 1) [] (Some (act (thread 1 1) (request.Get 0 0) (reply.Val value.Null) None))
     ∷ entry 11 (Client 1) (input.TookDown (down.Object (body 0 class.Roots (value.Null ∷ [])))) [] None
     ∷ entry 10 Server (input.TookUp 1 (up.Fault 0))
-      ((ToClient 1 (down.Object (body 0 class.Roots (value.Null ∷ [])))) ∷ []) None
+    ((ToClient 1 (down.Object (body 0 class.Roots (value.Null ∷ [])))) ∷ []) None
     ∷ entry 9 (Client 1) (input.Act 1) ((ToServer (up.Fault 0)) ∷ []) None
     ∷ entry 8 (Client 1) (input.Act 1) [] (Some (act (thread 1 1) (request.Enter (Name 0) Write) reply.Done None))
     ∷ entry 7 (Client 1) (input.TookDown (down.Grant (Name 0) Write)) [] None

@@ -27,8 +27,13 @@ use Rattle.dso_legal.specs.examples.Words.{thread, note, txn, act, entry, class_
 -- one class, one root, two clients with a thread each
 abbrev pub settings : Settings
 settings = record {
-  shape = record { classes = class_of_fields (record { kind = kind.Long; guard = guard.Own } ∷ [])
-      ∷ []; roots = 1; names = 1; texts = 0 };
+  shape = record {
+    classes = class_of_fields (record { kind = kind.Long; guard = guard.Own } ∷ [])
+        ∷ [];
+    roots = 1;
+    names = 1;
+    texts = 0;
+  };
   clients = 2;
   resident = 4096;
   threads = thread 1 1 ∷ thread 2 1 ∷ [];
@@ -38,10 +43,16 @@ settings = record {
 
 -- what each thread asks, in order
 abbrev pub scripts : List (ThreadId × List Request)
-scripts = (thread 1 1, (request.Enter (Name 0) Write) ∷ (request.Wait (Name 0)) ∷ (request.Tick (Name 0))
-    ∷ (request.Timeout (Name 0)) ∷ (request.Resume (Name 0)) ∷ (request.Exit (Name 0)) ∷ (request.End None) ∷ [])
-    ∷ (thread 2 1, (request.Enter (Name 0) Write) ∷ (request.Notify (Name 0)) ∷ (request.Exit (Name 0))
-    ∷ (request.End None) ∷ []) ∷ []
+scripts = (
+  thread 1 1,
+  (request.Enter (Name 0) Write) ∷ (request.Wait (Name 0)) ∷ (request.Tick (Name 0))
+      ∷ (request.Timeout (Name 0)) ∷ (request.Resume (Name 0)) ∷ (request.Exit (Name 0)) ∷ (request.End None) ∷ [],
+)
+    ∷ (
+      thread 2 1,
+      (request.Enter (Name 0) Write) ∷ (request.Notify (Name 0)) ∷ (request.Exit (Name 0))
+          ∷ (request.End None) ∷ [],
+    ) ∷ []
 
 -- the next request of a thread: that of its script after as many events
 abbrev pub next : ThreadId → List Event → Option Request
@@ -52,15 +63,15 @@ abbrev pub entries : List Entry
 entries = entry 24 (Client 1) (input.TookDown (down.Ack 4)) [] None
     ∷ entry 23 (Client 1) (input.TookDown (down.Ack 3)) [] None
     ∷ entry 23 Server (input.TookUp 1 (up.Commit (txn 4 (thread 1 1) [] [] [] [] (ending.End None))))
-      ((ToClient 1 (down.Ack 4)) ∷ []) None
+    ((ToClient 1 (down.Ack 4)) ∷ []) None
     ∷ entry 22 Server (input.TookUp 1 (up.Commit (txn 3 (thread 1 1) [] [] [] [] (ending.Exit (Name 0)))))
-      ((ToClient 1 (down.Ack 3)) ∷ []) None
+    ((ToClient 1 (down.Ack 3)) ∷ []) None
     ∷ entry 22 (Client 1) (input.Act 1)
-      ((ToServer (up.Commit (txn 4 (thread 1 1) [] [] [] [] (ending.End None)))) ∷ [])
-      (Some (act (thread 1 1) (request.End None) reply.Done None))
+    ((ToServer (up.Commit (txn 4 (thread 1 1) [] [] [] [] (ending.End None)))) ∷ [])
+    (Some (act (thread 1 1) (request.End None) reply.Done None))
     ∷ entry 21 (Client 1) (input.Act 1)
-      ((ToServer (up.Commit (txn 3 (thread 1 1) [] [] [] [] (ending.Exit (Name 0))))) ∷ [])
-      (Some (act (thread 1 1) (request.Exit (Name 0)) reply.Done None))
+    ((ToServer (up.Commit (txn 3 (thread 1 1) [] [] [] [] (ending.Exit (Name 0))))) ∷ [])
+    (Some (act (thread 1 1) (request.Exit (Name 0)) reply.Done None))
     ∷ entry 20 (Client 1) (input.Act 1) [] (Some (act (thread 1 1) (request.Resume (Name 0)) reply.Done None))
     ∷ entry 19 (Client 1) (input.TookDown (down.Grant (Name 0) Write)) [] None
     ∷ entry 18 Server (input.TookUp 2 (up.Return (Name 0) [])) ((ToClient 1 (down.Grant (Name 0) Write)) ∷ []) None
@@ -68,39 +79,39 @@ entries = entry 24 (Client 1) (input.TookDown (down.Ack 4)) [] None
     ∷ entry 16 (Client 1) (input.TookDown (down.Ack 2)) [] None
     ∷ entry 16 Server (input.TookUp 1 (up.Request (Name 0) Write)) ((ToClient 2 (down.Recall (Name 0))) ∷ []) None
     ∷ entry 15 Server (input.TookUp 1 (up.Commit (txn 2 (thread 1 1) [] [] [] [] (ending.Timeout (Name 0)))))
-      ((ToClient 1 (down.Ack 2)) ∷ []) None
+    ((ToClient 1 (down.Ack 2)) ∷ []) None
     ∷ entry 15 (Client 2) (input.TookDown (down.Ack 2)) [] None
     ∷ entry 14 Server (input.TookUp 2 (up.Commit (txn 2 (thread 2 1) [] [] [] [] (ending.End None))))
-      ((ToClient 2 (down.Ack 2)) ∷ []) None
+    ((ToClient 2 (down.Ack 2)) ∷ []) None
     ∷ entry 15 (Client 1) (input.Act 1) ((ToServer (up.Request (Name 0) Write)) ∷ []) None
     ∷ entry 14 (Client 1) (input.TookDown (down.Wake (Name 0) (thread 1 1))) [] None
     ∷ entry 14 (Client 2) (input.TookDown (down.Ack 1)) [] None
     ∷ entry 13 Server (input.TookUp 2
-      (up.Commit (txn 1 (thread 2 1) [] [] [] ((note (Name 0) choice.There) ∷ []) (ending.Exit (Name 0)))))
-      ((ToClient 2 (down.Ack 1)) ∷ (ToClient 1 (down.Wake (Name 0) (thread 1 1))) ∷ []) None
+    (up.Commit (txn 1 (thread 2 1) [] [] [] ((note (Name 0) choice.There) ∷ []) (ending.Exit (Name 0)))))
+    ((ToClient 2 (down.Ack 1)) ∷ (ToClient 1 (down.Wake (Name 0) (thread 1 1))) ∷ []) None
     ∷ entry 13 (Client 2) (input.Act 1)
-      ((ToServer (up.Commit (txn 2 (thread 2 1) [] [] [] [] (ending.End None)))) ∷ [])
-      (Some (act (thread 2 1) (request.End None) reply.Done None))
+    ((ToServer (up.Commit (txn 2 (thread 2 1) [] [] [] [] (ending.End None)))) ∷ [])
+    (Some (act (thread 2 1) (request.End None) reply.Done None))
     ∷ entry 12 (Client 2) (input.Act 1)
-      ((ToServer (up.Commit (txn 1 (thread 2 1) [] [] [] ((note (Name 0) choice.There) ∷ []) (ending.Exit (Name 0)))))
-      ∷ []) (Some (act (thread 2 1) (request.Exit (Name 0)) reply.Done None))
+    ((ToServer (up.Commit (txn 1 (thread 2 1) [] [] [] ((note (Name 0) choice.There) ∷ []) (ending.Exit (Name 0)))))
+    ∷ []) (Some (act (thread 2 1) (request.Exit (Name 0)) reply.Done None))
     ∷ entry 11 (Client 2) (input.Act 1) [] (Some (act (thread 2 1) (request.Notify (Name 0)) reply.Done None))
     ∷ entry 9 (Client 1) (input.Act 1)
-      ((ToServer (up.Commit (txn 2 (thread 1 1) [] [] [] [] (ending.Timeout (Name 0))))) ∷ [])
-      (Some (act (thread 1 1) (request.Timeout (Name 0)) reply.Done None))
+    ((ToServer (up.Commit (txn 2 (thread 1 1) [] [] [] [] (ending.Timeout (Name 0))))) ∷ [])
+    (Some (act (thread 1 1) (request.Timeout (Name 0)) reply.Done None))
     ∷ entry 10 (Client 2) (input.Act 1) [] (Some (act (thread 2 1) (request.Enter (Name 0) Write) reply.Done None))
     ∷ entry 9 (Client 2) (input.TookDown (down.Grant (Name 0) Write)) [] None
     ∷ entry 8 (Client 1) (input.TookDown (down.Ack 1)) [] None
     ∷ entry 8 Server (input.TookUp 1 (up.Return (Name 0) ((thread 1 1) ∷ [])))
-      ((ToClient 2 (down.Grant (Name 0) Write)) ∷ []) None
+    ((ToClient 2 (down.Grant (Name 0) Write)) ∷ []) None
     ∷ entry 7 Server (input.TookUp 1 (up.Commit (txn 1 (thread 1 1) [] [] [] [] (ending.Wait (Name 0)))))
-      ((ToClient 1 (down.Ack 1)) ∷ []) None
+    ((ToClient 1 (down.Ack 1)) ∷ []) None
     ∷ entry 7 (Client 1) (input.Act 1) []
-      (Some (act (thread 1 1) (request.Tick (Name 0)) (reply.Val (value.Bool false)) None))
+    (Some (act (thread 1 1) (request.Tick (Name 0)) (reply.Val (value.Bool false)) None))
     ∷ entry 6 (Client 1) (input.Act 1)
-      ((ToServer (up.Commit (txn 1 (thread 1 1) [] [] [] [] (ending.Wait (Name 0)))))
-      ∷ (ToServer (up.Return (Name 0) ((thread 1 1) ∷ []))) ∷ [])
-      (Some (act (thread 1 1) (request.Wait (Name 0)) reply.Done None))
+    ((ToServer (up.Commit (txn 1 (thread 1 1) [] [] [] [] (ending.Wait (Name 0)))))
+    ∷ (ToServer (up.Return (Name 0) ((thread 1 1) ∷ []))) ∷ [])
+    (Some (act (thread 1 1) (request.Wait (Name 0)) reply.Done None))
     ∷ entry 5 (Client 1) (input.TookDown (down.Recall (Name 0))) [] None
     ∷ entry 4 (Client 1) (input.Act 1) [] (Some (act (thread 1 1) (request.Enter (Name 0) Write) reply.Done None))
     ∷ entry 3 Server (input.TookUp 2 (up.Request (Name 0) Write)) ((ToClient 1 (down.Recall (Name 0))) ∷ []) None

@@ -26,8 +26,13 @@ use Rattle.dso_legal.specs.examples.Words.{thread, body, set, txn, act, entry, c
 -- one class with one reference field, one root, one client with one thread that keeps one object
 abbrev pub settings : Settings
 settings = record {
-  shape = record { classes = class_of_fields (record { kind = kind.Ref; guard = guard.Own } ∷ [])
-      ∷ []; roots = 1; names = 1; texts = 0 };
+  shape = record {
+    classes = class_of_fields (record { kind = kind.Ref; guard = guard.Own } ∷ [])
+        ∷ [];
+    roots = 1;
+    names = 1;
+    texts = 0;
+  };
   clients = 1;
   resident = 1;
   threads = thread 1 1 ∷ [];
@@ -37,10 +42,13 @@ settings = record {
 
 -- what each thread asks, in order
 abbrev pub scripts : List (ThreadId × List Request)
-scripts = (thread 1 1, (request.New (class.Plain 0) 1) ∷ (request.New (class.Plain 0) 1) ∷ (request.Look 1)
-    ∷ (request.Put 1 0 (value.Ref 2)) ∷ (request.Enter (Name 0) Write) ∷ (request.Get 0 0)
-    ∷ (request.Put 0 0 (value.Ref 1)) ∷ (request.Exit (Name 0)) ∷ (request.Look 1) ∷ (request.Get 1 0)
-    ∷ (request.Look 2) ∷ (request.Get 2 0) ∷ (request.Print value.Null) ∷ (request.End None) ∷ []) ∷ []
+scripts = (
+  thread 1 1,
+  (request.New (class.Plain 0) 1) ∷ (request.New (class.Plain 0) 1) ∷ (request.Look 1)
+      ∷ (request.Put 1 0 (value.Ref 2)) ∷ (request.Enter (Name 0) Write) ∷ (request.Get 0 0)
+      ∷ (request.Put 0 0 (value.Ref 1)) ∷ (request.Exit (Name 0)) ∷ (request.Look 1) ∷ (request.Get 1 0)
+      ∷ (request.Look 2) ∷ (request.Get 2 0) ∷ (request.Print value.Null) ∷ (request.End None) ∷ [],
+) ∷ []
 
 -- the next request of a thread: that of its script after as many events
 abbrev pub next : ThreadId → List Event → Option Request
@@ -50,19 +58,19 @@ next t events = slice_get (script_of t scripts) (length events)
 abbrev pub entries : List Entry
 entries = entry 32 (Client 1) (input.TookDown (down.Ack 2)) [] None
     ∷ entry 31 Server (input.TookUp 1 (up.Commit (txn 2 (thread 1 1) [] [] (value.Null ∷ []) [] (ending.End None))))
-      ((ToClient 1 (down.Ack 2)) ∷ []) None
+    ((ToClient 1 (down.Ack 2)) ∷ []) None
     ∷ entry 30 (Client 1) (input.Act 1)
-      ((ToServer (up.Commit (txn 2 (thread 1 1) [] [] (value.Null ∷ []) [] (ending.End None)))) ∷ [])
-      (Some (act (thread 1 1) (request.End None) reply.Done None))
+    ((ToServer (up.Commit (txn 2 (thread 1 1) [] [] (value.Null ∷ []) [] (ending.End None)))) ∷ [])
+    (Some (act (thread 1 1) (request.End None) reply.Done None))
     ∷ entry 29 (Client 1) (input.Act 1) [] (Some (act (thread 1 1) (request.Print value.Null) reply.Done None))
     ∷ entry 28 (Client 1) (input.Act 1) [] (Some (act (thread 1 1) (request.Get 2 0) (reply.Val value.Null) None))
     ∷ entry 27 (Client 1) (input.Act 1) []
-      (Some (act (thread 1 1) (request.Look 2) (reply.Seen (class.Plain 0) 1) None))
+    (Some (act (thread 1 1) (request.Look 2) (reply.Seen (class.Plain 0) 1) None))
     ∷ entry 27 Server (input.TookUp 1 (up.Flushed 1)) [] None
     ∷ entry 26 (Client 1) (input.Flush 1) ((ToServer (up.Flushed 1)) ∷ []) None
     ∷ entry 25 (Client 1) (input.TookDown (down.Object (body 2 (class.Plain 0) (value.Null ∷ [])))) [] None
     ∷ entry 24 Server (input.TookUp 1 (up.Fault 2))
-      ((ToClient 1 (down.Object (body 2 (class.Plain 0) (value.Null ∷ [])))) ∷ []) None
+    ((ToClient 1 (down.Object (body 2 (class.Plain 0) (value.Null ∷ [])))) ∷ []) None
     ∷ entry 23 (Client 1) (input.Act 1) ((ToServer (up.Fault 2)) ∷ []) None
     ∷ entry 23 Server (input.TookUp 1 (up.Flushed 2)) [] None
     ∷ entry 22 (Client 1) (input.Flush 2) ((ToServer (up.Flushed 2)) ∷ []) None
@@ -71,22 +79,22 @@ entries = entry 32 (Client 1) (input.TookDown (down.Ack 2)) [] None
     ∷ entry 20 (Client 1) (input.Flush 0) ((ToServer (up.Flushed 0)) ∷ []) None
     ∷ entry 19 (Client 1) (input.TookDown (down.Ack 1)) [] None
     ∷ entry 18 (Client 1) (input.Act 1) []
-      (Some (act (thread 1 1) (request.Look 1) (reply.Seen (class.Plain 0) 1) None))
+    (Some (act (thread 1 1) (request.Look 1) (reply.Seen (class.Plain 0) 1) None))
     ∷ entry 18 Server (input.TookUp 1
-      (up.Commit (txn 1 (thread 1 1)
-      ((body 1 (class.Plain 0) ((value.Ref 2) ∷ [])) ∷ (body 2 (class.Plain 0) (value.Null ∷ [])) ∷ [])
-      ((set 0 0 (value.Ref 1)) ∷ []) [] [] (ending.Exit (Name 0))))) ((ToClient 1 (down.Ack 1)) ∷ []) None
+    (up.Commit (txn 1 (thread 1 1)
+    ((body 1 (class.Plain 0) ((value.Ref 2) ∷ [])) ∷ (body 2 (class.Plain 0) (value.Null ∷ [])) ∷ [])
+    ((set 0 0 (value.Ref 1)) ∷ []) [] [] (ending.Exit (Name 0))))) ((ToClient 1 (down.Ack 1)) ∷ []) None
     ∷ entry 17 (Client 1) (input.Act 1)
-      ((ToServer
-      (up.Commit (txn 1 (thread 1 1)
-      ((body 1 (class.Plain 0) ((value.Ref 2) ∷ [])) ∷ (body 2 (class.Plain 0) (value.Null ∷ [])) ∷ [])
-      ((set 0 0 (value.Ref 1)) ∷ []) [] [] (ending.Exit (Name 0))))) ∷ [])
-      (Some (act (thread 1 1) (request.Exit (Name 0)) reply.Done None))
+    ((ToServer
+    (up.Commit (txn 1 (thread 1 1)
+    ((body 1 (class.Plain 0) ((value.Ref 2) ∷ [])) ∷ (body 2 (class.Plain 0) (value.Null ∷ [])) ∷ [])
+    ((set 0 0 (value.Ref 1)) ∷ []) [] [] (ending.Exit (Name 0))))) ∷ [])
+    (Some (act (thread 1 1) (request.Exit (Name 0)) reply.Done None))
     ∷ entry 16 (Client 1) (input.Act 1) [] (Some (act (thread 1 1) (request.Put 0 0 (value.Ref 1)) reply.Done None))
     ∷ entry 15 (Client 1) (input.Act 1) [] (Some (act (thread 1 1) (request.Get 0 0) (reply.Val value.Null) None))
     ∷ entry 14 (Client 1) (input.TookDown (down.Object (body 0 class.Roots (value.Null ∷ [])))) [] None
     ∷ entry 13 Server (input.TookUp 1 (up.Fault 0))
-      ((ToClient 1 (down.Object (body 0 class.Roots (value.Null ∷ [])))) ∷ []) None
+    ((ToClient 1 (down.Object (body 0 class.Roots (value.Null ∷ [])))) ∷ []) None
     ∷ entry 12 (Client 1) (input.Act 1) ((ToServer (up.Fault 0)) ∷ []) None
     ∷ entry 11 (Client 1) (input.Act 1) [] (Some (act (thread 1 1) (request.Enter (Name 0) Write) reply.Done None))
     ∷ entry 10 (Client 1) (input.TookDown (down.Grant (Name 0) Write)) [] None

@@ -26,8 +26,13 @@ use Rattle.dso_legal.specs.examples.Words.{thread, note, txn, act, entry, trigge
 -- one class, one root, three clients with a thread each; the first is lost after three messages
 abbrev pub settings : Settings
 settings = record {
-  shape = record { classes = class_of_fields (record { kind = kind.Long; guard = guard.Own } ∷ [])
-      ∷ []; roots = 1; names = 1; texts = 0 };
+  shape = record {
+    classes = class_of_fields (record { kind = kind.Long; guard = guard.Own } ∷ [])
+        ∷ [];
+    roots = 1;
+    names = 1;
+    texts = 0;
+  };
   clients = 3;
   resident = 4096;
   threads = thread 1 1 ∷ thread 2 1 ∷ thread 3 1 ∷ [];
@@ -37,12 +42,21 @@ settings = record {
 
 -- what each thread asks, in order
 abbrev pub scripts : List (ThreadId × List Request)
-scripts = (thread 1 1, (request.Enter (Name 0) Write) ∷ (request.Wait (Name 0)) ∷ (request.Resume (Name 0))
-    ∷ (request.Exit (Name 0)) ∷ (request.End None) ∷ [])
-    ∷ (thread 2 1, (request.Enter (Name 0) Write) ∷ (request.Notify (Name 0)) ∷ (request.Exit (Name 0))
-    ∷ (request.End None) ∷ [])
-    ∷ (thread 3 1, (request.Enter (Name 0) Write) ∷ (request.Wait (Name 0)) ∷ (request.Resume (Name 0))
-    ∷ (request.Exit (Name 0)) ∷ (request.End None) ∷ []) ∷ []
+scripts = (
+  thread 1 1,
+  (request.Enter (Name 0) Write) ∷ (request.Wait (Name 0)) ∷ (request.Resume (Name 0))
+      ∷ (request.Exit (Name 0)) ∷ (request.End None) ∷ [],
+)
+    ∷ (
+      thread 2 1,
+      (request.Enter (Name 0) Write) ∷ (request.Notify (Name 0)) ∷ (request.Exit (Name 0))
+          ∷ (request.End None) ∷ [],
+    )
+    ∷ (
+      thread 3 1,
+      (request.Enter (Name 0) Write) ∷ (request.Wait (Name 0)) ∷ (request.Resume (Name 0))
+          ∷ (request.Exit (Name 0)) ∷ (request.End None) ∷ [],
+    ) ∷ []
 
 -- the next request of a thread: that of its script after as many events
 abbrev pub next : ThreadId → List Event → Option Request
@@ -52,61 +66,61 @@ next t events = slice_get (script_of t scripts) (length events)
 abbrev pub entries : List Entry
 entries = entry 29 (Client 3) (input.TookDown (down.Ack 3)) [] None
     ∷ entry 28 Server (input.TookUp 3 (up.Commit (txn 3 (thread 3 1) [] [] [] [] (ending.End None))))
-      ((ToClient 3 (down.Ack 3)) ∷ []) None
+    ((ToClient 3 (down.Ack 3)) ∷ []) None
     ∷ entry 28 (Client 3) (input.TookDown (down.Ack 2)) [] None
     ∷ entry 27 Server (input.TookUp 3 (up.Commit (txn 2 (thread 3 1) [] [] [] [] (ending.Exit (Name 0)))))
-      ((ToClient 3 (down.Ack 2)) ∷ []) None
+    ((ToClient 3 (down.Ack 2)) ∷ []) None
     ∷ entry 27 (Client 3) (input.Act 1)
-      ((ToServer (up.Commit (txn 3 (thread 3 1) [] [] [] [] (ending.End None)))) ∷ [])
-      (Some (act (thread 3 1) (request.End None) reply.Done None))
+    ((ToServer (up.Commit (txn 3 (thread 3 1) [] [] [] [] (ending.End None)))) ∷ [])
+    (Some (act (thread 3 1) (request.End None) reply.Done None))
     ∷ entry 26 (Client 3) (input.Act 1)
-      ((ToServer (up.Commit (txn 2 (thread 3 1) [] [] [] [] (ending.Exit (Name 0))))) ∷ [])
-      (Some (act (thread 3 1) (request.Exit (Name 0)) reply.Done None))
+    ((ToServer (up.Commit (txn 2 (thread 3 1) [] [] [] [] (ending.Exit (Name 0))))) ∷ [])
+    (Some (act (thread 3 1) (request.Exit (Name 0)) reply.Done None))
     ∷ entry 25 (Client 3) (input.Act 1) [] (Some (act (thread 3 1) (request.Resume (Name 0)) reply.Done None))
     ∷ entry 24 (Client 3) (input.TookDown (down.Grant (Name 0) Write)) [] None
     ∷ entry 23 (Client 2) (input.TookDown (down.Ack 2)) [] None
     ∷ entry 23 Server (input.TookUp 2 (up.Return (Name 0) [])) ((ToClient 3 (down.Grant (Name 0) Write)) ∷ []) None
     ∷ entry 22 (Client 2) (input.TookDown (down.Recall (Name 0))) ((ToServer (up.Return (Name 0) [])) ∷ []) None
     ∷ entry 22 Server (input.TookUp 2 (up.Commit (txn 2 (thread 2 1) [] [] [] [] (ending.End None))))
-      ((ToClient 2 (down.Ack 2)) ∷ []) None
+    ((ToClient 2 (down.Ack 2)) ∷ []) None
     ∷ entry 21 Server (input.TookUp 3 (up.Request (Name 0) Write)) ((ToClient 2 (down.Recall (Name 0))) ∷ []) None
     ∷ entry 20 (Client 3) (input.Act 1) ((ToServer (up.Request (Name 0) Write)) ∷ []) None
     ∷ entry 19 (Client 3) (input.TookDown (down.Wake (Name 0) (thread 3 1))) [] None
     ∷ entry 19 (Client 2) (input.TookDown (down.Ack 1)) [] None
     ∷ entry 18 Server (input.TookUp 2
-      (up.Commit (txn 1 (thread 2 1) [] [] [] ((note (Name 0) choice.There) ∷ []) (ending.Exit (Name 0)))))
-      ((ToClient 2 (down.Ack 1)) ∷ (ToClient 3 (down.Wake (Name 0) (thread 3 1))) ∷ []) None
+    (up.Commit (txn 1 (thread 2 1) [] [] [] ((note (Name 0) choice.There) ∷ []) (ending.Exit (Name 0)))))
+    ((ToClient 2 (down.Ack 1)) ∷ (ToClient 3 (down.Wake (Name 0) (thread 3 1))) ∷ []) None
     ∷ entry 18 (Client 2) (input.Act 1)
-      ((ToServer (up.Commit (txn 2 (thread 2 1) [] [] [] [] (ending.End None)))) ∷ [])
-      (Some (act (thread 2 1) (request.End None) reply.Done None))
+    ((ToServer (up.Commit (txn 2 (thread 2 1) [] [] [] [] (ending.End None)))) ∷ [])
+    (Some (act (thread 2 1) (request.End None) reply.Done None))
     ∷ entry 17 (Client 2) (input.Act 1)
-      ((ToServer (up.Commit (txn 1 (thread 2 1) [] [] [] ((note (Name 0) choice.There) ∷ []) (ending.Exit (Name 0)))))
-      ∷ []) (Some (act (thread 2 1) (request.Exit (Name 0)) reply.Done None))
+    ((ToServer (up.Commit (txn 1 (thread 2 1) [] [] [] ((note (Name 0) choice.There) ∷ []) (ending.Exit (Name 0)))))
+    ∷ []) (Some (act (thread 2 1) (request.Exit (Name 0)) reply.Done None))
     ∷ entry 14 Server (input.Lose 1) [] None
     ∷ entry 16 (Client 2) (input.Act 1) [] (Some (act (thread 2 1) (request.Notify (Name 0)) reply.Done None))
     ∷ entry 15 (Client 2) (input.Act 1) [] (Some (act (thread 2 1) (request.Enter (Name 0) Write) reply.Done None))
     ∷ entry 14 (Client 2) (input.TookDown (down.Grant (Name 0) Write)) [] None
     ∷ entry 13 (Client 3) (input.TookDown (down.Ack 1)) [] None
     ∷ entry 13 Server (input.TookUp 3 (up.Return (Name 0) ((thread 3 1) ∷ [])))
-      ((ToClient 2 (down.Grant (Name 0) Write)) ∷ []) None
+    ((ToClient 2 (down.Grant (Name 0) Write)) ∷ []) None
     ∷ entry 12 Server (input.TookUp 3 (up.Commit (txn 1 (thread 3 1) [] [] [] [] (ending.Wait (Name 0)))))
-      ((ToClient 3 (down.Ack 1)) ∷ []) None
+    ((ToClient 3 (down.Ack 1)) ∷ []) None
     ∷ entry 12 (Client 3) (input.TookDown (down.Recall (Name 0)))
-      ((ToServer (up.Return (Name 0) ((thread 3 1) ∷ []))) ∷ []) None
+    ((ToServer (up.Return (Name 0) ((thread 3 1) ∷ []))) ∷ []) None
     ∷ entry 11 (Client 3) (input.Act 1)
-      ((ToServer (up.Commit (txn 1 (thread 3 1) [] [] [] [] (ending.Wait (Name 0))))) ∷ [])
-      (Some (act (thread 3 1) (request.Wait (Name 0)) reply.Done None))
+    ((ToServer (up.Commit (txn 1 (thread 3 1) [] [] [] [] (ending.Wait (Name 0))))) ∷ [])
+    (Some (act (thread 3 1) (request.Wait (Name 0)) reply.Done None))
     ∷ entry 10 (Client 3) (input.Act 1) [] (Some (act (thread 3 1) (request.Enter (Name 0) Write) reply.Done None))
     ∷ entry 9 (Client 3) (input.TookDown (down.Grant (Name 0) Write)) [] None
     ∷ entry 8 Server (input.TookUp 1 (up.Return (Name 0) ((thread 1 1) ∷ [])))
-      ((ToClient 3 (down.Grant (Name 0) Write)) ∷ (ToClient 3 (down.Recall (Name 0))) ∷ []) None
+    ((ToClient 3 (down.Grant (Name 0) Write)) ∷ (ToClient 3 (down.Recall (Name 0))) ∷ []) None
     ∷ entry 8 (Client 1) (input.TookDown (down.Ack 1)) [] None
     ∷ entry 7 Server (input.TookUp 1 (up.Commit (txn 1 (thread 1 1) [] [] [] [] (ending.Wait (Name 0)))))
-      ((ToClient 1 (down.Ack 1)) ∷ []) None
+    ((ToClient 1 (down.Ack 1)) ∷ []) None
     ∷ entry 6 (Client 1) (input.Act 1)
-      ((ToServer (up.Commit (txn 1 (thread 1 1) [] [] [] [] (ending.Wait (Name 0)))))
-      ∷ (ToServer (up.Return (Name 0) ((thread 1 1) ∷ []))) ∷ [])
-      (Some (act (thread 1 1) (request.Wait (Name 0)) reply.Done None))
+    ((ToServer (up.Commit (txn 1 (thread 1 1) [] [] [] [] (ending.Wait (Name 0)))))
+    ∷ (ToServer (up.Return (Name 0) ((thread 1 1) ∷ []))) ∷ [])
+    (Some (act (thread 1 1) (request.Wait (Name 0)) reply.Done None))
     ∷ entry 4 Server (input.TookUp 2 (up.Request (Name 0) Write)) [] None
     ∷ entry 5 (Client 1) (input.Act 1) [] (Some (act (thread 1 1) (request.Enter (Name 0) Write) reply.Done None))
     ∷ entry 4 (Client 1) (input.TookDown (down.Recall (Name 0))) [] None

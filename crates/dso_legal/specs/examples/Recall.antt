@@ -26,8 +26,13 @@ use Rattle.dso_legal.specs.examples.Words.{thread, body, set, txn, act, entry, c
 -- one class with one long field, one root, two clients with a thread each
 abbrev pub settings : Settings
 settings = record {
-  shape = record { classes = class_of_fields (record { kind = kind.Long; guard = guard.Own } ∷ [])
-      ∷ []; roots = 1; names = 1; texts = 0 };
+  shape = record {
+    classes = class_of_fields (record { kind = kind.Long; guard = guard.Own } ∷ [])
+        ∷ [];
+    roots = 1;
+    names = 1;
+    texts = 0;
+  };
   clients = 2;
   resident = 4096;
   threads = thread 1 1 ∷ thread 2 1 ∷ [];
@@ -37,11 +42,17 @@ settings = record {
 
 -- what each thread asks, in order
 abbrev pub scripts : List (ThreadId × List Request)
-scripts = (thread 1 1, (request.New (class.Plain 0) 1) ∷ (request.Look 1) ∷ (request.Put 1 0 (value.Long (pos 1)))
-    ∷ (request.Enter (Name 0) Write) ∷ (request.Get 0 0) ∷ (request.Put 0 0 (value.Ref 1)) ∷ (request.Exit (Name 0))
-    ∷ (request.End None) ∷ [])
-    ∷ (thread 2 1, (request.New (class.Plain 0) 1) ∷ (request.Look 257) ∷ (request.Put 257 0 (value.Long (pos 2)))
-    ∷ (request.Enter (Name 0) Write) ∷ (request.Get 0 0) ∷ (request.Exit (Name 0)) ∷ (request.End None) ∷ []) ∷ []
+scripts = (
+  thread 1 1,
+  (request.New (class.Plain 0) 1) ∷ (request.Look 1) ∷ (request.Put 1 0 (value.Long (pos 1)))
+      ∷ (request.Enter (Name 0) Write) ∷ (request.Get 0 0) ∷ (request.Put 0 0 (value.Ref 1)) ∷ (request.Exit (Name 0))
+      ∷ (request.End None) ∷ [],
+)
+    ∷ (
+      thread 2 1,
+      (request.New (class.Plain 0) 1) ∷ (request.Look 257) ∷ (request.Put 257 0 (value.Long (pos 2)))
+          ∷ (request.Enter (Name 0) Write) ∷ (request.Get 0 0) ∷ (request.Exit (Name 0)) ∷ (request.End None) ∷ [],
+    ) ∷ []
 
 -- the next request of a thread: that of its script after as many events
 abbrev pub next : ThreadId → List Event → Option Request
@@ -51,44 +62,44 @@ next t events = slice_get (script_of t scripts) (length events)
 abbrev pub entries : List Entry
 entries = entry 29 (Client 2) (input.TookDown (down.Ack 2)) [] None
     ∷ entry 28 Server (input.TookUp 2 (up.Commit (txn 2 (thread 2 1) [] [] [] [] (ending.End None))))
-      ((ToClient 2 (down.Ack 2)) ∷ []) None
+    ((ToClient 2 (down.Ack 2)) ∷ []) None
     ∷ entry 28 (Client 2) (input.TookDown (down.Ack 1)) [] None
     ∷ entry 27 (Client 2) (input.Act 1)
-      ((ToServer (up.Commit (txn 2 (thread 2 1) [] [] [] [] (ending.End None)))) ∷ [])
-      (Some (act (thread 2 1) (request.End None) reply.Done None))
+    ((ToServer (up.Commit (txn 2 (thread 2 1) [] [] [] [] (ending.End None)))) ∷ [])
+    (Some (act (thread 2 1) (request.End None) reply.Done None))
     ∷ entry 27 Server (input.TookUp 2 (up.Commit (txn 1 (thread 2 1) [] [] [] [] (ending.Exit (Name 0)))))
-      ((ToClient 2 (down.Ack 1)) ∷ []) None
+    ((ToClient 2 (down.Ack 1)) ∷ []) None
     ∷ entry 26 (Client 2) (input.Act 1)
-      ((ToServer (up.Commit (txn 1 (thread 2 1) [] [] [] [] (ending.Exit (Name 0))))) ∷ [])
-      (Some (act (thread 2 1) (request.Exit (Name 0)) reply.Done None))
+    ((ToServer (up.Commit (txn 1 (thread 2 1) [] [] [] [] (ending.Exit (Name 0))))) ∷ [])
+    (Some (act (thread 2 1) (request.Exit (Name 0)) reply.Done None))
     ∷ entry 25 (Client 2) (input.Act 1) [] (Some (act (thread 2 1) (request.Get 0 0) (reply.Val (value.Ref 1)) None))
     ∷ entry 24 (Client 2) (input.TookDown (down.Object (body 0 class.Roots ((value.Ref 1) ∷ [])))) [] None
     ∷ entry 23 Server (input.TookUp 2 (up.Fault 0))
-      ((ToClient 2 (down.Object (body 0 class.Roots ((value.Ref 1) ∷ [])))) ∷ []) None
+    ((ToClient 2 (down.Object (body 0 class.Roots ((value.Ref 1) ∷ [])))) ∷ []) None
     ∷ entry 22 (Client 2) (input.Act 1) ((ToServer (up.Fault 0)) ∷ []) None
     ∷ entry 21 (Client 2) (input.Act 1) [] (Some (act (thread 2 1) (request.Enter (Name 0) Write) reply.Done None))
     ∷ entry 21 (Client 1) (input.TookDown (down.Ack 2)) [] None
     ∷ entry 20 Server (input.TookUp 1 (up.Commit (txn 2 (thread 1 1) [] [] [] [] (ending.End None))))
-      ((ToClient 1 (down.Ack 2)) ∷ []) None
+    ((ToClient 1 (down.Ack 2)) ∷ []) None
     ∷ entry 20 (Client 2) (input.TookDown (down.Grant (Name 0) Write)) [] None
     ∷ entry 19 Server (input.TookUp 1 (up.Return (Name 0) [])) ((ToClient 2 (down.Grant (Name 0) Write)) ∷ []) None
     ∷ entry 19 (Client 1) (input.TookDown (down.Ack 1)) [] None
     ∷ entry 18 (Client 1) (input.Act 1)
-      ((ToServer (up.Commit (txn 2 (thread 1 1) [] [] [] [] (ending.End None)))) ∷ [])
-      (Some (act (thread 1 1) (request.End None) reply.Done None))
+    ((ToServer (up.Commit (txn 2 (thread 1 1) [] [] [] [] (ending.End None)))) ∷ [])
+    (Some (act (thread 1 1) (request.End None) reply.Done None))
     ∷ entry 18 Server (input.TookUp 1
-      (up.Commit (txn 1 (thread 1 1) ((body 1 (class.Plain 0) ((value.Long (pos 1)) ∷ [])) ∷ [])
-      ((set 0 0 (value.Ref 1)) ∷ []) [] [] (ending.Exit (Name 0))))) ((ToClient 1 (down.Ack 1)) ∷ []) None
+    (up.Commit (txn 1 (thread 1 1) ((body 1 (class.Plain 0) ((value.Long (pos 1)) ∷ [])) ∷ [])
+    ((set 0 0 (value.Ref 1)) ∷ []) [] [] (ending.Exit (Name 0))))) ((ToClient 1 (down.Ack 1)) ∷ []) None
     ∷ entry 17 (Client 1) (input.Act 1)
-      ((ToServer
-      (up.Commit (txn 1 (thread 1 1) ((body 1 (class.Plain 0) ((value.Long (pos 1)) ∷ [])) ∷ [])
-      ((set 0 0 (value.Ref 1)) ∷ []) [] [] (ending.Exit (Name 0))))) ∷ (ToServer (up.Return (Name 0) [])) ∷ [])
-      (Some (act (thread 1 1) (request.Exit (Name 0)) reply.Done None))
+    ((ToServer
+    (up.Commit (txn 1 (thread 1 1) ((body 1 (class.Plain 0) ((value.Long (pos 1)) ∷ [])) ∷ [])
+    ((set 0 0 (value.Ref 1)) ∷ []) [] [] (ending.Exit (Name 0))))) ∷ (ToServer (up.Return (Name 0) [])) ∷ [])
+    (Some (act (thread 1 1) (request.Exit (Name 0)) reply.Done None))
     ∷ entry 16 (Client 1) (input.Act 1) [] (Some (act (thread 1 1) (request.Put 0 0 (value.Ref 1)) reply.Done None))
     ∷ entry 15 (Client 1) (input.Act 1) [] (Some (act (thread 1 1) (request.Get 0 0) (reply.Val value.Null) None))
     ∷ entry 14 (Client 1) (input.TookDown (down.Object (body 0 class.Roots (value.Null ∷ [])))) [] None
     ∷ entry 13 Server (input.TookUp 1 (up.Fault 0))
-      ((ToClient 1 (down.Object (body 0 class.Roots (value.Null ∷ [])))) ∷ []) None
+    ((ToClient 1 (down.Object (body 0 class.Roots (value.Null ∷ [])))) ∷ []) None
     ∷ entry 12 (Client 1) (input.Act 1) ((ToServer (up.Fault 0)) ∷ []) None
     ∷ entry 11 (Client 1) (input.TookDown (down.Recall (Name 0))) [] None
     ∷ entry 10 (Client 1) (input.Act 1) [] (Some (act (thread 1 1) (request.Enter (Name 0) Write) reply.Done None))
@@ -98,14 +109,14 @@ entries = entry 29 (Client 2) (input.TookDown (down.Ack 2)) [] None
     ∷ entry 8 (Client 2) (input.Act 1) ((ToServer (up.Request (Name 0) Write)) ∷ []) None
     ∷ entry 7 (Client 1) (input.Act 1) ((ToServer (up.Request (Name 0) Write)) ∷ []) None
     ∷ entry 7 (Client 2) (input.Act 1) []
-      (Some (act (thread 2 1) (request.Put 257 0 (value.Long (pos 2))) reply.Done None))
+    (Some (act (thread 2 1) (request.Put 257 0 (value.Long (pos 2))) reply.Done None))
     ∷ entry 6 (Client 1) (input.Act 1) []
-      (Some (act (thread 1 1) (request.Put 1 0 (value.Long (pos 1))) reply.Done None))
+    (Some (act (thread 1 1) (request.Put 1 0 (value.Long (pos 1))) reply.Done None))
     ∷ entry 6 (Client 2) (input.Act 1) []
-      (Some (act (thread 2 1) (request.Look 257) (reply.Seen (class.Plain 0) 1) None))
+    (Some (act (thread 2 1) (request.Look 257) (reply.Seen (class.Plain 0) 1) None))
     ∷ entry 5 (Client 1) (input.Act 1) [] (Some (act (thread 1 1) (request.Look 1) (reply.Seen (class.Plain 0) 1) None))
     ∷ entry 5 (Client 2) (input.Act 1) []
-      (Some (act (thread 2 1) (request.New (class.Plain 0) 1) (reply.Made 257) None))
+    (Some (act (thread 2 1) (request.New (class.Plain 0) 1) (reply.Made 257) None))
     ∷ entry 4 (Client 1) (input.Act 1) [] (Some (act (thread 1 1) (request.New (class.Plain 0) 1) (reply.Made 1) None))
     ∷ entry 4 (Client 2) (input.TookDown (down.Ids 257)) [] None
     ∷ entry 3 (Client 1) (input.TookDown (down.Ids 1)) [] None

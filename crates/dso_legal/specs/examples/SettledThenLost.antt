@@ -25,8 +25,13 @@ use Rattle.dso_legal.specs.examples.Words.{thread, txn, act, entry, trigger, cla
 -- one class, one root, two clients with a thread each; the first is lost after two messages
 abbrev pub settings : Settings
 settings = record {
-  shape = record { classes = class_of_fields (record { kind = kind.Long; guard = guard.Own } ∷ [])
-      ∷ []; roots = 1; names = 1; texts = 0 };
+  shape = record {
+    classes = class_of_fields (record { kind = kind.Long; guard = guard.Own } ∷ [])
+        ∷ [];
+    roots = 1;
+    names = 1;
+    texts = 0;
+  };
   clients = 2;
   resident = 4096;
   threads = thread 1 1 ∷ thread 2 1 ∷ [];
@@ -36,8 +41,11 @@ settings = record {
 
 -- what each thread asks, in order
 abbrev pub scripts : List (ThreadId × List Request)
-scripts = (thread 1 1, (request.Enter (Name 0) Write) ∷ (request.Exit (Name 0)) ∷ request.Settle
-    ∷ (request.Enter (Name 0) Write) ∷ (request.Exit (Name 0)) ∷ (request.End None) ∷ [])
+scripts = (
+  thread 1 1,
+  (request.Enter (Name 0) Write) ∷ (request.Exit (Name 0)) ∷ request.Settle
+      ∷ (request.Enter (Name 0) Write) ∷ (request.Exit (Name 0)) ∷ (request.End None) ∷ [],
+)
     ∷ (thread 2 1, (request.Enter (Name 0) Write) ∷ (request.Exit (Name 0)) ∷ (request.End None) ∷ []) ∷ []
 
 -- the next request of a thread: that of its script after as many events
@@ -49,20 +57,20 @@ abbrev pub entries : List Entry
 entries = entry 14 (Client 2) (input.TookDown (down.Ack 2)) [] None
     ∷ entry 14 Server (input.TookUp 1 (up.Commit (txn 2 (thread 1 1) [] [] [] [] (ending.Exit (Name 0))))) [] None
     ∷ entry 13 Server (input.TookUp 2 (up.Commit (txn 2 (thread 2 1) [] [] [] [] (ending.End None))))
-      ((ToClient 2 (down.Ack 2)) ∷ []) None
+    ((ToClient 2 (down.Ack 2)) ∷ []) None
     ∷ entry 13 (Client 2) (input.TookDown (down.Ack 1)) [] None
     ∷ entry 10 (Client 1) (input.Act 1)
-      ((ToServer (up.Commit (txn 2 (thread 1 1) [] [] [] [] (ending.Exit (Name 0))))) ∷ [])
-      (Some (act (thread 1 1) (request.Exit (Name 0)) reply.Done None))
+    ((ToServer (up.Commit (txn 2 (thread 1 1) [] [] [] [] (ending.Exit (Name 0))))) ∷ [])
+    (Some (act (thread 1 1) (request.Exit (Name 0)) reply.Done None))
     ∷ entry 12 Server (input.TookUp 2 (up.Commit (txn 1 (thread 2 1) [] [] [] [] (ending.Exit (Name 0)))))
-      ((ToClient 2 (down.Ack 1)) ∷ []) None
+    ((ToClient 2 (down.Ack 1)) ∷ []) None
     ∷ entry 12 (Client 2) (input.Act 1)
-      ((ToServer (up.Commit (txn 2 (thread 2 1) [] [] [] [] (ending.End None)))) ∷ [])
-      (Some (act (thread 2 1) (request.End None) reply.Done None))
+    ((ToServer (up.Commit (txn 2 (thread 2 1) [] [] [] [] (ending.End None)))) ∷ [])
+    (Some (act (thread 2 1) (request.End None) reply.Done None))
     ∷ entry 9 (Client 1) (input.Act 1) [] (Some (act (thread 1 1) (request.Enter (Name 0) Write) reply.Done None))
     ∷ entry 11 (Client 2) (input.Act 1)
-      ((ToServer (up.Commit (txn 1 (thread 2 1) [] [] [] [] (ending.Exit (Name 0))))) ∷ [])
-      (Some (act (thread 2 1) (request.Exit (Name 0)) reply.Done None))
+    ((ToServer (up.Commit (txn 1 (thread 2 1) [] [] [] [] (ending.Exit (Name 0))))) ∷ [])
+    (Some (act (thread 2 1) (request.Exit (Name 0)) reply.Done None))
     ∷ entry 10 (Client 2) (input.Act 1) [] (Some (act (thread 2 1) (request.Enter (Name 0) Write) reply.Done None))
     ∷ entry 9 (Client 2) (input.TookDown (down.Grant (Name 0) Write)) [] None
     ∷ entry 8 Server (input.TookUp 2 (up.Request (Name 0) Write)) ((ToClient 2 (down.Grant (Name 0) Write)) ∷ []) None
@@ -71,10 +79,10 @@ entries = entry 14 (Client 2) (input.TookDown (down.Ack 2)) [] None
     ∷ entry 8 (Client 1) (input.Act 1) [] (Some (act (thread 1 1) request.Settle reply.Done None))
     ∷ entry 7 (Client 1) (input.TookDown (down.Ack 1)) [] None
     ∷ entry 6 Server (input.TookUp 1 (up.Commit (txn 1 (thread 1 1) [] [] [] [] (ending.Exit (Name 0)))))
-      ((ToClient 1 (down.Ack 1)) ∷ []) None
+    ((ToClient 1 (down.Ack 1)) ∷ []) None
     ∷ entry 5 (Client 1) (input.Act 1)
-      ((ToServer (up.Commit (txn 1 (thread 1 1) [] [] [] [] (ending.Exit (Name 0))))) ∷ [])
-      (Some (act (thread 1 1) (request.Exit (Name 0)) reply.Done None))
+    ((ToServer (up.Commit (txn 1 (thread 1 1) [] [] [] [] (ending.Exit (Name 0))))) ∷ [])
+    (Some (act (thread 1 1) (request.Exit (Name 0)) reply.Done None))
     ∷ entry 4 (Client 1) (input.Act 1) [] (Some (act (thread 1 1) (request.Enter (Name 0) Write) reply.Done None))
     ∷ entry 3 (Client 1) (input.TookDown (down.Grant (Name 0) Write)) [] None
     ∷ entry 2 Server (input.TookUp 1 (up.Request (Name 0) Write)) ((ToClient 1 (down.Grant (Name 0) Write)) ∷ []) None

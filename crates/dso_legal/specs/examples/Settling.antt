@@ -24,8 +24,13 @@ use Rattle.dso_legal.specs.examples.Words.{thread, txn, act, entry, class_of_fie
 -- one class, one root, one client with a thread
 abbrev pub settings : Settings
 settings = record {
-  shape = record { classes = class_of_fields (record { kind = kind.Long; guard = guard.Own } ∷ [])
-      ∷ []; roots = 1; names = 1; texts = 0 };
+  shape = record {
+    classes = class_of_fields (record { kind = kind.Long; guard = guard.Own } ∷ [])
+        ∷ [];
+    roots = 1;
+    names = 1;
+    texts = 0;
+  };
   clients = 1;
   resident = 4096;
   threads = thread 1 1 ∷ [];
@@ -35,8 +40,11 @@ settings = record {
 
 -- what each thread asks, in order
 abbrev pub scripts : List (ThreadId × List Request)
-scripts = (thread 1 1, (request.Enter (Name 0) Write) ∷ (request.Exit (Name 0)) ∷ request.Settle ∷ (request.End None)
-    ∷ []) ∷ []
+scripts = (
+  thread 1 1,
+  (request.Enter (Name 0) Write) ∷ (request.Exit (Name 0)) ∷ request.Settle ∷ (request.End None)
+      ∷ [],
+) ∷ []
 
 -- the next request of a thread: that of its script after as many events
 abbrev pub next : ThreadId → List Event → Option Request
@@ -46,17 +54,17 @@ next t events = slice_get (script_of t scripts) (length events)
 abbrev pub entries : List Entry
 entries = entry 11 (Client 1) (input.TookDown (down.Ack 2)) [] None
     ∷ entry 10 Server (input.TookUp 1 (up.Commit (txn 2 (thread 1 1) [] [] [] [] (ending.End None))))
-      ((ToClient 1 (down.Ack 2)) ∷ []) None
+    ((ToClient 1 (down.Ack 2)) ∷ []) None
     ∷ entry 9 (Client 1) (input.Act 1)
-      ((ToServer (up.Commit (txn 2 (thread 1 1) [] [] [] [] (ending.End None)))) ∷ [])
-      (Some (act (thread 1 1) (request.End None) reply.Done None))
+    ((ToServer (up.Commit (txn 2 (thread 1 1) [] [] [] [] (ending.End None)))) ∷ [])
+    (Some (act (thread 1 1) (request.End None) reply.Done None))
     ∷ entry 8 (Client 1) (input.Act 1) [] (Some (act (thread 1 1) request.Settle reply.Done None))
     ∷ entry 7 (Client 1) (input.TookDown (down.Ack 1)) [] None
     ∷ entry 6 Server (input.TookUp 1 (up.Commit (txn 1 (thread 1 1) [] [] [] [] (ending.Exit (Name 0)))))
-      ((ToClient 1 (down.Ack 1)) ∷ []) None
+    ((ToClient 1 (down.Ack 1)) ∷ []) None
     ∷ entry 5 (Client 1) (input.Act 1)
-      ((ToServer (up.Commit (txn 1 (thread 1 1) [] [] [] [] (ending.Exit (Name 0))))) ∷ [])
-      (Some (act (thread 1 1) (request.Exit (Name 0)) reply.Done None))
+    ((ToServer (up.Commit (txn 1 (thread 1 1) [] [] [] [] (ending.Exit (Name 0))))) ∷ [])
+    (Some (act (thread 1 1) (request.Exit (Name 0)) reply.Done None))
     ∷ entry 4 (Client 1) (input.Act 1) [] (Some (act (thread 1 1) (request.Enter (Name 0) Write) reply.Done None))
     ∷ entry 3 (Client 1) (input.TookDown (down.Grant (Name 0) Write)) [] None
     ∷ entry 2 Server (input.TookUp 1 (up.Request (Name 0) Write)) ((ToClient 1 (down.Grant (Name 0) Write)) ∷ []) None

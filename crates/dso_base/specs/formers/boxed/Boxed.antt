@@ -35,7 +35,7 @@ abbrev the_field : Former {0}
 the_field = via (pair (const (Ptr × Global)) this) Inside
     (λ X fields. ((fields.inner.ptr, fields.inner.alloc), fields.inner.value))
     (λ X held. record { inner = record { ptr = held.0.0; alloc = held.0.1; value = held.1 } }) (λ X fields. refl)
-        (λ X held. refl)
+    (λ X held. refl)
 
 -- the same block with another value in it
 abbrev with_value : {X Y : Type 0} → Box X Global → Y → Box Y Global
@@ -63,10 +63,10 @@ module _ (R S : RattleType) (h : R.Denot → S.Denot) where
   pub the_places : Alike R S h → Alike (outside.the_row R) (outside.the_row S) ((the_former this).map R.Denot S.Denot h)
   the_places alike = view_places the_field this view (λ X Y k fields. refl) (λ X fields. refl) R.Denot S.Denot h
       (outside.the_row R).coded (outside.the_row S).coded (invariant R.Denot) (invariant S.Denot) (λ fields p q. refl)
-          (λ fields p q. refl)
+      (λ fields p q. refl)
       (λ fields same. tt) (λ fields same. tt) (over (inside.the_row R)) (over (inside.the_row S))
       (struct_places (inside.the_type R) (inside.the_type S) ((λ block. with_value block (h block.value)), tt) _
-          (λ fields. refl) refl
+      (λ fields. refl) refl
       (laid _ _ _ (box_places alike), tt))
 
   -- where two types have the same codes, so have the boxes of them

@@ -51,7 +51,7 @@ module _ (R S : RattleType) (h : R.Denot → S.Denot) where
   pub the_places : Alike R S h → Alike (outside.the_row R) (outside.the_row S) ((the_former this).map R.Denot S.Denot h)
   the_places alike = view_places the_field (list this) view (λ X Y k fields. refl) (λ X fields. refl) R.Denot S.Denot h
       (outside.the_row R).coded (outside.the_row S).coded (invariant R.Denot) (invariant S.Denot) (λ fields p q. refl)
-          (λ fields p q. refl)
+      (λ fields p q. refl)
       (λ fields same. tt) (λ fields same. tt) (over (inside.the_row R)) (over (inside.the_row S))
       (struct_places (inside.the_type R) (inside.the_type S) (vec.mapped h, tt) _ (λ fields. refl) refl
       (laid _ _ _ (vec.the_places heap.the_row ghosts R S h alike), tt))
