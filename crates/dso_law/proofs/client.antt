@@ -1,9 +1,6 @@
 -- What the entries of a client tell, read one after the other: its copies, ids, records and blocks, and the laws of its rule.
 pub mod HasBody
-pub mod LastClass
 pub mod HoldCounts
 pub mod WorkByEntry
-pub mod IdsAndRecords
 pub mod ClientLaws
-pub mod OpeningValues
 pub mod TimedOut

@@ -1,13 +1,11 @@
 pub mod Settings
 pub mod Entries
 pub mod Channels
-pub mod Letters
 pub mod Threads
 pub mod Copies
 pub mod Leases
 pub mod ClientWaiters
 pub mod Records
-pub mod BatchPlaces
 pub mod Closing
 pub mod RequestNeeds
 pub mod Replies
@@ -21,9 +19,6 @@ pub mod FitsUp
 pub mod ServerStep
 pub mod Prefixes
 pub mod Laws
-pub mod Publishing
-pub mod WorkInHand
-pub mod HoldCounts
 pub mod HeldBody
 pub mod ChangeMarks
 pub mod LeaseHeld

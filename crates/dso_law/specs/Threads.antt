@@ -1,7 +1,5 @@
 -- What a client's entries tell of one of its threads: its locks, its blocks, its own objects.
-use Rattle.std.specs.List.{list_any}
-use Rattle.std.specs.Prelude.{ℕ, Bool, true, false, cond, not, ◌&&◌, ◌||◌, is_some, Option, Some, None, List, [], ◌∷◌}
-use Rattle.std.specs.Prelude.{◌++◌, filter}
+use Rattle.std.specs.Prelude.{ℕ, Bool, true, false, cond, not, is_some, Option, Some, None, List, [], ◌∷◌, ◌++◌, filter}
 use Rattle.dso_base.specs.declared.journal.Entry.{Entry}
 use Rattle.dso_base.specs.declared.lock.Level.TheVariants.{Write}
 use Rattle.dso_base.specs.declared.lock.LockName.{LockName}
@@ -24,7 +22,7 @@ use Rattle.dso_plain.specs.KeyTests.{is_lock}
 use Rattle.dso_plain.specs.State.{Hold}
 use Rattle.dso_plain.specs.After.{entered, exited, count_of}
 use Rattle.dso_plain.specs.History.{is_act_of}
-use Rattle.dso_law.specs.Entries.{by_event, events_in}
+use Rattle.dso_law.specs.Entries.{by_event}
 
 -- a lock that a thread holds, and how
 pub record Held : Type 0 where
@@ -232,11 +230,3 @@ asks_end request = false
 abbrev pub ends_thread : Event → Bool
 ends_thread (Act thread request reply woken) = asks_end request
 ends_thread (Lost client) = false
-
--- whether one of the thread's events is its end
-abbrev pub has_end_event : ThreadId → List Entry → Bool
-has_end_event t es = list_any ends_thread (events_in t es)
-
--- whether the thread has ended after one more event
-abbrev pub ended_after : ThreadId → Event → Bool → Bool
-ended_after t event before = before || (is_act_of t event && ends_thread event)

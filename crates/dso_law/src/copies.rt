@@ -1,12 +1,12 @@
-ghost use Rattle.std.specs.Prelude.{◌≡◌, [], ◌∷◌};
+//! A client's copy of a field, read off a journal.
+ghost use Rattle.std.specs.Prelude.{◌≡◌};
 ghost use Rattle.dso_base.specs.declared.journal.Node.TheVariants.{Client};
-ghost use Rattle.dso_law.specs.Entries.{newest_first, entries_of, by_taken_down, by_sent_up, one_sent_up};
-ghost use Rattle.dso_law.specs.Copies.{copy_of, is_among, is_resident, resident_by_taken, resident_by_sent, resident_after, unless_flushed, value_held, value_by_body, value_by_bodies, value_by_set, value_by_sets, value_by_taken, value_by_sent, value_after, class_held, class_by_bodies, class_by_taken, class_by_sent, is_object_asked, asked_by_taken, asked_by_sent};
+ghost use Rattle.dso_law.specs.Entries.{newest_first, entries_of, by_taken_down, one_sent_up};
+ghost use Rattle.dso_law.specs.Copies.{copy_of, is_among, is_resident, resident_by_taken, resident_by_sent, resident_after, unless_flushed, value_held, value_by_body, value_by_bodies, value_by_set, value_by_sets, value_by_taken, value_by_sent, value_after};
 
-use crate::bodies::has_body;
 use crate::entries::Entries;
 use crate::readings::is_client;
-use dso_base::{Body, ClassId, Down, Entry, Input, Journal, Sent, Set, Up, Value};
+use dso_base::{Body, Down, Entry, Input, Journal, Sent, Set, Up, Value};
 
 /// The client's copy of an object's field after a journal, None exactly where it has none. It takes no memory.
 pub fn copy_of(journal: &Journal, client: u8, object: u64, field: u32) -> Option<Value>
@@ -20,8 +20,8 @@ pub fn copy_of(journal: &Journal, client: u8, object: u64, field: u32) -> Option
     }
 }
 
-/// Whether the object is resident with the client after these entries. It takes no memory.
-pub fn is_resident(entries: &Entries<'_>, client: u8, object: u64) -> bool
+/// Whether the object is resident with the client after these entries.
+fn is_resident(entries: &Entries<'_>, client: u8, object: u64) -> bool
     ensures { result ≡ is_resident object (entries_of (Client client) entries.now) }
 {
     let mut resident = false;
@@ -34,8 +34,8 @@ pub fn is_resident(entries: &Entries<'_>, client: u8, object: u64) -> bool
 }
 
 /// The value that the client holds for an object's field after these entries, None exactly where it holds none. It
-/// counts whether the object is resident or not. It takes no memory.
-pub fn value_held(entries: &Entries<'_>, client: u8, object: u64, field: u32) -> Option<Value>
+/// counts whether the object is resident or not.
+fn value_held(entries: &Entries<'_>, client: u8, object: u64, field: u32) -> Option<Value>
     ensures { result ≡ value_held object field (entries_of (Client client) entries.now) }
 {
     let mut value = None;
@@ -47,38 +47,11 @@ pub fn value_held(entries: &Entries<'_>, client: u8, object: u64, field: u32) ->
     value
 }
 
-/// The class of an object and how many values it has, as the client holds them after these entries; None exactly where
-/// the object never was resident. It takes no memory.
-pub fn class_held(entries: &Entries<'_>, client: u8, object: u64) -> Option<(ClassId, usize)>
-    ensures { result ≡ class_held object (entries_of (Client client) entries.now) }
-{
-    let mut class = None;
-    for entry in entries.oldest_first() {
-        if is_client(entry.node, client) {
-            class = class_after(entry, object, class);
-        }
-    }
-    class
-}
-
-/// Whether the client asked for the object and it hasn't come, after these entries. It takes no memory.
-pub fn is_object_asked(entries: &Entries<'_>, client: u8, object: u64) -> bool
-    ensures { result ≡ is_object_asked object (entries_of (Client client) entries.now) }
-{
-    let mut is_asked = false;
-    for entry in entries.oldest_first() {
-        if is_client(entry.node, client) {
-            is_asked = asked_after(entry, object, is_asked);
-        }
-    }
-    is_asked
-}
-
 /// Whether the object is one of the bodies.
 fn is_among(bodies: &[Body], object: u64) -> bool
     ensures { result ≡ is_among object bodies.now }
 {
-    has_body(bodies, object)
+    bodies.iter().any(|body| body.object == object)
 }
 
 /// Whether the object is resident after one more entry of the client.
@@ -181,8 +154,8 @@ fn value_by_bodies(bodies: &[Body], object: u64, field: u32, before: Option<Valu
     value
 }
 
-/// The value of the last of the sets that is of the field, else the value before. It takes no memory.
-pub fn value_by_sets(sets: &[Set], object: u64, field: u32, before: Option<Value>) -> Option<Value>
+/// The value of the last of the sets that is of the field, else the value before.
+fn value_by_sets(sets: &[Set], object: u64, field: u32, before: Option<Value>) -> Option<Value>
     ensures { result ≡ value_by_sets object field sets.now before }
 {
     let mut value = before;
@@ -192,109 +165,4 @@ pub fn value_by_sets(sets: &[Set], object: u64, field: u32, before: Option<Value
         }
     }
     value
-}
-
-/// The class held for the object after one more entry of the client.
-fn class_after(
-    entry: &Entry,
-    object: u64,
-    before: Option<(ClassId, usize)>,
-) -> Option<(ClassId, usize)>
-    ensures { result ≡ by_sent_up (class_by_sent object) entry.now.sent (by_taken_down (class_by_taken object) entry.now.input before) }
-{
-    let mut class = class_by_taken(&entry.input, object, before);
-    for sent in entry.sent.as_slice() {
-        class = class_by_sent(sent, object, class);
-    }
-    class
-}
-
-/// What the message that an entry takes makes of the class.
-fn class_by_taken(
-    input: &Input,
-    object: u64,
-    before: Option<(ClassId, usize)>,
-) -> Option<(ClassId, usize)>
-    ensures { result ≡ by_taken_down (class_by_taken object) input.now before }
-{
-    match input {
-        Input::TookDown(Down::Object(body)) => class_by_body(body, object, before),
-        _ => before,
-    }
-}
-
-/// What a message sent makes of the class.
-fn class_by_sent(
-    sent: &Sent,
-    object: u64,
-    before: Option<(ClassId, usize)>,
-) -> Option<(ClassId, usize)>
-    ensures { result ≡ one_sent_up (class_by_sent object) before sent.now }
-{
-    match sent {
-        Sent::ToServer(Up::Commit(txn)) => class_by_bodies(txn.news.as_slice(), object, before),
-        _ => before,
-    }
-}
-
-/// The class and the size of the body, if it is of the object.
-fn class_by_body(
-    body: &Body,
-    object: u64,
-    before: Option<(ClassId, usize)>,
-) -> Option<(ClassId, usize)>
-    ensures { result ≡ class_by_bodies object (body.now ∷ []) before }
-{
-    if body.object == object {
-        Some((body.class, body.values.len()))
-    } else {
-        before
-    }
-}
-
-/// The class and the size of the last of the bodies that is of the object.
-fn class_by_bodies(
-    bodies: &[Body],
-    object: u64,
-    before: Option<(ClassId, usize)>,
-) -> Option<(ClassId, usize)>
-    ensures { result ≡ class_by_bodies object bodies.now before }
-{
-    let mut class = before;
-    for body in bodies {
-        class = class_by_body(body, object, class);
-    }
-    class
-}
-
-/// Whether the object is asked for after one more entry of the client.
-fn asked_after(entry: &Entry, object: u64, before: bool) -> bool
-    ensures { result ≡ by_sent_up (asked_by_sent object) entry.now.sent (by_taken_down (asked_by_taken object) entry.now.input before) }
-{
-    let mut is_asked = asked_by_taken(&entry.input, object, before);
-    for sent in entry.sent.as_slice() {
-        is_asked = asked_by_sent(sent, object, is_asked);
-    }
-    is_asked
-}
-
-/// What the message that an entry takes makes of whether the object is asked for.
-fn asked_by_taken(input: &Input, object: u64, before: bool) -> bool
-    ensures { result ≡ by_taken_down (asked_by_taken object) input.now before }
-{
-    match input {
-        Input::TookDown(Down::Object(body)) => body.object != object && before,
-        _ => before,
-    }
-}
-
-/// What a message sent makes of whether the object is asked for.
-fn asked_by_sent(sent: &Sent, object: u64, before: bool) -> bool
-    ensures { result ≡ one_sent_up (asked_by_sent object) before sent.now }
-{
-    match sent {
-        Sent::ToServer(Up::Fault(wanted)) => *wanted == object || before,
-        Sent::ToServer(Up::Commit(txn)) => !is_among(txn.news.as_slice(), object) && before,
-        _ => before,
-    }
 }

@@ -1,13 +1,14 @@
+//! A client's lease of a lock, read off a journal.
 ghost use Rattle.std.specs.Prelude.{◌≡◌};
 ghost use Rattle.dso_base.specs.declared.journal.Node.TheVariants.{Client};
 ghost use Rattle.dso_plain.specs.KeyTests.{is_lock};
-ghost use Rattle.dso_law.specs.Entries.{newest_first, entries_of, by_taken_down, by_event, one_sent_up};
-ghost use Rattle.dso_law.specs.Leases.{leased, standing, standing_up, standing_down, standing_after, is_entered, enters, entered_by, since_grant, is_recalled, recalled_by};
+ghost use Rattle.dso_law.specs.Entries.{newest_first, entries_of, by_taken_down, one_sent_up};
+ghost use Rattle.dso_law.specs.Leases.{leased, standing, standing_up, standing_down, standing_after};
 
 use crate::Standing;
 use crate::entries::Entries;
 use crate::readings::is_client;
-use dso_base::{Down, Entry, Event, Input, Journal, Level, LockName, Reply, Request, Sent, Up};
+use dso_base::{Down, Entry, Input, Journal, Level, LockName, Sent, Up};
 
 /// The lease that the client has of the lock after a journal, None exactly where it has none. It takes no memory.
 pub fn leased(journal: &Journal, client: u8, lock: LockName) -> Option<Level>
@@ -16,8 +17,8 @@ pub fn leased(journal: &Journal, client: u8, lock: LockName) -> Option<Level>
     standing(&Entries::new(journal.entries.as_slice()), client, lock).lease
 }
 
-/// How the lock stands with the client after these entries. It takes no memory.
-pub fn standing(entries: &Entries<'_>, client: u8, lock: LockName) -> Standing
+/// How the lock stands with the client after these entries.
+fn standing(entries: &Entries<'_>, client: u8, lock: LockName) -> Standing
     ensures { result ≡ standing lock (entries_of (Client client) entries.now) }
 {
     let mut standing = Standing {
@@ -32,35 +33,8 @@ pub fn standing(entries: &Entries<'_>, client: u8, lock: LockName) -> Standing
     standing
 }
 
-/// Whether a thread of the client entered the lock since it was last granted, after these entries. It takes no memory.
-pub fn is_entered(entries: &Entries<'_>, client: u8, lock: LockName) -> bool
-    ensures { result ≡ is_entered lock (entries_of (Client client) entries.now) }
-{
-    let mut entered = false;
-    for entry in entries.oldest_first() {
-        if is_client(entry.node, client) {
-            let granted = since_grant(&entry.input, lock, entered);
-            entered = entered_by(&entry.event, lock, granted);
-        }
-    }
-    entered
-}
-
-/// Whether the lock was recalled of the client since it was last granted, after these entries. It takes no memory.
-pub fn is_recalled(entries: &Entries<'_>, client: u8, lock: LockName) -> bool
-    ensures { result ≡ is_recalled lock (entries_of (Client client) entries.now) }
-{
-    let mut recalled = false;
-    for entry in entries.oldest_first() {
-        if is_client(entry.node, client) {
-            recalled = recalled_by(&entry.input, lock, recalled);
-        }
-    }
-    recalled
-}
-
 /// Whether the two locks are one.
-pub(crate) fn is_lock(lock: LockName, other: LockName) -> bool
+fn is_lock(lock: LockName, other: LockName) -> bool
     ensures { result ≡ is_lock lock other }
 {
     match (lock, other) {
@@ -120,46 +94,5 @@ fn standing_by_sent(sent: &Sent, lock: LockName, before: Standing) -> Standing
             before
         },
         _ => before,
-    }
-}
-
-/// A grant of the lock begins anew.
-fn since_grant(input: &Input, lock: LockName, before: bool) -> bool
-    ensures { result ≡ by_taken_down (since_grant lock) input.now before }
-{
-    match input {
-        Input::TookDown(Down::Grant(name, _)) => !is_lock(lock, *name) && before,
-        _ => before,
-    }
-}
-
-/// What an entry's event makes of whether the lock is entered.
-fn entered_by(event: &Option<Event>, lock: LockName, before: bool) -> bool
-    ensures { result ≡ by_event (entered_by lock) event.now before }
-{
-    match event {
-        Some(Event::Act { request, reply, .. }) => enters(*request, *reply, lock) || before,
-        _ => before,
-    }
-}
-
-/// Whether a request with this reply enters the lock.
-fn enters(request: Request, reply: Reply, lock: LockName) -> bool
-    ensures { result ≡ enters lock request reply }
-{
-    match (request, reply) {
-        (Request::Enter(name, _), Reply::Done) => is_lock(lock, name),
-        (Request::Resume(name), Reply::Done) => is_lock(lock, name),
-        _ => false,
-    }
-}
-
-/// What the message that an entry takes makes of whether the lock is recalled.
-fn recalled_by(input: &Input, lock: LockName, before: bool) -> bool
-    ensures { result ≡ by_taken_down (recalled_by lock) input.now before }
-{
-    match input {
-        Input::TookDown(Down::Recall(name)) => is_lock(lock, *name) || before,
-        _ => since_grant(input, lock, before),
     }
 }

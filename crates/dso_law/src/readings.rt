@@ -20,14 +20,3 @@ pub(crate) fn is_client(node: Node, client: u8) -> bool
         Node::Client(number) => client == number,
     }
 }
-
-/// Whether the two nodes are one.
-pub(crate) fn is_node(node: Node, other: Node) -> bool
-    ensures { result ≡ is_node node other }
-{
-    match (node, other) {
-        (Node::Server, Node::Server) => true,
-        (Node::Client(client), Node::Client(that)) => client == that,
-        _ => false,
-    }
-}

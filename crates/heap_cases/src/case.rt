@@ -7,16 +7,14 @@
 //! | `base fits long l-1` | what the base types tell (`parts.rt`) |
 //! | `entry 1 takes grant m5 read` | the journal has this entry more (`entries.rt`) |
 //! | `journal leased 1 m5` | what the journal tells (`journal.rt`) |
-//! | `work 1.2 private 4` | what the work and the record of a thread are by the journal (`record.rt`) |
 //! | `empty` | the journal has no entries |
 
 use crate::entries::entry_of;
 use crate::events::event_of;
 use crate::shape::shape;
-use crate::{heap, journal, parts, record};
+use crate::{heap, journal, parts};
 use case_words::{first_of, row_answer, shown};
 use dso_base::{Entry, Items, Journal, NoMemory, Shape};
-use dso_law::Entries;
 use dso_plain::Plain;
 use std::alloc::{AllocError, Global};
 
@@ -59,13 +57,7 @@ impl Case {
             "heap" => heap::told(alloc, &self.heap, rest),
             "base" => parts::told(alloc, &self.shape, rest),
             "entry" => self.added(alloc, rest),
-            "journal" => journal::told(alloc, &self.shape, &self.journal, rest),
-            "work" => record::told(
-                alloc,
-                &self.shape,
-                &Entries::new(self.journal.entries.as_slice()),
-                rest,
-            ),
+            "journal" => journal::told(alloc, &self.journal, rest),
             "empty" => self.emptied(alloc),
             _ => shown(alloc, "no such command"),
         }

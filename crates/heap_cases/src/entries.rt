@@ -2,27 +2,23 @@
 //!
 //! | Words | Entry |
 //! |---|---|
-//! | `1.2 does enter m5 write -> done` | the thread acts, with this event |
 //! | `1.2 acts` | the thread acts, without an event |
 //! | `1 takes grant m5 read` | the client takes a message of the server |
 //! | `1 flushes 7` | the client drops its copy of the object |
-//! | `server takes 1 id-ask` | the server takes a message of the client |
+//! | `server takes 1 request n0 read` | the server takes a message of the client |
 //!
-//! Behind ` sends ` stand the messages that it sends, joined by ` and `: to the server as they are, to a client as `to 1 ids 257`.
+//! Behind ` sends ` stand the messages that it sends, joined by ` and `: to the server as they are, to a client as `to 2 recall m5`.
 
-use crate::events::event_by;
 use case_words::{
     bare_record, class, first_of, level, lock, number, set, single, small, thread, value,
 };
-use dso_base::{
-    Body, Down, Ending, Entry, Event, Input, Items, NoMemory, Node, Sent, ThreadId, Up,
-};
+use dso_base::{Body, Down, Ending, Entry, Input, Items, NoMemory, Node, Sent, ThreadId, Up};
 use std::alloc::Global;
 
 /// The entry of the text, if it is one.
 pub fn entry_of(alloc: Global, clock: u64, text: &str) -> Result<Option<Entry>, NoMemory> {
     let (taken, sends) = text.split_once(" sends ").unwrap_or((text, ""));
-    let Some((node, input, event)) = input_of(alloc, taken)? else {
+    let Some((node, input)) = input_of(alloc, taken)? else {
         return Ok(None);
     };
     Ok(Some(Entry {
@@ -30,7 +26,7 @@ pub fn entry_of(alloc: Global, clock: u64, text: &str) -> Result<Option<Entry>, 
         node,
         input,
         sent: messages_of(alloc, sends)?,
-        event,
+        event: None,
     }))
 }
 
@@ -45,46 +41,37 @@ fn messages_of(alloc: Global, text: &str) -> Result<Items<Sent>, NoMemory> {
     Ok(sent)
 }
 
-/// The node, what it takes in, and the event.
-fn input_of(alloc: Global, text: &str) -> Result<Option<(Node, Input, Option<Event>)>, NoMemory> {
+/// The node, and what it takes in.
+fn input_of(alloc: Global, text: &str) -> Result<Option<(Node, Input)>, NoMemory> {
     let (who, rest) = first_of(text);
     let (verb, what) = first_of(rest);
     match (verb, thread(who), small(who)) {
-        ("does" | "acts", Some(thread), _) => Ok(Some(acting(thread, what))),
-        ("flushes", _, Some(client)) => Ok(number(what).map(|object| (
-            Node::Client(client),
-            Input::Flush(object),
-            None,
-        ))),
+        ("acts", Some(thread), _) => Ok(Some(acting(thread))),
+        ("flushes", _, Some(client)) => {
+            Ok(number(what).map(|object| (Node::Client(client), Input::Flush(object))))
+        }
         ("takes", _, Some(client)) => {
             let message = down_of(alloc, what)?;
-            Ok(message.map(|message| (Node::Client(client), Input::TookDown(message), None)))
+            Ok(message.map(|message| (Node::Client(client), Input::TookDown(message))))
         }
         ("takes", _, None) => server_takes(alloc, what),
         _ => Ok(None),
     }
 }
 
-/// An act of the thread; its event is None where no words are there.
-fn acting(thread: ThreadId, text: &str) -> (Node, Input, Option<Event>) {
-    (
-        Node::Client(thread.client),
-        Input::Act(thread.index),
-        event_by(thread, text),
-    )
+/// An act of the thread.
+fn acting(thread: ThreadId) -> (Node, Input) {
+    (Node::Client(thread.client), Input::Act(thread.index))
 }
 
 /// The server takes a message of a client.
-fn server_takes(
-    alloc: Global,
-    text: &str,
-) -> Result<Option<(Node, Input, Option<Event>)>, NoMemory> {
+fn server_takes(alloc: Global, text: &str) -> Result<Option<(Node, Input)>, NoMemory> {
     let (who, what) = first_of(text);
     let Some(client) = small(who) else {
         return Ok(None);
     };
     let message = up_of(alloc, what)?;
-    Ok(message.map(|message| (Node::Server, Input::TookUp(client, message), None)))
+    Ok(message.map(|message| (Node::Server, Input::TookUp(client, message))))
 }
 
 /// A message that is sent.
@@ -105,11 +92,8 @@ fn sent_of(alloc: Global, text: &str) -> Result<Option<Sent>, NoMemory> {
 fn plain_down_of(verb: &str, rest: &str) -> Option<Down> {
     let (first, second) = first_of(rest);
     match verb {
-        "ids" => Some(Down::Ids(number(first)?)),
-        "ack" => Some(Down::Ack(number(first)?)),
         "grant" => Some(Down::Grant(lock(first)?, level(second)?)),
         "recall" => Some(Down::Recall(lock(first)?)),
-        "wake" => Some(Down::Wake(lock(first)?, thread(second)?)),
         _ => None,
     }
 }
@@ -146,12 +130,9 @@ fn object_of(alloc: Global, text: &str) -> Result<Option<Down>, NoMemory> {
 fn up_of(alloc: Global, text: &str) -> Result<Option<Up>, NoMemory> {
     let (verb, rest) = first_of(text);
     let (first, second) = first_of(rest);
-    match (verb, number(first), lock(first), level(second)) {
-        ("id-ask", ..) => Ok(Some(Up::IdAsk)),
-        ("fault", Some(object), ..) => Ok(Some(Up::Fault(object))),
-        ("flushed", Some(object), ..) => Ok(Some(Up::Flushed(object))),
-        ("request", _, Some(lock), Some(level)) => Ok(Some(Up::Request(lock, level))),
-        ("return", _, Some(lock), _) => Ok(Some(Up::Return(lock, Items::new(alloc)))),
+    match (verb, lock(first), level(second)) {
+        ("request", Some(lock), Some(level)) => Ok(Some(Up::Request(lock, level))),
+        ("return", Some(lock), _) => Ok(Some(Up::Return(lock, Items::new(alloc)))),
         ("commit", ..) => record_of(alloc, first, second),
         _ => Ok(None),
     }

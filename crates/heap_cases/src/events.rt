@@ -13,7 +13,7 @@ pub fn event_of(text: &str) -> Option<Event> {
 }
 
 /// The act of the thread, as `get 1 1 -> val l7`, if it is one.
-pub fn event_by(thread: ThreadId, text: &str) -> Option<Event> {
+fn event_by(thread: ThreadId, text: &str) -> Option<Event> {
     let (asked, answer) = text.split_once(" -> ")?;
     let (reply, woken) = reply_and_woken(answer)?;
     Some(Event::Act {

@@ -1,4 +1,4 @@
-//! Rows of events with their answers on one heap, of the base types, and of what journals tell.
+//! Rows of events with their answers on one heap, of the base types, and of what a journal tells.
 //!
 //! A row of the input is a sentence, `: `, and a command; it is printed as the sentence, `: `, and the answer. Any other
 //! line is printed as it stands. The commands (`case.rt`) keep one heap and one journal from row to row.
@@ -11,7 +11,6 @@ mod events;
 mod heap;
 mod journal;
 mod parts;
-mod record;
 mod shape;
 
 use case::Case;

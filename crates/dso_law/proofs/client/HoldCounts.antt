@@ -19,8 +19,11 @@ use Rattle.dso_plain.specs.After.{entered, exited, count_of}
 use Rattle.dso_plain.specs.History.{is_act_of}
 use Rattle.dso_law.specs.Entries.{is_node, entries_of, by_event}
 use Rattle.dso_law.specs.Threads.{Held, Waiting, Locks, hold_in, with_hold, resumed, locks_by, locks_after, locks_of}
-use Rattle.dso_law.specs.HoldCounts.{CountsFit}
 use Rattle.dso_law.proofs.client.ClientLaws.{holds_after}
+
+-- one more entry of any lock is counted in 64 bits
+abbrev pub CountsFit : Locks → Type 0
+CountsFit locks = (l : LockName) → count_of (hold_in l locks.holds) < 2 ^ 64 - 1
 
 -- the count of the hold that is to be had again
 abbrev waiting_count : Option Waiting → ℕ

@@ -1,8 +1,6 @@
 -- The work in hand, entry by entry.
-use Rattle.std.proofs.Common.{ℕ, ◌+◌, ◌<◌, ◌≡◌, refl, sym, ◌∙◌, ap, Bool, true, false, cond, is_some, Option, Some, None, List, [], ◌∷◌, ◌++◌, length, get_or, take, reverse}
+use Rattle.std.proofs.Common.{ℕ, ◌≡◌, refl, sym, ◌∙◌, ap, Bool, true, false, cond, is_some, Option, Some, None, List, [], ◌∷◌, ◌++◌}
 use Rattle.dso_base.specs.declared.journal.Entry.{Entry}
-use Rattle.dso_base.specs.declared.journal.Node.{Node}
-use Rattle.dso_base.specs.declared.journal.Node.TheVariants.{Client}
 use Rattle.dso_base.specs.declared.lock.ThreadId.{ThreadId}
 use Rattle.dso_base.specs.declared.record.Body.{Body}
 use Rattle.dso_base.specs.declared.record.Ending.{Ending}
@@ -10,11 +8,20 @@ use Rattle.dso_base.specs.declared.request.Event.{Event}
 use Rattle.dso_base.specs.declared.shape.Shape.{Shape}
 use Rattle.dso_base.specs.Block.{Work, start, work_after, worked, txn_of}
 use Rattle.dso_plain.specs.History.{is_act_of}
-use Rattle.dso_law.specs.Entries.{is_node, entries_of, by_event}
-use Rattle.dso_law.specs.Threads.{Locks, ending_of, locks_of, locks_after, open_block, block_after, privates_before, privates_after, work_of}
-use Rattle.dso_law.specs.WorkInHand.{work_on, work_by_entry}
+use Rattle.dso_law.specs.Entries.{by_event}
+use Rattle.dso_law.specs.Threads.{Locks, ending_of, locks_of, open_block, block_after, privates_before, privates_after, work_of}
 use Rattle.dso_law.specs.Laws.{WorkGoesOn}
-use Rattle.dso_law.proofs.Lists.{one_newer}
+
+-- the work in hand after an event of its thread, whose locks before it these are: an ending leaves the private objects
+-- alone
+abbrev work_on : Shape → Event → Locks → Work → Work
+work_on shape event locks work = cond (is_some (ending_of event locks))
+    (start (work_after shape event work).privates) (work_after shape event work)
+
+-- what an entry makes of the work that thread t has in hand
+abbrev work_by_entry : Shape → ThreadId → Entry → Locks → Work → Work
+work_by_entry shape t e locks work = by_event
+    (λ event before. cond (is_act_of t event) (work_on shape event locks before) before) e.event work
 
 -- one more event is one more step of the work
 worked_more : (shape : Shape) (events : List Event) (event : Event) (work : Work) → worked shape (events ++ event ∷ []) work ≡ work_after shape event (worked shape events work)
@@ -66,32 +73,6 @@ work_goes_on shape t event e es h =
       goes_on = λ none. next ∙ ap (λ n. cond (is_some n) (start after.privates) after) none;
       ends = λ some. next ∙ ended (ending_of event locks) (start after.privates) after some;
     }
-
--- the entries of a node, with one more
-entries_more : (node : Node) (entries : List Entry) (i : ℕ) (e : Entry) → i < length entries → e ≡ get_or entries i e
-    → entries_of node (reverse (take (i + 1) entries)) ≡ cond (is_node node e.node) (e ∷ entries_of node (reverse (take i entries))) (entries_of node (reverse (take i entries)))
-entries_more node entries i e less is = ap (entries_of node) (one_newer entries i e less is)
-
-module _ (shape : Shape) (t : ThreadId) (entries : List Entry) (i : ℕ) (e : Entry) (less : i < length entries) (is : e ≡ get_or entries i e) where
-  -- the entries of the thread's client
-  abbrev own : ℕ → List Entry
-  own n = entries_of (Client t.client) (reverse (take n entries))
-
-  -- locks and work after an entry of its client
-  pub hand_next : (locks locks' : Locks) (work work' : Work) → is_node (Client t.client) e.node ≡ true → locks ≡ locks_of t (own i) → work ≡ work_of shape t (own i)
-      → locks' ≡ by_event (locks_after t) e.event locks → work' ≡ work_by_entry shape t e locks work → (locks' ≡ locks_of t (own (i + 1))) × (work' ≡ work_of shape t (own (i + 1)))
-  hand_next locks locks' work work' its l w l' w' =
-      let more : own (i + 1) ≡ e ∷ own i = entries_more (Client t.client) entries i e less is ∙ ap (λ b. cond b (e ∷ own i) (own i)) its in (
-        l' ∙ ap (λ x. by_event (locks_after t) e.event x) l ∙ ap (locks_of t) (sym more),
-        w' ∙ ap (λ x. work_by_entry shape t e x work) l ∙ ap (λ x. work_by_entry shape t e (locks_of t (own i)) x) w ∙ sym (work_next shape t e (own i)) ∙ ap (work_of shape t) (sym more),
-      )
-
-  -- locks and work after an entry of another node
-  pub hand_same : (locks : Locks) (work : Work) → is_node (Client t.client) e.node ≡ false → locks ≡ locks_of t (own i) → work ≡ work_of shape t (own i)
-      → (locks ≡ locks_of t (own (i + 1))) × (work ≡ work_of shape t (own (i + 1)))
-  hand_same locks work other l w =
-      let same : own (i + 1) ≡ own i = entries_more (Client t.client) entries i e less is ∙ ap (λ b. cond b (e ∷ own i) (own i)) other in
-      (l ∙ ap (locks_of t) (sym same), w ∙ ap (work_of shape t) (sym same))
 
 -- the record of the work after one more event
 pub recorded : (shape : Shape) (seq : ℕ) (t : ThreadId) (es : List Entry) (event : Event) (ending : Ending) (work : Work) → work ≡ work_after shape event (work_of shape t es)

@@ -1,7 +1,0 @@
-use Rattle.std.proofs.Common.{◌≡◌, take, reverse}
-use Rattle.dso_base.specs.declared.journal.Node.TheVariants.{Client}
-use Rattle.dso_law.specs.Entries.{entries_of, events_in}
-use Rattle.dso_law.proofs.events.events_in.Given as goal
-
-abbrev pub invariant-loop-entry : goal.invariant-loop-entry
-invariant-loop-entry l = l.events.items ≡ events_in l.thread (entries_of (Client l.thread.client) (reverse (take l.entry-index l.entry-items)))

@@ -1,8 +1,0 @@
-use Rattle.std.proofs.Common.{◌≡◌, take, reverse}
-use Rattle.dso_base.specs.declared.journal.Node.TheVariants.{Client}
-use Rattle.dso_law.specs.Entries.{entries_of}
-use Rattle.dso_law.specs.Threads.{has_end_event}
-use Rattle.dso_law.proofs.events.has_ended.Given as goal
-
-abbrev pub invariant-loop-entry : goal.invariant-loop-entry
-invariant-loop-entry l = l.has_ended ≡ has_end_event l.thread (entries_of (Client l.thread.client) (reverse (take l.entry-index l.entry-items)))

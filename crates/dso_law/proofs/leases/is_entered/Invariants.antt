@@ -1,8 +1,0 @@
-use Rattle.std.proofs.Common.{◌≡◌, take, reverse}
-use Rattle.dso_base.specs.declared.journal.Node.TheVariants.{Client}
-use Rattle.dso_law.specs.Entries.{entries_of}
-use Rattle.dso_law.specs.Leases.{is_entered}
-use Rattle.dso_law.proofs.leases.is_entered.Given as goal
-
-abbrev pub invariant-loop-entry : goal.invariant-loop-entry
-invariant-loop-entry l = l.entered ≡ is_entered l.lock (entries_of (Client l.client) (reverse (take l.entry-index l.entry-items)))
