@@ -30,10 +30,12 @@ use Rattle.dso_client.specs.Turns.{IsTurn, Waits, IsAnswerable, IsOfNeed}
 
 -- the entry in which a thread of client c acts with this event, and sends these
 abbrev pub event_entry : ℕ → ℕ → ℕ → Event → List Up → Entry
-event_entry clock c index event sent = record { clock = clock; node = Client c; input = input.Act index; sent = map ToServer sent; event = Some event }
+event_entry clock c index event sent =
+    record { clock = clock; node = Client c; input = input.Act index; sent = map ToServer sent; event = Some event }
 
 -- the thread asks with this message alone, and the client stands for its entries with the one that asks
-pub record HasAskedWith (code : Code) (p : Settings) (c clock : ℕ) (es : List Entry) (index : ℕ) (sent : List Up) (new : Kept) : Type 0 where
+pub record HasAskedWith (code : Code) (p : Settings) (c clock : ℕ) (es : List Entry) (index : ℕ) (sent : List Up)
+    (new : Kept) : Type 0 where
   pub message : Up
   pub alone : sent ≡ message ∷ []
   pub stands : ClientStands code p c new (asked_entry clock c index message ∷ es)
@@ -51,7 +53,8 @@ pub record IsBlocked (code : Code) (p : Settings) (c : ℕ) (es : List Entry) (i
 -- asks, which follows them by the client rule, since that is part of what it stands for; or the rule has no act, or the
 -- thread has ended.
 abbrev pub HasActed : Code → Settings → ℕ → ℕ → List Entry → ℕ → Acted → List Up → Kept → Type 0
-HasActed code p c clock es index (acted.Event event) sent new = ClientStands code p c new (event_entry clock c index event sent ∷ es)
+HasActed code p c clock es index (acted.Event event) sent new =
+    ClientStands code p c new (event_entry clock c index event sent ∷ es)
 HasActed code p c clock es index acted.Asked sent new = HasAskedWith code p c clock es index sent new
 HasActed code p c clock es index (acted.Blocked told) sent new = IsBlocked code p c es index told
 HasActed code p c clock es index acted.Over sent new = (point code p c es).next (thread_at c index) ≡ None

@@ -10,12 +10,15 @@ use Rattle.dso_base.specs.declared.message.Up.TheVariants.{Flushed}
 
 -- client c flushes the object
 abbrev pub flush_entry : ℕ → ℕ → ℕ → Entry
-flush_entry clock c o = record { clock = clock; node = Client c; input = Flush o; sent = ToServer (Flushed o) ∷ []; event = None }
+flush_entry clock c o =
+    record { clock = clock; node = Client c; input = Flush o; sent = ToServer (Flushed o) ∷ []; event = None }
 
 -- client c takes the message, and sends these
 abbrev pub taken_entry : ℕ → ℕ → Down → List Up → Entry
-taken_entry clock c m sent = record { clock = clock; node = Client c; input = TookDown m; sent = map ToServer sent; event = None }
+taken_entry clock c m sent =
+    record { clock = clock; node = Client c; input = TookDown m; sent = map ToServer sent; event = None }
 
 -- a thread of client c acts, and asks with this message for what it lacks
 abbrev pub asked_entry : ℕ → ℕ → ℕ → Up → Entry
-asked_entry clock c index m = record { clock = clock; node = Client c; input = Act index; sent = ToServer m ∷ []; event = None }
+asked_entry clock c index m =
+    record { clock = clock; node = Client c; input = Act index; sent = ToServer m ∷ []; event = None }

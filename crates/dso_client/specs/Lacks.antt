@@ -2,7 +2,8 @@
 use Rattle.std.specs.Prelude.{◌≡◌, Some, None, Option, find}
 use Rattle.std.specs.Option.{option_map}
 use Rattle.dso_base.specs.declared.lock.ThreadId.{ThreadId}
-use Rattle.dso_law.specs.RequestNeeds.{Need, NeedsId, NeedsObject, NeedsClass, NeedsMark, NeedsLease, NeedsOthersOut, NeedsAck, is_in_conflict}
+use Rattle.dso_law.specs.RequestNeeds.{Need, NeedsId, NeedsObject, NeedsClass, NeedsMark, NeedsLease}
+use Rattle.dso_law.specs.RequestNeeds.{NeedsOthersOut, NeedsAck, is_in_conflict}
 use Rattle.dso_law.specs.Settings.{threads_of}
 use Rattle.dso_client.specs.declared.lack.Lack.{Lack}
 use Rattle.dso_client.specs.declared.lack.Lack.TheVariants.{Id, Object, Class, Mark, Lease, OthersOut, Ack}
@@ -22,7 +23,9 @@ need_of (Ack seq) = NeedsAck
 -- who holds the lock in conflict is the first such thread of the client; the record that is to be acknowledged is the
 -- thread's last one
 abbrev pub IsNamed : Point → ThreadId → Lack → Type 0
-IsNamed at t (OthersOut l level other) = find (is_in_conflict at.settings at.client at.next t l level at.entries) (threads_of at.settings at.client) ≡ Some other
+IsNamed at t (OthersOut l level other) =
+    find (is_in_conflict at.settings at.client at.next t l level at.entries) (threads_of at.settings at.client)
+    ≡ Some other
 IsNamed at t (Ack seq) = last_record t at.entries ≡ Some seq
 IsNamed at t lack = Unit {0}
 

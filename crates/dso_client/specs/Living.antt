@@ -33,7 +33,14 @@ event_of act = Act act.thread act.request act.reply act.woken
 
 -- the entry in which a thread of client c acts with this event, without what it sends
 abbrev pub lived_entry : ℕ → ℕ → Answered → Entry
-lived_entry clock c act = record { clock = clock; node = Client c; input = input.Act act.thread.index; sent = []; event = Some (event_of act) }
+lived_entry clock c act =
+    record {
+      clock = clock;
+      node = Client c;
+      input = input.Act act.thread.index;
+      sent = [];
+      event = Some (event_of act);
+    }
 
 -- the point then, while the next requests are those before it
 abbrev pub lived : ℕ → Answered → Point → Point
@@ -41,11 +48,24 @@ lived clock act at = record at { entries = lived_entry clock at.client act ∷ a
 
 -- the entry in which a thread of client c acts with this event, and sends these
 abbrev pub acting_entry : ℕ → ℕ → Answered → List Up → Entry
-acting_entry clock c act sent = record { clock = clock; node = Client c; input = input.Act act.thread.index; sent = map ToServer sent; event = Some (event_of act) }
+acting_entry clock c act sent =
+    record {
+      clock = clock;
+      node = Client c;
+      input = input.Act act.thread.index;
+      sent = map ToServer sent;
+      event = Some (event_of act);
+    }
 
 -- the point in this entry once these were sent, where the next requests are these
 abbrev pub acting : ℕ → Answered → List Up → (ThreadId → Option Request) → Point → Point
-acting clock act sent next at = record { settings = at.settings; client = at.client; next = next; entries = acting_entry clock at.client act sent ∷ at.entries }
+acting clock act sent next at =
+    record {
+      settings = at.settings;
+      client = at.client;
+      next = next;
+      entries = acting_entry clock at.client act sent ∷ at.entries;
+    }
 
 -- the object that a done put is to
 abbrev pub put_to : Request → Reply → Option ℕ

@@ -26,7 +26,8 @@ as_hold held = record { level = held.level; count = held.count }
 -- how a lock stands with the client: its lease, and whether it was entered and recalled since the grant; else whether
 -- it is asked for
 abbrev pub standing_as : Option Level → Bool → Bool → Bool → Option Standing
-standing_as (Some level) entered recalled asked = Some (Leased (record { level = level; is_entered = entered; is_closing = recalled }))
+standing_as (Some level) entered recalled asked =
+    Some (Leased (record { level = level; is_entered = entered; is_closing = recalled }))
 standing_as None entered recalled true = Some Asked
 standing_as None entered recalled false = None
 
@@ -38,5 +39,6 @@ list_at lists l = unwrap_or (look lock_order lists l) []
 pub record LockingStands (at : Point) (locking : Locking) : Type 0 where
   pub holds : (t : ThreadId) (l : LockName) → option_map as_hold (hold_in locking.holds (l, t)) ≡ hold_of t l at.entries
   pub leases : (l : LockName) → standing_in locking.leases l
-      ≡ standing_as (leased l at.entries) (is_entered l at.entries) (is_recalled l at.entries) (is_asked_for l at.entries)
+      ≡ standing_as (leased l at.entries) (is_entered l at.entries) (is_recalled l at.entries)
+      (is_asked_for l at.entries)
   pub lists : (l : LockName) → list_at locking.lists l ≡ client_list l at.entries

@@ -21,11 +21,13 @@ use Rattle.dso_client.specs.SeatStands.{last_record}
 -- A lock that is leased isn't asked for; the records that aren't acknowledged have consecutive numbers up to the last
 -- one; a thread is settled where its last record is acknowledged; a thread that isn't one of the client's has no open
 -- block, doesn't wait, wants nothing and holds nothing; who holds a lock entered it once at least, and who waits is to
--- have a lock again that it entered so; what a thread has in hand it has once; and what its open block sets is resident.
+-- have a lock again that it entered so; what a thread has in hand it has once; what its open block sets is resident.
 pub record RunFacts (at : Point) : Type 0 where
   pub apart : (l : LockName) → is_some (leased l at.entries) ≡ true → is_asked_for l at.entries ≡ false
   pub settled : (t : ThreadId)
-      → is_settled t at.entries ≡ not (option_map_or (λ n. list_any (λ txn. eqb txn.seq n) (unacked at.entries)) (last_record t at.entries) false)
+      → is_settled t at.entries
+      ≡ not (option_map_or (λ n. list_any (λ txn. eqb txn.seq n) (unacked at.entries))
+      (last_record t at.entries) false)
   pub numbered : AreNumbered (unacked at.entries) (records at.entries)
   pub strangers : (t : ThreadId) → list_any (is_thread t) (threads_of at.settings at.client) ≡ false
       → open_block t at.entries ≡ []

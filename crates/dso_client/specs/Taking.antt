@@ -19,7 +19,8 @@ use Rattle.dso_client.specs.Points.{Point}
 
 -- A message that fits: the client stands for its entries with the one that takes it, which follows them by the client
 -- rule. One that doesn't changes and sends nothing.
-pub record TakesIn (code : Code) (p : Settings) (c clock : ℕ) (m : Down) (es : List Entry) (sent : List Up) (old new : Kept) : Type 0 where
+pub record TakesIn (code : Code) (p : Settings) (c clock : ℕ) (m : Down) (es : List Entry) (sent : List Up)
+    (old new : Kept) : Type 0 where
   pub taken : FitsDown p c m es → ClientStands code p c new (taken_entry clock c m sent ∷ es)
   pub unfit : (FitsDown p c m es → ⊥) → (new ≡ old) × (sent ≡ [])
 

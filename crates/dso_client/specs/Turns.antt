@@ -49,7 +49,8 @@ IsCause at t request None told = NamesAccessed request told
 IsCause at t request (Some need) told = NamesNeed at t need told
 
 -- all needs of the request are met: this is the reply, and whom the act wakes
-pub record Answers (at : Point) (t : ThreadId) (request : Request) (reply : Reply) (woken : Option ThreadId) : Type 0 where
+pub record Answers (at : Point) (t : ThreadId) (request : Request) (reply : Reply) (woken : Option ThreadId)
+    : Type 0 where
   pub met : unmet at.settings at.client at.next t request at.entries ≡ None
   pub replied : reply_of at.settings t request at.entries ≡ Some reply
   pub wakes : woken ≡ woken_by request reply at.entries

@@ -20,8 +20,8 @@ use crate::kept::Kept;
 use crate::ledger::Ledger;
 use crate::locking::Locking;
 use crate::seat::{Seat, seat_at};
-use crate::shaped::{fits_shape, kind_of};
 use dso_base::{Body, ClassId, Down, LockName, Set, Shape, ThreadId, fits};
+use dso_law::{fits_shape, kind_at};
 use dso_table::Table;
 
 /// The greatest id with which a batch of 256 can begin.
@@ -64,7 +64,7 @@ fn fits_field(shape: &Shape, class: ClassId, size: usize, set: Set) -> bool
     ensures { IsTrue result ↔ FitsClass shape.now set (Some (class, size)) }
 {
     let field = set.field as usize;
-    field < size && fits(kind_of(shape, class, field), set.value)
+    field < size && fits(kind_at(shape, class, field), set.value)
 }
 
 /// Whether the change of a field fits: of a resident object it names a field and a value that fits.

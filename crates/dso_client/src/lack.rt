@@ -15,7 +15,7 @@ ghost use Rattle.dso_client.specs.RunFacts.{RunFacts};
 ghost use Rattle.dso_client.specs.SeatStands.{SeatStands};
 
 use crate::kept::Kept;
-use crate::known::{class_known, is_resident, is_seen_class};
+use crate::known_objects::{class_known, is_resident, is_seen_class};
 use crate::ledger::Ledger;
 use crate::locks::{Entering, admits, first_rival, level_held};
 use crate::seat::Seat;

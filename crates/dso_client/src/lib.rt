@@ -16,7 +16,7 @@ mod flushing;
 mod going;
 mod hearing;
 mod kept;
-mod known;
+mod known_objects;
 mod lack;
 mod ledger;
 mod living;
@@ -33,7 +33,6 @@ mod returning;
 mod seat;
 mod sending;
 mod settling;
-mod shaped;
 mod taking;
 mod turn;
 

@@ -21,12 +21,13 @@ ghost use Rattle.dso_client.specs.SeatStands.{SeatStands};
 ghost use Rattle.dso_client.specs.Turns.{is_of_object};
 
 use crate::kept::Kept;
-use crate::known::{class_known, field_value, guard_of};
+use crate::known_objects::{class_known, field_value};
 use crate::ledger::Ledger;
 use crate::locking::Locking;
 use crate::locks::level_held;
 use crate::seat::Seat;
 use dso_base::{Fault, Level, LockName, Reply, Request, Shape, ThreadId, Value};
+use dso_law::guard_at;
 use dso_table::Table;
 
 /// The id of the next object, None where none is left.
@@ -146,7 +147,7 @@ pub(crate) fn put_reply(
 {
     let (class, size) = class_known(&kept.table, seat, object)?;
     if (field as usize) < size {
-        let guard = guard_of(shape, class, object, field);
+        let guard = guard_at(shape, class, object, field);
         Some(put_answer(&kept.locking, seat, object, guard))
     } else {
         None

@@ -1,6 +1,6 @@
 use Rattle.std.proofs.Common.{sym, ◌∙◌}
 use Rattle.dso_client.proofs.KnownObjects.{absent, value_of_copy}
-use Rattle.dso_client.proofs.known.copy.Goals as goal
+use Rattle.dso_client.proofs.known_objects.copy.Goals as goal
 
 pub returns-in-Some : goal.returns-in-Some
 returns-in-Some c = λ at stands sizes there.

@@ -1,7 +1,7 @@
 use Rattle.std.proofs.Common.{sym, ◌∙◌, ap, ◌||◌, is_some, Some}
 use Rattle.dso_law.specs.Copies.{is_resident}
 use Rattle.dso_client.proofs.KnownObjects.{absent, class_of_copy, not_there, resident_with}
-use Rattle.dso_client.proofs.known.class_known.Goals as goal
+use Rattle.dso_client.proofs.known_objects.class_known.Goals as goal
 
 pub returns-in-Some-get-clause-there : goal.returns-in-Some-get-clause-there
 returns-in-Some-get-clause-there c = λ at h.

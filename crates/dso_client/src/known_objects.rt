@@ -1,8 +1,5 @@
 //! What a thread knows of objects: of its own what it did, of others what its client's copies hold.
 ghost use Rattle.std.specs.Prelude.{◌≡◌, ◌||◌, is_some, true};
-ghost use Rattle.dso_base.specs.declared.lock.LockName.{LockName};
-ghost use Rattle.dso_base.specs.declared.value.ClassId.{ClassId};
-ghost use Rattle.dso_base.specs.Shape.{guard_of};
 ghost use Rattle.dso_law.specs.Threads.{own};
 ghost use Rattle.dso_law.specs.Copies.{is_resident, class_held, copy_of};
 ghost use Rattle.dso_law.specs.RequestNeeds.{is_kind, is_class, is_seen_class};
@@ -13,7 +10,7 @@ ghost use Rattle.dso_client.specs.TableStands.{TableStands};
 ghost use Rattle.dso_client.specs.KnownObjects.{KnowsObject, KnowsObjects};
 
 use crate::seat::Seat;
-use dso_base::{ClassId, Guard, Kind, LockName, Shape, Value};
+use dso_base::{ClassId, Kind, Value};
 use dso_table::Table;
 
 /// Whether both are there, of one class and size.
@@ -95,25 +92,5 @@ pub(crate) fn field_value(table: &Table, seat: &Seat, object: u64, field: u32) -
             Some(value) => Some(value),
             None => copy(table, object, field),
         },
-    }
-}
-
-/// The lock that guards a field: the object's monitor where there is no such field.
-pub(crate) fn guard_of(shape: &Shape, class: ClassId, object: u64, field: u32) -> LockName
-    ensures { result ≡ guard_of shape.now class object field }
-{
-    match class {
-        ClassId::Plain(number) => match shape.classes.as_slice().get(number as usize) {
-            Some(class) => match class.fields.as_slice().get(field as usize) {
-                Some(field) => match field.guard {
-                    Guard::Own => LockName::Mon(object),
-                    Guard::Name(name) => LockName::Name(name),
-                },
-                None => LockName::Mon(object),
-            },
-            None => LockName::Mon(object),
-        },
-        ClassId::Array(_) => LockName::Mon(object),
-        ClassId::Roots => LockName::Name(field),
     }
 }

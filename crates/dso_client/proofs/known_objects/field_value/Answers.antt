@@ -2,7 +2,7 @@ use Rattle.std.proofs.Common.{◌≡◌, sym, ◌∙◌, ap, Bool, true, false, 
 use Rattle.dso_law.specs.Copies.{is_resident, copy_of}
 use Rattle.dso_law.specs.Threads.{or_else, own}
 use Rattle.dso_client.proofs.KnownObjects.{value_known}
-use Rattle.dso_client.proofs.known.field_value.Goals as goal
+use Rattle.dso_client.proofs.known_objects.field_value.Goals as goal
 
 pub returns-in-Some-value : goal.returns-in-Some-value
 returns-in-Some-value c = λ at h sizes.

@@ -1,7 +1,7 @@
 use Rattle.std.proofs.Common.{◌∙◌, ap, is_some}
 use Rattle.dso_law.proofs.core.Bodies.{bodies_are_held}
 use Rattle.dso_client.proofs.Found.{copied_there}
-use Rattle.dso_client.proofs.known.is_resident.Goals as goal
+use Rattle.dso_client.proofs.known_objects.is_resident.Goals as goal
 
 pub returns : goal.returns
 returns c = λ at stands.
