@@ -53,7 +53,7 @@ class Maker:
 
     def __init__(self, seed, number):
         self.random = random.Random('%d/%d' % (seed, number))
-        self.clients = self.random.choice([1, 2, 2, 2, 3, 3, 4])
+        self.clients = self.random.choice([1, 2, 2, 2, 3, 3, 4]) if self.chance(0.96) else self.random.randint(5, 16)
         self.cells = self.random.randint(1, 3)
         self.arrays = self.random.randint(0, 1)
         self.boxes = self.random.randint(0, 2)
@@ -135,7 +135,7 @@ class Maker:
         return 'new %s()' % {'c': 'Cell', 'b': 'Box', 'g': 'Gate'}[root[0]]
 
     def program(self):
-        self.array_kind = self.pick(['long', 'long', 'long', 'ref'])
+        self.array_kind = self.pick(['long', 'long', 'long', 'ref', 'text', 'boolean'])
         self.array_size = self.random.randint(1, 6)
         wait = self.pick(['wait(this);', 'wait(this);', 'wait(this, %d);' % self.random.randint(0, 9)])
         out = [HEAD % {'in_add': self.pick(['', '', 'print(this.v);', 'this.v = this.v + 0;']),
@@ -239,10 +239,10 @@ class Maker:
     def on_array(self):
         last = self.array_size - 1
         index = self.pick([str(self.random.randint(0, last)), '(x %% 100) * (x %% 100) %% %d' % self.array_size])
-        if self.array_kind == 'ref':
-            value = self.pick(['c0', 'new Cell()', 'null', 'a0'])
-        else:
-            value = 'a0[%d] + 1' % self.random.randint(0, last)
+        value = self.pick({'long': ['a0[%d] + 1' % self.random.randint(0, last), self.number()],
+                           'ref': ['c0', 'new Cell()', 'null', 'a0', 'a0[%d]' % self.random.randint(0, last)],
+                           'text': TEXTS + ['null'],
+                           'boolean': ['x < y', '!a0[%d]' % self.random.randint(0, last)]}[self.array_kind])
         return 'synchronized (a0) { a0[%s] = %s; }' % (index, value)
 
     def mischief(self):
