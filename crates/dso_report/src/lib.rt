@@ -1,7 +1,9 @@
-//! The report of what a program did: its threads with what they printed, the count of unguarded reads, and the graph.
+//! The report of what a program did: its threads with what they printed, the count of unguarded reads, and the graph; and the text of
+//! a journal.
 #![tactic(auto)]
 
 mod graph_lines;
+mod journal_lines;
 pub mod laws;
 mod numbering;
 mod program_report;
@@ -10,4 +12,5 @@ mod thread_lines;
 mod unwritten;
 mod value_texts;
 
+pub use journal_lines::journal_text;
 pub use program_report::report;
