@@ -148,11 +148,14 @@ abbrev pub event_part : Option Event → List ℕ
 event_part None = []
 event_part (Some event) = codes " ; event " ++ event_words event
 
--- The line of an entry: its clock, its node, what the node took in, each message that it sent, and its event.
-abbrev pub entry_line : Entry → List ℕ
-entry_line entry = decimal entry.clock ++ codes " " ++ node_word entry.node
+-- how the line of an entry begins: with its clock, its node and what the node took in
+abbrev pub entry_head : Entry → List ℕ
+entry_head entry = decimal entry.clock ++ codes " " ++ node_word entry.node
     ++ codes " " ++ input_words entry.node entry.input
-    ++ flat_map (λ sent. codes " ; to " ++ sent_words sent) entry.sent
+
+-- The line of an entry: its head, each message that it sent, and its event.
+abbrev pub entry_line : Entry → List ℕ
+entry_line entry = entry_head entry ++ flat_map (λ sent. codes " ; to " ++ sent_words sent) entry.sent
     ++ event_part entry.event ++ codes "\n"
 
 -- The text of a journal: the lines of its entries, the first one first.
