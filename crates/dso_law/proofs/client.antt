@@ -1,4 +1,4 @@
--- What the entries of a client tell, read one after the other: its copies, ids, records and blocks, and the laws of its rule.
+-- What the entries of a client tell of its objects, locks and blocks, and the laws of its rule.
 pub mod HasBody
 pub mod HoldCounts
 pub mod WorkByEntry
