@@ -128,7 +128,7 @@ table-spotted table =
 pub spotted : (table : Members) (wrong : ConfigFault) → table_fault table ≡ Some wrong → HasSpot wrong
 spotted table wrong is = subst AreSpotted is (table-spotted table)
 
--- a text is told to be too long, no TOML or not built only where it is
+-- a text is told to be too long or no TOML only where it is
 pub too_long-only : (text : List ℕ) → IsFaultOf text fault.TooLong → most_bytes < length text
 too_long-only text is = by_form is refl where
   by_form : {wrong : ConfigFault} → IsFaultOf text wrong → wrong ≡ fault.TooLong → most_bytes < length text
@@ -142,10 +142,3 @@ not_toml-only text is = by_form is refl where
   by_form (too_long long) same = cc
   by_form (not_toml short none) same = none
   by_form (in_table wrong table short toml at) same = absurd (subst HasSpot same (spotted table wrong at))
-
-pub never_not_built : (text : List ℕ) → IsFaultOf text fault.NotBuilt → ⊥
-never_not_built text is = by_form is refl where
-  by_form : {wrong : ConfigFault} → IsFaultOf text wrong → wrong ≡ fault.NotBuilt → ⊥
-  by_form (too_long long) same = cc
-  by_form (not_toml short none) same = cc
-  by_form (in_table wrong table short toml at) same = subst HasSpot same (spotted table wrong at)

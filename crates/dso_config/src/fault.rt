@@ -56,9 +56,6 @@ pub enum ConfigFault {
     /// A root's field that is no `Class.field`, or a lock's name that is no name.
     #[error("{0}: not a name")]
     BadName(Spot),
-    /// The configuration asks for a form that is not built yet. [`read_config`](crate::read_config) never answers it.
-    #[error("the configuration asks for what is not built yet")]
-    NotBuilt,
     /// An allocation was refused.
     #[error("out of memory")]
     NoMemory,

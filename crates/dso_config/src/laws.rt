@@ -13,12 +13,11 @@ ghost use Rattle.dso_config.specs.InRange.{IsInRange};
 ghost use Rattle.dso_config.specs.Spelling.{IsPattern, grade_of, pattern_of, written_grade};
 
 /// What is wrong with a table is told with a spot of it. So a text is TooLong only where it is, and NotToml only where it is no
-/// TOML; and no text is NotBuilt.
+/// TOML.
 pub fn faults_of_tables()
     ensures spotted { (table : Members) (wrong : ConfigFault) → table_fault table ≡ Some wrong → HasSpot wrong }
     ensures too_long { (text : List ℕ) → IsFaultOf text fault.TooLong → most_bytes < length text }
     ensures not_toml { (text : List ℕ) → IsFaultOf text fault.NotToml → (table : Members) → IsToml text table → ⊥ }
-    ensures built { (text : List ℕ) → IsFaultOf text fault.NotBuilt → ⊥ }
 {}
 
 /// A text says one configuration, which is in range, or it has one fault; never both, and never neither.

@@ -33,7 +33,6 @@ config_taken config program p (config_fault.BadGuard spot) taken is = not_both c
 config_taken config program p (config_fault.Twice spot) taken is = not_both config taken.config (config_fault.Twice spot) taken.says is
 config_taken config program p config_fault.TooLong taken is = not_both config taken.config config_fault.TooLong taken.says is
 config_taken config program p (config_fault.BadName spot) taken is = not_both config taken.config (config_fault.BadName spot) taken.says is
-config_taken config program p config_fault.NotBuilt taken is = not_both config taken.config config_fault.NotBuilt taken.says is
 config_taken config program p config_fault.NoMemory taken is = is
 
 -- a text of a tree has no fault of the grammar

@@ -28,7 +28,6 @@ fault_refused config program (fault.BadGuard spot) enough is = is
 fault_refused config program (fault.Twice spot) enough is = is
 fault_refused config program fault.TooLong enough is = is
 fault_refused config program (fault.BadName spot) enough is = is
-fault_refused config program fault.NotBuilt enough is = is
 fault_refused config program fault.NoMemory enough is = absurd (enough refl)
 
 -- what a program's text comes to under the configuration is what the texts come to

@@ -119,7 +119,6 @@ config_text (config.BadGuard spot) = at_spot (codes "BadGuard") spot
 config_text (config.Twice spot) = at_spot (codes "Twice") spot
 config_text config.TooLong = codes "TooLong"
 config_text (config.BadName spot) = at_spot (codes "BadName") spot
-config_text config.NotBuilt = codes "NotBuilt"
 config_text config.NoMemory = []
 
 -- the one line that a refusal writes

@@ -57,7 +57,6 @@ fn config_line(fault: ConfigFault) -> Line
         ConfigFault::Twice(spot) => spot_line("Twice", spot),
         ConfigFault::TooLong => line("dsorun: BadConfig TooLong\n"),
         ConfigFault::BadName(spot) => spot_line("BadName", spot),
-        ConfigFault::NotBuilt => line("dsorun: BadConfig NotBuilt\n"),
         ConfigFault::NoMemory => unreachable!(),
     }
 }

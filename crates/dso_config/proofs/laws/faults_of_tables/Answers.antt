@@ -9,6 +9,3 @@ returns-clause-too_long c = spots.too_long-only
 
 pub returns-clause-not_toml : goal.returns-clause-not_toml
 returns-clause-not_toml c = spots.not_toml-only
-
-pub returns-clause-built : goal.returns-clause-built
-returns-clause-built c = spots.never_not_built
