@@ -3,6 +3,8 @@ pub mod MissingText
 pub mod Laws
 pub mod LeftOut
 pub mod HistoryState
+pub mod JournalText
+pub mod JournalWords
 pub mod Numbering
 pub mod Report
 pub mod Texts
