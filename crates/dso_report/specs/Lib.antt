@@ -1,7 +1,10 @@
+pub mod CounterTotal
 pub mod MissingText
 pub mod Laws
 pub mod LeftOut
 pub mod HistoryState
+pub mod JournalText
+pub mod JournalWords
 pub mod Numbering
 pub mod Report
 pub mod Texts

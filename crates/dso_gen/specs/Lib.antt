@@ -1,0 +1,2 @@
+pub mod GeneratedLoad
+pub mod LoadLine
