@@ -1,3 +1,4 @@
+pub mod CounterTotal
 pub mod MissingText
 pub mod Laws
 pub mod LeftOut

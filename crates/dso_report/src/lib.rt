@@ -2,6 +2,7 @@
 //! a journal.
 #![tactic(auto)]
 
+mod counters;
 mod event_words;
 mod graph_lines;
 mod journal_lines;
@@ -16,5 +17,6 @@ mod unwritten;
 mod value_texts;
 mod written;
 
+pub use counters::counter_total;
 pub use journal_lines::journal_text;
 pub use program_report::report;

@@ -1,5 +1,5 @@
 -- A call that may run does run: its words and its texts have no other answer.
-use Rattle.std.proofs.Common.{arith, ◌≡◌, subst, ℕ, List}
+use Rattle.std.proofs.Common.{arith, ◌≡◌, inl, inr, subst, ℕ, List}
 use Rattle.dso_class.specs.declared.fault.NameFault.TheVariants as name
 use Rattle.dso_class.specs.declared.program.Program.{Program}
 use Rattle.dso_class.specs.NameFaults.{IsFirstFault}
@@ -18,8 +18,9 @@ use Rattle.dso_run.specs.declared.status.Status.{Status}
 use Rattle.dso_run.specs.declared.status.Status.TheVariants.{Finished, FinishedFault, Usage, BadConfig, BadProgram, ReadFault, WriteFault, Stuck, Budget, NoMemory}
 use Rattle.dso_run.specs.Accepted.{AreTaken, HasTree, IsConfigRefusal, IsProgramRefusal, IsTakenText, IsTextFault}
 use Rattle.dso_run.specs.Completeness.{Completeness, IsOfRun, MayRun}
-use Rattle.dso_run.specs.Headline.{CallInput, CallOutput, IsConfigRefused, IsProgramRefused, StatusMeans, WereRead}
-use Rattle.dso_words.specs.Words.{AreLawful, Sim, SimCall}
+use Rattle.dso_io.specs.Environment.{Rose}
+use Rattle.dso_run.specs.Headline.{CallInput, CallOutput, IsConfigRefused, IsProgramRefused, ReadFailed, StatusMeans, WereRead}
+use Rattle.dso_words.specs.Words.{AreLawful, Command, Sim, Run, Big}
 use Rattle.dso_words.proofs.reading_words.Asking.{asks-once}
 
 -- a configuration that is taken isn't refused
@@ -60,22 +61,28 @@ program_taken config program p wrong taken is =
     text_taken taken.config program p wrong taken.holds (subst (λ said. IsTextFault said program wrong) same is.holds)
 
 -- words ask for one run
-one_call : (words : List (List ℕ)) (call other : SimCall) → AreLawful words (Sim call) → AreLawful words (Sim other) → call ≡ other
-one_call words call other is also = let same = asks-once words (Sim call) (Sim other) is.asks also.asks in cc same
+one_call : (words : List (List ℕ)) (command other : Command) → AreLawful words command → AreLawful words other → command ≡ other
+one_call words command other is also = asks-once words command other is.asks also.asks
+
+-- a read failed only where the count of reads that failed rose
+rose_by : (command : Command) (rose : Type 0) → ReadFailed command rose → rose
+rose_by (Sim call) rose is = is
+rose_by (Run call) rose is = is
+rose_by (Big number) rose never = absurd never
 
 module _ (input : CallInput) (output : CallOutput) (may : MayRun input output) where
   -- no configuration is refused
   no_config : (wrong : ConfigFault) → IsConfigRefused input wrong → ⊥
   no_config wrong is =
-      let same = one_call input.words is.call may.call is.read.words may.words in
-      let taken = may.taken is.config is.program (subst (λ call. WereRead input call is.config is.program) same is.read) in
+      let same = one_call input.words is.command may.command is.read.words may.words in
+      let taken = may.taken is.config is.program (subst (λ command. WereRead input command is.config is.program) same is.read) in
       config_taken is.config is.program taken.0 wrong taken.1 is.refused
 
   -- and no program
   no_program : (wrong : ProgramFault) → IsProgramRefused input wrong → ⊥
   no_program wrong is =
-      let same = one_call input.words is.call may.call is.read.words may.words in
-      let taken = may.taken is.config is.program (subst (λ call. WereRead input call is.config is.program) same is.read) in
+      let same = one_call input.words is.command may.command is.read.words may.words in
+      let taken = may.taken is.config is.program (subst (λ command. WereRead input command is.config is.program) same is.read) in
       program_taken is.config is.program taken.0 wrong taken.1 is.refused
 
   of_run : (status : Status) → StatusMeans input output status → IsOfRun status
@@ -84,11 +91,12 @@ module _ (input : CallInput) (output : CallOutput) (may : MayRun input output) w
   of_run Stuck means = tt
   of_run Budget means = tt
   of_run NoMemory means = tt
-  of_run Usage means = means.due.cause (Sim may.call) may.words
-  of_run ReadFault means = may.all_read means.due.cause.failed
+  of_run Usage means = means.due.cause may.command may.words
+  of_run ReadFault means = may.all_read (rose_by means.due.cause.command (Rose input.failed_before input.failed_after) means.due.cause.failed)
   of_run (BadConfig wrong) means = no_config wrong means.due.cause
   of_run (BadProgram wrong) means = no_program wrong means.due.cause
-  of_run WriteFault means = may.all_written means.failed
+  of_run WriteFault (inl cut) = may.all_written cut.failed
+  of_run WriteFault (inr unkept) = may.all_kept unkept.failed
 
 pub completeness : Completeness
 completeness input output status may means = of_run input output may status means

@@ -1,5 +1,6 @@
 pub mod runs
 pub mod Completing
-pub mod Judging
+pub mod GivenTexts
 pub mod Replaying
 pub mod StatusMeaning
+pub mod Telling

@@ -1,5 +1,5 @@
 -- What a status means, from the verdict and from what was written.
-use Rattle.std.proofs.Common.{◌≡◌, inl, inr, refl, sym, subst, ℕ, List, []}
+use Rattle.std.proofs.Common.{◌≡◌, ◌∙◌, inl, inr, refl, sym, ap, subst, ℕ, List, [], Option, Some, None}
 use Rattle.dso_class.specs.declared.program.Program.{Program}
 use Rattle.dso_run.specs.declared.status.ProgramFault.TheVariants as program
 use Rattle.dso_run.specs.declared.status.Refusal.{Refusal}
@@ -8,90 +8,113 @@ use Rattle.dso_run.specs.declared.status.Refusal.TheVariants as refusal
 use Rattle.dso_run.specs.declared.status.Status.{Status}
 use Rattle.dso_run.specs.declared.status.Status.TheVariants.{Finished, FinishedFault, Usage, BadConfig, BadProgram, ReadFault, WriteFault, Stuck, Budget, NoMemory}
 use Rattle.dso_run.specs.Accepted.{IsConfigRefusal, IsProgramRefusal}
-use Rattle.dso_io.specs.Environment.{Told, Rose, taken_after}
-use Rattle.dso_run.specs.Headline.{CallInput, CallOutput, HasCause, IsAccepted, IsLineDue, StatusMeans, WroteWhole}
+use Rattle.dso_io.specs.Environment.{Told, Rose, replaced, taken_after}
+use Rattle.dso_run.specs.declared.running.Outcome.{Outcome}
+use Rattle.dso_run.specs.declared.running.Outcome.TheVariants as outcome
+use Rattle.dso_run.specs.Files.{AreAsBefore, IsWritten}
+use Rattle.dso_run.specs.Headline.{CallInput, CallOutput, HasCause, IsAccepted, IsKept, IsLineDue, IsReportDue, IsRunText, StatusMeans, WroteWhole}
 use Rattle.dso_run.specs.declared.verdict.Verdict.TheVariants.{Refused}
-use Rattle.dso_run.specs.Verdict.{IsVerdictOnFiles}
+use Rattle.dso_run.specs.Verdict.{IsVerdictBy}
 use Rattle.dso_run.specs.Status.{HasLine, line_of, status_of}
-use Rattle.dso_words.specs.Words.{SimCall}
-use Rattle.dso_run.specs.Writing.{Wrote, WroteReport}
+use Rattle.dso_words.specs.Words.{Command, journal_of}
+use Rattle.dso_run.specs.Writing.{Ran, ToldRun, ToldWhole, Wrote}
+
+-- what is written over files that are as before is written over those from before
+written_from : (file : Option (List ℕ)) (bytes : List ℕ) (before between after : List ℕ → Told) → AreAsBefore before between → IsWritten file bytes between after
+    → IsWritten file bytes before after
+written_from None bytes before between after same is = λ name. is name ∙ same name
+written_from (Some file) bytes before between after same is =
+    (is.0 ∙ ap (λ told. replaced told bytes) (same file), λ other differs. is.1 other differs ∙ same other)
 
 module _ (input : CallInput) (output : CallOutput) where
-  -- an accepted program and its report
-  pub run_means : (call : SimCall) (p : Program) (answer : Status) → IsAccepted input call p
-      → WroteReport call.seed call.steps p output.sink_before output.sink_after (Rose output.failed_before output.failed_after) output.journal answer
-      → StatusMeans input output answer
-  run_means call p NoMemory accepted wrote = record { untouched = wrote.0; nothing_kept = wrote.1 }
-  run_means call p WriteFault accepted wrote = record {
-    text = wrote.0.0;
-    due = inr (wrote.2.0, record { call = call; program = p; accepted = accepted; ran = wrote.2.1; is_report = wrote.0.1 });
-    took = wrote.0.2;
-    failed = wrote.1;
-  }
-  run_means call p Finished accepted wrote = record {
-    text = wrote.1.0;
-    due = record { call = call; program = p; accepted = accepted; ran = wrote.0; is_report = wrote.1.1 };
-    took = wrote.1.2;
-  }
-  run_means call p FinishedFault accepted wrote = record {
-    text = wrote.1.0;
-    due = record { call = call; program = p; accepted = accepted; ran = wrote.0; is_report = wrote.1.1 };
-    took = wrote.1.2;
-  }
-  run_means call p Stuck accepted wrote = record {
-    text = wrote.1.0;
-    due = record { call = call; program = p; accepted = accepted; ran = wrote.0; is_report = wrote.1.1 };
-    took = wrote.1.2;
-  }
-  run_means call p Budget accepted wrote = record {
-    text = wrote.1.0;
-    due = record { call = call; program = p; accepted = accepted; ran = wrote.0; is_report = wrote.1.1 };
-    took = wrote.1.2;
-  }
-  run_means call p Usage accepted wrote = absurd wrote
-  run_means call p ReadFault accepted wrote = absurd wrote
-  run_means call p (BadConfig fault) accepted wrote = absurd wrote
-  run_means call p (BadProgram fault) accepted wrote = absurd wrote
+  -- AN ACCEPTED PROGRAM, whose run began with files as they were before the call
+  module _ (command : Command) (p : Program) (between : List ℕ → Told) (accepted : IsAccepted input command p) (same : AreAsBefore input.content between) where
+    -- what is told of its run is due
+    report_due : (ended : Outcome) (text : List ℕ) → Ran command p between output ended → IsKept command output.journal between output.content
+        → IsRunText command p output.journal text → IsReportDue input output ended text
+    report_due ended text ran kept is = record {
+      command = command;
+      program = p;
+      run = record { accepted = accepted; ran = ran };
+      kept = written_from (journal_of command) _ input.content between output.content same kept;
+      is_text = is;
+    }
+
+    -- it was written whole
+    report_written : (ended : Outcome) → ToldWhole command p between output ended → WroteWhole input output (IsReportDue input output ended)
+    report_written ended told = record {
+      text = told.2.0;
+      due = report_due ended told.2.0 told.0 told.1 told.2.1;
+      took = told.2.2;
+    }
+
+    -- what was told of the run means what the status is to mean
+    pub run_means : (answer : Status) → ToldRun command p between output answer → StatusMeans input output answer
+    run_means NoMemory told = record { untouched = told.0; unchanged = λ name. told.1 name ∙ same name; nothing_kept = told.2 }
+    run_means WriteFault (inl cut) = inl (record {
+      text = cut.2.0;
+      due = inr (cut.0.0, report_due cut.0.0 cut.2.0 cut.0.1 cut.1 cut.2.1);
+      took = cut.2.2;
+      failed = cut.3;
+    })
+    run_means WriteFault (inr unkept) = inr (record {
+      command = command;
+      program = p;
+      ended = unkept.0.0;
+      run = record { accepted = accepted; ran = unkept.0.1 };
+      file = unkept.1.0;
+      named = unkept.1.1;
+      unchanged = λ name. unkept.2 name ∙ same name;
+      untouched = unkept.3;
+      failed = unkept.4;
+    })
+    run_means Finished told = report_written outcome.Finished told
+    run_means FinishedFault told = report_written outcome.FinishedFault told
+    run_means Stuck told = report_written outcome.Stuck told
+    run_means Budget told = report_written outcome.Budget told
+    run_means Usage told = absurd told
+    run_means ReadFault told = absurd told
+    run_means (BadConfig fault) told = absurd told
+    run_means (BadProgram fault) told = absurd told
 
   -- a refusal's line is due
-  line_due : (refusal : Refusal) → HasCause input refusal → output.journal ≡ [] → IsLineDue input output refusal (line_of refusal)
-  line_due refusal cause none = record { cause = cause; is_line = refl; nothing_ran = none }
+  line_due : (refusal : Refusal) → HasCause input refusal → output.journal ≡ [] → AreAsBefore input.content output.content
+      → IsLineDue input output refusal (line_of refusal)
+  line_due refusal cause none same = record { cause = cause; is_line = refl; nothing_ran = none; unchanged = same }
 
   -- the refusal's line was written whole
-  line_written : (refusal : Refusal) → HasCause input refusal → output.journal ≡ [] → output.sink_after ≡ taken_after output.sink_before (line_of refusal)
+  line_written : (refusal : Refusal) → HasCause input refusal → output.journal ≡ [] → AreAsBefore input.content output.content → output.sink_after ≡ taken_after output.sink_before (line_of refusal)
       → WroteWhole input output (IsLineDue input output refusal)
-  line_written refusal cause none took = record { text = line_of refusal; due = line_due refusal cause none; took = took }
+  line_written refusal cause none same took = record { text = line_of refusal; due = line_due refusal cause none same; took = took }
 
   -- so the refusal's status means what it is to mean
-  line_means : (refusal : Refusal) → HasCause input refusal → output.journal ≡ [] → output.sink_after ≡ taken_after output.sink_before (line_of refusal)
+  line_means : (refusal : Refusal) → HasCause input refusal → output.journal ≡ [] → AreAsBefore input.content output.content → output.sink_after ≡ taken_after output.sink_before (line_of refusal)
       → StatusMeans input output (status_of refusal)
-  line_means Words cause none took = line_written Words cause none took
-  line_means Reading cause none took = line_written Reading cause none took
-  line_means (Config fault) cause none took = line_written (Config fault) cause none took
-  line_means (refusal.Program fault) cause none took = line_written (refusal.Program fault) cause none took
+  line_means Words cause none same took = line_written Words cause none same took
+  line_means Reading cause none same took = line_written Reading cause none same took
+  line_means (Config fault) cause none same took = line_written (Config fault) cause none same took
+  line_means (refusal.Program fault) cause none same took = line_written (refusal.Program fault) cause none same took
 
   -- a refusal, by what was written of its line
-  pub refusal_means : (refusal : Refusal) (answer : Status) → HasCause input refusal → output.journal ≡ []
+  pub refusal_means : (refusal : Refusal) (answer : Status) → HasCause input refusal → output.journal ≡ [] → AreAsBefore input.content output.content
       → Wrote output.sink_before output.sink_after (Rose output.failed_before output.failed_after) (line_of refusal) (status_of refusal) answer
       → StatusMeans input output answer
-  refusal_means refusal answer cause none (inl whole) =
-      subst (StatusMeans input output) (sym whole.0) (line_means refusal cause none whole.1)
-  refusal_means refusal answer cause none (inr part) =
-      let cut : StatusMeans input output WriteFault = record {
+  refusal_means refusal answer cause none same (inl whole) =
+      subst (StatusMeans input output) (sym whole.0) (line_means refusal cause none same whole.1)
+  refusal_means refusal answer cause none same (inr part) =
+      let cut : StatusMeans input output WriteFault = inl (record {
         text = line_of refusal;
-        due = inl (refusal, line_due refusal cause none);
+        due = inl (refusal, line_due refusal cause none same);
         took = part.1;
         failed = part.2;
-      } in subst (StatusMeans input output) (sym part.0) cut
+      }) in subst (StatusMeans input output) (sym part.0) cut
 
--- A refusal by the files has a line: no want of memory is a fault of a configuration or a program.
-pub verdict_has_line : (content : List ℕ → Told) (failed : Type 0) (config program : List ℕ) (refusal : Refusal)
-    → IsVerdictOnFiles content failed config program (Refused refusal) → HasLine refusal
-verdict_has_line content failed config_name program_name Words is = tt
-verdict_has_line content failed config_name program_name Reading is = tt
-verdict_has_line content failed config_name program_name (Config wrong) is = λ same.
-    let never = subst (IsConfigRefusal is.config_text is.program_text) same is.verdict in never
-verdict_has_line content failed config_name program_name (refusal.Program (program.Syntax fault)) is = λ same.
+-- A refusal by what is given has a line: no want of memory is a fault of a configuration or a program.
+pub verdict_has_line : (Given : List ℕ → List ℕ → Type 0) (failed : Type 0) (refusal : Refusal) → IsVerdictBy Given failed (Refused refusal) → HasLine refusal
+verdict_has_line Given failed Words is = tt
+verdict_has_line Given failed Reading is = tt
+verdict_has_line Given failed (Config wrong) is = λ same. let never = subst (IsConfigRefusal is.config_text is.program_text) same is.verdict in never
+verdict_has_line Given failed (refusal.Program (program.Syntax fault)) is = λ same.
     let never = subst (λ f. IsProgramRefusal is.config_text is.program_text (program.Syntax f)) same is.verdict in never.holds
-verdict_has_line content failed config_name program_name (refusal.Program (program.Name fault)) is = λ same.
+verdict_has_line Given failed (refusal.Program (program.Name fault)) is = λ same.
     let never = subst (λ f. IsProgramRefusal is.config_text is.program_text (program.Name f)) same is.verdict in never.holds.refused

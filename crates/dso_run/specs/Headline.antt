@@ -1,7 +1,7 @@
 -- The program's theorem: what each status of a call means, from the bytes that were read to those that were written.
 -- `StatusMeans`, at the end, is the clause `answer` of `dso_main`. What it is made of stands above it, in the order of
 -- the work.
-use Rattle.std.specs.Prelude.{◌≡◌, ℕ, suc, ◌⊎◌, true, false, List, [], Option, reverse}
+use Rattle.std.specs.Prelude.{◌≡◌, ℕ, suc, ℤ, ◌⊎◌, true, false, List, [], Option, Some, reverse}
 use Rattle.dso_base.specs.declared.journal.Entry.{Entry}
 use Rattle.dso_base.specs.declared.lock.ThreadId.{ThreadId}
 use Rattle.dso_base.specs.declared.request.Event.{Event}
@@ -12,6 +12,10 @@ use Rattle.dso_legal.specs.Central.{CommitsLegally}
 use Rattle.dso_legal.specs.Committed.{committed}
 use Rattle.dso_machine.specs.Next.{next_request}
 use Rattle.dso_plain.specs.History.{last_state}
+use Rattle.dso_gen.specs.GeneratedLoad.{load_config, load_program}
+use Rattle.dso_gen.specs.LoadLine.{load_line}
+use Rattle.dso_report.specs.CounterTotal.{IsCounterTotal}
+use Rattle.dso_report.specs.JournalText.{journal_text}
 use Rattle.dso_report.specs.Report.{IsReport}
 use Rattle.dso_run.specs.declared.running.Outcome.{Outcome}
 use Rattle.dso_run.specs.declared.running.Outcome.TheVariants as outcome
@@ -25,9 +29,10 @@ use Rattle.dso_run.specs.declared.status.Status.TheVariants.{ReadFault, WriteFau
 use Rattle.dso_syntax.specs.TextLimits.{longest_text}
 use Rattle.dso_run.specs.Accepted.{settings_of, AreTaken, IsConfigRefusal, IsProgramRefusal}
 use Rattle.dso_io.specs.Environment.{Told, MayGive, Rose, taken_after, TookPrefix}
+use Rattle.dso_run.specs.Files.{AreAsBefore, IsWritten}
 use Rattle.dso_run.specs.RunEnds.{EndsFinished, EndsStuck, EndsOverBudget}
 use Rattle.dso_run.specs.Status.{line_of}
-use Rattle.dso_words.specs.Words.{AreLawful, AreUnlawful, Sim, SimCall}
+use Rattle.dso_words.specs.Words.{AreLawful, AreUnlawful, Command, Sim, Run, Big, journal_of, seed_of, steps_of}
 
 -- how many bytes are read of a file at most: one more than a program's text may have
 abbrev pub most_read : ℕ
@@ -42,50 +47,73 @@ pub record CallInput : Type 0 where
   pub failed_after : ℕ
 
 -- What a call leaves: what its sink had taken before the call, and has after it; how many calls of the sink had failed
+-- before, and how many have after it; what is told of each file after the call; how many writes of files had failed
 -- before, and how many have after it; and the journal of the run, its first entry first.
 pub record CallOutput : Type 0 where
   pub sink_before : Option (List ℕ)
   pub sink_after : Option (List ℕ)
   pub failed_before : ℕ
   pub failed_after : ℕ
+  pub content : List ℕ → Told
+  pub writes_before : ℕ
+  pub writes_after : ℕ
   pub journal : List Entry
+
+-- the files of these names gave these bytes: all that a file has, or the first `most_read` bytes of a longer one
+abbrev pub FilesGive : (List ℕ → Told) → List ℕ → List ℕ → List ℕ → List ℕ → Type 0
+FilesGive content config_name program_name config program =
+    MayGive (content config_name) most_read config × MayGive (content program_name) most_read program
+
+-- the texts of the generated load stand for bytes that are read
+abbrev pub LoadGives : ℕ → List ℕ → List ℕ → Type 0
+LoadGives number config program = (config ≡ load_config number) × (program ≡ load_program number)
+
+-- the bytes of a configuration and of a program that a command's run goes by, from its files or from the load
+abbrev pub Gives : (List ℕ → Told) → Command → List ℕ → List ℕ → Type 0
+Gives content (Sim call) config program = FilesGive content call.config call.program config program
+Gives content (Run call) config program = FilesGive content call.config call.program config program
+Gives content (Big number) config program = LoadGives number config program
+
+-- a read of a command's files failed, where the count of reads that failed rose; `big` reads no file
+abbrev pub ReadFailed : Command → Type 0 → Type 0
+ReadFailed (Sim call) rose = rose
+ReadFailed (Run call) rose = rose
+ReadFailed (Big number) rose = ⊥
 
 -- WHAT WAS READ, AND WHICH PROGRAM IT IS
 module _ (input : CallInput) where
-  -- The words ask for this run, and these are bytes that its two files gave: all that a file has, or the first
-  -- `most_read` bytes of a longer one.
-  pub record WereRead (call : SimCall) (config program : List ℕ) : Type 0 where
-    pub words : AreLawful input.words (Sim call)
-    pub config_given : MayGive (input.content call.config) most_read config
-    pub program_given : MayGive (input.content call.program) most_read program
+  -- The words ask for this, and its run goes by these bytes.
+  pub record WereRead (command : Command) (config program : List ℕ) : Type 0 where
+    pub words : AreLawful input.words command
+    pub given : Gives input.content command config program
 
-  -- The words ask for this run, both files were read, and their texts are taken as this program.
-  pub record IsAccepted (call : SimCall) (p : Program) : Type 0 where
+  -- The words ask for this, both texts were read, and they are taken as this program.
+  pub record IsAccepted (command : Command) (p : Program) : Type 0 where
     pub config : List ℕ
     pub program : List ℕ
-    pub read : WereRead call config program
+    pub read : WereRead command config program
     pub taken : AreTaken config program p
 
   -- The words are lawful, and a read failed.
   pub record IsUnread : Type 0 where
-    pub call : SimCall
-    pub words : AreLawful input.words (Sim call)
-    pub failed : Rose input.failed_before input.failed_after
+    pub command : Command
+    pub words : AreLawful input.words command
+    pub failed : ReadFailed command (Rose input.failed_before input.failed_after)
 
-  -- Both files were read, and the configuration is refused for this fault.
+  -- Both texts were read, and the configuration is refused for this fault.
   pub record IsConfigRefused (fault : ConfigFault) : Type 0 where
-    pub call : SimCall
+    pub command : Command
     pub config : List ℕ
     pub program : List ℕ
-    pub read : WereRead call config program
+    pub read : WereRead command config program
     pub refused : IsConfigRefusal config program fault
 
-  -- Both files were read, and the program is refused for this fault.
+  -- Both texts were read, and the program is refused for this fault.
   pub record IsProgramRefused (fault : ProgramFault) : Type 0 where
-    pub call : SimCall
+    pub command : Command
     pub config : List ℕ
     pub program : List ℕ
-    pub read : WereRead call config program
+    pub read : WereRead command config program
     pub refused : IsProgramRefusal config program fault
 
   -- why nothing is run
@@ -125,24 +153,43 @@ abbrev pub IsRunReport : Program → List Entry → List ℕ → Type 0
 IsRunReport p journal text =
     IsReport p.names p.threads (last_state p.code.shape (committed (reverse journal))) text
 
+-- the text is what is told of the history that a journal commits: with `big` the line of its load, with what the
+-- counters come to that can be reached, and else the report
+abbrev pub IsRunText : Command → Program → List Entry → List ℕ → Type 0
+IsRunText (Big number) p journal text =
+    (total : ℤ) × IsCounterTotal p.names (last_state p.code.shape (committed (reverse journal))) total
+    × (text ≡ load_line number total)
+IsRunText (Sim call) p journal text = IsRunReport p journal text
+IsRunText (Run call) p journal text = IsRunReport p journal text
+
+-- the text of a run's journal is in the file that the command names for it, and no other file was changed
+abbrev pub IsKept : Command → List Entry → (List ℕ → Told) → (List ℕ → Told) → Type 0
+IsKept command journal before after =
+    IsWritten (journal_of command) (journal_text (record { entries = journal })) before after
+
 -- WHAT WAS WRITTEN
 module _ (input : CallInput) (output : CallOutput) where
-  -- A program was accepted, the journal is that of a run of it that ended so, and the text is the report of what the
-  -- journal commits.
-  pub record IsReportDue (outcome : Outcome) (text : List ℕ) : Type 0 where
-    pub call : SimCall
-    pub program : Program
-    pub accepted : IsAccepted input call program
-    pub ran : IsRunOf program call.seed call.steps outcome output.journal
-    pub is_report : IsRunReport program output.journal text
+  -- A program was accepted, and the journal is that of a run of it, as the command asks, that ended so.
+  pub record HasRunOf (command : Command) (program : Program) (outcome : Outcome) : Type 0 where
+    pub accepted : IsAccepted input command program
+    pub ran : IsRunOf program (seed_of command) (steps_of command) outcome output.journal
 
-  -- The refusal has its cause, the text is its line, and nothing was run.
+  -- Such a run was made, its journal is kept, and the text is what is told of what the journal commits.
+  pub record IsReportDue (outcome : Outcome) (text : List ℕ) : Type 0 where
+    pub command : Command
+    pub program : Program
+    pub run : HasRunOf command program outcome
+    pub kept : IsKept command output.journal input.content output.content
+    pub is_text : IsRunText command program output.journal text
+
+  -- The refusal has its cause, the text is its line, nothing was run, and no file was changed.
   pub record IsLineDue (refusal : Refusal) (text : List ℕ) : Type 0 where
     pub cause : HasCause input refusal
     pub is_line : text ≡ line_of refusal
     pub nothing_ran : output.journal ≡ []
+    pub unchanged : AreAsBefore input.content output.content
 
-  -- what was to be written: the line of a refusal, or the report of a run
+  -- what was to be written: the line of a refusal, or what is told of a run
   abbrev pub IsDue : List ℕ → Type 0
   IsDue text = ((refusal : Refusal) × IsLineDue refusal text) ⊎ ((outcome : Outcome) × IsReportDue outcome text)
 
@@ -159,9 +206,23 @@ module _ (input : CallInput) (output : CallOutput) where
     pub took : TookPrefix output.sink_before text output.sink_after
     pub failed : Rose output.failed_before output.failed_after
 
-  -- An allocation was refused: the sink was given nothing, and no journal is kept.
+  -- Such a run was made, but its journal could not be written to the file that the command names: no file was changed,
+  -- and the sink was given nothing.
+  pub record IsUnkept : Type 0 where
+    pub command : Command
+    pub program : Program
+    pub ended : Outcome
+    pub run : HasRunOf command program ended
+    pub file : List ℕ
+    pub named : journal_of command ≡ Some file
+    pub unchanged : AreAsBefore input.content output.content
+    pub untouched : output.sink_after ≡ output.sink_before
+    pub failed : Rose output.writes_before output.writes_after
+
+  -- An allocation was refused: the sink was given nothing, no file was changed, and no journal is kept.
   pub record WroteNothing : Type 0 where
     pub untouched : output.sink_after ≡ output.sink_before
+    pub unchanged : AreAsBefore input.content output.content
     pub nothing_kept : output.journal ≡ []
 
   -- WHAT EACH STATUS MEANS
@@ -174,7 +235,7 @@ module _ (input : CallInput) (output : CallOutput) where
   StatusMeans ReadFault = WroteWhole (IsLineDue refusal.Reading)
   StatusMeans (BadConfig fault) = WroteWhole (IsLineDue (refusal.Config fault))
   StatusMeans (BadProgram fault) = WroteWhole (IsLineDue (refusal.Program fault))
-  StatusMeans WriteFault = WrotePrefix IsDue
+  StatusMeans WriteFault = WrotePrefix IsDue ⊎ IsUnkept
   StatusMeans NoMemory = WroteNothing
 
 -- other words alone decide: the status is Usage, or WriteFault in its place

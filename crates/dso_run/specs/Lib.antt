@@ -1,6 +1,7 @@
 pub mod Accepted
 pub mod Completeness
 pub mod Failing
+pub mod Files
 pub mod Headline
 pub mod RunEnds
 pub mod Status

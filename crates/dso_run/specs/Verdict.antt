@@ -1,4 +1,4 @@
--- The verdict on the two files: why nothing is run, or which program is accepted.
+-- The verdict on the texts of a command: why nothing is run, or which program is accepted.
 use Rattle.std.specs.Prelude.{ℕ, List}
 use Rattle.dso_config.specs.declared.config.Config.{Config}
 use Rattle.dso_syntax.specs.declared.tree.Ast.{Ast}
@@ -7,8 +7,9 @@ use Rattle.dso_run.specs.declared.verdict.Verdict.{Verdict}
 use Rattle.dso_run.specs.declared.verdict.Verdict.TheVariants.{Refused, Accepted}
 use Rattle.dso_run.specs.Accepted.{AreTaken, IsConfigRefusal, IsProgramRefusal, IsResolved}
 use Rattle.dso_run.specs.Accepted.{IsTakenText, IsTextFault, IsTreeFault}
-use Rattle.dso_io.specs.Environment.{Told, MayGive}
-use Rattle.dso_run.specs.Headline.{most_read}
+use Rattle.dso_io.specs.Environment.{Told}
+use Rattle.dso_run.specs.Headline.{Gives, ReadFailed}
+use Rattle.dso_words.specs.Words.{Command}
 
 -- UNDER A CONFIGURATION
 module _ (config : Config) where
@@ -33,20 +34,23 @@ IsVerdictOnTexts config_text program_text (Refused (refusal.Program fault)) =
 IsVerdictOnTexts config_text program_text (Accepted p) = AreTaken config_text program_text p
 IsVerdictOnTexts config_text program_text verdict = ⊥
 
--- WHAT TWO FILES COME TO, by what is told of each file, by whether a read failed, and by their names
-module _ (content : List ℕ → Told) (failed : Type 0) (config program : List ℕ) where
-  -- The texts are what the files gave, and come to this verdict.
+-- WHAT GIVEN TEXTS COME TO, by which texts are given, and by whether a read failed
+module _ (Given : List ℕ → List ℕ → Type 0) (failed : Type 0) where
+  -- The texts are those that are given, and come to this verdict.
   pub record IsVerdictOnGiven (which : Verdict) : Type 0 where
     pub config_text : List ℕ
     pub program_text : List ℕ
-    pub config_given : MayGive (content config) most_read config_text
-    pub program_given : MayGive (content program) most_read program_text
+    pub given : Given config_text program_text
     pub verdict : IsVerdictOnTexts config_text program_text which
 
   -- a read failed, or the texts come to this
-  abbrev pub IsVerdictOnFiles : Verdict → Type 0
-  IsVerdictOnFiles (Refused refusal.Words) = ⊥
-  IsVerdictOnFiles (Refused refusal.Reading) = failed
-  IsVerdictOnFiles (Refused (refusal.Config fault)) = IsVerdictOnGiven (Refused (refusal.Config fault))
-  IsVerdictOnFiles (Refused (refusal.Program fault)) = IsVerdictOnGiven (Refused (refusal.Program fault))
-  IsVerdictOnFiles (Accepted p) = IsVerdictOnGiven (Accepted p)
+  abbrev pub IsVerdictBy : Verdict → Type 0
+  IsVerdictBy (Refused refusal.Words) = ⊥
+  IsVerdictBy (Refused refusal.Reading) = failed
+  IsVerdictBy (Refused (refusal.Config fault)) = IsVerdictOnGiven (Refused (refusal.Config fault))
+  IsVerdictBy (Refused (refusal.Program fault)) = IsVerdictOnGiven (Refused (refusal.Program fault))
+  IsVerdictBy (Accepted p) = IsVerdictOnGiven (Accepted p)
+
+-- what a command's texts come to, by what is told of each file, and by whether the count of reads that failed rose
+abbrev pub IsVerdictOn : (List ℕ → Told) → Type 0 → Command → Verdict → Type 0
+IsVerdictOn content rose command = IsVerdictBy (Gives content command) (ReadFailed command rose)

@@ -1,13 +1,14 @@
 -- What was written of a text, and what is answered then.
-use Rattle.std.specs.Prelude.{◌≡◌, ◌⊎◌, ℕ, List, [], Option}
-use Rattle.dso_base.specs.declared.journal.Entry.{Entry}
+use Rattle.std.specs.Prelude.{◌≡◌, ◌⊎◌, ℕ, List, [], Option, Some}
 use Rattle.dso_class.specs.declared.program.Program.{Program}
 use Rattle.dso_run.specs.declared.running.Outcome.{Outcome}
 use Rattle.dso_run.specs.declared.running.Outcome.TheVariants as outcome
 use Rattle.dso_run.specs.declared.status.Status.{Status}
 use Rattle.dso_run.specs.declared.status.Status.TheVariants.{Finished, FinishedFault, WriteFault, Stuck, Budget, NoMemory}
-use Rattle.dso_io.specs.Environment.{taken_after, TookPrefix}
-use Rattle.dso_run.specs.Headline.{IsRunOf, IsRunReport}
+use Rattle.dso_io.specs.Environment.{Told, Rose, taken_after, TookPrefix}
+use Rattle.dso_run.specs.Files.{AreAsBefore}
+use Rattle.dso_run.specs.Headline.{CallOutput, IsKept, IsRunOf, IsRunText}
+use Rattle.dso_words.specs.Words.{Command, journal_of, seed_of, steps_of}
 
 -- The sink took the whole text and the answer is this status, or it took a prefix and counted a fault, and the answer
 -- is WriteFault.
@@ -16,28 +17,41 @@ Wrote before now sink_rose text status answer =
     ((answer ≡ status) × (now ≡ taken_after before text))
     ⊎ ((answer ≡ WriteFault) × TookPrefix before text now × sink_rose)
 
--- By round robin or a seed, and how many steps the run may make; its program; what the sink had taken before, and has
--- taken now; that its count of faults rose; the journal.
-module _ (seed : Option ℕ) (steps : ℕ) (p : Program) (before now : Option (List ℕ)) (sink_rose : Type 0) (journal : List Entry) where
-  -- the run ended so, and the report of what it commits was written whole
-  abbrev pub WroteWholeReport : Outcome → Type 0
-  WroteWholeReport outcome =
-      IsRunOf p seed steps outcome journal
-      × ((report : List ℕ) × IsRunReport p journal report × (now ≡ taken_after before report))
+-- For a command, its program, what is told of the files before the run, and what the run leaves:
+module _ (command : Command) (p : Program) (before : List ℕ → Told) (output : CallOutput) where
+  -- a run was made, as the command asks, that ended so
+  abbrev pub Ran : Outcome → Type 0
+  Ran outcome = IsRunOf p (seed_of command) (steps_of command) outcome output.journal
 
-  -- the run ended in one of the four ways, and a prefix of the report of what it commits was written
-  abbrev pub WroteReportPrefix : Type 0
-  WroteReportPrefix =
-      ((report : List ℕ) × IsRunReport p journal report × TookPrefix before report now)
-      × sink_rose × ((outcome : Outcome) × IsRunOf p seed steps outcome journal)
+  -- the run ended so, its journal is kept, and what is told of it was written whole
+  abbrev pub ToldWhole : Outcome → Type 0
+  ToldWhole outcome =
+      Ran outcome × IsKept command output.journal before output.content
+      × ((text : List ℕ) × IsRunText command p output.journal text
+      × (output.sink_after ≡ taken_after output.sink_before text))
 
-  -- The report of what the run commits was written: whole, with the run's outcome for an answer, or a prefix; or memory
-  -- ran out before.
-  abbrev pub WroteReport : Status → Type 0
-  WroteReport NoMemory = (now ≡ before) × (journal ≡ [])
-  WroteReport WriteFault = WroteReportPrefix
-  WroteReport Finished = WroteWholeReport outcome.Finished
-  WroteReport FinishedFault = WroteWholeReport outcome.FinishedFault
-  WroteReport Stuck = WroteWholeReport outcome.Stuck
-  WroteReport Budget = WroteWholeReport outcome.Budget
-  WroteReport answer = ⊥
+  -- the run ended in one of the four ways, its journal is kept, and a prefix of what is told of it was written
+  abbrev pub ToldPrefix : Type 0
+  ToldPrefix =
+      ((outcome : Outcome) × Ran outcome) × IsKept command output.journal before output.content
+      × ((text : List ℕ) × IsRunText command p output.journal text × TookPrefix output.sink_before text output.sink_after)
+      × Rose output.failed_before output.failed_after
+
+  -- the run ended in one of the four ways, and its journal couldn't be kept
+  abbrev pub KeptNot : Type 0
+  KeptNot =
+      ((outcome : Outcome) × Ran outcome) × ((file : List ℕ) × (journal_of command ≡ Some file))
+      × AreAsBefore before output.content × (output.sink_after ≡ output.sink_before)
+      × Rose output.writes_before output.writes_after
+
+  -- What is told of a run was written: whole, with the run's outcome for an answer, or a prefix; or its journal couldn't
+  -- be kept; or memory ran out before.
+  abbrev pub ToldRun : Status → Type 0
+  ToldRun NoMemory =
+      (output.sink_after ≡ output.sink_before) × AreAsBefore before output.content × (output.journal ≡ [])
+  ToldRun WriteFault = ToldPrefix ⊎ KeptNot
+  ToldRun Finished = ToldWhole outcome.Finished
+  ToldRun FinishedFault = ToldWhole outcome.FinishedFault
+  ToldRun Stuck = ToldWhole outcome.Stuck
+  ToldRun Budget = ToldWhole outcome.Budget
+  ToldRun answer = ⊥

@@ -2,13 +2,15 @@
 #![tactic(auto)]
 
 mod failing;
+mod journal_file;
+mod judging;
 pub mod laws;
 mod main_call;
 mod refusal_lines;
 mod replay;
-mod report;
 mod running;
 mod status;
+mod told;
 mod verdict;
 
 pub use main_call::dso_main;

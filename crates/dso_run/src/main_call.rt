@@ -1,56 +1,35 @@
-ghost use Rattle.std.specs.Prelude.{◌≡◌, ℕ, ◌≤◌, List, [], Option, map, IfOk};
+ghost use Rattle.std.specs.Prelude.{◌≡◌, ◌≢◌, ℕ, List, [], Some, map, IfOk};
 ghost use Rattle.std.specs.String.{string_bytes};
 ghost use Rattle.dso_class.specs.Sound.{IsSound};
 ghost use Rattle.dso_io.specs.Environment.{Rose};
-ghost use Rattle.dso_run.specs.Headline.{StatusMeans, IsUsage};
+ghost use Rattle.dso_run.specs.Headline.{IsRunOf, IsRunText, IsUsage, StatusMeans};
 ghost use Rattle.dso_run.specs.Status.{HasLine, line_of, status_of, status_of_run};
-ghost use Rattle.dso_run.specs.Verdict.{IsVerdictOnFiles};
-ghost use Rattle.dso_words.specs.Words.{AreLawful, AreUnlawful, Sim};
-ghost use Rattle.dso_run.specs.Writing.{Wrote, WroteReport};
+ghost use Rattle.dso_run.specs.Writing.{ToldRun, Wrote};
+ghost use Rattle.dso_words.specs.Said.{said};
+ghost use Rattle.dso_words.specs.Words.{AreLawful, AreUnlawful, CanBeAsked, journal_of, seed_of, steps_of};
+ghost use Rattle.dso_words.specs.Words as asked;
 
+use crate::journal_file::keep_journal;
+use crate::judging::judge;
 use crate::refusal_lines::line_of;
-use crate::report::report;
-use crate::running::{Outcome, Schedule, run_program};
+use crate::running::{Outcome, Run, Schedule, run_program};
 use crate::status::Refusal;
-use crate::verdict::{Verdict, judge_texts};
+use crate::told::run_text;
+use crate::verdict::Verdict;
 use crate::{Done, Status};
 use dso_base::{Items, Journal, NoMemory};
 use dso_class::Program;
 use dso_io::{FileFault, Files, Sink, write_text};
-use dso_words::{BUDGET, Command, command_of};
+use dso_words::{Command, command_of};
 use std::alloc::Global;
 
-/// The most bytes that are read of a file: one more than a text may have.
-const MOST_READ: u64 = 1_048_577;
-
-/// Reads the files of these names, and judges the configuration and under it the program.
-fn judge<F: Files>(
-    alloc: Global,
-    config: &str,
-    program: &str,
-    files: &mut F,
-) -> Result<Verdict, NoMemory>
-    ensures verdict { IfOk result (IsVerdictOnFiles (F.content files.old) (Rose (F.read_faults files.old) (F.read_faults files.new)) config.now program.now) }
-    ensures unchanged { (name : List ℕ) → F.content files.new name ≡ F.content files.old name }
+/// Writes a text. The answer is this status, or WriteFault where the sink failed. It takes no memory.
+fn write_or_fail<K: Sink>(text: &[u8], status: Status, out: &mut K) -> Status
+    ensures { Wrote (K.taken out.old) (K.taken out.new) (Rose (K.faults out.old) (K.faults out.new)) text.now status result }
 {
-    let config = match files.read(alloc, config, MOST_READ) {
-        Ok(bytes) => bytes,
-        Err(fault) => return unread(fault),
-    };
-    let program = match files.read(alloc, program, MOST_READ) {
-        Ok(bytes) => bytes,
-        Err(fault) => return unread(fault),
-    };
-    judge_texts(alloc, config.as_slice(), program.as_slice())
-}
-
-/// What a file that was not read comes to.
-fn unread(fault: FileFault) -> Result<Verdict, NoMemory>
-    ensures { IfOk result (λ verdict. (verdict ≡ Verdict.Refused Refusal.Reading) × (fault ≡ FileFault.Failed)) }
-{
-    match fault {
-        FileFault::Failed => Ok(Verdict::Refused(Refusal::Reading)),
-        FileFault::NoMemory => Err(NoMemory),
+    match write_text(out, text) {
+        Ok(()) => status,
+        Err(_) => Status::WriteFault,
     }
 }
 
@@ -60,40 +39,79 @@ fn refuse<K: Sink>(refusal: Refusal, out: &mut K) -> Status
     ensures { Wrote (K.taken out.old) (K.taken out.new) (Rose (K.faults out.old) (K.faults out.new)) (line_of refusal) (status_of refusal) result }
 {
     let line = line_of(refusal);
-    match write_text(out, line.as_str().as_bytes()) {
-        Ok(()) => refusal.status(),
-        Err(_) => Status::WriteFault,
+    write_or_fail(line.as_str().as_bytes(), refusal.status(), out)
+}
+
+/// Runs a program as a command asks, and makes the text of what is told of the run.
+fn run_and_tell(
+    alloc: Global,
+    program: &Program,
+    command: Command<'_>,
+) -> Result<(Run, Vec<u8>), NoMemory>
+    requires sound { IsSound program.now }
+    requires asked { CanBeAsked (said command) }
+    ensures run { IfOk result (λ told. IsRunOf program.now (seed_of (said command.entry)) (steps_of (said command.entry)) told.0.outcome told.0.journal.entries) }
+    ensures text { IfOk result (λ told. IsRunText (said command.entry) program.now told.0.journal.entries told.1.items) }
+{
+    let schedule = Schedule {
+        seed: command.seed(),
+        steps: command.steps(),
+    };
+    let run = run_program(alloc, program, schedule)?;
+    let text = run_text(alloc, program, &run.journal, command)?;
+    Ok((run, text))
+}
+
+/// Runs a program as a command asks; keeps the journal, where the command names a file for it; and then writes what is told of the
+/// run. All texts but the journal's are made before the first is written, and that one before the file is touched.
+fn run_and_write<F: Files, K: Sink>(
+    alloc: Global,
+    program: &Program,
+    command: Command<'_>,
+    files: &mut F,
+    out: &mut K,
+) -> Done
+    requires sound { IsSound program.now }
+    requires asked { CanBeAsked (said command) }
+    ensures told { ToldRun (said command.entry) program.now (F.content files.old)
+        (record {
+          sink_before = K.taken out.old;
+          sink_after = K.taken out.new;
+          failed_before = K.faults out.old;
+          failed_after = K.faults out.new;
+          content = F.content files.new;
+          writes_before = F.write_faults files.old;
+          writes_after = F.write_faults files.new;
+          journal = result.journal.entries;
+        })
+        result.status }
+    ensures reads { F.read_faults files.new ≡ F.read_faults files.old }
+{
+    let Ok((run, text)) = run_and_tell(alloc, program, command) else {
+        return nothing_ran(alloc, Status::NoMemory);
+    };
+    match keep_journal(alloc, command.journal(), &run.journal, files) {
+        Ok(()) => {
+            let status = write_or_fail(text.as_slice(), status_of_run(run.outcome), out);
+            ended(run, status)
+        }
+        Err(FileFault::Failed) => ended(run, Status::WriteFault),
+        Err(FileFault::NoMemory) => nothing_ran(alloc, Status::NoMemory),
     }
 }
 
-/// Runs a program by this schedule, and writes the report of what was committed.
-fn run_and_report<K: Sink>(
-    alloc: Global,
-    program: &Program,
-    out: &mut K,
-    schedule: Schedule,
-) -> Done
-    requires sound { IsSound program.now }
-    requires steps { schedule.steps ≤ BUDGET }
-    ensures { WroteReport schedule.seed schedule.steps program.now (K.taken out.old) (K.taken out.new) (Rose (K.faults out.old) (K.faults out.new)) result.journal.entries result.status }
+/// An answer with the journal of a run.
+fn ended(run: Run, status: Status) -> Done
+    ensures status { result.status ≡ status }
+    ensures journal { result.journal.entries ≡ run.journal.entries }
 {
-    let Ok(run) = run_program(alloc, program, schedule) else {
-        return nothing_ran(alloc, Status::NoMemory);
-    };
-    let Ok(text) = report(alloc, program, &run.journal) else {
-        return nothing_ran(alloc, Status::NoMemory);
-    };
-    let status = match write_text(out, text.as_slice()) {
-        Ok(()) => status_of_run(run.outcome),
-        Err(_) => Status::WriteFault,
-    };
     Done {
         status,
         journal: run.journal,
     }
 }
 
-/// The status of a run whose report was written.
+/// The status of a run of which all was written.
 fn status_of_run(outcome: Outcome) -> Status
     ensures { result ≡ status_of_run outcome }
 {
@@ -121,10 +139,12 @@ fn nothing_ran(alloc: Global, status: Status) -> Done
 /// Does all that the program does: it reads the words and the files, runs the program and writes what is to be printed.
 ///
 /// The words are those after the program's name. The order is: the words, reading the configuration, reading the
-/// program, judging the configuration, judging the program, the run, writing. Clause
+/// program, judging the configuration, judging the program, the run, writing: the journal to its file, where the words name one, and
+/// then what is told of the run. With `big` the texts of the generated load stand for those that are read, and the line of the load for
+/// the report. Clause
 /// `answer` is the table of the statuses: what each means of the words, the files, the journal and the sink. So each
 /// status has its cause, and where the cause of one is there no other can be answered but `WriteFault`, where the sink's
-/// count rose, and `NoMemory`, where an allocation was refused.
+/// count or the files' count of writes rose, and `NoMemory`, where an allocation was refused.
 pub fn dso_main<F: Files, K: Sink>(
     alloc: Global,
     words: &[String],
@@ -143,6 +163,9 @@ pub fn dso_main<F: Files, K: Sink>(
           sink_after = K.taken out.new;
           failed_before = K.faults out.old;
           failed_after = K.faults out.new;
+          content = F.content files.new;
+          writes_before = F.write_faults files.old;
+          writes_after = F.write_faults files.new;
           journal = result.journal.entries;
         })
         result.status }
@@ -150,36 +173,25 @@ pub fn dso_main<F: Files, K: Sink>(
     // Other words need no memory to be refused.
     ensures usage { AreUnlawful (map string_bytes words.now) → IsUsage result.status }
 
-    // No file is changed.
-    ensures unchanged { (name : List ℕ) → F.content files.new name ≡ F.content files.old name }
+    // No file is changed but that for the journal.
+    ensures unchanged { (name : List ℕ) → ((command : asked.Command) → AreLawful (map string_bytes words.now) command → journal_of command ≢ Some name)
+        → F.content files.new name ≡ F.content files.old name }
 {
     match command_of(words) {
-        Some(
-            Command::Sim {
-                config,
-                program,
-                seed,
-                steps,
-                ..
-            },
-        ) => simulate(alloc, config, program, Schedule { seed, steps }, files, out),
-        _ => nothing_ran(alloc, refuse(Refusal::Words, out)),
+        Some(command) => carry_out(alloc, command, files, out),
+        None => nothing_ran(alloc, refuse(Refusal::Words, out)),
     }
 }
 
-/// Does what `sim` is asked for.
-fn simulate<F: Files, K: Sink>(
+/// Does what the words ask for.
+fn carry_out<F: Files, K: Sink>(
     alloc: Global,
-    config: &str,
-    program: &str,
-    schedule: Schedule,
+    command: Command<'_>,
     files: &mut F,
     out: &mut K,
 ) -> Done
-    requires { schedule.steps ≤ BUDGET }
-    ensures answer { (words : List (List ℕ)) (journal : Option (List ℕ))
-        → AreLawful words (Sim (record { config = config.now; program = program.now; seed = schedule.seed; steps = schedule.steps; journal = journal }))
-        → StatusMeans
+    requires { CanBeAsked (said command) }
+    ensures answer { (words : List (List ℕ)) → AreLawful words (said command.entry) → StatusMeans
         (record {
           words = words;
           content = F.content files.old;
@@ -191,14 +203,17 @@ fn simulate<F: Files, K: Sink>(
           sink_after = K.taken out.new;
           failed_before = K.faults out.old;
           failed_after = K.faults out.new;
+          content = F.content files.new;
+          writes_before = F.write_faults files.old;
+          writes_after = F.write_faults files.new;
           journal = result.journal.entries;
         })
         result.status }
-    ensures unchanged { (name : List ℕ) → F.content files.new name ≡ F.content files.old name }
+    ensures unchanged { (name : List ℕ) → journal_of (said command.entry) ≢ Some name → F.content files.new name ≡ F.content files.old name }
 {
-    match judge(alloc, config, program, files) {
+    match judge(alloc, command, files) {
         Ok(Verdict::Refused(refusal)) => nothing_ran(alloc, refuse(refusal, out)),
-        Ok(Verdict::Accepted(program)) => run_and_report(alloc, &program, out, schedule),
+        Ok(Verdict::Accepted(program)) => run_and_write(alloc, &program, command, files, out),
         Err(NoMemory) => nothing_ran(alloc, Status::NoMemory),
     }
 }

@@ -1,5 +1,5 @@
 -- What the words behind the program's name ask for.
-use Rattle.std.specs.Prelude.{◌≡◌, ◌≢◌, ℕ, ◌-◌, ◌^◌, Bool, true, false, ◌&&◌, nat_eq, nat_le, if◌then◌else◌}
+use Rattle.std.specs.Prelude.{◌≡◌, ◌≢◌, ℕ, ◌-◌, ◌^◌, ◌≤◌, Bool, true, false, ◌&&◌, nat_eq, nat_le, if◌then◌else◌}
 use Rattle.std.specs.Prelude.{List, [], ◌∷◌, ◌++◌, length, Option, Some, None, codes}
 use Rattle.std.specs.List.{AllByRecursion}
 use Rattle.std.specs.Option.{option_map, option_to_list}
@@ -189,16 +189,40 @@ pub record Asks (words : List (List ℕ)) (command : Command) : Type 0 where
 abbrev pub WordsAskOnce : Type 0
 WordsAskOnce = (words : List (List ℕ)) (command other : Command) → Asks words command → Asks words other → command ≡ other
 
--- What of it is built: `sim`, by round robin or by a seed, without a file for the journal.
+-- the seed that a command's run goes by; round robin where it has none
+abbrev pub seed_of : Command → Option ℕ
+seed_of (Sim call) = call.seed
+seed_of (Run call) = None
+seed_of (Big number) = None
+
+-- how many entries its run may make: a load's may make 4,000,000
+abbrev pub steps_of : Command → ℕ
+steps_of (Sim call) = call.steps
+steps_of (Run call) = call.steps
+steps_of (Big number) = 4000000
+
+-- the file for its run's journal, if it names one
+abbrev pub journal_of : Command → Option (List ℕ)
+journal_of (Sim call) = call.journal
+journal_of (Run call) = call.journal
+journal_of (Big number) = None
+
+-- What of it is built: all but `run`.
 abbrev pub IsBuilt : Command → Type 0
-IsBuilt (Sim call) = call.journal ≡ None
+IsBuilt (Sim call) = Unit {0}
 IsBuilt (Run call) = ⊥
-IsBuilt (Big number) = ⊥
+IsBuilt (Big number) = Unit {0}
 
 -- The words ask for this, and it is built.
 pub record AreLawful (words : List (List ℕ)) (command : Command) : Type 0 where
   pub asks : Asks words command
   pub built : IsBuilt command
+
+-- what words can ask for: `sim` with at most 4,000,000 steps, or `big` with a number from 1 to 1000
+abbrev pub CanBeAsked : Command → Type 0
+CanBeAsked (Sim call) = call.steps ≤ 4000000
+CanBeAsked (Run call) = ⊥
+CanBeAsked (Big number) = (1 ≤ number) × (number ≤ 1000)
 
 -- The words are none that the program takes.
 abbrev pub AreUnlawful : List (List ℕ) → Type 0

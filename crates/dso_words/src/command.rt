@@ -1,7 +1,10 @@
 //! What the words ask for.
-ghost use Rattle.std.specs.Prelude.{◌↔◌, IsTrue};
+ghost use Rattle.std.specs.Prelude.{◌≡◌, ◌↔◌, IsTrue};
+ghost use Rattle.dso_words.specs.Given.{told};
 ghost use Rattle.dso_words.specs.Said.{said};
-ghost use Rattle.dso_words.specs.Words.{IsBuilt};
+ghost use Rattle.dso_words.specs.Words.{IsBuilt, journal_of, seed_of, steps_of};
+
+use crate::numbers::BUDGET;
 
 /// What the words ask for.
 #[derive(Clone, Copy, Debug)]
@@ -26,15 +29,45 @@ pub enum Command<'a> {
     },
     /// A load that is made for this number, 1 to 1000.
     Big {
-        number: u64,
+        number: u32,
     },
 }
 
-impl Command<'_> {
-    /// Whether it is built: `sim`, by round robin or by a seed, without a file for the journal.
+impl<'a> Command<'a> {
+    /// Whether it is built: all but `run`.
     pub(crate) fn is_built(&self) -> bool
         ensures { IsTrue result ↔ IsBuilt (said self.now) }
     {
-        matches!(self, Command::Sim { journal: None, .. })
+        !matches!(self, Command::Run { .. })
+    }
+
+    /// The seed that its run goes by; round robin where there is none.
+    pub fn seed(&self) -> Option<u64>
+        ensures { result ≡ seed_of (said self.now) }
+    {
+        match self {
+            Command::Sim { seed, .. } => *seed,
+            Command::Run { .. } | Command::Big { .. } => None,
+        }
+    }
+
+    /// How many entries its run may make: a load's may make as many as any run.
+    pub fn steps(&self) -> u64
+        ensures { result ≡ steps_of (said self.now) }
+    {
+        match self {
+            Command::Sim { steps, .. } | Command::Run { steps, .. } => *steps,
+            Command::Big { .. } => BUDGET,
+        }
+    }
+
+    /// The file for its run's journal, if it names one.
+    pub fn journal(&self) -> Option<&'a str>
+        ensures { told result ≡ journal_of (said self.now) }
+    {
+        match self {
+            Command::Sim { journal, .. } | Command::Run { journal, .. } => *journal,
+            Command::Big { .. } => None,
+        }
     }
 }

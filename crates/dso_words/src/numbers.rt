@@ -1,5 +1,5 @@
 //! The numbers that words say.
-ghost use Rattle.std.specs.Prelude.{◌≡◌, ◌^◌, ◌≤◌, length, MatchOption, true};
+ghost use Rattle.std.specs.Prelude.{◌≡◌, ◌^◌, ◌≤◌, length, IfSome, MatchOption, true};
 ghost use Rattle.std.specs.Str.{all_ascii_digits};
 ghost use Rattle.std.specs.Str.Parse.{digits_value};
 ghost use Rattle.dso_words.specs.Given.{told};
@@ -16,7 +16,8 @@ pub(crate) const MOST_LOAD: u64 = 1000;
 
 /// The number that a word says, within bounds: it is 1 to 20 digits.
 pub(crate) fn number_within(word: &str, least: u64, most: u64) -> Option<u64>
-    ensures { result ≡ number_within least most word.now }
+    ensures number { result ≡ number_within least most word.now }
+    ensures within { IfSome result (λ number. number ≤ most) }
 {
     if word.len() < 1 || 20 < word.len() || !are_digits(word) {
         return None;

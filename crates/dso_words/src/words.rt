@@ -77,7 +77,7 @@ impl<'a> Given<'a> {
             return None;
         };
         Some(Command::Big {
-            number: number_within(name, 1, MOST_LOAD)?,
+            number: number_within(name, 1, MOST_LOAD)? as u32,
         })
     }
 }

@@ -2,7 +2,7 @@
 //!
 //! A line is a word, a space and the rest. `try NAME` calls the program with what the lines before it set, and
 //! prints the name, the status, the exit number and the bytes that the sink took; `journal NAME` prints the journal
-//! too, `reason NAME` only why nothing was run. `seeds NAME` calls it by round robin and by seeds 0 to 9, and
+//! too, `file FILE NAME` what that file holds then, `reason NAME` only why nothing was run. `seeds NAME` calls it by round robin and by seeds 0 to 9, and
 //! prints what differs from the call before; `afters NAME` does so with the numbers 0 to 60 in the place of `K` in
 //! the configuration; `sends NAME` prints for each schedule how many leases are granted and recalled, and how many
 //! objects are flushed. Then all but the program is set back. `words LINE` tells what becomes of a command line.
@@ -13,7 +13,7 @@ mod trial;
 mod variants;
 
 use std::io;
-use trial::{Trial, show_journal, show_reason, show_trial, show_words};
+use trial::{Trial, show_file, show_journal, show_reason, show_trial, show_words};
 use variants::{show_afters, show_seeds, show_sends};
 
 fn main(rt: HostRuntime) -> io::Result<()> {
@@ -27,6 +27,10 @@ fn main(rt: HostRuntime) -> io::Result<()> {
             }
             Some(("journal", name)) => {
                 show_journal(&rt, name, &trial)?;
+                trial = Trial::of_program(trial.program);
+            }
+            Some(("file", rest)) => {
+                show_file(&rt, rest, &trial)?;
                 trial = Trial::of_program(trial.program);
             }
             Some(("reason", name)) => {

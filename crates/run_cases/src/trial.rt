@@ -23,7 +23,7 @@ pub struct Trial<'a> {
     spaces: usize,
     /// How many stand in the configuration's place.
     config_spaces: usize,
-    failing_read: u64,
+    failing_call: u64,
     failing_put: u64,
     /// How many bytes the sink takes at a time.
     piece: usize,
@@ -47,7 +47,7 @@ impl<'a> Trial<'a> {
             new: "",
             spaces: 0,
             config_spaces: 0,
-            failing_read: 0,
+            failing_call: 0,
             failing_put: 0,
             piece: ROOM,
         }
@@ -71,8 +71,8 @@ impl<'a> Trial<'a> {
                 config_spaces: number_of(rest) as usize,
                 ..self
             },
-            "failing_read" => Trial {
-                failing_read: number_of(rest),
+            "failing_call" => Trial {
+                failing_call: number_of(rest),
                 ..self
             },
             "failing_put" => Trial {
@@ -140,7 +140,7 @@ impl<'a> Trial<'a> {
 
     /// The files.
     fn files(&self, alloc: Global) -> Result<MemFiles, NoMemory> {
-        let mut files = MemFiles::new(alloc, &[self.failing_read])?;
+        let mut files = MemFiles::new(alloc, &[self.failing_call])?;
         self.add_config(alloc, &mut files)?;
         self.add_program(alloc, &mut files)?;
         Ok(files)
@@ -159,11 +159,18 @@ impl<'a> Trial<'a> {
         Ok(Answer { done, taken })
     }
 
-    /// Calls the program.
-    pub fn answer(&self, alloc: Global) -> Result<Answer, NoMemory> {
+    /// Calls the program, and leaves the files.
+    fn answer_and_files(&self, alloc: Global) -> Result<(Answer, MemFiles), NoMemory> {
         let words = self.words(alloc)?;
         let mut files = self.files(alloc)?;
-        self.called(alloc, words.as_slice(), &mut files)
+        let answer = self.called(alloc, words.as_slice(), &mut files)?;
+        Ok((answer, files))
+    }
+
+    /// Calls the program.
+    pub fn answer(&self, alloc: Global) -> Result<Answer, NoMemory> {
+        let (answer, _) = self.answer_and_files(alloc)?;
+        Ok(answer)
     }
 }
 
@@ -189,7 +196,8 @@ pub fn show_trial(rt: &HostRuntime, name: &str, trial: &Trial<'_>) -> io::Result
 }
 
 /// Tries these words over a configuration that is no TOML, and prints what becomes of them: the configuration's fault
-/// where the words are taken and name the two files, or what is wrong with the words or the names.
+/// where the words are taken and name the two files, or what is wrong with the words or the names; of a load how its run
+/// ended.
 pub fn show_words(rt: &HostRuntime, line: &str) -> io::Result<()> {
     words_ask_once();
     let trial = Trial {
@@ -211,6 +219,30 @@ pub fn show_journal(rt: &HostRuntime, name: &str, trial: &Trial<'_>) -> io::Resu
             show_entries(rt, &answer.done)
         }
         Err(NoMemory) => println!(rt; "{name}: no memory"),
+    }
+}
+
+/// Tries the call as `show_trial`, and prints what a file holds then: `FILE NAME`.
+pub fn show_file(rt: &HostRuntime, rest: &str, trial: &Trial<'_>) -> io::Result<()> {
+    let (file, name) = rest.split_once(' ').unwrap_or((rest, ""));
+    match trial.answer_and_files(rt.alloc()) {
+        Ok((answer, files)) => {
+            show_answer(rt, name, &answer)?;
+            show_content(rt, file, &files)
+        }
+        Err(NoMemory) => println!(rt; "{name}: no memory"),
+    }
+}
+
+/// Prints what a file holds.
+fn show_content(rt: &HostRuntime, file: &str, files: &MemFiles) -> io::Result<()> {
+    match files.content(file) {
+        Some(bytes) => {
+            println!(rt; "{file} holds")?;
+            rt.write_all(bytes)?;
+            println!(rt; "")
+        }
+        None => println!(rt; "there is no file {file}\n"),
     }
 }
 

@@ -4,7 +4,7 @@ use Rattle.std.proofs.lemmas.Bool.{leb-true}
 use Rattle.std.proofs.lemmas.Slice.Eq.{bytes_eq-Decides}
 use Rattle.std.specs.Str.{all_ascii_digits, bytes_eq}
 use Rattle.std.specs.Str.Parse.{digits_value}
-use Rattle.dso_words.specs.Words.{AreLawful, AreUnlawful, Asks, Command, IsBuilt, number_within, steps_said, Sim, Run, Big, SimCall, RunCall, Given, IsAsked, IsSim, IsRun, IsBig}
+use Rattle.dso_words.specs.Words.{AreLawful, AreUnlawful, Asks, CanBeAsked, Command, IsBuilt, number_within, steps_said, Sim, Run, Big, SimCall, RunCall, Given, IsAsked, IsSim, IsRun, IsBig}
 use Rattle.dso_words.specs.WordReading.{read}
 use Rattle.dso_words.proofs.reading_words.GivesRead.{gives-read}
 use Rattle.dso_words.proofs.reading_words.ReadGives.{read-gives}
@@ -150,17 +150,29 @@ most_of least most word number is =
     let holds = last_holds (all_ascii_digits word && nat_le 1 (length word) && nat_le (length word) 20 && nat_le least value) (nat_le value most) value number is in
     subst (λ n. n ≤ most) holds.1 (leb-true value most holds.0)
 
--- the steps of a lawful run are 4,000,000 at most
+-- and at least the lower one
+both_hold : (front least most : Bool) (value number : ℕ) → (if front && least && most then Some value else None) ≡ Some number → least ≡ true
+both_hold false least most value number is = cc is
+both_hold true false most value number is = cc is
+both_hold true true most value number is = refl
+
+least_of : (least most : ℕ) (word : List ℕ) (number : ℕ) → number_within least most word ≡ Some number → least ≤ number
+least_of least most word number is =
+    let value = digits_value 10 word in
+    let front = all_ascii_digits word && nat_le 1 (length word) && nat_le (length word) 20 in
+    let same = (last_holds (front && nat_le least value) (nat_le value most) value number is).1 in
+    subst (λ n. least ≤ n) same (leb-true least value (both_hold front (nat_le least value) (nat_le value most) value number is))
+
+-- the steps of a run are 4,000,000 at most
 steps_by : (said : Option (List ℕ)) (steps : ℕ) → steps_said said ≡ Some steps → steps ≤ 4000000
 steps_by None steps is = let same : 1000000 ≡ steps = cc is in omega (arith, same)
 steps_by (Some word) steps is = most_of 1 4000000 word steps is
 
-pub lawful_steps : (words : List (List ℕ)) (call : SimCall) → AreLawful words (Sim call) → call.steps ≤ 4000000
-lawful_steps words call lawful = let asked : IsSim lawful.asks.first lawful.asks.given call = lawful.asks.asked in steps_by lawful.asks.given.steps call.steps asked.steps
+-- lawful words ask for what can be asked
+can_be : (first : List ℕ) (given : Given) (command : Command) → IsAsked first given command → IsBuilt command → CanBeAsked command
+can_be first given (Sim call) asked built = steps_by given.steps call.steps asked.steps
+can_be first given (Run call) asked built = built
+can_be first given (Big number) asked built = (least_of 1 1000 asked.name number asked.said, most_of 1 1000 asked.name number asked.said)
 
--- only a call of `sim` is lawful
-pub run_unlawful : (words : List (List ℕ)) (call : RunCall) → AreLawful words (Run call) → ⊥
-run_unlawful words call lawful = lawful.built
-
-pub big_unlawful : (words : List (List ℕ)) (number : ℕ) → AreLawful words (Big number) → ⊥
-big_unlawful words number lawful = lawful.built
+pub lawful_can : (words : List (List ℕ)) (command : Command) → AreLawful words command → CanBeAsked command
+lawful_can words command lawful = can_be lawful.asks.first lawful.asks.given command lawful.asks.asked lawful.built

@@ -1,5 +1,5 @@
 use Rattle.std.proofs.Common.{rules}
-use Rattle.dso_run.proofs.Judging.{fault_refused}
+use Rattle.dso_run.proofs.GivenTexts.{fault_refused}
 use Rattle.dso_run.proofs.verdict.judge_texts.Goals as goal
 
 -- a fault of the configuration

@@ -1,0 +1,99 @@
+-- What is given for the two texts, and the verdict on it.
+use Rattle.std.proofs.Common.{◌≡◌, ◌≢◌, ℕ, List, refl, subst, Result, Ok, Err, IfOk}
+use Rattle.dso_base.specs.declared.no_memory.NoMemory.{NoMemory}
+use Rattle.dso_config.specs.declared.config.Config.{Config}
+use Rattle.dso_config.specs.declared.fault.ConfigFault.{ConfigFault}
+use Rattle.dso_config.specs.declared.fault.ConfigFault.TheVariants as fault
+use Rattle.dso_config.specs.Configuration.{IsConfigurationOf, IsFaultOf}
+use Rattle.dso_io.specs.Environment.{Told, MayGive, Rose}
+use Rattle.dso_run.specs.declared.verdict.Verdict.{Verdict}
+use Rattle.dso_run.specs.declared.verdict.Verdict.TheVariants.{Refused, Accepted}
+use Rattle.dso_class.specs.declared.program.Program as whole
+use Rattle.dso_run.specs.declared.status.Refusal.{Refusal}
+use Rattle.dso_run.specs.declared.status.Refusal.TheVariants.{Words, Reading, Program}
+use Rattle.dso_run.specs.declared.status.Refusal.TheVariants as refusal
+use Rattle.dso_run.specs.Accepted.{IsConfigRefusal}
+use Rattle.dso_run.specs.Files.{AreAsBefore}
+use Rattle.dso_run.specs.Headline.{CallInput, FilesGive, HasCause, IsAccepted, LoadGives, most_read}
+use Rattle.dso_run.specs.Verdict.{IsVerdictBy, IsVerdictOn, IsVerdictOnGiven, IsVerdictOnProgram, IsVerdictOnTexts}
+use Rattle.dso_words.specs.Words.{AreLawful, Command}
+
+-- A configuration that has a fault is refused for it.
+pub fault_refused : (config program : List ℕ) (wrong : ConfigFault) → wrong ≢ fault.NoMemory → IsFaultOf config wrong → IsConfigRefusal config program wrong
+fault_refused config program fault.NotToml enough is = is
+fault_refused config program (fault.UnknownKey spot) enough is = is
+fault_refused config program (fault.WrongKind spot) enough is = is
+fault_refused config program (fault.OutOfRange spot) enough is = is
+fault_refused config program (fault.BadMethodPattern spot) enough is = is
+fault_refused config program (fault.BadGuard spot) enough is = is
+fault_refused config program (fault.Twice spot) enough is = is
+fault_refused config program fault.TooLong enough is = is
+fault_refused config program (fault.BadName spot) enough is = is
+fault_refused config program fault.NoMemory enough is = absurd (enough refl)
+
+-- what a program's text comes to under the configuration is what the texts come to
+module _ (config_text program_text : List ℕ) (config : Config) (says : IsConfigurationOf config_text config) where
+  texts_on : (verdict : Verdict) → IsVerdictOnProgram config program_text verdict → IsVerdictOnTexts config_text program_text verdict
+  texts_on (Refused Words) never = absurd never
+  texts_on (Refused Reading) never = absurd never
+  texts_on (Refused (refusal.Config wrong)) never = absurd never
+  texts_on (Refused (Program which)) is = record { config = config; says = says; holds = is }
+  texts_on (Accepted p) is = record { config = config; says = says; holds = is }
+
+  pub texts_if_ok : (result : Result Verdict NoMemory) → IfOk result (IsVerdictOnProgram config program_text)
+      → IfOk result (IsVerdictOnTexts config_text program_text)
+  texts_if_ok (Ok verdict) is = texts_on verdict is
+  texts_if_ok (Err e) is = is
+
+-- what the texts come to that are given is the verdict on them
+module _ (Given : List ℕ → List ℕ → Type 0) (failed : Type 0) (config_text program_text : List ℕ) (given : Given config_text program_text) where
+  on_given : (verdict : Verdict) → IsVerdictOnTexts config_text program_text verdict → IsVerdictOnGiven Given failed verdict
+  on_given verdict is = record { config_text = config_text; program_text = program_text; given = given; verdict = is }
+
+  verdict_by : (verdict : Verdict) → IsVerdictOnTexts config_text program_text verdict → IsVerdictBy Given failed verdict
+  verdict_by (Refused Words) never = absurd never
+  verdict_by (Refused Reading) never = absurd never
+  verdict_by (Refused (refusal.Config wrong)) is = on_given (Refused (refusal.Config wrong)) is
+  verdict_by (Refused (Program wrong)) is = on_given (Refused (Program wrong)) is
+  verdict_by (Accepted p) is = on_given (Accepted p) is
+
+  -- the verdict, where memory may have run out
+  pub verdict_if_ok : (result : Result Verdict NoMemory) → IfOk result (IsVerdictOnTexts config_text program_text) → IfOk result (IsVerdictBy Given failed)
+  verdict_if_ok (Ok verdict) is = verdict_by verdict is
+  verdict_if_ok (Err e) is = is
+
+-- the first read changed no file, so the second gave what the program's file had before it
+pub files_give : (content after_first : List ℕ → Told) (config program config_text program_text : List ℕ) → MayGive (content config) most_read config_text
+    → AreAsBefore content after_first → MayGive (after_first program) most_read program_text → FilesGive content config program config_text program_text
+files_give content after_first config program config_text program_text first same second =
+    (first, (let P : Told → Type 0 = λ told. MayGive told most_read program_text in subst P (same program) second))
+
+-- THE CAUSE, for a lawful command
+module _ (input : CallInput) (command : Command) (words : AreLawful input.words command) where
+  -- a refusal by what is given has its cause
+  pub cause_of : (why : Refusal) → IsVerdictOn input.content (Rose input.failed_before input.failed_after) command (Refused why) → HasCause input why
+  cause_of Words never = absurd never
+  cause_of Reading is = record { command = command; words = words; failed = is }
+  cause_of (refusal.Config wrong) is = record {
+    command = command;
+    config = is.config_text;
+    program = is.program_text;
+    read = record { words = words; given = is.given };
+    refused = is.verdict;
+  }
+  cause_of (Program wrong) is = record {
+    command = command;
+    config = is.config_text;
+    program = is.program_text;
+    read = record { words = words; given = is.given };
+    refused = is.verdict;
+  }
+
+  -- a program that is taken is accepted
+  pub accepted_of : (p : whole.Program) → IsVerdictOn input.content (Rose input.failed_before input.failed_after) command (Accepted p) → IsAccepted input command p
+  accepted_of p is = record {
+    config = is.config_text;
+    program = is.program_text;
+    read = record { words = words; given = is.given };
+    taken = is.verdict;
+  }
