@@ -1,17 +1,6 @@
-pub mod NthSet
-pub mod Named
-pub mod Chosen
-pub mod Breaks
-pub mod Order
-pub mod Pumping
-pub mod Carried
-pub mod LinkEnds
-pub mod Links
-pub mod LinkTakes
-pub mod Letters
-pub mod SlotsOnce
-pub mod Clocks
-pub mod Numbered
+pub mod flags
+pub mod links
+pub mod journals
 pub mod sending
 pub mod coming
 pub mod members
@@ -23,5 +12,3 @@ pub mod finished
 pub mod places
 pub mod programs
 pub mod worlds
-pub mod Looks
-pub mod Openings

@@ -14,6 +14,7 @@ use Rattle.dso_legal.specs.Lawful.{IsLawful}
 -- Breaks: where no break is set twice, in a lawful journal no break of a client's connection is due while that is
 -- broken.
 abbrev pub BrokenIsNeverDue : Type 0
-BrokenIsNeverDue = (p : Settings) (next : ThreadId → List Event → Option Request) (es : List Entry) → IsLawful p next es
+BrokenIsNeverDue = (p : Settings) (next : ThreadId → List Event → Option Request) (es : List Entry)
+    → IsLawful p next es
     → AllPairs (λ trigger other. trigger ≢ other) p.breaks
     → (c : ℕ) → is_broken c (entries_of Server es) ≡ true → is_break_due p c (entries_of Server es) ≡ false

@@ -11,7 +11,9 @@ use Rattle.dso_legal.specs.Slots.{has_ended, is_due, is_quiet}
 -- whether the client isn't lost, and one of its threads has not ended or a message is in flight between it and the
 -- server
 abbrev pub is_working : Settings → ℕ → List Entry → Bool
-is_working p c es = not (is_lost c (entries_of Server es)) && (list_any (λ t. not (has_ended t es)) (threads_of p c) || not (is_quiet p c es))
+is_working p c es =
+    not (is_lost c (entries_of Server es))
+    && (list_any (λ t. not (has_ended t es)) (threads_of p c) || not (is_quiet p c es))
 
 -- Busy: a trigger of the client is due, or it is working.
 abbrev pub is_busy : Settings → ℕ → List Entry → Bool

@@ -74,4 +74,5 @@ module _ (p : Settings) (next : ThreadId → List Event → Option Request) wher
   -- moves on once for each entry and once more for this step, and names one of the open slots.
   abbrev pub chosen_slot : Option ℕ → List Entry → Option Slot
   chosen_slot None es = first_of_list (filter (is_open p next es) (going_round (last_slot es) (slots p)))
-  chosen_slot (Some seed) es = slice_get (open_slots p next es) (lot (seed_after (suc (length es)) seed) (length (open_slots p next es)))
+  chosen_slot (Some seed) es =
+      slice_get (open_slots p next es) (lot (seed_after (suc (length es)) seed) (length (open_slots p next es)))

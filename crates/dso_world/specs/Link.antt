@@ -8,7 +8,7 @@ use Rattle.dso_session.specs.declared.session.Posted.{Posted}
 use Rattle.dso_session.specs.declared.session.Role.TheVariants as role
 use Rattle.dso_session.specs.Ends.{End, IsInOrder, after_frame, answer, broken, opened, posted, sent_count}
 
--- both ends, and the frames on the way up to the server and on the way down to the client, the first one first
+-- both ends, and the frames in flight up to the server and down to the client, the first one first
 pub record Line (M : Type 0) : Type 0 where
   pub client : End M
   pub server : End M
@@ -46,10 +46,13 @@ gives end = hello_due end ++ carried end.epoch end.given end.accepted (left_to_g
 abbrev pub emptied : {M : Type 0} → End M → End M
 emptied end = record end { owes_hello = false; given = cond end.is_ready (sent_count end) end.given }
 
--- The client gives its frames. Those of a connection that the server knows to be broken are dropped: no step could take
--- them.
+-- The client gives its frames. Those of a connection that the server knows to be broken are dropped: no step could
+-- take them.
 abbrev pub pumped_up : {M : Type 0} → Line M → Line M
-pumped_up line = record line { client = emptied line.client; up = cond (eqb line.client.epoch line.server.epoch) (line.up ++ gives line.client) [] }
+pumped_up line = record line {
+  client = emptied line.client;
+  up = cond (eqb line.client.epoch line.server.epoch) (line.up ++ gives line.client) [];
+}
 
 -- the server gives its frames
 abbrev pub pumped_down : {M : Type 0} → Line M → Line M
@@ -72,14 +75,14 @@ after_first (frame ∷ rest) end = after_frame frame end
 abbrev pub first_answer : {M : Type 0} → List (Frame M) → End M → Option (Accepted M)
 first_answer frames end = option_map (λ frame. answer frame end) (first_of_list frames)
 
--- the server takes the first frame on the way up, and gives what it then can
+-- the server takes the first frame in flight to it, and gives what it then can
 abbrev pub taken_up : {M : Type 0} → Line M → Line M
 taken_up line = pumped_down (record line { server = after_first line.up line.server; up = drop 1 line.up })
 
--- the client takes the first frame on the way down, and gives what it then can
+-- the client takes the first frame in flight to it, and gives what it then can
 abbrev pub taken_down : {M : Type 0} → Line M → Line M
 taken_down line = pumped_up (record line { client = after_first line.down line.client; down = drop 1 line.down })
 
--- the connection breaks: what is on the way is lost
+-- the connection breaks: what is in flight is lost
 abbrev pub cut : {M : Type 0} → Line M → Line M
 cut line = pumped_down (record line { server = broken line.server; up = []; down = [] })

@@ -1,5 +1,5 @@
--- What the connection of a client is, by what was sent and taken over it, how often it broke and how often it was taken
--- up again.
+-- What the connection of a client is, by what was sent and taken over it, how often it broke and how often it was
+-- taken up again.
 use Rattle.std.specs.Prelude.{ℕ, ◌+◌, ◌≤◌, ◌≡◌, ◌↔◌, Bool, true, false, ltb, Some, List, [], ◌∷◌, ◌++◌, drop, length, slice_get}
 use Rattle.dso_session.specs.declared.frame.Accepted.TheVariants.{Rejoined, Up}
 use Rattle.dso_session.specs.declared.frame.Frame.{Frame}
@@ -67,18 +67,20 @@ pub record JoinedStands {M : Type 0} (past : Past M) (line : Line M) : Type 0 wh
   pub up : AreCarried past.breaks past.up_taken past.down_taken (drop past.up_taken past.up) line.up
   pub down : AreCarried past.breaks past.down_taken past.up_taken (drop past.down_taken past.down) line.down
 
--- broken: nothing is on the way up, and down goes the server's Hello alone
+-- broken: nothing is in flight to the server, and to the client goes the server's Hello alone
 pub record BrokenStands {M : Type 0} (past : Past M) (line : Line M) : Type 0 where
   pub epochs : past.rejoins + 1 ≡ past.breaks
   pub ready : line.server.is_ready ≡ false
   pub up : line.up ≡ []
   pub down : GreetsFirst past.breaks past.up_taken (λ frames. frames ≡ []) line.down
 
--- half: nothing is on the way down, and up go the client's Hello and then the messages that were sent and not taken
+-- half: nothing is in flight to the client, and to the server go the client's Hello and then the messages that were
+-- sent and not taken
 pub record HalfStands {M : Type 0} (past : Past M) (line : Line M) : Type 0 where
   pub epochs : past.rejoins ≡ past.breaks
   pub ready : line.server.is_ready ≡ false
-  pub up : GreetsFirst past.breaks past.down_taken (AreCarried past.breaks past.up_taken past.down_taken (drop past.up_taken past.up)) line.up
+  pub up : GreetsFirst past.breaks past.down_taken
+      (AreCarried past.breaks past.up_taken past.down_taken (drop past.up_taken past.up)) line.up
   pub down : line.down ≡ []
 
 abbrev pub CourseStands : {M : Type 0} → Course → Past M → Line M → Type 0
@@ -133,17 +135,19 @@ pub record ServerRejoins {M : Type 0} (past : Past M) (line : Line M) : Type 0 w
   pub answer : first_answer line.up line.server ≡ Some (Rejoined past.down_taken)
   pub stands : LinkStands Joined past (taken_up line)
 
--- Connections: what happens to a connection makes of it one that stands for what has happened. Messages are sent at any
--- time; a frame that is taken gives up the next message of the other end, or joins the connection again; frames wait
--- exactly where one can be taken.
+-- Connections: what happens to a connection makes of it one that stands for what has happened. Messages are sent at
+-- any time; a frame that is taken gives up the next message of the other end, or joins the connection again; frames
+-- wait exactly where one can be taken.
 pub record LinksGoOn (M : Type 0) : Type 0 where
   pub opens : LinkStands Joined (opening_past {M = M}) opening_line
   pub sends_up : (course : Course) (past : Past M) (line : Line M) (message : M) (clock : ℕ)
       → LinkStands course past line
-      → LinkStands course (record past { up = past.up ++ record { message = message; clock = clock } ∷ [] }) (sent_up message clock line)
+      → LinkStands course (record past { up = past.up ++ record { message = message; clock = clock } ∷ [] })
+      (sent_up message clock line)
   pub sends_down : (course : Course) (past : Past M) (line : Line M) (message : M) (clock : ℕ)
       → LinkStands course past line
-      → LinkStands course (record past { down = past.down ++ record { message = message; clock = clock } ∷ [] }) (sent_down message clock line)
+      → LinkStands course (record past { down = past.down ++ record { message = message; clock = clock } ∷ [] })
+      (sent_down message clock line)
   pub takes_up : (past : Past M) (line : Line M) (one : Posted M) → LinkStands Joined past line
       → slice_get past.up past.up_taken ≡ Some one → TakesUp past line one
   pub takes_down : (past : Past M) (line : Line M) (one : Posted M) → LinkStands Joined past line

@@ -1,4 +1,5 @@
--- What is told of the nodes: which slots are open, and whether the run is finished. Entries stand with the newest first.
+-- What is told of the nodes: which slots are open, and whether the run is finished. Entries stand with the newest
+-- first.
 use Rattle.dso_base.specs.declared.journal.Entry.{Entry}
 use Rattle.dso_base.specs.declared.journal.Node.TheVariants as node
 use Rattle.dso_class.specs.declared.program.Program.{Program}
@@ -28,10 +29,12 @@ module _ (program : Program) where
     pub core : ServerStands (settings_of program) server (entries_of node.Server es)
     pub stands : MemberStands program c member es
 
-  -- the answers tell, whatever entries they stand for, whether a loss of the client and a break of its connection are due
+  -- the answers tell, whatever entries they stand for, whether a loss of the client and a break of its connection are
+  -- due
   abbrev pub TellsDue : ℕ → Server → Member → Bool → Bool → Type 0
   TellsDue c server member loss break = (es : List Entry) → PairStands c server member es
-      → (loss ≡ is_loss_due (settings_of program) c (entries_of node.Server es)) × (break ≡ is_break_due (settings_of program) c (entries_of node.Server es))
+      → (loss ≡ is_loss_due (settings_of program) c (entries_of node.Server es))
+      × (break ≡ is_break_due (settings_of program) c (entries_of node.Server es))
 
   -- the answer tells, whatever entries they stand for, whether the slot of the step is open
   abbrev pub TellsOpenAt : ℕ → Server → Member → Step → Bool → Type 0
@@ -47,8 +50,10 @@ module _ (program : Program) where
 
   -- whether the client keeps the run going
   abbrev pub TellsBusy : ℕ → Server → Member → Bool → Type 0
-  TellsBusy c server member answer = (es : List Entry) → PairStands c server member es → answer ≡ is_busy (settings_of program) c es
+  TellsBusy c server member answer = (es : List Entry) → PairStands c server member es
+      → answer ≡ is_busy (settings_of program) c es
 
   -- and whether it is finished
   abbrev pub TellsFinished : Nodes → Bool → Type 0
-  TellsFinished nodes answer = (es : List Entry) → IsJournal program es → NodesStand program nodes es → answer ≡ is_finished (settings_of program) es
+  TellsFinished nodes answer = (es : List Entry) → IsJournal program es → NodesStand program nodes es
+      → answer ≡ is_finished (settings_of program) es

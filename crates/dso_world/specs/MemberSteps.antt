@@ -56,5 +56,6 @@ module _ (program : Program) where
 
   -- so for whatever entries the client stood for, after which the slot is open
   abbrev pub Steps : ℕ → Slot → Entry → Member → Member → Type 0
-  Steps c slot entry old new = (es : List Entry) → IsJournal es → list_any (eqb c) (clients_of (settings_of program)) ≡ true
+  Steps c slot entry old new = (es : List Entry) → IsJournal es
+      → list_any (eqb c) (clients_of (settings_of program)) ≡ true
       → MemberStands program c old es → IsOpenAfter es slot → Follows c slot entry new es

@@ -27,11 +27,13 @@ use Rattle.dso_world.specs.WorldSteps.{settings_of}
 
 -- no client has seen 2 ^ 63 messages of the server or more
 abbrev pub HaveRoom : List Member → Type 0
-HaveRoom members = (place : ℕ) (member : Member) → slice_get members place ≡ Some member → member.link.server.seen < 2 ^ 63
+HaveRoom members = (place : ℕ) (member : Member) → slice_get members place ≡ Some member
+    → member.link.server.seen < 2 ^ 63
 
 -- each client was sent those of these messages that are for it
 abbrev pub AreTold : ℕ → List (ℕ × Down) → List Member → List Member → Type 0
-AreTold clock messages old new = (place : ℕ) → slice_get new place ≡ option_map (after_hearing (suc place) clock messages) (slice_get old place)
+AreTold clock messages old new = (place : ℕ)
+    → slice_get new place ≡ option_map (after_hearing (suc place) clock messages) (slice_get old place)
 
 -- the server made its entry, and sent these
 pub record HasTold (made : Made) (messages : List (ℕ × Down)) (old new : Nodes) : Type 0 where
@@ -45,15 +47,18 @@ with_line c change d member = cond (eqb d c) (record member { link = change memb
 
 -- this changed the connection of client c alone
 abbrev pub ChangesLine : ℕ → (Line Both → Line Both) → List Member → List Member → Type 0
-ChangesLine c change old new = (place : ℕ) → slice_get new place ≡ option_map (with_line c change (suc place)) (slice_get old place)
+ChangesLine c change old new = (place : ℕ)
+    → slice_get new place ≡ option_map (with_line c change (suc place)) (slice_get old place)
 
 -- the connection of client c broke fewer than 2 ^ 32 - 1 times
 abbrev pub HasBreakLeft : ℕ → List Member → Type 0
-HasBreakLeft c members = (member : Member) → slice_get members (c - 1) ≡ Some member → member.link.server.epoch + 1 < 2 ^ 32
+HasBreakLeft c members = (member : Member) → slice_get members (c - 1) ≡ Some member
+    → member.link.server.epoch + 1 < 2 ^ 32
 
--- what the server makes of the first frame on the way up from a client, None where there is none
+-- what the server makes of the first frame in flight from a client, None where there is none
 abbrev pub first_up : ℕ → List Member → Option (Accepted Both)
-first_up c members = option_and_then (λ member. first_answer member.link.up member.link.server) (slice_get members (c - 1))
+first_up c members =
+    option_and_then (λ member. first_answer member.link.up member.link.server) (slice_get members (c - 1))
 
 module _ (program : Program) where
   -- the nodes stand for some journal's entries, after which the slot is open, and client c is one of the cluster's
@@ -72,7 +77,8 @@ module _ (program : Program) where
 
   -- so for whatever entries the nodes stood for, after which the slot is open
   abbrev pub StepsAll : ℕ → Slot → Entry → Nodes → Nodes → Type 0
-  StepsAll c slot entry old new = (es : List Entry) → IsJournal program es → list_any (eqb c) (clients_of (settings_of program)) ≡ true
+  StepsAll c slot entry old new = (es : List Entry) → IsJournal program es
+      → list_any (eqb c) (clients_of (settings_of program)) ≡ true
       → NodesStand program old es → IsOpenAfter program es slot → FollowsAll slot entry new es
 
   -- the course and the past of the connection of client d, where the server has taken one message more of client c
@@ -80,10 +86,13 @@ module _ (program : Program) where
   course_heard c es d = cond (eqb d c) Joined (course_of (settings_of program) d es)
 
   abbrev pub past_heard : ℕ → List Entry → ℕ → Past Both
-  past_heard c es d = cond (eqb d c) (record (past_of both.Up both.Down c es) { up_taken = (past_of both.Up both.Down c es).up_taken + 1 }) (past_of both.Up both.Down d es)
+  past_heard c es d =
+      cond (eqb d c)
+      (record (past_of both.Up both.Down c es) { up_taken = (past_of both.Up both.Down c es).up_taken + 1 })
+      (past_of both.Up both.Down d es)
 
-  -- The nodes where the server has taken this letter of client c, the first in flight, off its channel: it may take it,
-  -- and each connection stands for that.
+  -- The nodes where the server has taken this letter of client c, the first in flight, off its channel: it may take
+  -- it, and each connection stands for that.
   pub record Heard (c : ℕ) (letter : Letter Up) (nodes : Nodes) (es : List Entry) : Type 0 where
     pub journal : IsJournal program es
     pub its : list_any (eqb c) (clients_of (settings_of program)) ≡ true

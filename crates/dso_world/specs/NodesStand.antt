@@ -20,9 +20,10 @@ use Rattle.dso_world.specs.WorldSteps.{settings_of}
 
 module _ (program : Program) where
   -- Client c after the entries: its core stands for its own entries, its connection for what happened to it, by this
-  -- course and past, and its clock is that of its last entry. It has sent no more records than there are entries, and no
-  -- lock is held more often.
-  pub record MemberStandsBy (c : ℕ) (course : Course) (past : Past Both) (member : Member) (es : List Entry) : Type 0 where
+  -- course and past, and its clock is that of its last entry. It has sent no more records than there are entries, and
+  -- no lock is held more often.
+  pub record MemberStandsBy (c : ℕ) (course : Course) (past : Past Both) (member : Member)
+      (es : List Entry) : Type 0 where
     pub client : ClientStands program.code (settings_of program) c member.client (entries_of (node.Client c) es)
     pub runs : RunsCode program.code member.client
     pub records : member.client.ledger.records ≤ length es
@@ -32,11 +33,12 @@ module _ (program : Program) where
 
   -- so by the journal
   abbrev pub MemberStands : ℕ → Member → List Entry → Type 0
-  MemberStands c member es = MemberStandsBy c (course_of (settings_of program) c es) (past_of both.Up both.Down c es) member es
+  MemberStands c member es =
+      MemberStandsBy c (course_of (settings_of program) c es) (past_of both.Up both.Down c es) member es
 
-  -- The nodes after the entries: each client, by the course and the past of its connection; and the server's core stands
-  -- for the server's entries, its clock is that of its last entry, and it gave no more batches of ids than there are
-  -- entries.
+  -- The nodes after the entries: each client, by the course and the past of its connection; and the server's core
+  -- stands for the server's entries, its clock is that of its last entry, and it gave no more batches of ids than
+  -- there are entries.
   pub record NodesStandBy (course : ℕ → Course) (past : ℕ → Past Both) (nodes : Nodes) (es : List Entry) : Type 0 where
     pub count : length nodes.members.items ≡ program.clients
     pub members : (place : ℕ) (member : Member) → slice_get nodes.members.items place ≡ Some member
@@ -47,9 +49,11 @@ module _ (program : Program) where
 
   -- so by the journal
   abbrev pub NodesStand : Nodes → List Entry → Type 0
-  NodesStand nodes es = NodesStandBy (λ c. course_of (settings_of program) c es) (λ c. past_of both.Up both.Down c es) nodes es
+  NodesStand nodes es =
+      NodesStandBy (λ c. course_of (settings_of program) c es) (λ c. past_of both.Up both.Down c es) nodes es
 
   -- so many clients, each of which stands for no entries
   pub record AreMembers (count : ℕ) (members : List Member) : Type 0 where
     pub many : length members ≡ count
-    pub each : (place : ℕ) (member : Member) → slice_get members place ≡ Some member → MemberStands (suc place) member []
+    pub each : (place : ℕ) (member : Member) → slice_get members place ≡ Some member
+        → MemberStands (suc place) member []

@@ -52,9 +52,11 @@ abbrev pub course_of : Settings → ℕ → List Entry → Course
 course_of p c es = cond (is_broken c (entries_of Server es)) (cond (slots.has_rejoined p c es) Half Broken) Joined
 
 -- a message can be taken where a frame can be taken of the connection, and upwards only where nothing is due
-pub record CanTake (p : Settings) (es : List Entry) {M : Type 0} (as_up : Up → M) (as_down : Down → M) (c : ℕ) : Type 0 where
+pub record CanTake (p : Settings) (es : List Entry) {M : Type 0} (as_up : Up → M) (as_down : Down → M)
+    (c : ℕ) : Type 0 where
   pub down : slots.can_take_down p c es ≡ can_take_down (course_of p c es) (past_of as_up as_down c es)
-  pub up : slots.can_take_up p c es ≡ (not (is_due p c es) && can_take_up (course_of p c es) (past_of as_up as_down c es))
+  pub up : slots.can_take_up p c es
+      ≡ (not (is_due p c es) && can_take_up (course_of p c es) (past_of as_up as_down c es))
 
 -- Letters: of a lawful journal those in flight are those posted that were not taken; and a client's messages can be
 -- taken where its connection says so.

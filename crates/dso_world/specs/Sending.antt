@@ -23,7 +23,8 @@ all_sent_up clock (m ∷ messages) line = all_sent_up clock messages (sent_up (b
 -- the server sends client c those of these messages that are for it, in their order
 abbrev pub all_sent_down : ℕ → ℕ → List (ℕ × Down) → Line Both → Line Both
 all_sent_down c clock [] line = line
-all_sent_down c clock (m ∷ messages) line = all_sent_down c clock messages (cond (eqb c m.0) (sent_down (both.Down m.1) clock line) line)
+all_sent_down c clock (m ∷ messages) line =
+    all_sent_down c clock messages (cond (eqb c m.0) (sent_down (both.Down m.1) clock line) line)
 
 -- the clock of an entry: 1 more than the greater of the last one's and of the one that was heard
 abbrev pub clock_after : ℕ → ℕ → ℕ

@@ -10,4 +10,5 @@ loss_due_by c taken lost losses = not lost && list_any (is_reached c taken) loss
 
 -- a break of its connection is due, which was broken so often, where no loss is
 abbrev pub break_due_by : ℕ → ℕ → Bool → Bool → ℕ → List Trigger → Bool
-break_due_by c taken lost loss_due broke breaks = not lost && (not loss_due && ltb broke (length (filter (is_reached c taken) breaks)))
+break_due_by c taken lost loss_due broke breaks =
+    not lost && (not loss_due && ltb broke (length (filter (is_reached c taken) breaks)))

@@ -33,15 +33,16 @@ module _ (program : Program) where
     pub board : BoardStands world.board es
     pub weight : world.weight ≡ min (weight es) (2 ^ 64 - 1)
 
-  -- The world is one of this program: its journal is lawful; and while it isn't spent, its parts are what they are after
-  -- the journal's entries.
+  -- The world is one of this program: its journal is lawful; and while it isn't spent, its parts are what they are
+  -- after the journal's entries.
   pub record WorldStands (world : World) : Type 0 where
     pub lawful : IsLawful (settings_of program) (next_request program.code) (entries_in world)
     pub parts : world.is_spent ≡ false → PartsStand world (entries_in world)
 
   -- whether the step's slot is one of the cluster's that are open
   abbrev pub is_open_step : Step → World → Bool
-  is_open_step step world = list_any (is_slot (slot_of step)) (open_slots (settings_of program) (next_request program.code) (entries_in world))
+  is_open_step step world = list_any (is_slot (slot_of step))
+      (open_slots (settings_of program) (next_request program.code) (entries_in world))
 
 -- one entry more, made at the slot of the step
 pub record MakesEntry (step : Step) (old new : World) : Type 0 where
@@ -58,7 +59,8 @@ pub record IsMakeable (program : Program) (step : Step) (place : ℕ) (world : W
   pub at : slice_get (slots (settings_of program)) place ≡ Some (slot_of step)
   pub opened : IsOpenAfter program (entries_in world) (slot_of step)
 
--- It is made: there is one entry more, at its slot, and the parts are what they are after the journal, which is lawful.
+-- It is made: there is one entry more, at its slot, and the parts are what they are after the journal, which is
+-- lawful.
 pub record IsMade (program : Program) (step : Step) (old new : World) : Type 0 where
   pub makes : MakesEntry step old new
   pub lawful : IsLawful (settings_of program) (next_request program.code) (entries_in new)
@@ -71,5 +73,6 @@ IsStepped program step false old new = (is_open_step program step old ≡ false)
 
 -- the step is that of the chosen slot, and there is none exactly where no slot is open
 pub record IsChosenStep (program : Program) (seed : Option ℕ) (chosen : Option Step) (world : World) : Type 0 where
-  pub slot : option_map slot_of chosen ≡ chosen_slot (settings_of program) (next_request program.code) seed (entries_in world)
+  pub slot : option_map slot_of chosen
+      ≡ chosen_slot (settings_of program) (next_request program.code) seed (entries_in world)
   pub none : (chosen ≡ None) ↔ (open_slots (settings_of program) (next_request program.code) (entries_in world) ≡ [])

@@ -57,7 +57,7 @@ pub(crate) fn act(
     say(alloc, thread.client, member, made, messages)
 }
 
-/// The client of this number takes the first frame on the way down: a message, or one that joins its connection again.
+/// The client of this number takes the first frame in flight to it: a message, or one that joins its connection again.
 ///
 /// It answers `NoMemory` where an allocation was refused.
 pub(crate) fn take_down(

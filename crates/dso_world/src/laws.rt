@@ -26,8 +26,8 @@ pub fn broken_is_never_due()
 
 /// Whatever happens to the connection of a client makes of it one that stands for what has happened: a message is sent
 /// by either end; a frame is taken, and gives up the next message of the other end; the connection breaks, and either
-/// end takes it up again. A frame waits exactly where one can be taken: on a joined connection where a message was
-/// sent and not taken, on a broken one on the way down, and on one that the client has taken up again on the way up.
+/// end takes it up again. A frame is in flight exactly where one can be taken: on a joined connection where a message was
+/// sent and not taken, on a broken one to the client, and on one that the client has taken up again to the server.
 pub fn links_go_on<M>()
     ensures { LinksGoOn M }
 {}

@@ -10,8 +10,7 @@ use std::alloc::Global;
 use std::collections::VecDeque;
 use std::marker::Model;
 
-/// The connection of a client: its two ends, and the frames that wait on the way up to the server and on the way down
-/// to the client.
+/// The connection of a client: its two ends, and the frames in flight up to the server and down to the client.
 ///
 /// Contracts see all of it (`Line`). What an end can give goes to its channel within the call that makes it so. After
 /// `NoMemory` a link stands for no connection any more.
@@ -46,14 +45,14 @@ impl<M: Data + Drop> Link<M> {
         }
     }
 
-    /// Whether no frame waits on the way up. It takes no memory.
+    /// Whether no frame is in flight to the server. It takes no memory.
     pub fn is_up_empty(&self) -> bool
         ensures { IsTrue result ↔ (self.now.up ≡ []) }
     {
         self.up.is_empty()
     }
 
-    /// Whether no frame waits on the way down. It takes no memory.
+    /// Whether no frame is in flight to the client. It takes no memory.
     pub fn is_down_empty(&self) -> bool
         ensures { IsTrue result ↔ (self.now.down ≡ []) }
     {
@@ -135,8 +134,8 @@ impl<M: Data + Drop> Link<M> {
         self.pump_down()
     }
 
-    /// The server takes the first frame on the way up, and what it makes of it is answered, None exactly where none
-    /// waits. It answers `NoMemory` where an allocation was refused.
+    /// The server takes the first frame in flight to it, and what it makes of it is answered, None exactly where none
+    /// is. It answers `NoMemory` where an allocation was refused.
     pub fn take_up(&mut self) -> Result<Option<Accepted<M>>, NoMemory>
         ensures answer { IfOk result (λ answer. answer ≡ first_answer self.old.up self.old.server) }
         ensures after { OnOk result (self.new ≡ taken_up self.old) }
@@ -146,8 +145,8 @@ impl<M: Data + Drop> Link<M> {
         Ok(answer)
     }
 
-    /// The client takes the first frame on the way down, and what it makes of it is answered, None exactly where none
-    /// waits. It answers `NoMemory` where an allocation was refused.
+    /// The client takes the first frame in flight to it, and what it makes of it is answered, None exactly where none
+    /// is. It answers `NoMemory` where an allocation was refused.
     pub fn take_down(&mut self) -> Result<Option<Accepted<M>>, NoMemory>
         ensures answer { IfOk result (λ answer. answer ≡ first_answer self.old.down self.old.client) }
         ensures after { OnOk result (self.new ≡ taken_down self.old) }
@@ -157,7 +156,7 @@ impl<M: Data + Drop> Link<M> {
         Ok(answer)
     }
 
-    /// The connection breaks, as the server knows: what waits on the ways is lost. It answers `NoMemory` where an
+    /// The connection breaks, as the server knows: what is in flight is lost. It answers `NoMemory` where an
     /// allocation was refused.
     pub fn break_now(&mut self) -> Result<(), NoMemory>
         requires { self.old.server.epoch + 1 < 2 ^ 32 }

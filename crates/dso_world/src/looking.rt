@@ -36,7 +36,7 @@ fn is_either(due: (bool, bool)) -> bool
     due.0 || due.1
 }
 
-/// Whether the server can take of a client where something waits and nothing is due.
+/// Whether the server can take of a client where a frame is in flight and nothing is due.
 fn can_take(is_due: bool, is_empty: bool) -> bool
     ensures { result ≡ (not is_due && not is_empty) }
 {

@@ -2,7 +2,7 @@
 use crate::{Both, Link};
 use dso_client::Client;
 
-/// A client, both ends of its connection with what is on the way, and the clock of its last entry.
+/// A client, both ends of its connection with what is in flight, and the clock of its last entry.
 #[derive(Drop)]
 pub struct Member {
     pub(crate) client: Client,

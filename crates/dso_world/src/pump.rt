@@ -25,7 +25,7 @@ pub(crate) fn pump<M: Data + Drop>(
 }
 
 /// The end takes the first frame of the channel, and what it makes of it is answered. It takes no memory.
-#[tactic(auto, using(crate::proofs::Order::order_after))]
+#[tactic(auto, using(crate::proofs::links::Order::order_after))]
 pub(crate) fn take_first<M: Data + Drop>(
     end: &mut Session<M>,
     channel: &mut VecDeque<Frame<M>>,

@@ -69,7 +69,7 @@ fn hear(
     }
 }
 
-/// The server takes the first frame on the way up from the client of this number: a message, or one that joins the
+/// The server takes the first frame in flight from the client of this number: a message, or one that joins the
 /// connection again.
 ///
 /// It answers `NoMemory` where an allocation was refused.

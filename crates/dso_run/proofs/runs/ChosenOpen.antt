@@ -10,7 +10,7 @@ use Rattle.dso_law.specs.Replies.{first_of_list}
 use Rattle.dso_law.specs.Settings.{Settings}
 use Rattle.dso_legal.specs.Slots.{Slot, is_open, open_slots, slots}
 use Rattle.dso_world.specs.ChosenSlot.{chosen_slot, going_round, is_slot, last_slot, lot, seed_after, slots_behind, slots_up_to}
-use Rattle.dso_world.proofs.SlotsOnce.{same_slot}
+use Rattle.dso_world.proofs.slots.Once.{same_slot}
 
 -- either of two
 later : (a b : Bool) → b ≡ true → (a || b) ≡ true

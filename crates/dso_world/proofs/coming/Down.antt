@@ -15,8 +15,8 @@ use Rattle.dso_world.specs.declared.both.Both.TheVariants as both
 use Rattle.dso_world.specs.Link.{Line, first_answer, taken_down}
 use Rattle.dso_world.specs.LinkStands.{Course, Joined, Broken, Half, LinkStands, Past, can_take_down}
 use Rattle.dso_world.specs.PastOf.{course_of, letters_posted, letters_taken, past_of}
-use Rattle.dso_world.proofs.Letters.{letters_are_left}
-use Rattle.dso_world.proofs.LinkTakes.{links_go_on}
+use Rattle.dso_world.proofs.journals.Letters.{letters_are_left}
+use Rattle.dso_world.proofs.links.Takes.{links_go_on}
 use Rattle.dso_world.proofs.premises.WhatComes.{next_letter}
 
 module _ (p : Settings) (next : ThreadId → List Event → Option Request) (es : List Entry) (c : ℕ) (line : Line Both) where

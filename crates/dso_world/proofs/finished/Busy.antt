@@ -15,7 +15,7 @@ use Rattle.dso_law.specs.ServerReadings.{is_lost}
 use Rattle.dso_legal.specs.Slots.{has_ended, is_any, is_due, is_finished, is_over, is_quiet}
 use Rattle.dso_world.specs.Busy.{is_busy}
 use Rattle.dso_world.specs.PastOf.{AreLeft, letters_posted, letters_taken, past_of}
-use Rattle.dso_world.proofs.Letters.{any_left}
+use Rattle.dso_world.proofs.journals.Letters.{any_left}
 
 -- ---- lists of which one passes
 

@@ -23,7 +23,7 @@ use Rattle.dso_legal.specs.Slots.{ends, has_ended}
 use Rattle.dso_legal.proofs.blocks.OwnActs.{threads_follow}
 use Rattle.dso_legal.proofs.fitting.Untold.{keeps_to}
 use Rattle.dso_world.specs.Finishing.{EndedAsksNothing}
-use Rattle.dso_world.proofs.LinkEnds.{below}
+use Rattle.dso_world.proofs.links.Ends.{below}
 use Rattle.dso_world.proofs.finished.CodeEnds.{code_ends}
 use Rattle.dso_world.proofs.premises.OwnRun.{own_next}
 use Rattle.dso_world.proofs.premises.SoundPrograms.{sound_code}

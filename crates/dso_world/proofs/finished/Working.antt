@@ -20,8 +20,8 @@ use Rattle.dso_world.specs.declared.both.Both.TheVariants as both
 use Rattle.dso_world.specs.Busy.{is_busy, is_working}
 use Rattle.dso_world.specs.LinkStands.{Past}
 use Rattle.dso_world.specs.PastOf.{letters_posted, letters_taken, past_of}
-use Rattle.dso_world.proofs.Letters.{any_left, letters_are_left}
-use Rattle.dso_world.proofs.LinkEnds.{below}
+use Rattle.dso_world.proofs.journals.Letters.{any_left, letters_are_left}
+use Rattle.dso_world.proofs.links.Ends.{below}
 use Rattle.dso_world.proofs.finished.Ended.{alive_is}
 
 -- a message is left exactly where more were sent than taken

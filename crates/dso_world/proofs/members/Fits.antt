@@ -16,7 +16,7 @@ use Rattle.dso_world.specs.declared.member.Member.{Member}
 use Rattle.dso_world.specs.MemberSteps.{IsJournal}
 use Rattle.dso_world.specs.NodesStand.{MemberStands}
 use Rattle.dso_world.specs.WorldSteps.{settings_of}
-use Rattle.dso_world.proofs.Clocks.{clocks_are_few}
+use Rattle.dso_world.proofs.journals.Clocks.{clocks_are_few}
 
 -- a node has no more entries than the journal, and no more have some input
 pub own_few : (node : Node) (es : List Entry) → length (entries_of node es) ≤ length es

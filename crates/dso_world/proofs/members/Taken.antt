@@ -1,4 +1,4 @@
--- A client takes the first frame on the way down, and flushes an object.
+-- A client takes the first frame in flight to it, and flushes an object.
 use Rattle.std.specs.List.{list_any}
 use Rattle.std.proofs.Common.{ℕ, suc, max, ◌+◌, ◌<◌, ◌≤◌, ◌^◌, ◌≡◌, ◌≢◌, ◌⊎◌, inl, inr, refl, sym, ◌∙◌, ap, subst, Bool, true, false, eqb, Option, Some, None, List, [], ◌∷◌, length, map, arith}
 use Rattle.dso_base.specs.declared.journal.Entry.{Entry}
@@ -34,7 +34,7 @@ use Rattle.dso_world.specs.NodesStand.{MemberStands}
 use Rattle.dso_world.specs.PastOf.{course_of, past_of}
 use Rattle.dso_world.specs.Sending.{after_saying, client_entry, clock_after}
 use Rattle.dso_world.specs.WorldSteps.{settings_of}
-use Rattle.dso_world.proofs.Clocks.{Below, clocks_are_few}
+use Rattle.dso_world.proofs.journals.Clocks.{Below, clocks_are_few}
 use Rattle.dso_world.proofs.coming.Down.{MessageComes, RejoinComes, comes_down}
 use Rattle.dso_world.proofs.follows.Clients.{client_rejoin_follows}
 use Rattle.dso_world.proofs.follows.Lawful.{lawful_with_client_rejoin}

@@ -19,8 +19,8 @@ use Rattle.dso_world.specs.NodeSteps.{ChangesLine, HasBreakLeft, HaveRoom}
 use Rattle.dso_world.specs.NodesStand.{MemberStandsBy, NodesStand}
 use Rattle.dso_world.specs.PastOf.{course_of, past_of}
 use Rattle.dso_world.specs.WorldSteps.{settings_of}
-use Rattle.dso_world.proofs.Breaks.{broken_is_never_due}
-use Rattle.dso_world.proofs.LinkTakes.{links_go_on}
+use Rattle.dso_world.proofs.journals.Breaks.{broken_is_never_due}
+use Rattle.dso_world.proofs.links.Takes.{links_go_on}
 use Rattle.dso_world.proofs.members.Fits.{node_count_few}
 use Rattle.dso_world.proofs.nodes.Changed.{changed}
 use Rattle.dso_world.proofs.nodes.Ready.{room_of}

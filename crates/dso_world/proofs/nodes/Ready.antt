@@ -22,7 +22,7 @@ use Rattle.dso_world.specs.NodesStand.{MemberStandsBy, NodesStand, NodesStandBy}
 use Rattle.dso_world.specs.PastOf.{course_of, past_of}
 use Rattle.dso_world.specs.Sending.{clock_after}
 use Rattle.dso_world.specs.WorldSteps.{settings_of}
-use Rattle.dso_world.proofs.Clocks.{Below, clocks_are_few}
+use Rattle.dso_world.proofs.journals.Clocks.{Below, clocks_are_few}
 use Rattle.dso_world.proofs.members.Fits.{node_count_few}
 use Rattle.dso_world.proofs.premises.WhatComes.{comes_up}
 

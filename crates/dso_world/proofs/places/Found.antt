@@ -9,7 +9,7 @@ use Rattle.dso_plain.proofs.keys.SameKeys.{same_thread}
 use Rattle.dso_legal.specs.Slots.{Slot, Acts, TakesDown, Flushes, TakesUp, Loses, Breaks}
 use Rattle.dso_world.specs.ChosenSlot.{is_slot}
 use Rattle.dso_world.specs.Flags.{is_set}
-use Rattle.dso_world.proofs.LinkEnds.{below}
+use Rattle.dso_world.proofs.links.Ends.{below}
 
 -- two slots that are one
 pub same_slots : (slot other : Slot) → is_slot slot other ≡ true → other ≡ slot

@@ -21,7 +21,7 @@ use Rattle.dso_legal.specs.Lawful.{AllFollow}
 use Rattle.dso_legal.specs.MessagesFit.{FirstsFit}
 use Rattle.dso_legal.proofs.fitting.MessagesFit.{messages_fit}
 use Rattle.dso_world.specs.PastOf.{post_of}
-use Rattle.dso_world.proofs.Pumping.{from_here}
+use Rattle.dso_world.proofs.links.Pumping.{from_here}
 use Rattle.dso_world.proofs.premises.SoundPrograms.{sound_code}
 
 -- A letter is the next one to be taken: it is the first in flight, and stands behind those taken of all that were sent.

@@ -19,7 +19,7 @@ use Rattle.dso_machine.specs.Limits.{most_threads}
 use Rattle.dso_machine.specs.Next.{body_of}
 use Rattle.dso_machine.specs.Sound.{IsSound, IsSoundBody, threads_of}
 use Rattle.dso_plain.proofs.keys.SameKeys.{thread_self}
-use Rattle.dso_world.proofs.Numbered.{are_first, has_index, its_index}
+use Rattle.dso_world.proofs.programs.Numbered.{are_first, has_index, its_index}
 
 -- a thread among those of the bodies has one of them
 has_body : (t : ThreadId) (bodies : List ThreadBody) → list_any (is_thread t) (map (λ body. body.thread) bodies) ≡ true → body_of t bodies ≢ None

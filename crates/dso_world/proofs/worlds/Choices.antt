@@ -12,7 +12,7 @@ use Rattle.dso_world.specs.Flags.{chosen_place}
 use Rattle.dso_world.specs.Laws.{IsChosen}
 use Rattle.dso_world.specs.WorldSteps.{settings_of, slot_of}
 use Rattle.dso_world.specs.WorldStands.{BoardStands, IsChosenStep, entries_in}
-use Rattle.dso_world.proofs.Chosen.{places_are_chosen}
+use Rattle.dso_world.proofs.flags.Chosen.{places_are_chosen}
 
 -- what stands at a place of a list is told at that place, and none where there is none
 told_at : {A B : Type 0} (f : A → B) (xs : List A) (place : ℕ) → option_map f (slice_get xs place) ≡ slice_get (map f xs) place

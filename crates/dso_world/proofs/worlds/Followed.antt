@@ -18,7 +18,7 @@ use Rattle.dso_world.specs.Laws.{RowStands, place_behind}
 use Rattle.dso_world.specs.Looking.{TellsFinished}
 use Rattle.dso_world.specs.WorldSteps.{settings_of, slot_of}
 use Rattle.dso_world.specs.WorldStands.{BoardStands}
-use Rattle.dso_world.proofs.SlotsOnce.{rounds_go_on}
+use Rattle.dso_world.proofs.slots.Once.{rounds_go_on}
 
 -- a thread that stands before another is another
 before_differs : (t u : ThreadId) → IsThreadBefore t u → t ≢ u

@@ -1,4 +1,4 @@
-use Rattle.dso_world.proofs.Letters.{letters_are_left}
+use Rattle.dso_world.proofs.journals.Letters.{letters_are_left}
 use Rattle.dso_world.proofs.laws.letters_are_left.Goals as goal
 
 pub returns : goal.returns

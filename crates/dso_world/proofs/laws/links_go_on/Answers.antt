@@ -1,4 +1,4 @@
-use Rattle.dso_world.proofs.LinkTakes.{links_go_on}
+use Rattle.dso_world.proofs.links.Takes.{links_go_on}
 use Rattle.dso_world.proofs.laws.links_go_on.Goals as goal
 
 pub returns : goal.returns

@@ -1,4 +1,4 @@
-use Rattle.dso_world.proofs.SlotsOnce.{rounds_go_on}
+use Rattle.dso_world.proofs.slots.Once.{rounds_go_on}
 use Rattle.dso_world.proofs.laws.rounds_go_on.Goals as goal
 
 pub returns : goal.returns

@@ -1,4 +1,4 @@
-use Rattle.dso_world.proofs.Looks.{due_told}
+use Rattle.dso_world.proofs.worlds.Looks.{due_told}
 use Rattle.dso_world.proofs.looking.due.Goals as goal
 
 pub returns : goal.returns

@@ -1,5 +1,5 @@
 use Rattle.std.proofs.Common.{◌∙◌, ◌&&◌, ◌||◌, ap, ltb, not}
-use Rattle.dso_world.proofs.Looks.{busy_told}
+use Rattle.dso_world.proofs.worlds.Looks.{busy_told}
 use Rattle.dso_world.proofs.looking.is_busy.Goals as goal
 
 pub returns : goal.returns

@@ -1,4 +1,4 @@
-use Rattle.dso_world.proofs.Looks.{busy_at, lent, nobody_at, unlent}
+use Rattle.dso_world.proofs.worlds.Looks.{busy_at, lent, nobody_at, unlent}
 use Rattle.dso_world.proofs.looking.is_busy_at.Goals as goal
 
 pub returns-in-Some : goal.returns-in-Some

@@ -1,5 +1,5 @@
 use Rattle.std.proofs.Common.{◌≤◌, ◌≡◌, ◌∙◌, sym, arith}
-use Rattle.dso_world.proofs.Looks.{finished_told, going_told, one_further}
+use Rattle.dso_world.proofs.worlds.Looks.{finished_told, going_told, one_further}
 use Rattle.dso_world.proofs.looking.is_finished.Goals as goal
 
 pub returns-then-is_busy_at : goal.returns-then-is_busy_at

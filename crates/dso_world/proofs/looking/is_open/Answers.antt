@@ -1,5 +1,5 @@
 use Rattle.std.proofs.Common.{◌-◌, ◌≤◌, arith}
-use Rattle.dso_world.proofs.Looks.{beyond_told, lent, member_told, none_told, unlent}
+use Rattle.dso_world.proofs.worlds.Looks.{beyond_told, lent, member_told, none_told, unlent}
 use Rattle.dso_world.proofs.looking.is_open.Goals as goal
 
 pub returns-then-number-eq0 : goal.returns-then-number-eq0

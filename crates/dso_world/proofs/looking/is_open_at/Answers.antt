@@ -1,7 +1,7 @@
 use Rattle.std.proofs.Common.{◌∙◌, ◌&&◌, ap, not, refl, subst, sym}
 use Rattle.dso_world.specs.declared.step.Step.TheVariants as step
 use Rattle.dso_world.specs.Looking.{TellsOpenAt}
-use Rattle.dso_world.proofs.Looks.{acts_told, at_own, at_step, break_told, down_told, lose_told, up_told}
+use Rattle.dso_world.proofs.worlds.Looks.{acts_told, at_own, at_step, break_told, down_told, lose_told, up_told}
 use Rattle.dso_world.proofs.looking.is_open_at.Goals as goal
 
 pub returns-in-Act : goal.returns-in-Act

@@ -1,6 +1,6 @@
 use Rattle.std.proofs.Common.{◌<◌, ◌≤◌, ◌≡◌, ◌∙◌, [], length, arith}
 use Rattle.dso_world.proofs.nodes.Stepped.{got}
-use Rattle.dso_world.proofs.Openings.{empty_journal, row_at_first, row_on, row_stands}
+use Rattle.dso_world.proofs.worlds.Openings.{empty_journal, row_at_first, row_on, row_stands}
 use Rattle.dso_world.proofs.opening.board.Goals as goal
 
 pub loop-place-init : goal.loop-place-init

@@ -1,4 +1,4 @@
-use Rattle.dso_world.proofs.Openings.{one_more}
+use Rattle.dso_world.proofs.worlds.Openings.{one_more}
 use Rattle.dso_world.proofs.opening.members.Goals as goal
 
 pub loop-number-preserved : goal.loop-number-preserved

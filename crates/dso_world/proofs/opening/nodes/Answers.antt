@@ -1,5 +1,5 @@
 use Rattle.std.proofs.Common.{refl}
-use Rattle.dso_world.proofs.Openings.{nodes_stand}
+use Rattle.dso_world.proofs.worlds.Openings.{nodes_stand}
 use Rattle.dso_world.proofs.opening.nodes.Goals as goal
 
 pub returns : goal.returns

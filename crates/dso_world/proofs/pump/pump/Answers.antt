@@ -1,5 +1,5 @@
 use Rattle.std.proofs.Common.{sym, ◌∙◌}
-use Rattle.dso_world.proofs.Pumping.{all_go, all_gone, emptied_now, emptied_same, fewer_go, order_new}
+use Rattle.dso_world.proofs.links.Pumping.{all_go, all_gone, emptied_now, emptied_same, fewer_go, order_new}
 use Rattle.dso_world.proofs.pump.pump.Goals as goal
 
 pub loop-frame-smaller : goal.loop-frame-smaller

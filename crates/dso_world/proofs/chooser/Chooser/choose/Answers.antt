@@ -1,7 +1,7 @@
 use Rattle.std.proofs.Common.{sym, ◌∙◌, ap, Some}
 use Rattle.dso_world.specs.Flags.{chosen_place}
 use Rattle.dso_world.specs.contracts.chooser.Chooser.{the_view}
-use Rattle.dso_world.proofs.Named.{named, none_named}
+use Rattle.dso_world.proofs.flags.Named.{named, none_named}
 use Rattle.dso_world.proofs.chooser.Chooser.choose.Goals as goal
 
 pub returns-in-Some-clause-chosen : goal.returns-in-Some-clause-chosen

@@ -1,5 +1,5 @@
 use Rattle.std.proofs.Common.{refl}
-use Rattle.dso_world.proofs.Openings.{world_stands}
+use Rattle.dso_world.proofs.worlds.Openings.{world_stands}
 use Rattle.dso_world.proofs.world.World.new.Goals as goal
 
 pub returns-clause-stands : goal.returns-clause-stands

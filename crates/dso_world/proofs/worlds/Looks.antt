@@ -38,9 +38,9 @@ use Rattle.dso_world.specs.PastOf.{course_of, past_of}
 use Rattle.dso_world.specs.Touched.{client_of}
 use Rattle.dso_world.specs.Triggers.{break_due_by, loss_due_by}
 use Rattle.dso_world.specs.WorldSteps.{settings_of, slot_of}
-use Rattle.dso_world.proofs.Letters.{letters_are_left}
+use Rattle.dso_world.proofs.journals.Letters.{letters_are_left}
 use Rattle.dso_session.proofs.Sent.{all_sent}
-use Rattle.dso_world.proofs.LinkTakes.{links_go_on}
+use Rattle.dso_world.proofs.links.Takes.{links_go_on}
 use Rattle.dso_world.proofs.finished.Busy.{finished_is}
 use Rattle.dso_world.proofs.finished.Working.{busy_is}
 use Rattle.dso_world.proofs.nodes.Stepped.{got}

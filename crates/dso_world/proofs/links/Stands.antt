@@ -9,8 +9,8 @@ use Rattle.dso_session.specs.Ends.{End, posted}
 use Rattle.dso_world.specs.Link.{Line, carried, gives, sent_down, sent_up}
 use Rattle.dso_world.specs.LinkStands.{AreCarried, Course, CourseStands, GreetsFirst, LinkStands, Past}
 use Rattle.dso_world.specs.LinkStands.{Joined, Broken, Half}
-use Rattle.dso_world.proofs.Carried.{carried_are, carried_more, greets_more, unready_gives}
-use Rattle.dso_world.proofs.LinkEnds.{gave_all, posted_gives, posted_stands, sent_one}
+use Rattle.dso_world.proofs.links.Carried.{carried_are, carried_more, greets_more, unready_gives}
+use Rattle.dso_world.proofs.links.Ends.{gave_all, posted_gives, posted_stands, sent_one}
 
 module _ {M : Type 0} where
   -- a message more, and its frame

@@ -14,10 +14,10 @@ use Rattle.dso_session.specs.Laws.{HasSent}
 use Rattle.dso_world.specs.Link.{Line, after_first, carried, cut, emptied, first_answer, gives, left_to_give, pumped_down, pumped_up, taken_down, taken_up}
 use Rattle.dso_world.specs.LinkStands.{AreCarried, ClientRejoins, Course, EndStands, GreetsFirst, LinkStands, LinksGoOn, Past, ServerRejoins, TakesDown, TakesUp, can_take_down, can_take_up}
 use Rattle.dso_world.specs.LinkStands.{Joined, Broken, Half}
-use Rattle.dso_world.proofs.Carried.{carried_are, carried_none, carried_wider, gives_rest, none_carried}
-use Rattle.dso_world.proofs.LinkEnds.{heard_after, heard_answer, heard_given, heard_gives, heard_stands, new_after, new_answer, new_at_client, new_at_server, new_given, new_has, new_order, new_stands}
-use Rattle.dso_world.proofs.Links.{goes_up, sends_down, sends_up}
-use Rattle.dso_world.proofs.Pumping.{from_here}
+use Rattle.dso_world.proofs.links.Carried.{carried_are, carried_none, carried_wider, gives_rest, none_carried}
+use Rattle.dso_world.proofs.links.Ends.{heard_after, heard_answer, heard_given, heard_gives, heard_stands, new_after, new_answer, new_at_client, new_at_server, new_given, new_has, new_order, new_stands}
+use Rattle.dso_world.proofs.links.Stands.{goes_up, sends_down, sends_up}
+use Rattle.dso_world.proofs.links.Pumping.{from_here}
 
 module _ {M : Type 0} where
   -- the first of these frames, and the others

@@ -44,7 +44,7 @@ use Rattle.dso_world.specs.MemberSteps.{IsJournal}
 use Rattle.dso_world.specs.NodesStand.{AreMembers, MemberStands, NodesStand}
 use Rattle.dso_world.specs.WorldStands.{BoardStands, PartsStand, WorldStands, entries_in}
 use Rattle.dso_world.specs.WorldSteps.{settings_of, slot_of}
-use Rattle.dso_world.proofs.LinkTakes.{links_go_on}
+use Rattle.dso_world.proofs.links.Takes.{links_go_on}
 use Rattle.dso_world.proofs.places.Marked.{marked}
 use Rattle.dso_world.proofs.places.Marking.{among_slots, told_place}
 use Rattle.dso_world.proofs.programs.Threads.{own_few, own_first, own_there, runs_threads}

@@ -14,7 +14,7 @@ use Rattle.dso_legal.specs.Slots.{Slot, slots, is_open, open_slots}
 use Rattle.dso_world.specs.ChosenSlot.{chosen_slot, going_round, is_slot, last_slot, lot, seed_after, slots_behind, slots_up_to}
 use Rattle.dso_world.specs.Flags.{Row, chosen_place, else_before, is_set, next_set, nth_set, set_count}
 use Rattle.dso_world.specs.Laws.{PlacesAreChosen, RowStands, place_behind}
-use Rattle.dso_world.proofs.NthSet.{not_there, nth_passing, passing_count, too_few}
+use Rattle.dso_world.proofs.flags.NthSet.{not_there, nth_passing, passing_count, too_few}
 
 -- what stands behind the first ones
 dropped : {X : Type 0} (n i : ℕ) (xs : List X) → slice_get (drop n xs) i ≡ slice_get xs (n + i)

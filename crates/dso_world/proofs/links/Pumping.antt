@@ -1,7 +1,7 @@
 -- An end gives its frames one after the other.
 use Rattle.std.proofs.Common.{ℕ, zero, suc, ◌+◌, ◌-◌, ◌≤◌, ◌≡◌, refl, sym, ◌∙◌, ap, Bool, true, false, cond, Option, Some, None, List, [], ◌∷◌, ◌++◌, drop, length, slice_get, subst, append_assoc, arith}
 use Rattle.std.proofs.lemmas.List.{append-nil}
-use Rattle.dso_world.proofs.Order.{order_behind}
+use Rattle.dso_world.proofs.links.Order.{order_behind}
 use Rattle.dso_session.specs.declared.frame.Frame.{Frame}
 use Rattle.dso_session.specs.declared.frame.Frame.TheVariants.{Carry, Hello}
 use Rattle.dso_session.specs.declared.session.Posted.{Posted}

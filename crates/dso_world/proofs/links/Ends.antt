@@ -13,7 +13,7 @@ use Rattle.dso_session.specs.Laws.{HasSent, Sends}
 use Rattle.dso_session.proofs.Sent.{all_sent, forgets, keeps_sent}
 use Rattle.dso_world.specs.Link.{carried, emptied, gives}
 use Rattle.dso_world.specs.LinkStands.{EndStands}
-use Rattle.dso_world.proofs.Carried.{emptied_has, gives_nothing, gives_rest}
+use Rattle.dso_world.proofs.links.Carried.{emptied_has, gives_nothing, gives_rest}
 
 -- a greater number is not at most the other
 not_below : (a b : ℕ) → b < a → leb a b ≡ false

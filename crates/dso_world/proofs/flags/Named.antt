@@ -2,7 +2,7 @@
 use Rattle.std.proofs.Common.{ℕ, suc, ◌+◌, ◌≡◌, sym, ◌∙◌, ap, Bool, Option, Some, None, List, arith}
 use Rattle.dso_world.specs.ChosenSlot.{lot, seed_after}
 use Rattle.dso_world.specs.Flags.{Row, chosen_place, nth_set, set_count}
-use Rattle.dso_world.proofs.NthSet.{not_there}
+use Rattle.dso_world.proofs.flags.NthSet.{not_there}
 
 -- nothing, where no flag is set
 pub none_named : (row : Row) (seed count : ℕ) → count ≡ set_count row.flags → count ≡ 0 → None ≡ chosen_place (Some seed) row

@@ -21,7 +21,7 @@ use Rattle.dso_legal.specs.Lawful.{AllFollow, IsLawful}
 use Rattle.dso_legal.specs.Slots.{has_rejoined, is_any, is_due}
 use Rattle.dso_world.specs.LinkStands.{Joined, Broken, Half, can_take_down, can_take_up}
 use Rattle.dso_world.specs.PastOf.{CanTake, LettersAreLeft, letters_posted, letters_taken, past_of, post_of}
-use Rattle.dso_world.proofs.LinkEnds.{below}
+use Rattle.dso_world.proofs.links.Ends.{below}
 
 -- what is posted later stands behind what was posted before
 record Behind {N : Type 0} (post : List (Letter N) → List (Letter N)) (letters : List (Letter N)) (n : ℕ) : Type 0 where

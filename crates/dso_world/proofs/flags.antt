@@ -1,0 +1,3 @@
+pub mod NthSet
+pub mod Named
+pub mod Chosen
