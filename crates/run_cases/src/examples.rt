@@ -11,15 +11,26 @@ const ROOM: usize = 4096;
 /// Runs the program of a folder, and prints how it ended; what its sink took, too, where that isn't the report that
 /// lies in the folder.
 pub fn show_example(rt: &HostRuntime, name: &str) -> io::Result<()> {
-    match example_answer(rt, name) {
+    match example_answer(rt, name, "") {
         Ok(answer) => show_compared(rt, name, &answer),
         Err(NoMemory) => println!(rt; "{name}: no memory"),
     }
 }
 
-/// Calls the program over the folder's configuration and its program.
-fn example_answer(rt: &HostRuntime, name: &str) -> Result<Answer, NoMemory> {
-    let line = format!(in rt.alloc(); "dsorun sim {name}/config.toml {name}/program.dso")?;
+/// Does so with a file for the journal, and prints whether that holds what lies in the folder, or all that it holds.
+pub fn show_traced(rt: &HostRuntime, name: &str) -> io::Result<()> {
+    match example_answer(rt, name, " --journal written") {
+        Ok(answer) => {
+            show_compared(rt, name, &answer)?;
+            show_written(rt, name)
+        }
+        Err(NoMemory) => println!(rt; "{name}: no memory"),
+    }
+}
+
+/// Calls the program over the folder's configuration and its program, with these options.
+fn example_answer(rt: &HostRuntime, name: &str, options: &str) -> Result<Answer, NoMemory> {
+    let line = format!(in rt.alloc(); "dsorun sim {name}/config.toml {name}/program.dso{options}")?;
     let trial = Trial::of_program("").set("line", line.as_str());
     let words = trial.words(rt.alloc())?;
     called(rt, words.as_slice())
@@ -52,4 +63,16 @@ fn is_stored(rt: &HostRuntime, name: &str, bytes: &[u8]) -> io::Result<bool> {
     let file = format!(in rt.alloc(); "{name}/report.txt")?;
     let report = fs::read(rt, file.as_str())?;
     Ok(report.as_slice() == bytes)
+}
+
+/// Prints whether the journal that was written is the one that lies in the folder, or all of it where it isn't.
+fn show_written(rt: &HostRuntime, name: &str) -> io::Result<()> {
+    let file = format!(in rt.alloc(); "{name}/journal.txt")?;
+    let journal = fs::read(rt, file.as_str())?;
+    let written = fs::read(rt, "written")?;
+    if written.as_slice() == journal.as_slice() {
+        println!(rt; "{name}: with its journal")
+    } else {
+        rt.write_all(written.as_slice())
+    }
 }
