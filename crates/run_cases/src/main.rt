@@ -6,12 +6,16 @@
 //! prints what differs from the call before; `afters NAME` does so with the numbers 0 to 60 in the place of `K` in
 //! the configuration; `sends NAME` prints for each schedule how many leases are granted and recalled, and how many
 //! objects are flushed. Then all but the program is set back. `words LINE` tells what becomes of a command line.
+//! `example NAME` runs the program of a folder of the gallery, and prints whether its report is the stored one;
+//! `traced NAME` does so for its journal too.
 //! The other words are those of `Trial::set`. In texts `\n`, `\t`, `\r` and `\1` stand for bytes.
 #![tactic(auto)]
 
+mod examples;
 mod trial;
 mod variants;
 
+use examples::{show_example, show_traced};
 use std::io;
 use trial::{Trial, show_file, show_journal, show_reason, show_trial, show_words};
 use variants::{show_afters, show_seeds, show_sends};
@@ -49,6 +53,8 @@ fn main(rt: HostRuntime) -> io::Result<()> {
                 show_sends(&rt, name, &trial)?;
                 trial = Trial::of_program(trial.program);
             }
+            Some(("example", name)) => show_example(&rt, name)?,
+            Some(("traced", name)) => show_traced(&rt, name)?,
             Some(("words", line)) => show_words(&rt, line)?,
             Some((word, rest)) => trial = trial.set(word, rest),
             None => {}

@@ -116,7 +116,7 @@ impl<'a> Trial<'a> {
     }
 
     /// The words of the command line behind the program's name.
-    fn words(&self, alloc: Global) -> Result<Vec<String>, AllocError> {
+    pub fn words(&self, alloc: Global) -> Result<Vec<String>, AllocError> {
         let mut words = Vec::new(alloc);
         for word in self.line.split(' ').skip(1) {
             words.push(String::from_str(alloc, word)?)?;
