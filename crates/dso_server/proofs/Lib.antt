@@ -1,4 +1,4 @@
 pub mod lists
 pub mod standing
 pub mod answered
-pub mod fits
+pub mod records

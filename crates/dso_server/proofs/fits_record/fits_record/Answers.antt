@@ -1,7 +1,7 @@
 use Rattle.std.proofs.Common.{sym, ◌∙◌, subst}
 use Rattle.dso_law.specs.ServerReadings.{counted}
 use Rattle.dso_server.specs.Records.{FitsValues, IsRising}
-use Rattle.dso_server.proofs.fits.RecordFits.{objects_fit, record_fits, rest_fits, values_fit}
+use Rattle.dso_server.proofs.records.RecordFits.{objects_fit, record_fits, rest_fits, values_fit}
 use Rattle.dso_server.proofs.lists.Telling.{no, told_at, told_by}
 use Rattle.dso_server.proofs.fits_record.fits_record.Goals as goal
 
