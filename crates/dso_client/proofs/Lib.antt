@@ -1,5 +1,5 @@
 pub mod objects
-pub mod locking
+pub mod lock_standing
 pub mod seats
 pub mod replies
 pub mod flushed

@@ -19,7 +19,7 @@ use Rattle.dso_client.specs.LedgerStands.{LedgerStands}
 use Rattle.dso_client.specs.Points.{Point}
 use Rattle.dso_client.specs.RunFacts.{RunFacts}
 use Rattle.dso_client.specs.TableStands.{TableStands}
-use Rattle.dso_client.proofs.locking.FirstAcked.{among, not_behind, first_is_least}
+use Rattle.dso_client.proofs.lock_standing.FirstAcked.{among, not_behind, first_is_least}
 use Rattle.dso_client.proofs.flushed.Flushed.{at_number}
 use Rattle.dso_client.proofs.heard.Locks.{on_true}
 

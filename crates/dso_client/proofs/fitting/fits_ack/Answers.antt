@@ -1,6 +1,6 @@
 use Rattle.dso_law.specs.Records.{unacked}
 use Rattle.dso_txn.specs.Numbers.{numbers_in}
-use Rattle.dso_client.proofs.locking.FirstAcked.{least_fits, none_fits}
+use Rattle.dso_client.proofs.lock_standing.FirstAcked.{least_fits, none_fits}
 use Rattle.dso_client.proofs.fitting.fits_ack.Goals as goal
 
 pub returns-in-Some : goal.returns-in-Some

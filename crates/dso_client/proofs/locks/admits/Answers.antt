@@ -1,6 +1,6 @@
 use Rattle.std.proofs.Common.{sym, ◌∙◌, ap, Some}
 use Rattle.dso_law.specs.Leases.{leased, is_entered, is_recalled, is_asked_for}
-use Rattle.dso_client.proofs.locking.LockStands.{leased_as}
+use Rattle.dso_client.proofs.lock_standing.LockStands.{leased_as}
 use Rattle.dso_client.proofs.locks.admits.Goals as goal
 
 pub returns-in-Some-Leased : goal.returns-in-Some-Leased

@@ -4,7 +4,7 @@ use Rattle.dso_base.specs.declared.request.Reply.TheVariants.{Done}
 use Rattle.dso_law.specs.Replies.{put_reply}
 use Rattle.dso_law.specs.RequestNeeds.{hold_level}
 use Rattle.dso_law.specs.Threads.{hold_of, locks_of}
-use Rattle.dso_client.proofs.locking.HoldsSome.{listed, unlisted}
+use Rattle.dso_client.proofs.lock_standing.HoldsSome.{listed, unlisted}
 use Rattle.dso_client.proofs.reply.put_answer.Goals as goal
 
 pub returns-clause-told : goal.returns-clause-told
