@@ -1,0 +1,5 @@
+use Rattle.dso_run.proofs.judging.judge.Goals as goal
+
+-- what the files of `sim` come to
+pub returns-in-Sim-clause-verdict : goal.returns-in-Sim-clause-verdict
+returns-in-Sim-clause-verdict g c = rw c.in-Sim.is c.judge_files.ensures.verdict
