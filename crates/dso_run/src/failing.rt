@@ -4,34 +4,62 @@ ghost use Rattle.dso_base.specs.Following.{is_thread};
 ghost use Rattle.dso_law.specs.Entries.{entries_of};
 ghost use Rattle.dso_law.specs.ServerReadings.{is_lost};
 ghost use Rattle.dso_base.specs.declared.journal.Node.TheVariants as node;
-ghost use Rattle.dso_run.specs.Failing.{fails, is_loss};
-ghost use Rattle.dso_run.specs.RunEnds.{has_failed, is_faulty};
+ghost use Rattle.dso_run.specs.Failing.{fails, fails_kept, is_fault, is_loss, tells_fault};
+ghost use Rattle.dso_run.specs.RunEnds.{is_faulty};
 
 use dso_base::{Entry, Event, Input, Node, Request, ThreadId};
 
-/// Whether a kept thread of these, one of a client that isn't lost, ended by a fault. It walks the journal twice for each
-/// thread, once a run is finished.
+/// Whether a kept thread of these, one of a client that isn't lost, ended by a fault. It walks the journal once, and once
+/// more for each fault of one of these threads.
 pub(crate) fn is_faulty(threads: &[ThreadId], entries: &[Entry]) -> bool
     ensures { result ≡ is_faulty threads.now (reverse entries.now) }
 {
-    for thread in threads {
-        if has_failed(entries, *thread) && !is_lost(entries, thread.client) {
+    for entry in entries {
+        if tells_fault(threads, entries, entry) {
             return true;
         }
     }
     false
 }
 
-/// Whether the thread ended by a fault.
-fn has_failed(entries: &[Entry], thread: ThreadId) -> bool
-    ensures { result ≡ has_failed thread (reverse entries.now) }
+/// Whether a kept thread of these ends by a fault with the entry, one of those entries.
+#[tactic(auto, using(crate::proofs::runs::Failures::of_no_fault))]
+fn tells_fault(threads: &[ThreadId], entries: &[Entry], entry: &Entry) -> bool
+    ensures { result ≡ tells_fault threads.now (reverse entries.now) entry.now }
 {
-    for entry in entries {
-        if fails(entry, thread) {
+    is_fault(&entry.event) && is_any_kept(threads, entries, entry)
+}
+
+/// Whether an event ends its thread by a fault.
+fn is_fault(event: &Option<Event>) -> bool
+    ensures { result ≡ is_fault event.now }
+{
+    matches!(
+        event,
+        Some(Event::Act {
+            request: Request::End(Some(_)),
+            ..
+        })
+    )
+}
+
+/// Whether one of these threads ends by a fault with the entry, and its client isn't lost by those entries.
+fn is_any_kept(threads: &[ThreadId], entries: &[Entry], entry: &Entry) -> bool
+    ensures { result ≡ tells_fault threads.now (reverse entries.now) entry.now }
+{
+    for thread in threads {
+        if fails_kept(entries, entry, *thread) {
             return true;
         }
     }
     false
+}
+
+/// Whether the thread ends by a fault with the entry, and its client isn't lost by these entries.
+fn fails_kept(entries: &[Entry], entry: &Entry, thread: ThreadId) -> bool
+    ensures { result ≡ fails_kept (reverse entries.now) entry.now thread }
+{
+    fails(entry, thread) && !is_lost(entries, thread.client)
 }
 
 /// Whether the thread ends by a fault with the entry.
