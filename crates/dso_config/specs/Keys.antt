@@ -94,7 +94,8 @@ number_in least most key table = option_and_then (in_range least most) (number_a
 
 -- what is wrong with the number at a key: there is none, or it is out of range
 abbrev pub number_fault : Spot → ℕ → ℕ → List ℕ → Members → Option ConfigFault
-number_fault spot least most key table = value_fault spot (fault.OutOfRange spot) (in_range least most) (number_at key table)
+number_fault spot least most key table = value_fault spot (fault.OutOfRange spot) (in_range least most)
+    (number_at key table)
 
 -- it is said so, and nothing is wrong
 pub record IsSaid {A : Type 0} (value : Option A) (wrong : Option ConfigFault) (said : A) : Type 0 where

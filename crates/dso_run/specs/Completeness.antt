@@ -12,7 +12,8 @@ use Rattle.dso_words.specs.Words.{AreLawful, Command}
 pub record MayRun (input : CallInput) (output : CallOutput) : Type 0 where
   pub command : Command
   pub words : AreLawful input.words command
-  pub taken : (config program : List ℕ) → WereRead input command config program → (p : Program) × AreTaken config program p
+  pub taken : (config program : List ℕ) → WereRead input command config program
+      → (p : Program) × AreTaken config program p
   pub all_read : Rose input.failed_before input.failed_after → ⊥
   pub all_written : Rose output.failed_before output.failed_after → ⊥
   pub all_kept : Rose output.writes_before output.writes_after → ⊥

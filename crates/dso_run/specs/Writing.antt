@@ -4,7 +4,8 @@ use Rattle.dso_class.specs.declared.program.Program.{Program}
 use Rattle.dso_run.specs.declared.running.Outcome.{Outcome}
 use Rattle.dso_run.specs.declared.running.Outcome.TheVariants as outcome
 use Rattle.dso_run.specs.declared.status.Status.{Status}
-use Rattle.dso_run.specs.declared.status.Status.TheVariants.{Finished, FinishedFault, WriteFault, Stuck, Budget, NoMemory}
+use Rattle.dso_run.specs.declared.status.Status.TheVariants.{Finished, FinishedFault, WriteFault, Stuck, Budget}
+use Rattle.dso_run.specs.declared.status.Status.TheVariants.{NoMemory}
 use Rattle.dso_io.specs.Environment.{Told, Rose, taken_after, TookPrefix}
 use Rattle.dso_run.specs.Files.{AreAsBefore}
 use Rattle.dso_run.specs.Headline.{CallOutput, IsKept, IsRunOf, IsRunText}
@@ -34,7 +35,8 @@ module _ (command : Command) (p : Program) (before : List ℕ → Told) (output 
   abbrev pub ToldPrefix : Type 0
   ToldPrefix =
       ((outcome : Outcome) × Ran outcome) × IsKept command output.journal before output.content
-      × ((text : List ℕ) × IsRunText command p output.journal text × TookPrefix output.sink_before text output.sink_after)
+      × ((text : List ℕ) × IsRunText command p output.journal text × TookPrefix output.sink_before text
+      output.sink_after)
       × Rose output.failed_before output.failed_after
 
   -- the run ended in one of the four ways, and its journal couldn't be kept
@@ -44,8 +46,8 @@ module _ (command : Command) (p : Program) (before : List ℕ → Told) (output 
       × AreAsBefore before output.content × (output.sink_after ≡ output.sink_before)
       × Rose output.writes_before output.writes_after
 
-  -- What is told of a run was written: whole, with the run's outcome for an answer, or a prefix; or its journal couldn't
-  -- be kept; or memory ran out before.
+  -- What is told of a run was written: whole, with the run's outcome for an answer, or a prefix; or its journal
+  -- couldn't be kept; or memory ran out before.
   abbrev pub ToldRun : Status → Type 0
   ToldRun NoMemory =
       (output.sink_after ≡ output.sink_before) × AreAsBefore before output.content × (output.journal ≡ [])

@@ -139,10 +139,17 @@ abbrev pub seed_said : Option (List ℕ) → Option (Option ℕ)
 seed_said None = Some None
 seed_said (Some word) = option_map Some (number_within 0 (2 ^ 64 - 1) word)
 
--- the steps that an option says: 1 to 4,000,000, and 1,000,000 where the option is left out
+-- how much a run's journal may weigh at most, and what it may weigh where nothing is said
+abbrev pub most_steps : ℕ
+most_steps = 4000000
+
+abbrev pub usual_steps : ℕ
+usual_steps = 1000000
+
+-- the steps that an option says: from 1 up to the most, and the usual ones where the option is left out
 abbrev pub steps_said : Option (List ℕ) → Option ℕ
-steps_said None = Some 1000000
-steps_said (Some word) = number_within 1 4000000 word
+steps_said None = Some usual_steps
+steps_said (Some word) = number_within 1 most_steps word
 
 -- `sim`, with two names and what its options say
 pub record IsSim (command : List ℕ) (given : Given) (call : SimCall) : Type 0 where
@@ -187,7 +194,8 @@ pub record Asks (words : List (List ℕ)) (command : Command) : Type 0 where
 
 -- Words ask for one thing at most.
 abbrev pub WordsAskOnce : Type 0
-WordsAskOnce = (words : List (List ℕ)) (command other : Command) → Asks words command → Asks words other → command ≡ other
+WordsAskOnce = (words : List (List ℕ)) (command other : Command)
+    → Asks words command → Asks words other → command ≡ other
 
 -- the seed that a command's run goes by; round robin where it has none
 abbrev pub seed_of : Command → Option ℕ
@@ -199,7 +207,7 @@ seed_of (Big number) = None
 abbrev pub steps_of : Command → ℕ
 steps_of (Sim call) = call.steps
 steps_of (Run call) = call.steps
-steps_of (Big number) = 4000000
+steps_of (Big number) = most_steps
 
 -- the file for its run's journal, if it names one
 abbrev pub journal_of : Command → Option (List ℕ)
@@ -220,7 +228,7 @@ pub record AreLawful (words : List (List ℕ)) (command : Command) : Type 0 wher
 
 -- what words can ask for: `sim` with at most 4,000,000 steps, or `big` with a number from 1 to 1000
 abbrev pub CanBeAsked : Command → Type 0
-CanBeAsked (Sim call) = call.steps ≤ 4000000
+CanBeAsked (Sim call) = call.steps ≤ most_steps
 CanBeAsked (Run call) = ⊥
 CanBeAsked (Big number) = (1 ≤ number) × (number ≤ 1000)
 

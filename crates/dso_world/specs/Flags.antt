@@ -1,5 +1,6 @@
 -- A row of flags, which of them are set, and which one is chosen.
-use Rattle.std.specs.Prelude.{ℕ, zero, suc, ◌+◌, Bool, true, false, Option, Some, None, List, [], ◌∷◌, count_by, drop, option_map, replicate, take}
+use Rattle.std.specs.Prelude.{ℕ, zero, suc, ◌+◌, Bool, true, false, Option, Some, None, List, [], ◌∷◌, count_by, drop}
+use Rattle.std.specs.Prelude.{option_map, replicate, take}
 use Rattle.dso_world.specs.ChosenSlot.{seed_after, lot}
 
 -- a flag for each slot, in the order of the slots; the place at which the next round begins; how many steps made an

@@ -1,5 +1,6 @@
 -- That the place chosen in a row of flags is that of the chosen slot.
-use Rattle.std.specs.Prelude.{ℕ, ◌+◌, ◌≡◌, ◌≢◌, ◌↔◌, AllPairs, Option, Some, None, List, [], length, map, option_and_then, slice_get}
+use Rattle.std.specs.Prelude.{ℕ, ◌+◌, ◌≡◌, ◌≢◌, ◌↔◌, AllPairs, Option, Some, None, List, [], length, map}
+use Rattle.std.specs.Prelude.{option_and_then, slice_get}
 use Rattle.dso_base.specs.declared.journal.Entry.{Entry}
 use Rattle.dso_base.specs.declared.lock.ThreadId.{ThreadId}
 use Rattle.dso_base.specs.declared.request.Event.{Event}

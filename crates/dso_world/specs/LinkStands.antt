@@ -1,6 +1,7 @@
 -- What the connection of a client is, by what was sent and taken over it, how often it broke and how often it was
 -- taken up again.
-use Rattle.std.specs.Prelude.{ℕ, ◌+◌, ◌≤◌, ◌≡◌, ◌↔◌, Bool, true, false, ltb, Some, List, [], ◌∷◌, ◌++◌, drop, length, slice_get}
+use Rattle.std.specs.Prelude.{ℕ, ◌+◌, ◌≤◌, ◌≡◌, ◌↔◌, Bool, true, false, ltb, Some, List, [], ◌∷◌, ◌++◌, drop, length}
+use Rattle.std.specs.Prelude.{slice_get}
 use Rattle.dso_session.specs.declared.frame.Accepted.TheVariants.{Rejoined, Up}
 use Rattle.dso_session.specs.declared.frame.Frame.{Frame}
 use Rattle.dso_session.specs.declared.frame.Frame.TheVariants.{Carry, Hello}

@@ -1,6 +1,7 @@
 -- What a step makes of all nodes. Entries stand with the newest first.
 use Rattle.std.specs.List.{list_any}
-use Rattle.std.specs.Prelude.{ℕ, suc, ◌+◌, ◌-◌, ◌≡◌, ◌<◌, ◌^◌, true, false, cond, eqb, List, ◌∷◌, Option, Some, option_and_then, option_map, slice_get}
+use Rattle.std.specs.Prelude.{ℕ, suc, ◌+◌, ◌-◌, ◌≡◌, ◌<◌, ◌^◌, true, false, cond, eqb, List, ◌∷◌, Option, Some}
+use Rattle.std.specs.Prelude.{option_and_then, option_map, slice_get}
 use Rattle.dso_base.specs.declared.journal.Entry.{Entry}
 use Rattle.dso_base.specs.declared.message.Down.{Down}
 use Rattle.dso_base.specs.declared.message.Up.{Up}

@@ -9,7 +9,8 @@ use Rattle.dso_base.specs.declared.request.Event.{Event}
 use Rattle.dso_base.specs.declared.request.Request.{Request}
 use Rattle.dso_law.specs.Settings.{Settings}
 use Rattle.dso_law.specs.Entries.{is_node, entries_of}
-use Rattle.dso_law.specs.Channels.{Direction, Letter, breaks, count_inputs, in_flight, is_broken, posted, rejoins, to_client, to_server}
+use Rattle.dso_law.specs.Channels.{Direction, Letter, breaks, count_inputs, in_flight, is_broken, posted, rejoins}
+use Rattle.dso_law.specs.Channels.{to_client, to_server}
 use Rattle.dso_legal.specs.Lawful.{IsLawful}
 use Rattle.dso_legal.specs.Slots.{has_rejoined, is_due}
 use Rattle.dso_legal.specs.Slots as slots

@@ -1,6 +1,7 @@
 -- What a simulated cluster is, by its journal. Entries stand with the newest first.
 use Rattle.std.specs.List.{list_any}
-use Rattle.std.specs.Prelude.{ℕ, ◌≡◌, ◌<◌, ◌-◌, ◌^◌, ◌↔◌, min, Bool, true, false, Option, Some, None, List, [], ◌∷◌, ◌++◌, length, map, option_map, reverse, slice_get}
+use Rattle.std.specs.Prelude.{ℕ, ◌≡◌, ◌<◌, ◌-◌, ◌^◌, ◌↔◌, min, Bool, true, false, Option, Some, None, List, [], ◌∷◌}
+use Rattle.std.specs.Prelude.{◌++◌, length, map, option_map, reverse, slice_get}
 use Rattle.dso_base.specs.declared.journal.Entry.{Entry}
 use Rattle.dso_class.specs.declared.program.Program.{Program}
 use Rattle.dso_legal.specs.Lawful.{IsLawful}
