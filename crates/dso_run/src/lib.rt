@@ -8,9 +8,9 @@ pub mod laws;
 mod main_call;
 mod refusal_lines;
 mod replay;
+mod run_texts;
 mod running;
 mod status;
-mod told;
 mod verdict;
 
 pub use main_call::dso_main;

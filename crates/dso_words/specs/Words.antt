@@ -113,7 +113,7 @@ number_within least most word =
     else None
 
 -- What `sim` is asked for: the files of a configuration and of a program, the seed of the schedule or round robin, how
--- many entries the run may make, and a file for the journal.
+-- much the journal may weigh before the run is cut off, and a file for the journal.
 pub record SimCall : Type 0 where
   pub config : List ℕ
   pub program : List ℕ
@@ -203,7 +203,7 @@ seed_of (Sim call) = call.seed
 seed_of (Run call) = None
 seed_of (Big number) = None
 
--- how many entries its run may make: a load's may make 4,000,000
+-- how much the journal of its run may weigh before it is cut off: a load's 4,000,000
 abbrev pub steps_of : Command → ℕ
 steps_of (Sim call) = call.steps
 steps_of (Run call) = call.steps
@@ -226,7 +226,7 @@ pub record AreLawful (words : List (List ℕ)) (command : Command) : Type 0 wher
   pub asks : Asks words command
   pub built : IsBuilt command
 
--- what words can ask for: `sim` with at most 4,000,000 steps, or `big` with a number from 1 to 1000
+-- what words can ask for: `sim` within the most steps, or `big` with a number from 1 to 1000
 abbrev pub CanBeAsked : Command → Type 0
 CanBeAsked (Sim call) = call.steps ≤ most_steps
 CanBeAsked (Run call) = ⊥

@@ -15,7 +15,7 @@ pub enum Command<'a> {
         program: &'a str,
         /// The seed of the schedule; round robin where there is none.
         seed: Option<u64>,
-        /// How many entries the run may make, 1 to 4,000,000.
+        /// How much the journal of its run may weigh before the run is cut off, 1 to 4,000,000.
         steps: u64,
         /// The file that the journal is written to, if any.
         journal: Option<&'a str>,
@@ -51,7 +51,7 @@ impl<'a> Command<'a> {
         }
     }
 
-    /// How many entries its run may make: a load's may make as many as any run.
+    /// How much the journal of its run may weigh before it is cut off: a load's as much as any run's may.
     pub fn steps(&self) -> u64
         ensures { result ≡ steps_of (said self.now) }
     {
