@@ -1,6 +1,6 @@
 -- What a client tells of its threads.
 use Rattle.std.specs.List.{list_any}
-use Rattle.std.specs.Prelude.{◌≡◌, ◌↔◌, ℕ, Bool, true, IsTrue, is_some, count_by, None, List}
+use Rattle.std.specs.Prelude.{◌≡◌, ◌↔◌, ℕ, Bool, true, false, IsTrue, is_some, count_by, None, List}
 use Rattle.dso_base.specs.declared.journal.Entry.{Entry}
 use Rattle.dso_base.specs.Following.{is_thread}
 use Rattle.dso_law.specs.Settings.{Settings, threads_of}
@@ -31,3 +31,9 @@ TellsOver kept index answer = (code : Code) (p : Settings) (c : ℕ) (es : List 
 abbrev pub TellsAlive : Kept → ℕ → Type 0
 TellsAlive kept n = (code : Code) (p : Settings) (c : ℕ) (es : List Entry) → ClientStands code p c kept es
     → n ≡ count_by (λ t. is_some (next_in (next_request code) es t)) (threads_of p c)
+
+-- this holds where the client, whatever entries it stands for, has no thread of this index
+abbrev pub WhereAbsent : Kept → ℕ → Type 0 → Type 0
+WhereAbsent kept index claim = (code : Code) (p : Settings) (c : ℕ) (es : List Entry) → ClientStands code p c kept es
+    → list_any (is_thread (thread_at c index)) (threads_of p c) ≡ false
+    → claim

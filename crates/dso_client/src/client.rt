@@ -1,5 +1,5 @@
 //! A client.
-ghost use Rattle.std.specs.Prelude.{ℕ, ◌≡◌, ◌≤◌, ◌<◌, ◌+◌, ◌-◌, ◌^◌, suc, List, [], IfNone, IfOk, IfSome, OnOk};
+ghost use Rattle.std.specs.Prelude.{ℕ, ◌≡◌, ◌≤◌, ◌<◌, ◌+◌, ◌-◌, ◌^◌, suc, true, false, List, [], IfNone, IfOk, IfSome, OnOk};
 ghost use Rattle.dso_base.specs.declared.journal.Entry.{Entry};
 ghost use Rattle.dso_law.specs.Records.{records};
 ghost use Rattle.dso_law.specs.Settings.{Settings, threads_of};
@@ -12,7 +12,8 @@ ghost use Rattle.dso_client.specs.ClientStands.{ClientStands};
 ghost use Rattle.dso_client.specs.CodeRuns.{RunsCode};
 ghost use Rattle.dso_client.specs.Flushing.{Flushes, NoneDue, TellsFlush};
 ghost use Rattle.dso_client.specs.Taking.{Takes};
-ghost use Rattle.dso_client.specs.Threads.{IsEnabled, TellsAlive, TellsOver};
+ghost use Rattle.dso_client.specs.Threads.{IsEnabled, TellsAlive, TellsOver, WhereAbsent};
+ghost use Rattle.dso_client.specs.declared.acted.Acted.TheVariants as acted;
 ghost use Rattle.dso_client.specs.Openings.{HasThreads, IsEmptyLedger, IsEmptyLocking, first_threads};
 
 use crate::acted::Acted;
@@ -112,6 +113,8 @@ impl Client {
         requires sound { IsSound code.now }
         requires there { HasThreads code.now number threads }
         ensures runs { IfOk result (RunsCode code.now) }
+        ensures records { IfOk result (λ client. client.ledger.records ≡ 0) }
+        ensures holds { IfOk result (HoldsAtMost 0) }
         ensures stands { IfOk result (λ client. (p : Settings) → p.shape ≡ code.now.shape → p.resident ≡ resident
             → threads_of p number ≡ first_threads number threads → ClientStands code.now p number client []) }
     {
@@ -147,6 +150,7 @@ impl Client {
         requires counts { HoldsAtMost (2 ^ 32 - 2) self.old }
         ensures acts { IfOk result (λ made. Acts code.now index self.old self.new made.0 made.1.items) }
         ensures alone { IfOk result (λ made. LeavesAlone made.0 made.1.items self.old self.new) }
+        ensures absent { WhereAbsent self.old index (IfOk result (λ made. made.0 ≡ acted.Over)) }
         ensures runs { OnOk result (RunsCode code.now self.new) }
         ensures records { OnOk result (self.new.ledger.records ≤ self.old.ledger.records + 1) }
         ensures holds { OnOk result ((most : ℕ) → HoldsAtMost most self.old → HoldsAtMost (suc most) self.new) }
@@ -194,7 +198,8 @@ impl Client {
     /// Whether the client rule has an act of the thread of this index: its next request can be answered, or what it lacks
     /// asked for. False where there is no such thread. It takes no memory.
     pub fn enabled(&self, index: u8) -> bool
-        ensures { IsEnabled self.now index result }
+        ensures enabled { IsEnabled self.now index result }
+        ensures absent { WhereAbsent self.now index (result ≡ false) }
     {
         match seat_at(&self.kept, index) {
             Some(seat) => may_act(&self.kept, seat),
@@ -205,7 +210,8 @@ impl Client {
     /// Whether the thread of this index has ended: it has no next request. True where there is no such thread. It takes no
     /// memory.
     pub fn is_over(&self, index: u8) -> bool
-        ensures { TellsOver self.now index result }
+        ensures over { TellsOver self.now index result }
+        ensures absent { WhereAbsent self.now index (result ≡ true) }
     {
         match seat_at(&self.kept, index) {
             Some(seat) => seat.next.is_none(),

@@ -1,8 +1,9 @@
 //! What a thread does next.
-ghost use Rattle.std.specs.Prelude.{ℕ, ◌≡◌, ◌≤◌, ◌<◌, ◌+◌, ◌-◌, ◌^◌, suc, IfOk, OnOk, Some};
+ghost use Rattle.std.specs.Prelude.{ℕ, ◌≡◌, ◌≤◌, ◌<◌, ◌+◌, ◌-◌, ◌^◌, suc, IfOk, OnOk, Some, None};
 ghost use Rattle.dso_machine.specs.Sound.{IsSound};
 ghost use Rattle.dso_client.specs.Acting.{Acts, HoldsAtMost, LeavesAlone, TakesTurn};
 ghost use Rattle.dso_client.specs.CodeRuns.{RunsCode};
+ghost use Rattle.dso_client.specs.declared.acted.Acted.TheVariants as acted;
 ghost use Rattle.dso_client.specs.Living.{event_of};
 ghost use Rattle.dso_client.specs.SeatPlaces.{seat_in};
 ghost use Rattle.dso_client.specs.Turns.{IsTurnOfSeat};
@@ -87,6 +88,7 @@ pub(crate) fn act(
     requires counts { HoldsAtMost (2 ^ 32 - 2) kept.old }
     ensures acts { IfOk result (λ made. Acts code.now index kept.old kept.new made.0 made.1.items) }
     ensures alone { IfOk result (λ made. LeavesAlone made.0 made.1.items kept.old kept.new) }
+    ensures absent { seat_in kept.old.seats.items index ≡ None → IfOk result (λ made. made.0 ≡ acted.Over) }
     ensures runs { OnOk result (RunsCode code.now kept.new) }
     ensures records { OnOk result (kept.new.ledger.records ≤ kept.old.ledger.records + 1) }
     ensures holds { OnOk result ((most : ℕ) → HoldsAtMost most kept.old → HoldsAtMost (suc most) kept.new) }

@@ -1,11 +1,12 @@
 -- A client before its first entry stands for no entries.
-use Rattle.std.proofs.Common.{◌≡◌, ℕ, ◌+◌, ◌≤◌, refl, sym, ◌∙◌, ap, arith, Bool, true, false, ◌&&◌, Some, None, List, [], ◌∷◌, map, length, subst}
+use Rattle.std.proofs.Common.{◌≡◌, ℕ, zero, suc, ◌+◌, ◌≤◌, refl, sym, ◌∙◌, ap, arith, Bool, true, false, ◌&&◌, Some, None, List, [], ◌∷◌, map, length, slice_get, subst}
 use Rattle.std.proofs.lemmas.Bool.{le-ltb}
 use Rattle.std.specs.List.{AllByRecursion}
 use Rattle.std.specs.Map.{lookup}
 use Rattle.std.specs.BTreeMap.{is_at}
 use Rattle.std.specs.Prelude.{cond, eqb, ltb}
-use Rattle.std.specs.Option.{option_map, unwrap_or}
+use Rattle.std.specs.Option.{option_map, option_map_or, unwrap_or}
+use Rattle.dso_hold.specs.Holds.{count_at}
 use Rattle.dso_lookup.specs.Orders.{lock_order}
 use Rattle.dso_law.specs.Settings.{Settings, threads_of}
 use Rattle.dso_machine.specs.declared.code.Code.{Code}
@@ -16,12 +17,14 @@ use Rattle.dso_client.specs.declared.kept.Kept.{Kept}
 use Rattle.dso_client.specs.declared.ledger.Ledger.{Ledger}
 use Rattle.dso_client.specs.declared.locking.Locking.{Locking}
 use Rattle.dso_client.specs.declared.seat.Seat.{Seat}
+use Rattle.dso_client.specs.Acting.{HoldsAtMost, count_again}
 use Rattle.dso_client.specs.ClientStands.{ClientStands, point}
 use Rattle.dso_client.specs.CodeRuns.{SeatRuns, RunsCode}
 use Rattle.dso_client.specs.LedgerStands.{LedgerStands, ids_in}
 use Rattle.dso_client.specs.LockingStands.{LockingStands, as_hold}
 use Rattle.dso_client.specs.Openings.{IsOpening, IsEmptyLocking, IsEmptyLedger, first_threads}
 use Rattle.dso_client.specs.RunFacts.{RunFacts}
+use Rattle.dso_client.specs.SeatPlaces.{seat_in}
 use Rattle.dso_client.specs.SeatStands.{SeatStands}
 use Rattle.dso_client.specs.TableStands.{TableStands}
 
@@ -109,3 +112,19 @@ module _ (code : Code) (p : Settings) (c : ℕ) (shape : p.shape ≡ code.shape)
 -- and its threads run the code
 pub runs_at_start : (code : Code) (kept : Kept) → AllByRecursion (IsOpening code) kept.seats.items → RunsCode code kept
 runs_at_start code kept opening = all_as (IsOpening code) (SeatRuns code) (λ seat h. h.runs) kept.seats.items opening
+
+-- and no lock is held, nor to be held again
+none_again : (code : Code) (seats : List Seat) → AllByRecursion (IsOpening code) seats → (place : ℕ) → count_again (slice_get seats place) ≤ 0
+none_again code [] opening place = omega arith
+none_again code (seat ∷ seats) opening zero = subst (λ waiting. option_map_or (λ one. one.count) waiting 0 ≤ 0) (sym opening.0.waiting) (omega arith)
+none_again code (seat ∷ seats) opening (suc place) = none_again code seats opening.1 place
+
+pub holds_none : (code : Code) (kept : Kept) → AllByRecursion (IsOpening code) kept.seats.items → IsEmptyLocking kept.locking → HoldsAtMost 0 kept
+holds_none code kept opening locking = record {
+  held = λ t l. subst (λ holds. count_at (holds (l, t)) ≤ 0) (sym locking.holds) (omega arith);
+  waiting = λ index. at index;
+}
+  where
+    at : (index : ℕ) → count_again (seat_in kept.seats.items index) ≤ 0
+    at zero = omega arith
+    at (suc place) = none_again code kept.seats.items opening place

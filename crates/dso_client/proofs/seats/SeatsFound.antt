@@ -8,7 +8,7 @@ use Rattle.std.specs.Option.{option_map}
 use Rattle.dso_base.specs.declared.lock.ThreadId.{ThreadId}
 use Rattle.dso_base.specs.Following.{is_thread}
 use Rattle.dso_law.specs.Settings.{up_to, threads_of}
-use Rattle.dso_plain.proofs.keys.SameKeys.{same_thread}
+use Rattle.dso_plain.proofs.keys.SameKeys.{same_thread, thread_self}
 use Rattle.dso_client.specs.declared.kept.Kept.{Kept}
 use Rattle.dso_client.specs.declared.seat.Seat.{Seat}
 use Rattle.dso_client.specs.KeptStands.{KeptStands}
@@ -77,6 +77,18 @@ place_of t (x ∷ xs) e = by (is_thread t x) refl e (place_of t xs)
     by true is e rest = (0, ap Some (same_thread t x is))
     by false is e rest = let later = rest e in (suc later.0, later.1)
 
+right_true : (b : Bool) → (b || true) ≡ true
+right_true true = refl
+right_true false = refl
+
+-- and what stands at a place is among them
+among : (t : ThreadId) (xs : List ThreadId) (k : ℕ) → slice_get xs k ≡ Some t → list_any (is_thread t) xs ≡ true
+among t [] k e = absurd (cc e)
+among t (x ∷ xs) zero e =
+    let same : x ≡ t = cc e in
+    ap (λ x. is_thread t x || list_any (is_thread t) xs) same ∙ ap (λ b. b || list_any (is_thread t) xs) (thread_self t)
+among t (x ∷ xs) (suc k) e = ap (λ b. is_thread t x || b) (among t xs k e) ∙ right_true (is_thread t x)
+
 -- what is told of something that may be there, is told of something
 mapped : {A B : Type 0} (f : A → B) (x : Option A) (y : B) → option_map f x ≡ Some y → (a : A) × (x ≡ Some a) × (f a ≡ y)
 mapped f None y e = absurd (cc e)
@@ -109,6 +121,25 @@ module _ (at : Point) (kept : Kept) (stands : KeptStands at kept) (index : ℕ) 
   never_missing its e =
       let one = seat_there at.client kept.seats.items index stands.numbered (ap (list_any (is_thread (thread_at at.client index))) stands.places ∙ its) in
       absurd (cc (e ∙ one.1))
+
+  -- where it has no such thread there is none
+  pub is_missing : list_any (is_thread (thread_at at.client index)) (threads_of at.settings at.client) ≡ false → seat_in kept.seats.items index ≡ None
+  is_missing none = by (seat_in kept.seats.items index) refl
+    where
+      ids : List ThreadId
+      ids = map (λ seat. seat.id) kept.seats.items
+
+      not_at : (n : ℕ) (seat : Seat) → n ≡ index → seat_in kept.seats.items n ≡ Some seat → ⊥
+      not_at zero seat same e = cc e
+      not_at (suc k) seat same e =
+          let id = found_is seat (sym e ∙ ap (seat_in kept.seats.items) same) in
+          let its : slice_get ids k ≡ Some (thread_at at.client index)
+          = slice_get-map (λ (seat : Seat). seat.id) kept.seats.items k ∙ (ap (option_map (λ (seat : Seat). seat.id)) e ∙ ap Some id) in
+          cc (sym (among (thread_at at.client index) ids k its) ∙ (ap (list_any (is_thread (thread_at at.client index))) stands.places ∙ none))
+
+      by : (found : Option Seat) → seat_in kept.seats.items index ≡ found → seat_in kept.seats.items index ≡ None
+      by None e = e
+      by (Some seat) e = absurd (not_at index seat refl e)
 
 -- the threads that have a next request, by their seats: counted from a number on
 alive_from : (at : Point) (n : ℕ) (seats : List Seat) → AllByRecursion (SeatStands at) seats
