@@ -1,6 +1,6 @@
 //! Events, as `1.1 notify n2 -> done wakes 1.2` or `lost 2`.
 
-use case_words::{class, count, fault, first_of, number, request, small, thread, value};
+use case_words::{reply, request, small, thread};
 use dso_base::{Event, Reply, ThreadId};
 
 /// The event of the text, if it is one.
@@ -27,22 +27,7 @@ fn event_by(thread: ThreadId, text: &str) -> Option<Event> {
 /// The reply, and the thread that was woken.
 fn reply_and_woken(answer: &str) -> Option<(Reply, Option<ThreadId>)> {
     match answer.split_once(" wakes ") {
-        Some((reply, woken)) => Some((reply_of(reply)?, Some(thread(woken)?))),
-        None => Some((reply_of(answer)?, None)),
-    }
-}
-
-/// A reply, as `seen c0 2`.
-fn reply_of(text: &str) -> Option<Reply> {
-    let (verb, rest) = first_of(text);
-    let (first, second) = first_of(rest);
-    match verb {
-        "done" => Some(Reply::Done),
-        "local" => Some(Reply::Local),
-        "made" => Some(Reply::Made(number(first)?)),
-        "seen" => Some(Reply::Seen(class(first)?, count(second)?)),
-        "val" => Some(Reply::Val(value(first)?)),
-        "refused" => Some(Reply::Refused(fault(first)?)),
-        _ => None,
+        Some((told, woken)) => Some((reply(told)?, Some(thread(woken)?))),
+        None => Some((reply(answer)?, None)),
     }
 }

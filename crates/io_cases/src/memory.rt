@@ -1,62 +1,43 @@
 //! The files in memory, by their own calls.
 use dso_base::NoMemory;
-use dso_io::{FileFault, Files, MemFiles};
+use dso_io::{Files, MemFiles};
 use std::alloc::Global;
 use std::io;
 
-/// What the calls of files in memory answered.
-#[derive(Drop)]
-struct FilesAnswer {
-    write: Result<(), FileFault>,
-    content: String,
-    missing: bool,
-    first_read: Result<Vec<u8>, FileFault>,
-    second_read: Result<Vec<u8>, FileFault>,
-}
-
-/// Puts a file there, writes it anew, and reads the first two bytes of it twice; the third call of all is to fail.
-fn answer(alloc: Global) -> Result<FilesAnswer, NoMemory> {
+/// Files in memory with one that is there; the third call of all is to fail.
+fn opened(alloc: Global) -> Result<MemFiles, NoMemory> {
     let mut files = MemFiles::new(alloc, &[3])?;
     files.add(alloc, "a", b"old")?;
-    let write = files.write(alloc, "a", b"new");
-    let content = String::from_utf8_lossy(alloc, files.content("a").unwrap_or(b""))?;
-    let missing = files.content("b").is_none();
-    let first_read = files.read(alloc, "a", 2);
-    let second_read = files.read(alloc, "a", 2);
-    Ok(FilesAnswer {
-        write,
-        content,
-        missing,
-        first_read,
-        second_read,
-    })
+    Ok(files)
 }
 
 /// Prints what the calls of files in memory answer.
 pub fn show_files(rt: &HostRuntime) -> io::Result<()> {
-    match answer(rt.alloc()) {
-        Ok(answer) => show_answer(rt, &answer),
+    match opened(rt.alloc()) {
+        Ok(mut files) => show_answers(rt, &mut files),
         Err(NoMemory) => println!(rt; "files in memory: no memory"),
     }
 }
 
-/// Prints the answers, a line each.
-fn show_answer(rt: &HostRuntime, answer: &FilesAnswer) -> io::Result<()> {
-    println!(rt; "a file in memory is written: {:?}", answer.write)?;
-    println!(rt;
-        "a file in memory keeps what was written last: {}",
-        answer.content
-    )?;
-    println!(rt;
-        "a name that was never written has no file: {}",
-        answer.missing
-    )?;
-    println!(rt;
-        "a read gives the first bytes that it asks for: {:?}",
-        answer.first_read
-    )?;
-    println!(rt;
-        "a read whose call is listed fails: {:?}",
-        answer.second_read
-    )
+/// Writes the file anew, and reads the first two bytes of it twice; prints the answers, a line each.
+fn show_answers(rt: &HostRuntime, files: &mut MemFiles) -> io::Result<()> {
+    let write = files.write(rt.alloc(), "a", b"new");
+    println!(rt; "a file in memory is written: {write:?}")?;
+    show_content(rt, files.content("a").unwrap_or(b""))?;
+    let missing = files.content("b").is_none();
+    println!(rt; "a name that was never written has no file: {missing}")?;
+    show_read(rt, files, "a read gives the first bytes that it asks for")?;
+    show_read(rt, files, "a read whose call is listed fails")
+}
+
+/// Prints the content of the file.
+fn show_content(rt: &HostRuntime, content: &[u8]) -> io::Result<()> {
+    let content = String::from_utf8_lossy(rt.alloc(), content)?;
+    println!(rt; "a file in memory keeps what was written last: {content}")
+}
+
+/// Prints what a read of two bytes answers, behind the sentence.
+fn show_read(rt: &HostRuntime, files: &mut MemFiles, sentence: &str) -> io::Result<()> {
+    let read = files.read(rt.alloc(), "a", 2);
+    println!(rt; "{sentence}: {read:?}")
 }

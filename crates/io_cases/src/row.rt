@@ -1,6 +1,7 @@
 //! The rows of the input, `SENTENCE: ACTION NUMBERS`, each with what its action comes to.
 use crate::slow::{Pace, SlowPrint};
 use crate::system::{Outcome, System};
+use case_words::{count, first_of};
 use dso_io::{Failed, Sink, StdSink};
 use std::io;
 
@@ -26,7 +27,7 @@ pub fn show(rt: &HostRuntime, system: &System, row: &str) -> io::Result<()> {
     let Some((sentence, asked)) = row.split_once(": ") else {
         return println!(rt; "no row: {row}");
     };
-    let (action, rest) = asked.split_once(' ').unwrap_or((asked, ""));
+    let (action, rest) = first_of(asked);
     let numbers = Numbers::of(rest);
     match action {
         "read" | "pieces" | "torn" | "write" | "replace" | "write_pieces" | "write_torn" => {
@@ -46,13 +47,19 @@ pub fn show(rt: &HostRuntime, system: &System, row: &str) -> io::Result<()> {
 impl Numbers {
     /// The numbers of a text, with a space between two.
     fn of(text: &str) -> Numbers {
-        let mut numbers = text.split(' ').map(|word| word.parse().unwrap_or(0));
+        let (first, rest) = first_of(text);
+        let (second, third) = first_of(rest);
         Numbers {
-            first: numbers.next().unwrap_or(0),
-            second: numbers.next().unwrap_or(0),
-            third: numbers.next().unwrap_or(0),
+            first: amount(first),
+            second: amount(second),
+            third: amount(third),
         }
     }
+}
+
+/// The number of a word, 0 where it is none.
+fn amount(word: &str) -> usize {
+    count(word).unwrap_or(0) as usize
 }
 
 /// What comes of an action on the one file that is made for it.
