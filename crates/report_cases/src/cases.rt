@@ -23,7 +23,7 @@ pub(crate) struct Cases {
 }
 
 /// Why a case has no report.
-#[derive(Clone, Copy, Debug, PartialEq, Eq)]
+#[derive(Clone, Copy, Debug)]
 pub(crate) enum Unreported {
     /// The text is none of the grammar.
     Syntax,
@@ -124,13 +124,8 @@ fn config(alloc: Global) -> Result<Config, AllocError>
     let autolocks = autolocks(alloc)?;
     Ok(Config {
         clients: CLIENTS,
-        resident: 4096,
-        roots: None,
         autolocks: Some(autolocks),
-        named: None,
-        guards: Items::new(alloc),
-        losses: Items::new(alloc),
-        breaks: Items::new(alloc),
+        ..Config::empty(alloc)
     })
 }
 

@@ -9,7 +9,8 @@ ghost use Rattle.report_cases.specs.LegalRun.{IsLegalRun};
 use crate::cases::Unreported;
 use crate::legal_run::LegalRun;
 use crate::next_request::{is_there, next_request};
-use crate::replies::{PLAIN_REPLIES, is_listed, told};
+use crate::replies::{PLAIN_REPLIES, told};
+use case_words::{is_listed, small, thread};
 use dso_base::{Event, NoMemory, Reply, Request, ThreadId};
 use dso_class::Program;
 use std::alloc::Global;
@@ -100,19 +101,10 @@ fn act_on(
 fn thread_of(program: &Program, name: &str) -> Result<ThreadId, Unreported>
     ensures { IfOk result (λ thread. body_of thread program.now.code.bodies ≢ None) }
 {
-    match read_thread(name) {
+    match thread(name) {
         Some(thread) if is_there(program.code.bodies.as_slice(), thread) => Ok(thread),
         _ => Err(Unreported::Script),
     }
-}
-
-/// The thread of a client and a number with a dot between them.
-fn read_thread(name: &str) -> Option<ThreadId> {
-    let (client, index) = name.split_once('.')?;
-    Some(ThreadId {
-        client: client.parse().ok()?,
-        index: index.parse().ok()?,
-    })
 }
 
 /// Loses a client that is still there.
@@ -125,7 +117,7 @@ fn lose(
     requires legal { IsLegalRun program.now run.old }
     ensures { OnOk result (IsLegalRun program.now run.new) }
 {
-    let Ok(client) = client.parse::<u8>() else {
+    let Some(client) = small(client) else {
         return Err(Unreported::Script);
     };
     if run.make(alloc, program, Event::Lost(client))? {
