@@ -1,5 +1,6 @@
 //! What a thread asks next, by the machine.
 ghost use Rattle.std.specs.Prelude.{◌≡◌, ◌≢◌, ◌∷◌, ◌++◌, [], None, IfOk, IsTrue, OnOk, List};
+ghost use Rattle.dso_base.specs.declared.lock.ThreadId.{ThreadId};
 ghost use Rattle.dso_base.specs.declared.request.Event.{Event};
 ghost use Rattle.dso_machine.specs.Next.{body_of, next_request};
 ghost use Rattle.dso_machine.specs.Sound.{IsSound};
@@ -25,13 +26,58 @@ pub(crate) fn next_request(
     ensures { IfOk result (λ asked. asked ≡ next_request code.now thread (events_of thread events.now)) }
 {
     let mut run = Thread::new(alloc, code, thread)?;
-    for event in events {
-        follow(alloc, code, &mut run, thread, event)?;
-    }
+    let asked = ask_after(alloc, code, &mut run, thread, events);
+    // A call, so that the proof of this function doesn't go into the parts of a thread.
+    drop(run);
+    asked
+}
+
+/// What a thread that stands for no events asks after its events among these, which follow the code; None after its end.
+fn ask_after(
+    alloc: Global,
+    code: &Code,
+    run: &mut Thread,
+    thread: ThreadId,
+    events: &[Event],
+) -> Result<Option<Request>, NoMemory>
+    requires sound { IsSound code.now }
+    requires stands { ThreadStands code.now thread run.old [] }
+    requires follows { FollowsCode code.now thread events.now }
+    ensures { IfOk result (λ asked. asked ≡ next_request code.now thread (events_of thread events.now)) }
+{
+    follow_all(alloc, code, run, thread, events)?;
+    ask(alloc, code, run)
+}
+
+/// What a thread that stands for some events asks next; None after its end.
+fn ask(alloc: Global, code: &Code, run: &mut Thread) -> Result<Option<Request>, NoMemory>
+    requires sound { IsSound code.now }
+    requires stands { (thread : ThreadId) × ((events : List Event) × ThreadStands code.now thread run.old events) }
+    ensures { IfOk result (λ asked. (thread : ThreadId) (events : List Event) → ThreadStands code.now thread run.old events → asked ≡ next_request code.now thread events) }
+{
     if run.over() {
         return Ok(None);
     }
     Ok(Some(run.next(alloc, code)?))
+}
+
+/// Follows these events, each in its turn.
+fn follow_all(
+    alloc: Global,
+    code: &Code,
+    run: &mut Thread,
+    thread: ThreadId,
+    events: &[Event],
+) -> Result<(), NoMemory>
+    requires sound { IsSound code.now }
+    requires stands { ThreadStands code.now thread run.old [] }
+    requires follows { FollowsCode code.now thread events.now }
+    ensures { OnOk result (ThreadStands code.now thread run.new (events_of thread events.now)) }
+{
+    for event in events {
+        follow(alloc, code, run, thread, event)?;
+    }
+    Ok(())
 }
 
 /// Follows an event: where it is the thread's, it takes the reply.

@@ -1,9 +1,7 @@
-use Rattle.std.proofs.Common.{sym, subst, take}
+use Rattle.std.proofs.Common.{sym, subst}
 use Rattle.dso_machine.specs.Standing.{ThreadStands}
-use Rattle.dso_machine.proofs.standing.Ends.{over_asks}
-use Rattle.dso_plain.specs.History.{events_of}
 use Rattle.report_cases.proofs.Replays.{can_follow, taken_more}
-use Rattle.report_cases.proofs.next_request.next_request.Goals as goal
+use Rattle.report_cases.proofs.next_request.follow_all.Goals as goal
 
 -- the thread can follow each event in its turn
 pub follow-requires-clause-next : goal.follow-requires-clause-next
@@ -15,10 +13,3 @@ pub loop-event-preserved : goal.loop-event-preserved
 loop-event-preserved c =
     subst (λ es. ThreadStands c.args.code.now c.args.thread c.follow.new.run es) (sym (taken_more c.args.code.now c.args.thread c.args.events.now c.loop-event.event-index _ c.loop-event-test.true))
     (c.in_ok-follow.ensures _ c.loop-event.invariant)
-
--- a thread that isn't over goes on
-pub next-requires-clause-goes : goal.next-requires-clause-goes
-next-requires-clause-goes c = λ over.
-    let events = events_of c.args.thread (take c.loop-event.event-index c.args.events.now) in
-    let ended = (c.over.ensures c.args.code.now c.args.thread events c.loop-event.invariant).1 (over_asks c.args.code.now c.args.thread c.loop-event.run events c.loop-event.invariant over) in
-    cc (ended, c.if-over.false)
