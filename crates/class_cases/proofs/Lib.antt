@@ -1,3 +1,2 @@
 pub mod TextInput
-pub mod Sections
 pub mod Talking

@@ -1,15 +1,13 @@
 //! What the first thread of a text asks, each request with the reply that it is given.
 
-ghost use Rattle.std.specs.Prelude.{◌↔◌, IfOk, IsTrue};
-ghost use Rattle.dso_base.specs.declared.request.Reply.TheVariants as reply;
-ghost use Rattle.dso_base.specs.Following.{IsListed};
+ghost use Rattle.std.specs.Prelude.{IfOk};
 ghost use Rattle.dso_config.specs.InRange.{IsInRange};
 ghost use Rattle.dso_machine.specs.Sound as machine;
 ghost use Rattle.class_cases.specs.Talks.{Talks};
 
 use crate::names::program_of;
-use crate::reply::reply_of;
-use dso_base::{Fault, NoMemory, Reply, Request, Value};
+use case_words::{is_listed, reply};
+use dso_base::{NoMemory, Reply, Request};
 use dso_config::Config;
 use dso_machine::{Code, Thread};
 use std::alloc::{AllocError, Global};
@@ -23,7 +21,7 @@ pub(crate) fn exchanges(
 ) -> Result<String, NoMemory>
     requires { IsInRange config.now }
 {
-    match program_of(alloc, config, text) {
+    match program_of(alloc, config, text.as_bytes()) {
         Ok(program) => exchanges_of(alloc, &program.code, replies),
         Err(refusal) => Ok(format!(in alloc; "{refusal:?}\n")?),
     }
@@ -37,7 +35,7 @@ enum Stop {
     /// The reply can't be read.
     Unread,
     /// The reply isn't listed for the request.
-    Unlisted(Request),
+    Unlisted(Request, Reply),
     NoMemory,
 }
 
@@ -86,7 +84,9 @@ fn stop_line(alloc: Global, stop: Stop, words: &str) -> Result<String, NoMemory>
     match stop {
         Stop::Ended => Ok(format!(in alloc; "ended before {words}\n")?),
         Stop::Unread => Ok(format!(in alloc; "no reply: {words}\n")?),
-        Stop::Unlisted(request) => Ok(format!(in alloc; "{request:?} is not answered {words}\n")?),
+        Stop::Unlisted(request, reply) => {
+            Ok(format!(in alloc; "{request:?} is not answered {reply:?}\n")?)
+        }
         Stop::NoMemory => Err(NoMemory),
     }
 }
@@ -101,57 +101,11 @@ fn exchange(alloc: Global, code: &Code, thread: &mut Thread, words: &str) -> Res
         return Err(Stop::Ended);
     }
     let request = thread.next(alloc, code)?;
-    let reply = reply_of(words).ok_or(Stop::Unread)?;
+    let reply = reply(words).ok_or(Stop::Unread)?;
     if !is_listed(request, reply) {
-        return Err(Stop::Unlisted(request));
+        return Err(Stop::Unlisted(request, reply));
     }
     let line = format!(in alloc; "{request:?} -> {reply:?}\n")?;
     thread.answer(reply);
     Ok(line)
-}
-
-/// Whether the reply is one of those that are listed for the request.
-fn is_listed(request: Request, reply: Reply) -> bool
-    ensures { IsTrue result ↔ IsListed request reply }
-{
-    match reply {
-        Reply::Done => !matches!(
-            request,
-            Request::New(..) | Request::Look(_) | Request::Get(..) | Request::Tick(_)
-        ),
-        Reply::Made(_) => matches!(request, Request::New(..)),
-        Reply::Seen(..) => matches!(request, Request::Look(_)),
-        Reply::Val(value) => may_tell(request, value),
-        Reply::Local => matches!(request, Request::Enter(..)),
-        Reply::Refused(fault) => may_refuse(request, fault),
-    }
-}
-
-/// Whether the request may be answered with this value: a field's, or whether a waiting thread was woken.
-fn may_tell(request: Request, value: Value) -> bool
-    ensures { IsTrue result ↔ IsListed request (reply.Val value) }
-{
-    match request {
-        Request::Get(..) => true,
-        Request::Tick(_) => matches!(value, Value::Bool(_)),
-        Request::Timeout(_) => matches!(value, Value::Bool(true)),
-        _ => false,
-    }
-}
-
-/// Whether the request may be refused so.
-fn may_refuse(request: Request, fault: Fault) -> bool
-    ensures { IsTrue result ↔ IsListed request (reply.Refused fault) }
-{
-    match request {
-        Request::Put(..) => matches!(
-            fault,
-            Fault::UnlockedSharedObject | Fault::WrongLock | Fault::ReadOnly
-        ),
-        Request::Enter(..) => matches!(fault, Fault::LockUpgrade),
-        Request::Wait(_) | Request::Notify(_) | Request::NotifyAll(_) => {
-            matches!(fault, Fault::IllegalMonitor)
-        }
-        _ => false,
-    }
 }

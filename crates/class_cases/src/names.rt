@@ -4,6 +4,7 @@ ghost use Rattle.std.specs.Prelude.{IfOk};
 ghost use Rattle.dso_class.specs.Sound.{IsSound};
 ghost use Rattle.dso_config.specs.InRange.{IsInRange};
 
+use case_words::unescaped;
 use dso_base::NoMemory;
 use dso_class::laws::one_answer;
 use dso_class::{NameFault, Program, resolve};
@@ -32,27 +33,20 @@ impl From<NameFault> for Refusal {
 
 /// The program of a text.
 #[tactic(auto, using(crate::proofs::TextInput::valid_input))]
-pub(crate) fn program_of(alloc: Global, config: &Config, text: &str) -> Result<Program, Refusal>
+pub(crate) fn program_of(alloc: Global, config: &Config, text: &[u8]) -> Result<Program, Refusal>
     requires { IsInRange config.now }
     ensures { IfOk result IsSound }
 {
-    let tree = parse(alloc, text.as_bytes())?;
+    let tree = parse(alloc, text)?;
     Ok(resolve(alloc, &tree, config)?)
 }
 
-/// What the names of a text answer: that it is a program, or the fault and its line. `\n` is a line feed.
-pub(crate) fn answer(alloc: Global, config: &Config, text: &str) -> Result<String, NoMemory>
+/// What the names of a text answer: that it is a program, or the fault and its line.
+pub(crate) fn answer(alloc: Global, config: &Config, written: &str) -> Result<String, NoMemory>
     requires { IsInRange config.now }
 {
-    let text = text.replace(alloc, "\\n", "\n")?;
-    answer_of(alloc, config, text.as_str())
-}
-
-/// What the names of a text answer.
-pub(crate) fn answer_of(alloc: Global, config: &Config, text: &str) -> Result<String, NoMemory>
-    requires { IsInRange config.now }
-{
-    match program_of(alloc, config, text) {
+    let text = unescaped(alloc, written)?;
+    match program_of(alloc, config, text.as_slice()) {
         Ok(_) => Ok(String::from_str(alloc, "a program\n")?),
         Err(Refusal::Names(NameFault::At { kind, line })) => {
             Ok(format!(in alloc; "{kind:?} on line {line}\n")?)

@@ -1,4 +1,4 @@
-//! Which program a text is, in words.
+//! Which program a text is, and what a configuration says, in words.
 
 ghost use Rattle.dso_config.specs.InRange.{IsInRange};
 
@@ -8,89 +8,125 @@ use dso_class::Program;
 use dso_config::Config;
 use dso_machine::{Method, Stmt, ThreadBody};
 use std::alloc::Global;
+use std::fmt::Write;
 
 /// Which program a text is, or why it is none.
 pub(crate) fn described(alloc: Global, config: &Config, text: &str) -> Result<String, NoMemory>
     requires { IsInRange config.now }
 {
-    match program_of(alloc, config, text) {
-        Ok(program) => program_words(alloc, &program),
+    match program_of(alloc, config, text.as_bytes()) {
+        Ok(program) => {
+            let mut words = String::new(alloc);
+            add_program(&mut words, &program)?;
+            Ok(words)
+        }
         Err(refusal) => Ok(format!(in alloc; "{refusal:?}\n")?),
     }
 }
 
-/// The counts of a program, then its classes, its methods, and its threads, with their order at the end.
-fn program_words(alloc: Global, program: &Program) -> Result<String, NoMemory> {
-    let mut words = counts(alloc, program)?;
+/// Adds the counts of a program, then its classes, its methods, and its threads, with their order at the end.
+fn add_program(words: &mut String, program: &Program) -> Result<(), NoMemory> {
+    add_counts(words, program)?;
     for class in program.code.shape.classes.as_slice() {
-        let fields = fields(alloc, class.fields.as_slice())?;
-        words.push_str(fields.as_str())?;
+        add_class(words, class.fields.as_slice())?;
     }
     for method in program.code.methods.as_slice() {
-        let method = method_words(alloc, method)?;
-        words.push_str(method.as_str())?;
+        add_method(words, method)?;
     }
     for body in program.code.bodies.as_slice() {
-        let thread = thread_words(alloc, body)?;
-        words.push_str(thread.as_str())?;
+        add_thread(words, body)?;
     }
-    let order = order(alloc, program.threads.as_slice())?;
-    words.push_str(order.as_str())?;
-    Ok(words)
+    add_order(words, program.threads.as_slice())
 }
 
-/// How many clients, resident objects, roots, named locks with the roots, and texts a program has.
-fn counts(alloc: Global, program: &Program) -> Result<String, NoMemory> {
+/// Adds how many clients, resident objects, roots, named locks with the roots, and texts a program has.
+fn add_counts(words: &mut String, program: &Program) -> Result<(), NoMemory> {
     let (clients, resident) = (program.clients, program.resident);
     let shape = &program.code.shape;
     let (roots, locks, texts) = (shape.roots, shape.names, shape.texts);
-    let words = program.names.texts.len();
-    Ok(format!(in alloc;
-        "clients {clients}, resident {resident}, roots {roots}, locks {locks}, texts {texts} of {words}\n"
-    )?)
+    write!(
+        words,
+        "clients {clients}, resident {resident}, roots {roots}, "
+    )?;
+    writeln!(
+        words,
+        "locks {locks}, texts {texts} of {}",
+        program.names.texts.len()
+    )?;
+    Ok(())
 }
 
-/// A class with its fields.
-fn fields(alloc: Global, fields: &[FieldShape]) -> Result<String, NoMemory> {
-    let mut words = String::from_str(alloc, "class\n")?;
+/// Adds a class with its fields.
+fn add_class(words: &mut String, fields: &[FieldShape]) -> Result<(), NoMemory> {
+    words.push_str("class\n")?;
     for field in fields {
-        let (kind, guard) = (field.kind, field.guard);
-        words = format!(in alloc; "{words}    {kind:?}, guard {guard:?}\n")?;
+        writeln!(words, "    {:?}, guard {:?}", field.kind, field.guard)?;
     }
-    Ok(words)
+    Ok(())
 }
 
-/// A method with its statements.
-fn method_words(alloc: Global, method: &Method) -> Result<String, NoMemory> {
+/// Adds a method with its statements.
+fn add_method(words: &mut String, method: &Method) -> Result<(), NoMemory> {
     let (class, params, vars) = (method.class, method.params, method.vars);
-    let (named, synced) = (method.named, method.synced);
-    let statements = statements(alloc, method.body.as_slice())?;
-    Ok(format!(in alloc;
-        "method of class {class}: parameters {params}, variables {vars}, named {named:?}, synchronized {synced:?}\n{statements}"
-    )?)
+    write!(
+        words,
+        "method of class {class}: parameters {params}, variables {vars}, "
+    )?;
+    writeln!(
+        words,
+        "named {:?}, synchronized {:?}",
+        method.named, method.synced
+    )?;
+    add_statements(words, method.body.as_slice())
 }
 
-/// A thread with its statements.
-fn thread_words(alloc: Global, body: &ThreadBody) -> Result<String, NoMemory> {
-    let (client, index, vars) = (body.thread.client, body.thread.index, body.vars);
-    let statements = statements(alloc, body.body.as_slice())?;
-    Ok(format!(in alloc; "thread {client}.{index}: variables {vars}\n{statements}")?)
+/// Adds a thread with its statements.
+fn add_thread(words: &mut String, body: &ThreadBody) -> Result<(), NoMemory> {
+    let (client, index) = (body.thread.client, body.thread.index);
+    writeln!(words, "thread {client}.{index}: variables {}", body.vars)?;
+    add_statements(words, body.body.as_slice())
 }
 
-/// Statements, one a line.
-fn statements(alloc: Global, statements: &[Stmt]) -> Result<String, NoMemory> {
-    let mut words = String::new(alloc);
+/// Adds statements, one a line.
+fn add_statements(words: &mut String, statements: &[Stmt]) -> Result<(), NoMemory> {
     for statement in statements {
-        words = format!(in alloc; "{words}    {statement:?}\n")?;
+        writeln!(words, "    {statement:?}")?;
     }
+    Ok(())
+}
+
+/// Adds the order of the threads.
+fn add_order(words: &mut String, threads: &[ThreadId]) -> Result<(), NoMemory> {
+    words.push_str("threads")?;
+    for thread in threads {
+        write!(words, " {}.{}", thread.client, thread.index)?;
+    }
+    words.push('\n')?;
+    Ok(())
+}
+
+/// What is said of the configuration's numbers and sections.
+pub(crate) fn configuration_words(alloc: Global, config: &Config) -> Result<String, NoMemory> {
+    let mut words = String::new(alloc);
+    add_settings(&mut words, config)?;
     Ok(words)
 }
 
-/// The order of the threads.
-fn order(alloc: Global, threads: &[ThreadId]) -> Result<String, NoMemory> {
-    let mut words = String::from_str(alloc, "threads")?;
-    for thread in threads {
-        words = format!(in alloc; "{words} {}.{}", thread.client, thread.index)?;
-    }
-    Ok(format!(in alloc; "{words}\n")?)
+/// Adds the numbers of a configuration, which sections are there, and how many entries the others have.
+fn add_settings(words: &mut String, config: &Config) -> Result<(), NoMemory> {
+    writeln!(
+        words,
+        "clients {}, resident {}",
+        config.clients, config.resident
+    )?;
+    let (roots, autolocks) = (config.roots.is_some(), config.autolocks.is_some());
+    write!(words, "sections: roots {roots}, autolocks {autolocks}, ")?;
+    writeln!(words, "named {}", config.named.is_some())?;
+    let (guards, losses) = (config.guards.len(), config.losses.len());
+    writeln!(
+        words,
+        "guards {guards}, losses {losses}, breaks {}",
+        config.breaks.len()
+    )?;
+    Ok(())
 }

@@ -1,7 +1,7 @@
 //! A configuration as text: each key with its value, `-` where it is absent, and a section's entries in brackets, or how many
 //! they are where there are more than eight.
 
-use dso_base::{Grade, Trigger, Word};
+use dso_base::{Grade, Items, Trigger, Word};
 use dso_config::{AutoEntry, Config, GuardEntry, NamedEntry, Pattern, RootEntry};
 use std::alloc::AllocError;
 use std::fmt::Write;
@@ -16,37 +16,46 @@ pub fn configuration(out: &mut String, config: &Config) -> Result<(), AllocError
         "clients={} resident={}",
         config.clients, config.resident
     )?;
-    out.push_str(" root=")?;
-    match &config.roots {
-        Some(entries) => roots(out, entries.as_slice())?,
-        None => out.push('-')?,
-    }
-    out.push_str(" autolock=")?;
-    match &config.autolocks {
-        Some(entries) => autolocks(out, entries.as_slice())?,
-        None => out.push('-')?,
-    }
-    out.push_str(" named_lock=")?;
-    match &config.named {
-        Some(entries) => named_locks(out, entries.as_slice())?,
-        None => out.push('-')?,
-    }
-    out.push_str(" guard=")?;
-    guards(out, config.guards.as_slice())?;
-    out.push_str(" lose=")?;
-    triggers(out, config.losses.as_slice())?;
-    out.push_str(" break=")?;
-    triggers(out, config.breaks.as_slice())
+    optional(out, " root=", &config.roots)?;
+    optional(out, " autolock=", &config.autolocks)?;
+    optional(out, " named_lock=", &config.named)?;
+    section(out, " guard=", config.guards.as_slice())?;
+    section(out, " lose=", config.losses.as_slice())?;
+    section(out, " break=", config.breaks.as_slice())
 }
 
-/// Opens a section: its bracket, or how many entries there are where they are too many to be told. Answers whether they are told.
-fn opened(out: &mut String, count: usize) -> Result<bool, AllocError> {
-    if count > MOST_TOLD {
-        write!(out, "{count} entries")?;
-        return Ok(false);
+/// An entry of a section.
+trait Entry {
+    /// Writes the entry, with a space in front.
+    fn tell(&self, out: &mut String) -> Result<(), AllocError>;
+}
+
+/// Writes a section that may be absent, with its key.
+fn optional<T: Entry>(
+    out: &mut String,
+    key: &str,
+    entries: &Option<Items<T>>,
+) -> Result<(), AllocError> {
+    match entries {
+        Some(entries) => section(out, key, entries.as_slice()),
+        None => {
+            out.push_str(key)?;
+            out.push('-')
+        }
+    }
+}
+
+/// Writes the entries of a section behind its key, or how many they are where they are too many to be told.
+fn section<T: Entry>(out: &mut String, key: &str, entries: &[T]) -> Result<(), AllocError> {
+    out.push_str(key)?;
+    if entries.len() > MOST_TOLD {
+        return write!(out, "{} entries", entries.len());
     }
     out.push('[')?;
-    Ok(true)
+    for entry in entries {
+        entry.tell(out)?;
+    }
+    out.push_str(" ]")
 }
 
 /// Writes the letters of a name.
@@ -57,89 +66,57 @@ fn letters(out: &mut String, word: &Word) -> Result<(), AllocError> {
     Ok(())
 }
 
-/// Writes ` Class.member`.
-fn member(out: &mut String, class: &Word, member: &Word) -> Result<(), AllocError> {
+/// Writes ` Class.member`, or ` Class.*` where no member is named.
+fn member(out: &mut String, class: &Word, member: Option<&Word>) -> Result<(), AllocError> {
     out.push(' ')?;
     letters(out, class)?;
     out.push('.')?;
-    letters(out, member)
-}
-
-/// Writes ` Class.*`.
-fn members(out: &mut String, class: &Word) -> Result<(), AllocError> {
-    out.push(' ')?;
-    letters(out, class)?;
-    out.push_str(".*")
+    match member {
+        Some(member) => letters(out, member),
+        None => out.push('*'),
+    }
 }
 
 /// Writes a pattern and the level behind it.
 fn locking(out: &mut String, method: &Pattern, grade: Grade) -> Result<(), AllocError> {
     match method {
         Pattern::All => out.push_str(" *.*")?,
-        Pattern::Class(class) => members(out, class)?,
-        Pattern::Method(class, method) => member(out, class, method)?,
+        Pattern::Class(class) => member(out, class, None)?,
+        Pattern::Method(class, method) => member(out, class, Some(method))?,
     }
     write!(out, "@{grade:?}")
 }
 
-/// Writes roots.
-fn roots(out: &mut String, entries: &[RootEntry]) -> Result<(), AllocError> {
-    if !opened(out, entries.len())? {
-        return Ok(());
+impl Entry for RootEntry {
+    fn tell(&self, out: &mut String) -> Result<(), AllocError> {
+        member(out, &self.class, Some(&self.field))
     }
-    for entry in entries {
-        member(out, &entry.class, &entry.field)?;
-    }
-    out.push_str(" ]")
 }
 
-/// Writes autolocks.
-fn autolocks(out: &mut String, entries: &[AutoEntry]) -> Result<(), AllocError> {
-    if !opened(out, entries.len())? {
-        return Ok(());
+impl Entry for AutoEntry {
+    fn tell(&self, out: &mut String) -> Result<(), AllocError> {
+        locking(out, &self.method, self.grade)
     }
-    for entry in entries {
-        locking(out, &entry.method, entry.grade)?;
-    }
-    out.push_str(" ]")
 }
 
-/// Writes named locks.
-fn named_locks(out: &mut String, entries: &[NamedEntry]) -> Result<(), AllocError> {
-    if !opened(out, entries.len())? {
-        return Ok(());
-    }
-    for entry in entries {
-        locking(out, &entry.method, entry.grade)?;
+impl Entry for NamedEntry {
+    fn tell(&self, out: &mut String) -> Result<(), AllocError> {
+        locking(out, &self.method, self.grade)?;
         out.push('=')?;
-        letters(out, &entry.name)?;
+        letters(out, &self.name)
     }
-    out.push_str(" ]")
 }
 
-/// Writes guards.
-fn guards(out: &mut String, entries: &[GuardEntry]) -> Result<(), AllocError> {
-    if !opened(out, entries.len())? {
-        return Ok(());
-    }
-    for entry in entries {
-        match &entry.field {
-            Some(field) => member(out, &entry.class, field)?,
-            None => members(out, &entry.class)?,
-        }
+impl Entry for GuardEntry {
+    fn tell(&self, out: &mut String) -> Result<(), AllocError> {
+        member(out, &self.class, self.field.as_ref())?;
         out.push('=')?;
-        letters(out, &entry.lock)?;
+        letters(out, &self.lock)
     }
-    out.push_str(" ]")
 }
 
-/// Writes the clients that are lost or cut off, with the message.
-fn triggers(out: &mut String, entries: &[Trigger]) -> Result<(), AllocError> {
-    if !opened(out, entries.len())? {
-        return Ok(());
+impl Entry for Trigger {
+    fn tell(&self, out: &mut String) -> Result<(), AllocError> {
+        write!(out, " {}@{}", self.client, self.after)
     }
-    for entry in entries {
-        write!(out, " {}@{}", entry.client, entry.after)?;
-    }
-    out.push_str(" ]")
 }

@@ -24,23 +24,24 @@ use crate::scope::Scope;
 use crate::tables::field_ref;
 use crate::uses::{Head, Role, alone, dotted};
 use crate::variables::{know, synchronized, variable};
-use dso_base::{Grade, Items, Word};
+use dso_base::{Boxed, Grade, Items, Word};
 use dso_entries::Interner;
 use dso_machine::{Expr, Stmt};
 use dso_syntax::{ExprForm, ExprTree, Ident, StmtForm, StmtTree};
 use std::alloc::Global;
 
-/// The expression of a statement in numbers.
+/// The expression of a statement in numbers, in a block of its own.
 fn value_of<'a>(
     alloc: Global,
     place: &Place<'_, 'a>,
     scope: &Scope<'a>,
     texts: &mut Interner<&'a [u8]>,
     tree: &'a ExprTree,
-) -> Result<Expr, NameFault>
+) -> Result<Boxed<Expr>, NameFault>
     ensures { Walks place.now texts.old scope.now texts.new scope.now (λ owner. (mention.expression owner tree.now).mentions) (λ n a. MeansExpr n tree.now a) result }
 {
-    expression(alloc, place, scope, texts, Role::Value, tree)
+    let value = expression(alloc, place, scope, texts, Role::Value, tree)?;
+    Ok(Boxed::new(alloc, value)?)
 }
 
 /// A variable that is declared with its value. It is known from then on.
@@ -65,9 +66,9 @@ fn declared<'a>(
 fn field<'a>(
     alloc: Global,
     place: &Place<'_, 'a>,
-    object: Expr,
+    object: Boxed<Expr>,
     name: &'a Word,
-    value: Expr,
+    value: Boxed<Expr>,
 ) -> Result<Stmt, NameFault>
     ensures { (texts : List (Bor Word)) (scope : Scope) → Walks place.now texts scope texts scope (λ owner known. []) (λ n a. PutsField n object name.now value a) result }
 {
@@ -81,13 +82,16 @@ fn named<'a>(
     place: &Place<'_, 'a>,
     head: Head,
     name: &'a Word,
-    value: Expr,
+    value: Boxed<Expr>,
 ) -> Result<Stmt, NameFault>
     ensures { (texts : List (Bor Word)) (scope : Scope) → Walks place.now texts scope texts scope (λ owner known. []) (λ n a. (owner : Word) → HeadMeans owner name.now n head → PutsNamed n owner name.now value a) result }
 {
     match head {
         Head::Root(number) => Ok(Stmt::PutRoot(number, value)),
-        Head::Variable(number) => field(alloc, place, Expr::Var(number), name, value),
+        Head::Variable(number) => {
+            let object = Boxed::new(alloc, Expr::Var(number))?;
+            field(alloc, place, object, name, value)
+        }
     }
 }
 
@@ -208,7 +212,7 @@ fn lock<'a>(
     texts: &mut Interner<&'a [u8]>,
     line: u32,
     on: &'a ExprTree,
-) -> Result<(Grade, Expr), NameFault>
+) -> Result<(Grade, Boxed<Expr>), NameFault>
     ensures { Walks place.now texts.old scope.now texts.new scope.now (λ owner known. mention.on line (mention.synchronized owner.class owner.method) ∷ (mention.expression owner on.now).mentions known)
         (λ n pair. (n.grade ≡ Some pair.0) × MeansExpr n on.now pair.1) result }
 {

@@ -2,3 +2,4 @@
 pub mod Equations
 pub mod Beginnings
 pub mod Weights
+pub mod Knowing

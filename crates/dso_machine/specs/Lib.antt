@@ -1,5 +1,6 @@
 pub mod Calls
 pub mod Expressions
+pub mod KnownValues
 pub mod Limits
 pub mod Next
 pub mod Outcome

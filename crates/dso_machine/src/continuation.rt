@@ -4,7 +4,7 @@ ghost use Rattle.dso_machine.specs.Continuation.{alone, used};
 
 use crate::stack::Stack;
 use crate::{Expr, FieldRef, Stmt};
-use dso_base::{Fault, Grade, Items, Kind, LockName, Op, Request, Value};
+use dso_base::{Boxed, Fault, Grade, Items, Kind, LockName, Op, Request, Value};
 
 /// The frame of a method, or of the thread's body: the object, the variables, and how many more frames may stand on it.
 #[derive(Debug, Drop)]
@@ -34,7 +34,7 @@ pub(crate) struct Call {
 /// What starts with a move: the evaluation of a loop's condition, or a method's body.
 #[derive(Debug, Drop)]
 pub(crate) enum Move {
-    Turn(Expr, Items<Stmt>),
+    Turn(Boxed<Expr>, Items<Stmt>),
     Body(Call),
 }
 
@@ -57,13 +57,13 @@ pub(crate) enum Locked {
 #[derive(Debug, Drop)]
 pub(crate) enum Writing {
     /// A field of the object that comes now; the new value comes next.
-    FieldOf(FieldRef, Expr),
+    FieldOf(FieldRef, Boxed<Expr>),
     /// A field of this object; the new value comes now.
     Field(Value, FieldRef),
     /// An element of the array that comes now; the index and the new value come next.
-    ElementOf(Expr, Expr),
+    ElementOf(Boxed<Expr>, Boxed<Expr>),
     /// An element of this array at the index that comes now; the new value comes next.
-    ElementAt(Value, Expr),
+    ElementAt(Value, Boxed<Expr>),
     /// An element of this array at this index; the new value comes now.
     Element(Value, Value),
     /// A root; the new value comes now.
@@ -77,7 +77,7 @@ pub(crate) enum Monitor {
     Sync(Grade, Items<Stmt>),
     Wait,
     /// The thread waits on it for as many ticks as come next.
-    TimedWait(Expr),
+    TimedWait(Boxed<Expr>),
     /// The thread waits on this object's monitor, for as many ticks as come now.
     WaitFor(Value),
     Notify,
@@ -90,7 +90,7 @@ pub(crate) enum OnValue {
     /// It is an object, of which a field is read.
     Field(FieldRef),
     /// It is an array; its index comes next.
-    Array(Expr),
+    Array(Boxed<Expr>),
     /// It is the index into this array.
     Index(Value),
     /// It is the object of a call; the arguments come next.
@@ -102,7 +102,7 @@ pub(crate) enum OnValue {
     /// It is the operand.
     Operand(Op),
     /// It is the first operand; the second one comes next, if it is wanted.
-    First(Op, Expr),
+    First(Op, Boxed<Expr>),
     /// It is the second operand; the first one is known.
     Second(Op, Value),
     /// It is to be a boolean.
@@ -114,9 +114,9 @@ pub(crate) enum OnValue {
     /// It decides between these blocks.
     If(Items<Stmt>, Items<Stmt>),
     /// It decides whether a loop goes on.
-    While(Expr, Items<Stmt>),
+    While(Boxed<Expr>, Items<Stmt>),
     /// A turn of this loop is done.
-    Again(Expr, Items<Stmt>),
+    Again(Boxed<Expr>, Items<Stmt>),
     /// It is an object whose monitor is used.
     Monitor(Monitor),
     Print,
@@ -232,7 +232,14 @@ impl Step {
     }
 
     /// An expression, and what is done with its value.
-    pub(crate) fn evaluate(expr: Expr, then: OnValue) -> Step
+    pub(crate) fn evaluate(expr: Boxed<Expr>, then: OnValue) -> Step
+        ensures { result ≡ used (Now.Evaluate expr) then }
+    {
+        Step::begin(expr.into_inner(), then)
+    }
+
+    /// An expression that is in no block of its own, and what is done with its value.
+    pub(crate) fn begin(expr: Expr, then: OnValue) -> Step
         ensures { result ≡ used (Now.Evaluate expr) then }
     {
         Step {

@@ -81,75 +81,84 @@ pub(crate) fn copy_exprs(alloc: Global, trees: &[Expr]) -> Result<Items<Expr>, N
 }
 
 /// The same expression once more, where there is one.
-fn copy_option(alloc: Global, tree: &Option<Expr>) -> Result<Option<Expr>, NoMemory>
+fn copy_option(alloc: Global, tree: &Option<Boxed<Expr>>) -> Result<Option<Boxed<Expr>>, NoMemory>
     ensures { IfOk result (λ copy. copy ≡ tree.now) }
 {
     match tree {
         None => Ok(None),
-        Some(tree) => Ok(Some(copy_expr(alloc, tree)?)),
+        Some(tree) => Ok(Some(copy_boxed(alloc, tree)?)),
     }
 }
 
 /// A write of a field once more.
 fn copy_put_field(
     alloc: Global,
-    object: &Expr,
+    object: &Boxed<Expr>,
     field: &FieldRef,
-    value: &Expr,
+    value: &Boxed<Expr>,
 ) -> Result<Stmt, NoMemory>
     ensures { IfOk result (λ copy. copy ≡ Stmt.PutField object.now field.now value.now) }
 {
-    let object = copy_expr(alloc, object)?;
+    let object = copy_boxed(alloc, object)?;
     let field = copy_field(alloc, field)?;
-    Ok(Stmt::PutField(object, field, copy_expr(alloc, value)?))
+    Ok(Stmt::PutField(object, field, copy_boxed(alloc, value)?))
 }
 
 /// A write of an element once more.
-fn copy_put_elem(alloc: Global, array: &Expr, index: &Expr, value: &Expr) -> Result<Stmt, NoMemory>
+fn copy_put_elem(
+    alloc: Global,
+    array: &Boxed<Expr>,
+    index: &Boxed<Expr>,
+    value: &Boxed<Expr>,
+) -> Result<Stmt, NoMemory>
     ensures { IfOk result (λ copy. copy ≡ Stmt.PutElem array.now index.now value.now) }
 {
-    let array = copy_expr(alloc, array)?;
-    let index = copy_expr(alloc, index)?;
-    Ok(Stmt::PutElem(array, index, copy_expr(alloc, value)?))
+    let array = copy_boxed(alloc, array)?;
+    let index = copy_boxed(alloc, index)?;
+    Ok(Stmt::PutElem(array, index, copy_boxed(alloc, value)?))
 }
 
 /// A decision between two blocks that were copied.
 fn copy_if(
     alloc: Global,
-    test: &Expr,
+    test: &Boxed<Expr>,
     then: Items<Stmt>,
     otherwise: Items<Stmt>,
 ) -> Result<Stmt, NoMemory>
     ensures { IfOk result (λ copy. copy ≡ Stmt.If test.now then otherwise) }
 {
-    Ok(Stmt::If(copy_expr(alloc, test)?, then, otherwise))
+    Ok(Stmt::If(copy_boxed(alloc, test)?, then, otherwise))
 }
 
 /// A loop over a block that was copied.
-fn copy_while(alloc: Global, test: &Expr, body: Items<Stmt>) -> Result<Stmt, NoMemory>
+fn copy_while(alloc: Global, test: &Boxed<Expr>, body: Items<Stmt>) -> Result<Stmt, NoMemory>
     ensures { IfOk result (λ copy. copy ≡ Stmt.While test.now body) }
 {
-    Ok(Stmt::While(copy_expr(alloc, test)?, body))
+    Ok(Stmt::While(copy_boxed(alloc, test)?, body))
 }
 
 /// A block that was copied under a monitor.
 fn copy_sync(
     alloc: Global,
-    object: &Expr,
+    object: &Boxed<Expr>,
     grade: Grade,
     body: Items<Stmt>,
 ) -> Result<Stmt, NoMemory>
     ensures { IfOk result (λ copy. copy ≡ Stmt.Sync object.now grade body) }
 {
-    Ok(Stmt::Sync(copy_expr(alloc, object)?, grade, body))
+    Ok(Stmt::Sync(copy_boxed(alloc, object)?, grade, body))
 }
 
 /// A wait for so many ticks once more.
-fn copy_timed_wait(alloc: Global, object: &Expr, ticks: &Expr) -> Result<Stmt, NoMemory>
+fn copy_timed_wait(
+    alloc: Global,
+    object: &Boxed<Expr>,
+    ticks: &Boxed<Expr>,
+) -> Result<Stmt, NoMemory>
     ensures { IfOk result (λ copy. copy ≡ Stmt.TimedWait object.now ticks.now) }
 {
-    let object = copy_expr(alloc, object)?;
-    Ok(Stmt::TimedWait(object, copy_expr(alloc, ticks)?))
+    let object = copy_boxed(alloc, object)?;
+    Ok(Stmt::TimedWait(object, copy_boxed(alloc, ticks)?))
 }
 
 /// The same statement once more.
@@ -158,11 +167,11 @@ pub(crate) fn copy_stmt(alloc: Global, tree: &Stmt) -> Result<Stmt, NoMemory>
     ensures { IfOk result (λ copy. copy ≡ tree.now) }
 {
     match tree {
-        Stmt::Assign(place, value) => Ok(Stmt::Assign(*place, copy_expr(alloc, value)?)),
+        Stmt::Assign(place, value) => Ok(Stmt::Assign(*place, copy_boxed(alloc, value)?)),
         Stmt::PutField(object, field, value) => copy_put_field(alloc, object, field, value),
         Stmt::PutElem(array, index, value) => copy_put_elem(alloc, array, index, value),
-        Stmt::PutRoot(root, value) => Ok(Stmt::PutRoot(*root, copy_expr(alloc, value)?)),
-        Stmt::Eval(tree) => Ok(Stmt::Eval(copy_expr(alloc, tree)?)),
+        Stmt::PutRoot(root, value) => Ok(Stmt::PutRoot(*root, copy_boxed(alloc, value)?)),
+        Stmt::Eval(tree) => Ok(Stmt::Eval(copy_boxed(alloc, tree)?)),
         Stmt::If(test, then, otherwise) => {
             let then = copy_block(alloc, then.as_slice())?;
             copy_if(alloc, test, then, copy_block(alloc, otherwise.as_slice())?)
@@ -171,11 +180,11 @@ pub(crate) fn copy_stmt(alloc: Global, tree: &Stmt) -> Result<Stmt, NoMemory>
         Stmt::Sync(object, grade, body) => {
             copy_sync(alloc, object, *grade, copy_block(alloc, body.as_slice())?)
         }
-        Stmt::Wait(object) => Ok(Stmt::Wait(copy_expr(alloc, object)?)),
+        Stmt::Wait(object) => Ok(Stmt::Wait(copy_boxed(alloc, object)?)),
         Stmt::TimedWait(object, ticks) => copy_timed_wait(alloc, object, ticks),
-        Stmt::Notify(object) => Ok(Stmt::Notify(copy_expr(alloc, object)?)),
-        Stmt::NotifyAll(object) => Ok(Stmt::NotifyAll(copy_expr(alloc, object)?)),
-        Stmt::Print(value) => Ok(Stmt::Print(copy_expr(alloc, value)?)),
+        Stmt::Notify(object) => Ok(Stmt::Notify(copy_boxed(alloc, object)?)),
+        Stmt::NotifyAll(object) => Ok(Stmt::NotifyAll(copy_boxed(alloc, object)?)),
+        Stmt::Print(value) => Ok(Stmt::Print(copy_boxed(alloc, value)?)),
         Stmt::Return(value) => Ok(Stmt::Return(copy_option(alloc, value)?)),
     }
 }

@@ -13,7 +13,7 @@ use dso_base::{ClassId, Grade, Level, LockName, Request, Value};
 
 impl Frame {
     /// The value of a variable.
-    fn var(&self, index: u32) -> Value
+    pub(crate) fn var(&self, index: u32) -> Value
         ensures { result ≡ slice_index_or self.now.vars index Value.Null }
     {
         self.vars
@@ -51,24 +51,21 @@ pub(crate) fn evaluate(code: &Code, frame: &Frame, expr: Expr) -> Step
             let entered = OnReply::Entered(lock, Grade::Read, Locked::Read(root));
             Step::ask(Request::Enter(lock, Level::Read), entered)
         }
-        Expr::Field(object, field) => Step::evaluate(object.into_inner(), OnValue::Field(field)),
-        Expr::Elem(array, index) => Step::evaluate(
-            array.into_inner(),
-            OnValue::Array(index.into_inner()),
-        ),
+        Expr::Field(object, field) => Step::evaluate(object, OnValue::Field(field)),
+        Expr::Elem(array, index) => Step::evaluate(array, OnValue::Array(index)),
         Expr::Call(object, callees, args) => {
             let then = OnValue::Object(callees, Stack::from_items(args));
-            Step::evaluate(object.into_inner(), then)
+            Step::evaluate(object, then)
         }
         Expr::NewObject(class) => {
             let request = Request::New(ClassId::Plain(class), count_of_fields(code, class));
             Step::ask(request, OnReply::Made)
         }
-        Expr::NewArray(kind, size) => Step::evaluate(size.into_inner(), OnValue::Size(kind)),
-        Expr::Unary(op, operand) => Step::evaluate(operand.into_inner(), OnValue::Operand(op)),
+        Expr::NewArray(kind, size) => Step::evaluate(size, OnValue::Size(kind)),
+        Expr::Unary(op, operand) => Step::evaluate(operand, OnValue::Operand(op)),
         Expr::Binary(op, first, second) => {
-            let then = OnValue::First(op, second.into_inner());
-            Step::evaluate(first.into_inner(), then)
+            let then = OnValue::First(op, second);
+            Step::evaluate(first, then)
         }
     }
 }

@@ -24,7 +24,7 @@ pub(crate) fn execute(statement: Stmt) -> Step
             Step::evaluate(array, OnValue::Write(Writing::ElementOf(index, value)))
         }
         Stmt::PutRoot(root, value) => Step::evaluate(value, OnValue::Write(Writing::Root(root))),
-        Stmt::Eval(expr) => Step::alone(Now::Evaluate(expr)),
+        Stmt::Eval(expr) => Step::alone(Now::Evaluate(expr.into_inner())),
         Stmt::If(test, all, others) => Step::evaluate(test, OnValue::If(all, others)),
         Stmt::While(test, body) => Step::alone(Now::Pace(Move::Turn(test, body))),
         Stmt::Sync(object, grade, body) => Step::evaluate(

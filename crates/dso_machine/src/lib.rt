@@ -7,6 +7,7 @@ mod continuation;
 mod copies;
 mod evaluate;
 mod execute;
+mod known;
 mod laws;
 mod machine;
 mod next_part;

@@ -1,5 +1,5 @@
 //! The machine of a thread: its frame, what it is about to do, and what it has still to do.
-ghost use Rattle.std.specs.Prelude.{◌≡◌, ◌+◌, ◌++◌, ◌<◌, ◌↔◌, IfOk, IsTrue, Some, slice_get};
+ghost use Rattle.std.specs.Prelude.{◌≡◌, ◌+◌, ◌++◌, ◌<◌, ◌≤◌, ◌↔◌, IfOk, IsTrue, Some, slice_get};
 ghost use Rattle.std.specs.Option.{option_to_list};
 ghost use Rattle.dso_machine.specs.declared.continuation.End.{End};
 ghost use Rattle.dso_machine.specs.declared.continuation.Move.{Move};
@@ -10,17 +10,18 @@ ghost use Rattle.dso_machine.specs.Continuation.{IsAsk, IsSuspended, Keeps, Lead
 ghost use Rattle.dso_machine.specs.Limits.{most_moves};
 ghost use Rattle.dso_machine.specs.Sound.{IsSound};
 ghost use Rattle.dso_machine.specs.Statements.{statements_of};
-ghost use Rattle.dso_machine.specs.Weight.{use_weight, weigh};
+ghost use Rattle.dso_machine.specs.Weight.{step_weight, task_weight, tasks_weight, then_weight, use_weight, weigh};
 
 use crate::continuation::{Call, End, Frame, Move, Now, OnReply, OnValue, Step, Task};
 use crate::copies::{copy_block, copy_expr};
 use crate::evaluate::evaluate;
 use crate::execute::execute;
+use crate::known::known;
 use crate::next_part::{next_argument, next_statement};
 use crate::on_value::use_value;
 use crate::stack::Stack;
 use crate::{Code, Expr, Stmt};
-use dso_base::{Items, NoMemory, Request, Value};
+use dso_base::{Boxed, Items, NoMemory, Request, Value};
 use std::alloc::Global;
 use std::mem;
 
@@ -77,15 +78,78 @@ impl Core {
         self.follow(step)
     }
 
+    /// An expression begins whose value is used so: where the value is known it is used at once.
+    #[tactic(auto, using(crate::proofs::steps::Goes::begins))]
+    fn begin(&mut self, alloc: Global, expr: Expr, then: OnValue) -> Result<Now, NoMemory>
+        ensures keeps { IfOk result (λ now. (code : Code) → Keeps code (Now.Evaluate expr) (with_then (Some (Task.Then then)) self.old) now self.new) }
+        ensures lighter { IfOk result (λ now. weigh now self.new ≤ weigh (Now.Evaluate expr) self.old + use_weight then) }
+        ensures calm { IfOk result (λ now. self.new.moves ≡ self.old.moves) }
+    {
+        match known(&self.frame, &expr) {
+            Some(Ok(value)) => self.use_value(alloc, value, then),
+            Some(Err(fault)) => {
+                discard(then);
+                Ok(Now::Have(End::Fails(fault)))
+            }
+            None => self.follow(Step::begin(expr, then)),
+        }
+    }
+
+    /// An expression comes, and then this task. Where the task uses its value and that is known, it is used at once.
+    fn evaluate_for(&mut self, alloc: Global, expr: Expr, then: Task) -> Result<Now, NoMemory>
+        ensures keeps { IfOk result (λ now. (code : Code) → Keeps code (Now.Evaluate expr) (with_then (Some then) self.old) now self.new) }
+        ensures lighter { IfOk result (λ now. weigh now self.new ≤ weigh (Now.Evaluate expr) self.old + task_weight then) }
+        ensures calm { IfOk result (λ now. self.new.moves ≡ self.old.moves) }
+    {
+        match then {
+            Task::Then(then) => self.begin(alloc, expr, then),
+            then => put_before(&mut self.tasks, Some(then), Now::Evaluate(expr)),
+        }
+    }
+
+    /// An expression comes, and then the task, if there is one.
+    #[tactic(auto, using(crate::proofs::steps::Goes::begins))]
+    fn evaluate_first(
+        &mut self,
+        alloc: Global,
+        expr: Expr,
+        then: Option<Task>,
+    ) -> Result<Now, NoMemory>
+        ensures keeps { IfOk result (λ now. (code : Code) → Keeps code (Now.Evaluate expr) (with_then then self.old) now self.new) }
+        ensures lighter { IfOk result (λ now. weigh now self.new ≤ weigh (Now.Evaluate expr) self.old + then_weight then) }
+        ensures calm { IfOk result (λ now. self.new.moves ≡ self.old.moves) }
+    {
+        match then {
+            Some(then) => self.evaluate_for(alloc, expr, then),
+            None => Ok(Now::Evaluate(expr)),
+        }
+    }
+
+    /// What comes of a step, as `follow` has it; but an expression whose value is known isn't begun, its value is used at once.
+    fn advance(&mut self, alloc: Global, step: Step) -> Result<Now, NoMemory>
+        ensures keeps { IfOk result (λ now. (code : Code) → Keeps code step.now (with_then step.then self.old) now self.new) }
+        ensures lighter { IfOk result (λ now. weigh now self.new ≤ step_weight step + tasks_weight self.old.tasks) }
+        ensures calm { IfOk result (λ now. self.new.moves ≡ self.old.moves) }
+    {
+        let Step { now, then } = step;
+        match now {
+            Now::Evaluate(expr) => self.evaluate_first(alloc, expr, then),
+            now => put_before(&mut self.tasks, then, now),
+        }
+    }
+
     /// A part ends whose value is used: a return and a fault pass by.
-    #[tactic(auto, using(crate::proofs::steps::Steps::steps))]
+    #[tactic(auto, using(crate::proofs::steps::Steps::steps, crate::proofs::steps::Goes::goes))]
     fn hand_on(&mut self, alloc: Global, then: OnValue, end: End) -> Result<Now, NoMemory>
         ensures keeps { IfOk result (λ now. (code : Code) → Keeps code (Now.Have end) (with_then (Some (Task.Then then)) self.old) now self.new) }
         ensures lighter { IfOk result (λ now. weigh now self.new < weigh (Now.Have end) self.old + use_weight then) }
         ensures calm { IfOk result (λ now. self.new.moves ≡ self.old.moves) }
     {
         match end {
-            End::Gives(value) => self.use_value(alloc, value, then),
+            End::Gives(value) => {
+                let step = use_value(alloc, &mut self.frame, value, then)?;
+                self.advance(alloc, step)
+            }
             End::Leaves(value) => {
                 discard(then);
                 Ok(Now::Have(End::Leaves(value)))
@@ -118,21 +182,28 @@ impl Core {
     }
 
     /// The evaluation of an expression begins.
-    #[tactic(auto, using(crate::proofs::steps::Steps::steps))]
-    fn begin_expr(&mut self, code: &Code, expr: Expr) -> Result<Now, NoMemory>
+    #[tactic(auto, using(crate::proofs::steps::Goes::goes))]
+    fn begin_expr(&mut self, alloc: Global, code: &Code, expr: Expr) -> Result<Now, NoMemory>
         requires sound { IsSound code.now }
         ensures keeps { IfOk result (λ then. Keeps code.now (Now.Evaluate expr) self.old then self.new) }
         ensures lighter { IfOk result (λ then. weigh then self.new < weigh (Now.Evaluate expr) self.old) }
         ensures calm { IfOk result (λ then. self.new.moves ≡ self.old.moves) }
     {
-        let step = evaluate(code, &self.frame, expr);
-        self.follow(step)
+        match known(&self.frame, &expr) {
+            Some(Ok(value)) => self.close(alloc, End::Gives(value)),
+            Some(Err(fault)) => self.close(alloc, End::Fails(fault)),
+            None => {
+                let step = evaluate(code, &self.frame, expr);
+                self.advance(alloc, step)
+            }
+        }
     }
 
     /// The next argument's evaluation begins, or the call where none is left.
-    #[tactic(auto, using(crate::proofs::steps::Steps::steps))]
+    #[tactic(auto, using(crate::proofs::steps::Goes::goes))]
     fn begin_argument(
         &mut self,
+        alloc: Global,
         callees: Items<(u32, u32)>,
         object: Value,
         before: Items<Value>,
@@ -142,17 +213,17 @@ impl Core {
         ensures lighter { IfOk result (λ then. weigh then self.new < weigh (Now.Arguments callees object before rest) self.old) }
         ensures calm { IfOk result (λ then. self.new.moves ≡ self.old.moves) }
     {
-        self.follow(next_argument(callees, object, before, rest))
+        self.advance(alloc, next_argument(callees, object, before, rest))
     }
 
     /// The execution of a statement begins.
-    #[tactic(auto, using(crate::proofs::steps::Steps::steps))]
-    fn begin_statement(&mut self, statement: Stmt) -> Result<Now, NoMemory>
+    #[tactic(auto, using(crate::proofs::steps::Goes::goes))]
+    fn begin_statement(&mut self, alloc: Global, statement: Stmt) -> Result<Now, NoMemory>
         ensures keeps { IfOk result (λ then. (code : Code) → Keeps code (Now.Execute statement) self.old then self.new) }
         ensures lighter { IfOk result (λ then. weigh then self.new < weigh (Now.Execute statement) self.old) }
         ensures calm { IfOk result (λ then. self.new.moves ≡ self.old.moves) }
     {
-        self.follow(execute(statement))
+        self.advance(alloc, execute(statement))
     }
 
     /// The next statement comes, or the end where none is left.
@@ -174,11 +245,11 @@ impl Core {
         ensures calm { IfOk result (λ then. self.new.moves ≡ self.old.moves) }
     {
         match now {
-            Now::Evaluate(expr) => self.begin_expr(code, expr),
+            Now::Evaluate(expr) => self.begin_expr(alloc, code, expr),
             Now::Arguments(callees, object, before, rest) => {
-                self.begin_argument(callees, object, before, rest)
+                self.begin_argument(alloc, callees, object, before, rest)
             }
-            Now::Execute(statement) => self.begin_statement(statement),
+            Now::Execute(statement) => self.begin_statement(alloc, statement),
             Now::Run(rest) => self.begin_next(rest),
             Now::Have(end) => self.close(alloc, end),
             Now::Pace(_) | Now::Ask(_, _) | Now::End(_) => unreachable!(),
@@ -199,16 +270,30 @@ impl Core {
         Ok(now)
     }
 
-    /// A turn of a loop is made: its condition is evaluated.
+    /// A turn of a loop is made: its condition is evaluated, which stays for the next turn. Where its value is known it isn't copied.
     #[tactic(auto, using(crate::proofs::standing::AfterReplies::turned))]
-    fn make_turn(&mut self, alloc: Global, test: Expr, body: Items<Stmt>) -> Result<Now, NoMemory>
+    fn make_turn(
+        &mut self,
+        alloc: Global,
+        test: Boxed<Expr>,
+        body: Items<Stmt>,
+    ) -> Result<Now, NoMemory>
         requires { self.old.moves < most_moves }
         ensures makes { IfOk result (λ then. (code : Code) → MakesMove code (Now.Pace (Move.Turn test body)) self.old then self.new) }
         ensures moved { IfOk result (λ then. self.new.moves ≡ self.old.moves + 1) }
     {
-        let once = copy_expr(alloc, &test)?;
         self.moves += 1;
-        self.follow(Step::evaluate(once, OnValue::While(test, body)))
+        match known(&self.frame, test.get()) {
+            Some(Ok(value)) => self.use_value(alloc, value, OnValue::While(test, body)),
+            Some(Err(fault)) => {
+                discard((test, body));
+                Ok(Now::Have(End::Fails(fault)))
+            }
+            None => {
+                let once = copy_expr(alloc, test.get())?;
+                self.follow(Step::begin(once, OnValue::While(test, body)))
+            }
+        }
     }
 
     /// A method's body is begun, in a frame of its own.

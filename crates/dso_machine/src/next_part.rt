@@ -24,7 +24,7 @@ pub(crate) fn next_argument(
 {
     if let Some(argument) = rest.pop() {
         let then = OnValue::Argument(callees, object, before, rest);
-        return Step::evaluate(argument, then);
+        return Step::begin(argument, then);
     }
     match object_of(object) {
         Ok(object) => {

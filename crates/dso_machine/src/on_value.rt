@@ -19,7 +19,9 @@ use crate::copies::copy_block;
 use crate::operators::{binary, level_of, takes, unary};
 use crate::stack::Stack;
 use crate::{Code, Expr, FieldRef, Stmt};
-use dso_base::{ClassId, Fault, Grade, Items, Kind, Level, LockName, NoMemory, Op, Request, Value};
+use dso_base::{
+    Boxed, ClassId, Fault, Grade, Items, Kind, Level, LockName, NoMemory, Op, Request, Value,
+};
 use std::alloc::Global;
 use std::mem;
 
@@ -123,7 +125,7 @@ fn outcome_of(operation: Result<Value, Fault>) -> Step
 }
 
 /// The second operand of `&&`.
-fn second_of_and(operand: Expr, first: Value) -> Step
+fn second_of_and(operand: Boxed<Expr>, first: Value) -> Step
     ensures uses { (code : Code) (frame : Frame) → Uses code (OnValue.First Op.And operand) first frame result frame }
     ensures lighter { step_weight result < expr_weight operand + 3 }
 {
@@ -135,7 +137,7 @@ fn second_of_and(operand: Expr, first: Value) -> Step
 }
 
 /// The second operand of `||`.
-fn second_of_or(operand: Expr, first: Value) -> Step
+fn second_of_or(operand: Boxed<Expr>, first: Value) -> Step
     ensures uses { (code : Code) (frame : Frame) → Uses code (OnValue.First Op.Or operand) first frame result frame }
     ensures lighter { step_weight result < expr_weight operand + 3 }
 {
@@ -147,7 +149,7 @@ fn second_of_or(operand: Expr, first: Value) -> Step
 }
 
 /// The second operand, after the value of the first; of `&&` and `||` only where the first doesn't decide.
-fn second(op: Op, operand: Expr, first: Value) -> Step
+fn second(op: Op, operand: Boxed<Expr>, first: Value) -> Step
     ensures uses { (code : Code) (frame : Frame) → Uses code (OnValue.First op operand) first frame result frame }
     ensures lighter { step_weight result < expr_weight operand + 3 }
 {
@@ -195,7 +197,7 @@ fn choose(test: Value, all: Items<Stmt>, others: Items<Stmt>) -> Step
 }
 
 /// A turn of a loop, or its end.
-fn turn(alloc: Global, test: Value, again: Expr, body: Items<Stmt>) -> Result<Step, NoMemory>
+fn turn(alloc: Global, test: Value, again: Boxed<Expr>, body: Items<Stmt>) -> Result<Step, NoMemory>
     ensures uses { IfOk result (λ step. (code : Code) (frame : Frame) → Uses code (OnValue.While again body) test frame step frame) }
     ensures lighter { IfOk result (λ step. step_weight step < block_weight body + 3) }
 {
@@ -292,7 +294,7 @@ impl Frame {
 }
 
 /// An expression comes next, and its value is used for what is written.
-fn next(expr: Expr, then: Writing) -> Step
+fn next(expr: Boxed<Expr>, then: Writing) -> Step
     ensures { result ≡ used (Now.Evaluate expr) (OnValue.Write then) }
 {
     Step::evaluate(expr, OnValue::Write(then))

@@ -13,33 +13,33 @@ pub struct FieldRef {
 #[derive(Debug, Drop)]
 pub enum Stmt {
     /// A variable is given a value.
-    Assign(u32, Expr),
+    Assign(u32, Boxed<Expr>),
     /// A field of an object is given a value.
-    PutField(Expr, FieldRef, Expr),
+    PutField(Boxed<Expr>, FieldRef, Boxed<Expr>),
     /// An element of an array is given a value: the array, the index, the value.
-    PutElem(Expr, Expr, Expr),
+    PutElem(Boxed<Expr>, Boxed<Expr>, Boxed<Expr>),
     /// A root is given a value.
-    PutRoot(u32, Expr),
+    PutRoot(u32, Boxed<Expr>),
     /// An expression is evaluated, and its value dropped.
-    Eval(Expr),
+    Eval(Boxed<Expr>),
     /// One block or the other, by a boolean.
-    If(Expr, Items<Stmt>, Items<Stmt>),
+    If(Boxed<Expr>, Items<Stmt>, Items<Stmt>),
     /// A block again and again while a boolean is true.
-    While(Expr, Items<Stmt>),
+    While(Boxed<Expr>, Items<Stmt>),
     /// The statements under the object's monitor, which is taken at this level.
-    Sync(Expr, Grade, Items<Stmt>),
+    Sync(Boxed<Expr>, Grade, Items<Stmt>),
     /// The thread waits on an object's monitor.
-    Wait(Expr),
+    Wait(Boxed<Expr>),
     /// The thread waits on an object's monitor for a notification or for so many ticks: the object, the ticks.
-    TimedWait(Expr, Expr),
+    TimedWait(Boxed<Expr>, Boxed<Expr>),
     /// A thread that waits on an object's monitor is woken.
-    Notify(Expr),
+    Notify(Boxed<Expr>),
     /// All threads that wait on an object's monitor are woken.
-    NotifyAll(Expr),
+    NotifyAll(Boxed<Expr>),
     /// A value is printed.
-    Print(Expr),
+    Print(Boxed<Expr>),
     /// The body is left with a value, or with null.
-    Return(Option<Expr>),
+    Return(Option<Boxed<Expr>>),
 }
 
 /// An expression.

@@ -1,8 +1,8 @@
 //! The words behind the program's name, and what they ask for.
 #![tactic(auto)]
 
+mod arguments;
 mod command;
-mod given;
 mod laws;
 mod numbers;
 mod option_name;

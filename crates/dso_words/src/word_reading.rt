@@ -4,15 +4,15 @@ ghost use Rattle.std.specs.String.{string_bytes};
 ghost use Rattle.dso_words.specs.WordReading.{at_end, parted, read, with_argument, with_option, with_word};
 ghost use Rattle.dso_words.specs.Words.{is_hyphened};
 
-use crate::given::Given;
+use crate::arguments::Arguments;
 use crate::option_name::OptionName;
 
 /// Where reading stands: an argument may begin, or the value of an option is due, or only names may come.
 #[derive(Drop)]
 pub(crate) enum Reading<'a> {
-    Open(Given<'a>),
-    Awaiting(OptionName, Given<'a>),
-    Ended(Given<'a>),
+    Open(Arguments<'a>),
+    Awaiting(OptionName, Arguments<'a>),
+    Ended(Arguments<'a>),
 }
 
 impl<'a> Reading<'a> {
@@ -31,7 +31,7 @@ impl<'a> Reading<'a> {
     }
 
     /// What is given at the end: no value is due then.
-    fn at_end(self) -> Option<Given<'a>>
+    fn at_end(self) -> Option<Arguments<'a>>
         ensures { result ≡ at_end self.entry }
     {
         match self {
@@ -42,7 +42,7 @@ impl<'a> Reading<'a> {
 }
 
 /// What reading comes to with a word where an argument may begin.
-fn with_argument<'a>(given: Given<'a>, word: &'a str) -> Option<Reading<'a>>
+fn with_argument<'a>(given: Arguments<'a>, word: &'a str) -> Option<Reading<'a>>
     ensures { result ≡ with_argument given.entry word.now }
 {
     if word == "--" {
@@ -55,7 +55,7 @@ fn with_argument<'a>(given: Given<'a>, word: &'a str) -> Option<Reading<'a>>
 }
 
 /// What reading comes to with the word of an option: its value is in it, or is the next word.
-fn with_option<'a>(given: Given<'a>, word: &'a str) -> Option<Reading<'a>>
+fn with_option<'a>(given: Arguments<'a>, word: &'a str) -> Option<Reading<'a>>
     ensures { result ≡ with_option given.entry word.now (parted word.now) }
 {
     match parted(word) {
@@ -85,10 +85,10 @@ fn parted(word: &str) -> Option<(&str, &str)>
 }
 
 /// What the words behind a command give, None where they are no arguments or have more than two names.
-pub(crate) fn read(words: &[String]) -> Option<Given<'_>>
+pub(crate) fn read(words: &[String]) -> Option<Arguments<'_>>
     ensures { result ≡ read (map string_bytes words.now) }
 {
-    let mut reading = Reading::Open(Given::nothing());
+    let mut reading = Reading::Open(Arguments::nothing());
     for word in words {
         reading = reading.with_word(word.as_str())?;
     }

@@ -5,8 +5,8 @@ ghost use Rattle.dso_words.specs.Said.{said};
 ghost use Rattle.dso_words.specs.Words.{AreLawful, AreUnlawful, IsAsked, IsBig, IsRun, IsSim, RunCall, SimCall};
 ghost use Rattle.dso_words.specs.Words as spec;
 
+use crate::arguments::Arguments;
 use crate::command::Command;
-use crate::given::Given;
 use crate::numbers::{MOST_LOAD, number_within, seed_said, steps_said};
 use crate::word_reading::read;
 
@@ -34,7 +34,7 @@ fn command_behind<'a>(first: &str, rest: &'a [String]) -> Option<Command<'a>>
     }
 }
 
-impl<'a> Given<'a> {
+impl<'a> Arguments<'a> {
     /// What `sim` asks for with this.
     fn sim(&self) -> Option<Command<'a>>
         ensures { MatchOption result ((call : SimCall) → IsSim (codes "sim") self.now call → ⊥) (λ command. IsAsked (codes "sim") self.now (said command)) }
@@ -83,7 +83,7 @@ impl<'a> Given<'a> {
 }
 
 /// What a command asks for with what is given.
-fn asked<'a>(command: &str, given: &Given<'a>) -> Option<Command<'a>>
+fn asked<'a>(command: &str, given: &Arguments<'a>) -> Option<Command<'a>>
     ensures { MatchOption result ((other : spec.Command) → IsAsked command.now given.now other → ⊥) (λ found. IsAsked command.now given.now (said found)) }
 {
     match command {

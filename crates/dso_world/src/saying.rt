@@ -27,7 +27,7 @@ pub(crate) fn send_all(link: &mut Link<Both>, messages: &[Up], clock: u64) -> Re
 fn to_server(alloc: Global, messages: Vec<Up>) -> Result<Items<Sent>, NoMemory>
     ensures { IfOk result (λ made. made ≡ map sent.ToServer messages.items) }
 {
-    let mut sent = Vec::new(alloc);
+    let mut sent = Vec::with_capacity(alloc, messages.len())?;
     for message in messages {
         sent.push(Sent::ToServer(message))?;
     }

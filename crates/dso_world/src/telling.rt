@@ -63,7 +63,7 @@ fn tell(members: &mut Vec<Member>, messages: &[(u8, Down)], clock: u64) -> Resul
 fn to_clients(alloc: Global, messages: Vec<(u8, Down)>) -> Result<Items<Sent>, NoMemory>
     ensures { IfOk result (λ sent. sent ≡ sent_of messages.items) }
 {
-    let mut sent = Vec::new(alloc);
+    let mut sent = Vec::with_capacity(alloc, messages.len())?;
     for (client, message) in messages {
         sent.push(Sent::ToClient(client, message))?;
     }

@@ -9,7 +9,7 @@ returns-in-Act c =
     let program = c.args.program.now in
     let t = c.in-Act.thread in
     at_step program c.args.number t.client c.args.server.now c.args.member.now c.args.step (step.Act t) c.enabled.result c.requires c.in-Act.is refl
-    (acts_told program c.args.server.now c.args.member.now t c.enabled.result c.enabled.ensures)
+    (acts_told program c.args.server.now c.args.member.now t c.enabled.result c.enabled.ensures.enabled)
 
 pub returns-in-TakeDown : goal.returns-in-TakeDown
 returns-in-TakeDown c =

@@ -9,7 +9,7 @@ use std::marker::Model;
 
 /// What the words behind a command have given so far: names, and the values of options.
 #[derive(Drop)]
-pub(crate) struct Given<'a> {
+pub(crate) struct Arguments<'a> {
     pub(crate) first: Option<&'a str>,
     pub(crate) second: Option<&'a str>,
     pub(crate) seed: Option<&'a str>,
@@ -17,7 +17,7 @@ pub(crate) struct Given<'a> {
     pub(crate) journal: Option<&'a str>,
 }
 
-impl<'a> Model for Given<'a> {
+impl<'a> Model for Arguments<'a> {
     ghost use Rattle.dso_words.specs.Words as words;
     ghost use Rattle.dso_words.specs.Given.{names_of, told};
 
@@ -31,12 +31,12 @@ impl<'a> Model for Given<'a> {
     } };
 }
 
-impl<'a> Given<'a> {
+impl<'a> Arguments<'a> {
     /// Nothing is given yet.
-    pub(crate) fn nothing() -> Given<'a>
+    pub(crate) fn nothing() -> Arguments<'a>
         ensures { result ≡ nothing }
     {
-        Given {
+        Arguments {
             first: None,
             second: None,
             seed: None,
@@ -46,17 +46,17 @@ impl<'a> Given<'a> {
     }
 
     /// With one more name: none that is empty, and no third one.
-    pub(crate) fn with_name(self, name: &'a str) -> Option<Given<'a>>
+    pub(crate) fn with_name(self, name: &'a str) -> Option<Arguments<'a>>
         ensures { result ≡ with_name self.entry name.now }
     {
         match (self.first, self.second) {
             _ if name.is_empty() => None,
-            (None, _) => Some(Given {
+            (None, _) => Some(Arguments {
                 first: Some(name),
                 second: None,
                 ..self
             }),
-            (Some(_), None) => Some(Given {
+            (Some(_), None) => Some(Arguments {
                 second: Some(name),
                 ..self
             }),
@@ -76,20 +76,20 @@ impl<'a> Given<'a> {
     }
 
     /// With a value for an option.
-    fn set_value(self, option: OptionName, value: &'a str) -> Given<'a>
+    fn set_value(self, option: OptionName, value: &'a str) -> Arguments<'a>
         ensures { result ≡ set_value self.entry option value.now }
     {
         let value = Some(value);
         match option {
-            OptionName::Seed => Given {
+            OptionName::Seed => Arguments {
                 seed: value,
                 ..self
             },
-            OptionName::Steps => Given {
+            OptionName::Steps => Arguments {
                 steps: value,
                 ..self
             },
-            OptionName::Journal => Given {
+            OptionName::Journal => Arguments {
                 journal: value,
                 ..self
             },
@@ -97,7 +97,7 @@ impl<'a> Given<'a> {
     }
 
     /// With a value for an option: none that is empty, and no second one.
-    pub(crate) fn with_value(self, option: OptionName, value: &'a str) -> Option<Given<'a>>
+    pub(crate) fn with_value(self, option: OptionName, value: &'a str) -> Option<Arguments<'a>>
         ensures { result ≡ with_value self.entry option value.now }
     {
         if value.is_empty() || self.value_of(option).is_some() {

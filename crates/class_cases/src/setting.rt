@@ -1,21 +1,25 @@
-//! What the lines so far give, and what each line answers.
+//! What the lines so far set, and what each line answers.
 
-use crate::{configuration, edge, exchange, names, program};
+ghost use Rattle.dso_config.specs.InRange.{IsInRange};
+
+use crate::{edge, exchange, names, program};
+use case_words::unescaped;
 use dso_base::NoMemory;
+use dso_config::{Config, read_config};
 use std::alloc::Global;
 
-/// The configuration's entries, the classes in front of a thread's statements, and the text of the case at hand.
+/// The text of the configuration, the classes in front of a thread's statements, and the text of the case at hand.
 #[derive(Drop)]
-pub(crate) struct Given {
+pub(crate) struct Setting {
     configuration: String,
     classes: String,
     text: String,
 }
 
-impl Given {
-    /// Nothing was given yet.
-    pub(crate) fn new(alloc: Global) -> Given {
-        Given {
+impl Setting {
+    /// Nothing was set yet.
+    pub(crate) fn new(alloc: Global) -> Setting {
+        Setting {
             configuration: String::new(alloc),
             classes: String::new(alloc),
             text: String::new(alloc),
@@ -39,15 +43,29 @@ impl Given {
 
     /// What a question answers.
     fn asked(&self, alloc: Global, word: &str, rest: &str) -> Result<String, NoMemory> {
-        let Some(config) = configuration::of_entries(alloc, self.configuration.as_str())? else {
-            return Ok(format!(in alloc; "no configuration: {}\n", self.configuration)?);
-        };
+        let text = unescaped(alloc, self.configuration.as_str())?;
+        match read_config(alloc, text.as_slice()) {
+            Ok(config) => self.answer(alloc, &config, word, rest),
+            Err(fault) => Ok(format!(in alloc; "no configuration: {fault}\n")?),
+        }
+    }
+
+    /// What a question answers under the configuration.
+    fn answer(
+        &self,
+        alloc: Global,
+        config: &Config,
+        word: &str,
+        rest: &str,
+    ) -> Result<String, NoMemory>
+        requires { IsInRange config.now }
+    {
         match word {
-            "names" => names::answer(alloc, &config, rest),
-            "program" => program::described(alloc, &config, rest),
-            "edge" => edge::answers(alloc, &config, rest),
-            "replies" => exchange::exchanges(alloc, &config, self.text.as_str(), rest),
-            "words" => configuration::words(alloc, &config),
+            "names" => names::answer(alloc, config, rest),
+            "program" => program::described(alloc, config, rest),
+            "edge" => edge::answers(alloc, config, rest),
+            "replies" => exchange::exchanges(alloc, config, self.text.as_str(), rest),
+            "words" => program::configuration_words(alloc, config),
             "laws" => names::laws(alloc),
             _ => Ok(format!(in alloc; "no question: {word}\n")?),
         }

@@ -1,0 +1,7 @@
+use Rattle.dso_machine.proofs.steps.Goes.{executes_goes}
+use Rattle.dso_machine.proofs.machine.Core.begin_statement.Goals as goal
+
+pub returns-clause-keeps : goal.returns-clause-keeps
+returns-clause-keeps c =
+    executes_goes c.args.statement c.args.self.now c.execute.result c.advance.result c.advance.new.self
+    (λ code. c.execute.ensures.executes code c.args.self.now.frame) c.advance.ensures.keeps
