@@ -36,7 +36,10 @@ impl Driven {
         ensures { (code : Code) → Goes code self.old → Goes code self.new }
     {
         match acted {
-            Acted::Event(event) => self.line(alloc, Made::new(Input::Act(index), Some(event), sent)),
+            Acted::Event(event) => self.line(
+                alloc,
+                Made::new(Input::Act(index), Some(event), sent),
+            ),
             Acted::Asked => self.line(alloc, Made::new(Input::Act(index), None, sent)),
             Acted::Blocked(cause) => blocked(alloc, cause),
             Acted::Over => shown(alloc, "over\n"),
