@@ -14,14 +14,13 @@
 //! last entry; of a walk how many steps made an entry, and at how many of them `enabled` said before what `step` then did.
 #![tactic(auto)]
 
-mod case;
 mod draws;
 mod runs;
 mod shown;
 mod stepping;
 mod walks;
 
-use case::Case;
+use case_programs::Case;
 use dso_base::NoMemory;
 use std::alloc::{AllocError, Global};
 use std::io;

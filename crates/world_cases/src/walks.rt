@@ -2,7 +2,7 @@
 ghost use Rattle.dso_class.specs.Sound.{IsSound};
 ghost use Rattle.dso_world.specs.WorldStands.{WorldStands};
 
-use crate::case::Case;
+use case_programs::Case;
 use crate::draws::{drawn_step, moved_on};
 use crate::shown::{shown_refusal, shown_world};
 use crate::stepping::take;
