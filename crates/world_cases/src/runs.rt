@@ -2,9 +2,9 @@
 ghost use Rattle.dso_class.specs.Sound.{IsSound};
 ghost use Rattle.dso_world.specs.WorldStands.{WorldStands};
 
-use case_programs::Case;
 use crate::shown::{shown_refusal, shown_world};
 use crate::stepping::take;
+use case_programs::Case;
 use dso_base::NoMemory;
 use dso_class::Program;
 use dso_world::World;

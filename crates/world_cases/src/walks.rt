@@ -2,10 +2,10 @@
 ghost use Rattle.dso_class.specs.Sound.{IsSound};
 ghost use Rattle.dso_world.specs.WorldStands.{WorldStands};
 
-use case_programs::Case;
 use crate::draws::{drawn_step, moved_on};
 use crate::shown::{shown_refusal, shown_world};
 use crate::stepping::take;
+use case_programs::Case;
 use case_words::{count, first_of, number};
 use dso_base::NoMemory;
 use dso_class::Program;
