@@ -1,6 +1,7 @@
 //! Why a thread can't go on, in the words of a journal's text.
 
-use dso_base::{LockName, NoMemory};
+use case_words::shown;
+use dso_base::{LockName, NoMemory, ThreadId};
 use dso_client::Cause;
 use std::alloc::Global;
 
@@ -9,7 +10,10 @@ pub fn blocked(alloc: Global, cause: Cause) -> Result<String, NoMemory> {
     match cause {
         Cause::Lease(lock) => at_lock(alloc, "lease", lock),
         Cause::Wake(lock) => at_lock(alloc, "wake", lock),
-        other => without_lock(alloc, other),
+        Cause::Object(object) => numbered(alloc, "object", object),
+        Cause::Ack(seq) => numbered(alloc, "ack", seq),
+        Cause::LocalHolder(thread) => held_by(alloc, thread),
+        Cause::Ids => shown(alloc, "blocked ids\n"),
     }
 }
 
@@ -22,15 +26,12 @@ fn at_lock(alloc: Global, need: &str, lock: LockName) -> Result<String, NoMemory
     Ok(text)
 }
 
-/// The line of another cause.
-fn without_lock(alloc: Global, cause: Cause) -> Result<String, NoMemory> {
-    let text = match cause {
-        Cause::Object(object) => format!(in alloc; "blocked object {object}\n")?,
-        Cause::LocalHolder(thread) => {
-            format!(in alloc; "blocked holder {}.{}\n", thread.client, thread.index)?
-        }
-        Cause::Ack(seq) => format!(in alloc; "blocked ack {seq}\n")?,
-        _ => String::from_str(alloc, "blocked ids\n")?,
-    };
-    Ok(text)
+/// The line of a thread that lacks what has this number.
+fn numbered(alloc: Global, need: &str, number: u64) -> Result<String, NoMemory> {
+    Ok(format!(in alloc; "blocked {need} {number}\n")?)
+}
+
+/// The line of a thread that wants a lock which this one holds.
+fn held_by(alloc: Global, thread: ThreadId) -> Result<String, NoMemory> {
+    Ok(format!(in alloc; "blocked holder {}.{}\n", thread.client, thread.index)?)
 }
