@@ -1,4 +1,5 @@
-//! Messages of the server, as the text of a journal writes them. The counts of lists are read over but for that of sets.
+//! Messages of the server, as the text of a journal writes them. The counts of lists are read over but for that of
+//! sets.
 
 use case_words::{count, first_of, kind, level, lock, number, thread, value, value_list};
 use dso_base::{Body, ClassId, Down, Items, NoMemory, Set};

@@ -1,3 +1,2 @@
 pub mod TwoNeeds
 pub mod Outcomes
-pub mod Listed

@@ -51,8 +51,8 @@ fn waiting_at(kept: &Kept, index: u8) -> Option<Waiting>
     }
 }
 
-/// What an answered request makes of what is kept of the threads but their work, and of the locks; the threads first, by the locks
-/// as they were.
+/// What an answered request makes of what is kept of the threads but their work, and of the locks; the threads first,
+/// by the locks as they were.
 ///
 /// It answers `NoMemory` where an allocation was refused.
 fn live_threads(
@@ -72,8 +72,8 @@ fn live_threads(
     live_locking(alloc, &mut kept.locking, act, waiting)
 }
 
-/// What an answered request makes of all that is kept but the thread's next request, before anything is sent; and the record that
-/// is to be sent, where the act is an ending.
+/// What an answered request makes of all that is kept but the thread's next request, before anything is sent; and the
+/// record that is to be sent, where the act is an ending.
 ///
 /// It answers `NoMemory` where an allocation was refused.
 fn live(
@@ -176,8 +176,8 @@ fn closes(kept: &Kept, next: Option<Request>) -> bool
     }
 }
 
-/// Behind the record that an act sent, the leases that it gives back and the request for one of them, where the acting thread
-/// next wants it; the next requests are those after the act.
+/// Behind the record that an act sent, the leases that it gives back and the request for one of them, where the acting
+/// thread next wants it; the next requests are those after the act.
 ///
 /// It answers `NoMemory` where an allocation was refused.
 fn send_rest(
@@ -205,8 +205,8 @@ fn send_rest(
     Ok(all)
 }
 
-/// The act of a thread whose request is answered, and what it sends: the record of its block where the act is an ending, the
-/// leases to be given back, and the request for one of them that the thread next wants.
+/// The act of a thread whose request is answered, and what it sends: the record of its block where the act is an
+/// ending, the leases to be given back, and the request for one of them that the thread next wants.
 ///
 /// It answers `NoMemory` where an allocation was refused.
 pub(crate) fn act_answering(

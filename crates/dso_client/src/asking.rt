@@ -83,8 +83,8 @@ fn ask(alloc: Global, kept: &mut Kept, thread: ThreadId, message: &Up) -> Result
     }
 }
 
-/// The act of the client's thread of this index that only asks, with this message, where that is its turn: whatever entries
-/// the client stood for, it stands for them with the entry that asks. It sends the message alone.
+/// The act of the client's thread of this index that only asks, with this message, where that is its turn: whatever
+/// entries the client stood for, it stands for them with the entry that asks. It sends the message alone.
 ///
 /// It answers `NoMemory` where an allocation was refused.
 pub(crate) fn act_asking(

@@ -131,11 +131,11 @@ impl Client {
         }
     }
 
-    /// The thread of this index makes its next request, where it can: the request is answered, or what it lacks is asked for; and
-    /// what the client sends is answered too. Whatever entries the client stood for whose sizes are kept, it stands for them with
-    /// that entry, which follows by the client rule. `Blocked` exactly where the rule has no act of the thread, with the first
-    /// need that isn't met; `Over` exactly where the thread has ended, and where there is no such thread; nothing is changed or
-    /// sent then.
+    /// The thread of this index makes its next request, where it can: the request is answered, or what it lacks is
+    /// asked for; and what the client sends is answered too. Whatever entries the client stood for whose sizes are
+    /// kept, it stands for them with that entry, which follows by the client rule. `Blocked` exactly where the rule has
+    /// no act of the thread, with the first need that isn't met; `Over` exactly where the thread has ended, and where
+    /// there is no such thread; nothing is changed or sent then.
     ///
     /// It answers `NoMemory` where an allocation was refused; the client is spent then.
     pub fn act(
@@ -158,9 +158,10 @@ impl Client {
         act(alloc, code, &mut self.kept, index)
     }
 
-    /// Takes a message of the server, and answers what the client sends. Whatever entries the client stood for: where the
-    /// message fits, it stands for them with the entry that takes it and sends these leases back, which follows by the client
-    /// rule; a message that doesn't fit changes and sends nothing. The shape is that of the code of the threads.
+    /// Takes a message of the server, and answers what the client sends. Whatever entries the client stood for: where
+    /// the message fits, it stands for them with the entry that takes it and sends these leases back, which follows by
+    /// the client rule; a message that doesn't fit changes and sends nothing. The shape is that of the code of the
+    /// threads.
     ///
     /// It answers `NoMemory` where an allocation was refused; the client is spent then.
     pub fn take(&mut self, alloc: Global, code: &Code, message: &Down) -> Result<Vec<Up>, NoMemory>
@@ -172,8 +173,9 @@ impl Client {
         take(alloc, &mut self.kept, &code.shape, message)
     }
 
-    /// Flushes an object: the table's victim, which may be flushed where more objects are resident than the client is to
-    /// keep. Whatever entries the client stood for, it stands for them with the flush, which follows by the client rule.
+    /// Flushes an object: the table's victim, which may be flushed where more objects are resident than the client is
+    /// to keep. Whatever entries the client stood for, it stands for them with the flush, which follows by the client
+    /// rule.
     ///
     /// None, with nothing changed, exactly where the rule has no flush. It takes no memory.
     pub fn flush(&mut self) -> Option<u64>
@@ -195,8 +197,8 @@ impl Client {
         self.kept.table.victim().is_some()
     }
 
-    /// Whether the client rule has an act of the thread of this index: its next request can be answered, or what it lacks
-    /// asked for. False where there is no such thread. It takes no memory.
+    /// Whether the client rule has an act of the thread of this index: its next request can be answered, or what it
+    /// lacks asked for. False where there is no such thread. It takes no memory.
     pub fn enabled(&self, index: u8) -> bool
         ensures enabled { IsEnabled self.now index result }
         ensures absent { WhereAbsent self.now index (result ≡ false) }
@@ -207,8 +209,8 @@ impl Client {
         }
     }
 
-    /// Whether the thread of this index has ended: it has no next request. True where there is no such thread. It takes no
-    /// memory.
+    /// Whether the thread of this index has ended: it has no next request. True where there is no such thread. It takes
+    /// no memory.
     pub fn is_over(&self, index: u8) -> bool
         ensures over { TellsOver self.now index result }
         ensures absent { WhereAbsent self.now index (result ≡ true) }

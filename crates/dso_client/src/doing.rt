@@ -72,8 +72,8 @@ fn take_turn(
     }
 }
 
-/// The thread of this index makes its next request, where it can: the request is answered, or what it lacks is asked for. Nothing is
-/// changed or sent where it can't, and where there is no such request.
+/// The thread of this index makes its next request, where it can: the request is answered, or what it lacks is asked
+/// for. Nothing is changed or sent where it can't, and where there is no such request.
 ///
 /// It answers `NoMemory` where an allocation was refused.
 pub(crate) fn act(

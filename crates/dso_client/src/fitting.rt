@@ -25,7 +25,7 @@ use dso_law::{fits_shape, kind_at};
 use dso_table::Table;
 
 /// The greatest id with which a batch of 256 can begin.
-const LAST_FIRST: u64 = u64::MAX - 256;
+pub(crate) const LAST_FIRST: u64 = u64::MAX - 256;
 
 /// Whether a batch of ids fits: one is asked for, and the batch is behind all those before and ends within 64 bits.
 fn fits_ids(ledger: &Ledger, first: u64) -> bool
@@ -124,7 +124,8 @@ fn may_wake(kept: &Kept, lock: LockName, index: u8) -> bool
     }
 }
 
-/// Whether a waking fits: the thread is one of the client's, waits on the lock, isn't marked and isn't in the client's list.
+/// Whether a waking fits: the thread is one of the client's, waits on the lock, isn't marked and isn't in the client's
+/// list.
 fn fits_wake(kept: &Kept, lock: LockName, thread: ThreadId) -> bool
     ensures { (at : Point) → KeptStands at kept.now → IsTrue result ↔ FitsWake at.client lock thread at.entries }
 {

@@ -31,8 +31,8 @@ fn go_on(
     next_request(alloc, code, seat.id, &mut seat.thread)
 }
 
-/// The thread of this index, which has a request out, hears the reply; its next request, None where it has ended. Its seat
-/// still has the request that was answered.
+/// The thread of this index, which has a request out, hears the reply; its next request, None where it has ended. Its
+/// seat still has the request that was answered.
 ///
 /// It answers `NoMemory` where an allocation was refused.
 pub(crate) fn go_on_at(

@@ -16,6 +16,7 @@ ghost use Rattle.dso_client.specs.SeatPlaces.{running, with_mark};
 ghost use Rattle.dso_client.specs.Touching.{resumed_lock, touched};
 ghost use Rattle.dso_client.specs.TableStands.{TableStands};
 
+use crate::fitting::LAST_FIRST;
 use crate::kept::Kept;
 use crate::ledger::Ledger;
 use crate::locking::Locking;
@@ -24,9 +25,6 @@ use dso_base::{Body, Down, Level, LockName, NoMemory, Request, Set};
 use dso_lookup::take;
 use dso_table::Table;
 use std::alloc::Global;
-
-/// The greatest id with which a batch of 256 can begin.
-const LAST_FIRST: u64 = u64::MAX - 256;
 
 /// A batch of ids that fits. It takes no memory.
 pub(crate) fn hear_ids(ledger: &mut Ledger, first: u64)

@@ -23,8 +23,8 @@ use dso_base::{Level, LockName, Request, ThreadId};
 use dso_table::Table;
 
 /// What a request can lack: an id; that the object is resident; that it has the class and size that the thread saw; the
-/// thread's mark; a lease of this level that admits; that this other thread leaves the lock, which is wanted at the level;
-/// the acknowledgement of the thread's last record.
+/// thread's mark; a lease of this level that admits; that this other thread leaves the lock, which is wanted at the
+/// level; the acknowledgement of the thread's last record.
 #[derive(Clone, Copy, Debug, PartialEq, Eq)]
 pub enum Lack {
     Id,
@@ -47,8 +47,8 @@ fn look_lack(table: &Table, seat: &Seat, object: u64) -> Option<Lack>
     }
 }
 
-/// Whether an object that is there is such as the thread's latest look saw it. The thread's own objects are, and so is the
-/// object of the roots.
+/// Whether an object that is there is such as the thread's latest look saw it. The thread's own objects are, and so is
+/// the object of the roots.
 fn is_as_seen(table: &Table, seat: &Seat, object: u64) -> bool
     ensures { (at : Point) → KnowsObject at table.now seat.now object → result ≡ (is_some (own at.settings.shape seat.now.id object at.entries)
         || (eqb object 0 || is_seen_class (class_held object at.entries) (last_seen seat.now.id at.entries))) }

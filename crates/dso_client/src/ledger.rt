@@ -2,8 +2,8 @@
 use dso_ids::IdPool;
 use dso_txn::Unacked;
 
-/// The ids for new objects; whether a batch was asked for and didn't come yet; how many records were sent, and the numbers of
-/// those that aren't acknowledged.
+/// The ids for new objects; whether a batch was asked for and didn't come yet; how many records were sent, and the
+/// numbers of those that aren't acknowledged.
 #[derive(Drop)]
 pub struct Ledger {
     pub pool: IdPool,

@@ -1,7 +1,7 @@
 //! The client: its threads act on the copies, leases and ids that it has, and it takes what the server sends.
 //!
-//! What it keeps stands for its entries in a journal (`ClientStands`), and each call makes the entry that the client rule
-//! allows there.
+//! What it keeps stands for its entries in a journal (`ClientStands`), and each call makes the entry that the client
+//! rule allows there.
 #![tactic(auto)]
 
 mod acted;

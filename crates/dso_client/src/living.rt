@@ -32,8 +32,8 @@ pub(crate) fn live_ledger(ledger: &mut Ledger, act: Answered)
     }
 }
 
-/// The thread acted, so it wants no object; its open block is closed where the act is an ending, and else puts to the object of
-/// a done put.
+/// The thread acted, so it wants no object; its open block is closed where the act is an ending, and else puts to the
+/// object of a done put.
 ///
 /// It answers `NoMemory` where an allocation was refused.
 pub(crate) fn live_table(
@@ -128,8 +128,8 @@ fn done_lists(
     Ok(())
 }
 
-/// A thread that waits stands at the end of the client's list of its lock; one that gives up or is woken stands in it no
-/// longer; and a notification of all empties it.
+/// A thread that waits stands at the end of the client's list of its lock; one that gives up or is woken stands in it
+/// no longer; and a notification of all empties it.
 ///
 /// It answers `NoMemory` where an allocation was refused.
 pub(crate) fn live_lists(

@@ -76,8 +76,8 @@ pub(crate) fn live_hand(
     }
 }
 
-/// The thread's open block is closed: the record of the work in hand, with this number and this ending. Its private objects
-/// stay, and the block is empty then.
+/// The thread's open block is closed: the record of the work in hand, with this number and this ending. Its private
+/// objects stay, and the block is empty then.
 ///
 /// It answers `NoMemory` where an allocation was refused.
 pub(crate) fn close(

@@ -139,8 +139,8 @@ fn done_holds(
     }
 }
 
-/// What an act makes of the holds: an entry and an exit count one up and one down; a wait gives the whole hold up, and a resume
-/// has it again. No lock is held more often than before by more than one.
+/// What an act makes of the holds: an entry and an exit count one up and one down; a wait gives the whole hold up, and
+/// a resume has it again. No lock is held more often than before by more than one.
 ///
 /// It answers `NoMemory` where an allocation was refused.
 pub(crate) fn live_holds(

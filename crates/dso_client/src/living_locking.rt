@@ -16,7 +16,8 @@ use crate::seat::Waiting;
 use dso_base::NoMemory;
 use std::alloc::Global;
 
-/// What an act makes of the holds, the leases and the lists of waiters. No lock is held more often than before by more than one.
+/// What an act makes of the holds, the leases and the lists of waiters. No lock is held more often than before by more
+/// than one.
 ///
 /// It answers `NoMemory` where an allocation was refused.
 pub(crate) fn live_locking(

@@ -53,8 +53,8 @@ fn live_used(table: &mut Table, seat: &Seat, request: Request) -> Result<(), NoM
     }
 }
 
-/// What an answered request makes of the work that its thread has in hand; where the act is an ending, the block is closed, which
-/// gives the record of this number.
+/// What an answered request makes of the work that its thread has in hand; where the act is an ending, the block is
+/// closed, which gives the record of this number.
 ///
 /// It answers `NoMemory` where an allocation was refused.
 fn live_seat(
@@ -80,8 +80,8 @@ fn live_seat(
     }
 }
 
-/// What an answered request of the thread of this index makes of the objects, the ids and the work that the thread has in hand;
-/// and the record that is to be sent, where the act is an ending. The seats stay but for that work.
+/// What an answered request of the thread of this index makes of the objects, the ids and the work that the thread has
+/// in hand; and the record that is to be sent, where the act is an ending. The seats stay but for that work.
 ///
 /// It answers `NoMemory` where an allocation was refused.
 pub(crate) fn live_objects(

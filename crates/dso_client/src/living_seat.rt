@@ -24,8 +24,8 @@ pub(crate) fn seen_after(act: Answered, before: Option<(ClassId, u32)>) -> Optio
     }
 }
 
-/// Whether a thread is marked once the request was answered: its own wait unmarks it; its own timeout marks it where the
-/// client's list of the lock has it, and so does a notification of all; and a notification marks whom it wakes.
+/// Whether a thread is marked once the request was answered: its own wait unmarks it; its own timeout marks it where
+/// the client's list of the lock has it, and so does a notification of all; and a notification marks whom it wakes.
 pub(crate) fn marked_after(locking: &Locking, seat: &Seat, act: Answered) -> bool
     ensures { (clock : ℕ) (at : Point) → LockingStands at locking.now → seat.now.is_marked ≡ is_marked seat.now.id at.entries
         → result ≡ is_marked seat.now.id (lived clock act at).entries }
@@ -43,7 +43,8 @@ pub(crate) fn marked_after(locking: &Locking, seat: &Seat, act: Answered) -> boo
     }
 }
 
-/// The lock that the acting thread waits on, once it acted: its wait, with the count of its hold before; none once it goes on.
+/// The lock that the acting thread waits on, once it acted: its wait, with the count of its hold before; none once it
+/// goes on.
 pub(crate) fn waiting_after(
     locking: &Locking,
     act: Answered,

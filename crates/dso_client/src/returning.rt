@@ -126,8 +126,8 @@ fn add_wanted(kept: &Kept, seats: &[Seat], due: &mut Vec<LockName>) -> Result<()
     }
 }
 
-/// The locks whose leases are to be given back, rising: of these only the lock that was left, and those that threads next
-/// want at `Write`, can be.
+/// The locks whose leases are to be given back, rising: of these only the lock that was left, and those that threads
+/// next want at `Write`, can be.
 fn due_locks(alloc: Global, kept: &Kept, left: Option<LockName>) -> Result<Vec<LockName>, NoMemory>
     ensures { IfOk result (λ locks. (at : Point) → PartsStand at kept.now → OnlyThese at left → locks.items ≡ due at.settings at.client at.next at.entries) }
 {
@@ -168,8 +168,8 @@ fn return_all(
     }
 }
 
-/// Gives back the leases that an act made due, rising: those of the lock that it left, and of locks that threads next want at
-/// `Write`. The next requests of the seats are those after the act.
+/// Gives back the leases that an act made due, rising: those of the lock that it left, and of locks that threads next
+/// want at `Write`. The next requests of the seats are those after the act.
 ///
 /// It answers `NoMemory` where an allocation was refused.
 pub(crate) fn settle_act(
@@ -230,8 +230,8 @@ fn is_returned(sent: &[Up], lock: LockName) -> bool
     }
 }
 
-/// The lock that is to be asked for again: a thread next enters it at `Write`, its lease wasn't closing before the act, and the
-/// act gives it back.
+/// The lock that is to be asked for again: a thread next enters it at `Write`, its lease wasn't closing before the act,
+/// and the act gives it back.
 fn asked_again(next: Option<Request>, was_closing: bool, sent: &[Up]) -> Option<LockName>
     ensures { result ≡ asked_again next was_closing sent.now }
 {
@@ -247,8 +247,8 @@ fn asked_again(next: Option<Request>, was_closing: bool, sent: &[Up]) -> Option<
     }
 }
 
-/// Asks again for the lock that the acting thread next enters, by its next request after the act, where the act gave its lease
-/// back for this thread alone: the lease wasn't closing before the act. What the act gave back is told.
+/// Asks again for the lock that the acting thread next enters, by its next request after the act, where the act gave
+/// its lease back for this thread alone: the lease wasn't closing before the act. What the act gave back is told.
 ///
 /// It answers `NoMemory` where an allocation was refused.
 pub(crate) fn ask_again(

@@ -46,8 +46,8 @@ impl Waiting {
     }
 }
 
-/// A thread with what its client keeps of it: its next request, None where it has ended; the work that it has in hand; the
-/// class and size that its latest look saw; the lock that it waits on; whether it is marked; the number of its last
+/// A thread with what its client keeps of it: its next request, None where it has ended; the work that it has in hand;
+/// the class and size that its latest look saw; the lock that it waits on; whether it is marked; the number of its last
 /// record.
 #[derive(Drop)]
 pub struct Seat {

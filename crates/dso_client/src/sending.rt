@@ -57,8 +57,8 @@ fn send_set(alloc: Global, table: &mut Table, change: Set, seq: u64) -> Result<(
     }
 }
 
-/// The objects that a record publishes are resident, and the copies of others have the values that it sets; the number of the
-/// record is the mark of each.
+/// The objects that a record publishes are resident, and the copies of others have the values that it sets; the number
+/// of the record is the mark of each.
 ///
 /// It answers `NoMemory` where an allocation was refused.
 fn send_objects(alloc: Global, table: &mut Table, txn: &Txn) -> Result<(), NoMemory>

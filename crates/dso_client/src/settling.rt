@@ -60,8 +60,8 @@ fn is_lease_due(kept: &Kept, lock: LockName, lease: Lease) -> bool
     (lease.is_closing || is_awaited) && (lease.is_entered && is_free(kept, lock))
 }
 
-/// Whether there is a lease of the lock that is to be given back: it is closing and was entered, and no thread of the client
-/// holds the lock. It takes no memory.
+/// Whether there is a lease of the lock that is to be given back: it is closing and was entered, and no thread of the
+/// client holds the lock. It takes no memory.
 pub(crate) fn is_due(kept: &Kept, lock: LockName) -> bool
     ensures { (at : Point) → PartsStand at kept.now
         → result ≡ (is_some (leased lock at.entries) && is_due at.settings at.client at.next lock at.entries) }
@@ -72,8 +72,8 @@ pub(crate) fn is_due(kept: &Kept, lock: LockName) -> bool
     }
 }
 
-/// Gives up a lease that is to be given back: the lock is neither leased nor asked for. It takes no memory then, and answers
-/// `NoMemory` only where there is no lease.
+/// Gives up a lease that is to be given back: the lock is neither leased nor asked for. It takes no memory then, and
+/// answers `NoMemory` only where there is no lease.
 fn give_up(leases: &mut Leases, lock: LockName) -> Result<(), NoMemory>
     ensures { OnOk result ((lease : lease.Lease) → standing_in leases.old lock ≡ Some (standing.Leased lease) → lease.is_entered ≡ true
         → (lease.is_closing || is_read (Some lease.level)) ≡ true → standing_in leases.new ≡ with_standing lock None (standing_in leases.old)) }

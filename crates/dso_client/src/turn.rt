@@ -72,8 +72,8 @@ fn look_turn(kept: &Kept, seat: &Seat, object: u64) -> Turn
     }
 }
 
-/// The turn of a thread that reads or writes a field of this object, which is there: where it has no such field there is no
-/// reply.
+/// The turn of a thread that reads or writes a field of this object, which is there: where it has no such field there
+/// is no reply.
 fn field_turn(object: u64, reply: Option<Reply>) -> Turn
     ensures { result ≡ field_turn object reply }
 {

@@ -1,10 +1,10 @@
 -- What is given for the two texts, and the verdict on it.
-use Rattle.std.proofs.Common.{◌≡◌, ◌≢◌, ℕ, List, refl, subst, Result, Ok, Err, IfOk}
+use Rattle.std.proofs.Common.{◌≢◌, ℕ, List, refl, subst, Result, Ok, Err, IfOk}
 use Rattle.dso_base.specs.declared.no_memory.NoMemory.{NoMemory}
 use Rattle.dso_config.specs.declared.config.Config.{Config}
 use Rattle.dso_config.specs.declared.fault.ConfigFault.{ConfigFault}
 use Rattle.dso_config.specs.declared.fault.ConfigFault.TheVariants as fault
-use Rattle.dso_config.specs.Configuration.{IsConfigurationOf, IsFaultOf}
+use Rattle.dso_config.specs.Configuration.{IsFaultOf}
 use Rattle.dso_io.specs.Environment.{Told, MayGive, Rose}
 use Rattle.dso_run.specs.declared.verdict.Verdict.{Verdict}
 use Rattle.dso_run.specs.declared.verdict.Verdict.TheVariants.{Refused, Accepted}
@@ -14,8 +14,8 @@ use Rattle.dso_run.specs.declared.status.Refusal.TheVariants.{Words, Reading, Pr
 use Rattle.dso_run.specs.declared.status.Refusal.TheVariants as refusal
 use Rattle.dso_run.specs.Accepted.{IsConfigRefusal}
 use Rattle.dso_run.specs.Files.{AreAsBefore}
-use Rattle.dso_run.specs.Headline.{CallInput, FilesGive, HasCause, IsAccepted, LoadGives, most_read}
-use Rattle.dso_run.specs.Verdict.{IsVerdictBy, IsVerdictOn, IsVerdictOnGiven, IsVerdictOnProgram, IsVerdictOnTexts}
+use Rattle.dso_run.specs.Headline.{CallInput, FilesGive, HasCause, IsAccepted, most_read}
+use Rattle.dso_run.specs.Verdict.{IsVerdictBy, IsVerdictOn, IsVerdictOnGiven, IsVerdictOnTexts}
 use Rattle.dso_words.specs.Words.{AreLawful, Command}
 
 -- A configuration that has a fault is refused for it.
@@ -30,20 +30,6 @@ fault_refused config program (fault.Twice spot) enough is = is
 fault_refused config program fault.TooLong enough is = is
 fault_refused config program (fault.BadName spot) enough is = is
 fault_refused config program fault.NoMemory enough is = absurd (enough refl)
-
--- what a program's text comes to under the configuration is what the texts come to
-module _ (config_text program_text : List ℕ) (config : Config) (says : IsConfigurationOf config_text config) where
-  texts_on : (verdict : Verdict) → IsVerdictOnProgram config program_text verdict → IsVerdictOnTexts config_text program_text verdict
-  texts_on (Refused Words) never = absurd never
-  texts_on (Refused Reading) never = absurd never
-  texts_on (Refused (refusal.Config wrong)) never = absurd never
-  texts_on (Refused (Program which)) is = record { config = config; says = says; holds = is }
-  texts_on (Accepted p) is = record { config = config; says = says; holds = is }
-
-  pub texts_if_ok : (result : Result Verdict NoMemory) → IfOk result (IsVerdictOnProgram config program_text)
-      → IfOk result (IsVerdictOnTexts config_text program_text)
-  texts_if_ok (Ok verdict) is = texts_on verdict is
-  texts_if_ok (Err e) is = is
 
 -- what the texts come to that are given is the verdict on them
 module _ (Given : List ℕ → List ℕ → Type 0) (failed : Type 0) (config_text program_text : List ℕ) (given : Given config_text program_text) where

@@ -7,7 +7,7 @@ use Rattle.dso_base.specs.declared.shape.Shape.{Shape}
 use Rattle.dso_plain.specs.After.{after}
 use Rattle.dso_plain.specs.History.{Runs, end_of}
 use Rattle.dso_plain.specs.Possible.{May}
-use Rattle.dso_plain.specs.State.{PlainState, opening}
+use Rattle.dso_plain.specs.State.{opening}
 use Rattle.dso_plain.proofs.independence.RunsSwap.{runs_in_parts, ends_in_parts}
 
 module _ (shape : Shape) (events : List Event) (i : ℕ) (d : Event) (here : i < length events) (runs : Runs shape events (opening shape)) where
@@ -19,8 +19,3 @@ module _ (shape : Shape) (events : List Event) (i : ℕ) (d : Event) (here : i <
   -- and leads to where the next one stands
   pub leads : after shape (get_or events i d) (end_of shape (take i events) (opening shape)) ≡ end_of shape (take (i + 1) events) (opening shape)
   leads = sym (ends_in_parts shape (take i events) (get_or events i d ∷ []) (opening shape)) ∙ ap (λ first. end_of shape first (opening shape)) (sym (take_more events i d here))
-
--- what isn't refused was made
-pub not_refused : (shape : Shape) (e : Event) (before next : PlainState) (made : Bool) → May shape e before → (made ≡ true → May shape e before × (next ≡ after shape e before)) → (made ≡ false → (May shape e before → ⊥) × (next ≡ before)) → next ≡ after shape e before
-not_refused shape e before next true may made refused = (made refl).1
-not_refused shape e before next false may made refused = absurd ((refused refl).0 may)

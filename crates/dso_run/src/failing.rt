@@ -9,8 +9,8 @@ ghost use Rattle.dso_run.specs.RunEnds.{is_faulty};
 
 use dso_base::{Entry, Event, Input, Node, Request, ThreadId};
 
-/// Whether a kept thread of these, one of a client that isn't lost, ended by a fault. It walks the journal once, and once
-/// more for each fault of one of these threads.
+/// Whether a kept thread of these, one of a client that isn't lost, ended by a fault. It walks the journal once, and
+/// once more for each fault of one of these threads.
 pub(crate) fn is_faulty(threads: &[ThreadId], entries: &[Entry]) -> bool
     ensures { result ≡ is_faulty threads.now (reverse entries.now) }
 {

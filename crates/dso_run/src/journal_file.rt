@@ -10,10 +10,11 @@ use dso_io::{FileFault, Files};
 use dso_report::journal_text;
 use std::alloc::Global;
 
-/// Writes the text of a journal to the file of this name, in the place of what the file holds; where no name is given, nothing.
+/// Writes the text of a journal to the file of this name, in the place of what the file holds; where no name is given,
+/// nothing.
 ///
-/// `Failed` is answered where the file couldn't be written, and the files counted it; `NoMemory` where an allocation was refused. No
-/// file is changed then.
+/// `Failed` is answered where the file couldn't be written, and the files counted it; `NoMemory` where an allocation
+/// was refused. No file is changed then.
 pub(crate) fn keep_journal<F: Files>(
     alloc: Global,
     name: Option<&str>,

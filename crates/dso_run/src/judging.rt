@@ -18,7 +18,8 @@ use std::alloc::Global;
 /// The most bytes that are read of a file: one more than a text may have.
 const MOST_READ: u64 = 1_048_577;
 
-/// Reads the files that a command names, or makes the load that it asks for, and judges the configuration and under it the program.
+/// Reads the files that a command names, or makes the load that it asks for, and judges the configuration and under it
+/// the program.
 pub(crate) fn judge<F: Files>(
     alloc: Global,
     command: Command<'_>,

@@ -62,8 +62,9 @@ fn run_and_tell(
     Ok((run, text))
 }
 
-/// Runs a program as a command asks; keeps the journal, where the command names a file for it; and then writes what is told of the
-/// run. All texts but the journal's are made before the first is written, and that one before the file is touched.
+/// Runs a program as a command asks; keeps the journal, where the command names a file for it; and then writes what is
+/// told of the run. All texts but the journal's are made before the first is written, and that one before the file is
+/// touched.
 fn run_and_write<F: Files, K: Sink>(
     alloc: Global,
     program: &Program,
@@ -139,12 +140,12 @@ fn nothing_ran(alloc: Global, status: Status) -> Done
 /// Does all that the program does: it reads the words and the files, runs the program and writes what is to be printed.
 ///
 /// The words are those after the program's name. The order is: the words, reading the configuration, reading the
-/// program, judging the configuration, judging the program, the run, writing: the journal to its file, where the words name one, and
-/// then what is told of the run. With `big` the texts of the generated load stand for those that are read, and the line of the load for
-/// the report. Clause
-/// `answer` is the table of the statuses: what each means of the words, the files, the journal and the sink. So each
-/// status has its cause, and where the cause of one is there no other can be answered but `WriteFault`, where the sink's
-/// count or the files' count of writes rose, and `NoMemory`, where an allocation was refused.
+/// program, judging the configuration, judging the program, the run, writing: the journal to its file, where the words
+/// name one, and then what is told of the run. With `big` the texts of the generated load stand for those that are
+/// read, and the line of the load for the report. Clause `answer` is the table of the statuses: what each means of the
+/// words, the files, the journal and the sink. So each status has its cause, and where the cause of one is there no
+/// other can be answered but `WriteFault`, where the sink's count or the files' count of writes rose, and `NoMemory`,
+/// where an allocation was refused.
 pub fn dso_main<F: Files, K: Sink>(
     alloc: Global,
     words: &[String],

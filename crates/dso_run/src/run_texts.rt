@@ -15,8 +15,8 @@ use dso_report::{counter_total, report};
 use dso_words::Command;
 use std::alloc::Global;
 
-/// What is told of the history that a run's journal commits. The history is played on one heap, and of the state where it ends the
-/// report is told, or with `big` what the counters come to.
+/// What is told of the history that a run's journal commits. The history is played on one heap, and of the state where
+/// it ends the report is told, or with `big` what the counters come to.
 pub(crate) fn run_text(
     alloc: Global,
     program: &Program,

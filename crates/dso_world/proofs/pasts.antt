@@ -3,4 +3,3 @@ pub mod Courses
 pub mod Posting
 pub mod OwnEntry
 pub mod ServerEntry
-pub mod LastClock

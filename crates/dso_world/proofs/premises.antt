@@ -3,6 +3,5 @@
 pub mod OwnRun
 pub mod SoundPrograms
 pub mod Sizes
-pub mod Replies
 pub mod WhatComes
 pub mod ClientRejoined

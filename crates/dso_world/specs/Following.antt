@@ -1,5 +1,5 @@
 -- What an entry makes of the board. Entries stand with the newest first.
-use Rattle.std.specs.Prelude.{ℕ, ◌≡◌, ◌+◌, List, ◌∷◌, length, map, slice_get, Some}
+use Rattle.std.specs.Prelude.{ℕ, ◌≡◌, List, ◌∷◌, length, map, slice_get}
 use Rattle.dso_base.specs.declared.journal.Entry.{Entry}
 use Rattle.dso_class.specs.declared.program.Program.{Program}
 use Rattle.dso_legal.specs.Slots.{is_open, slots}

@@ -1,18 +1,15 @@
 -- What the messages that an entry sends make of the connections.
 use Rattle.std.specs.Prelude.{ℕ, suc, cond, eqb, max, Option, List, [], ◌∷◌, map}
 use Rattle.dso_base.specs.declared.journal.Entry.{Entry}
-use Rattle.dso_base.specs.declared.journal.Input.{Input}
 use Rattle.dso_base.specs.declared.journal.Node.TheVariants as node
 use Rattle.dso_base.specs.declared.journal.Sent.TheVariants.{ToServer}
 use Rattle.dso_base.specs.declared.message.Down.{Down}
 use Rattle.dso_base.specs.declared.message.Up.{Up}
-use Rattle.dso_base.specs.declared.request.Event.{Event}
 use Rattle.dso_server.specs.Sending.{sent_of}
 use Rattle.dso_world.specs.declared.both.Both.{Both}
 use Rattle.dso_world.specs.declared.both.Both.TheVariants as both
 use Rattle.dso_world.specs.declared.made.Made.{Made}
 use Rattle.dso_world.specs.declared.member.Member.{Member}
-use Rattle.dso_world.specs.declared.nodes.Nodes.{Nodes}
 use Rattle.dso_world.specs.Link.{Line, sent_down, sent_up}
 
 -- the client sends these messages, in their order

@@ -26,8 +26,8 @@ pub fn broken_is_never_due()
 
 /// Whatever happens to the connection of a client makes of it one that stands for what has happened: a message is sent
 /// by either end; a frame is taken, and gives up the next message of the other end; the connection breaks, and either
-/// end takes it up again. A frame is in flight exactly where one can be taken: on a joined connection where a message was
-/// sent and not taken, on a broken one to the client, and on one that the client has taken up again to the server.
+/// end takes it up again. A frame is in flight exactly where one can be taken: on a joined connection where a message
+/// was sent and not taken, on a broken one to the client, and on one that the client has taken up again to the server.
 pub fn links_go_on<M>()
     ensures { LinksGoOn M }
 {}
@@ -39,9 +39,9 @@ pub fn letters_are_left<M>()
     ensures { LettersAreLeft M }
 {}
 
-/// An entry of a client opens and closes no slot but those of that client, and none of a trigger. One of the server opens
-/// and closes no act and no flush; and only of the client whose message, loss, break or rejoin it is, what the server can
-/// do with that client.
+/// An entry of a client opens and closes no slot but those of that client, and none of a trigger. One of the server
+/// opens and closes no act and no flush; and only of the client whose message, loss, break or rejoin it is, what the
+/// server can do with that client.
 pub fn others_stay()
     ensures { OthersStay }
 {}
@@ -51,8 +51,8 @@ pub fn ended_asks_nothing()
     ensures { EndedAsksNothing }
 {}
 
-/// A journal is finished exactly where none of the clients is busy: of each no trigger is due; and it is lost, or all its
-/// threads have ended and no message is in flight between it and the server.
+/// A journal is finished exactly where none of the clients is busy: of each no trigger is due; and it is lost, or all
+/// its threads have ended and no message is in flight between it and the server.
 pub fn finished_where_none_is_busy()
     ensures { FinishedWhereNoneIsBusy }
 {}

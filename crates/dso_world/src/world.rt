@@ -22,8 +22,8 @@ use std::alloc::Global;
 /// journal of all that they did. It goes on step by step; which step is next is the caller's choice.
 ///
 /// Contracts say of which program it is (`WorldStands`): its journal is lawful for that program, also once the world is
-/// spent, which it is after `NoMemory`. A step costs the logarithm of what the nodes hold, times the number of a client's
-/// threads, and a pass over the slots; no call walks the journal.
+/// spent, which it is after `NoMemory`. A step costs the logarithm of what the nodes hold, times the number of a
+/// client's threads, and a pass over the slots; no call walks the journal.
 #[derive(Drop)]
 pub struct World {
     pub(crate) is_spent: bool,
@@ -54,8 +54,8 @@ impl World {
         })
     }
 
-    /// Makes the step, which is one of the world's program: true, with one entry more at the slot of the step, where that
-    /// is open, and false with nothing changed exactly where it isn't. The journal has fewer than 2^28 entries.
+    /// Makes the step, which is one of the world's program: true, with one entry more at the slot of the step, where
+    /// that is open, and false with nothing changed exactly where it isn't. The journal has fewer than 2^28 entries.
     ///
     /// It answers `NoMemory` where an allocation was refused: the world is spent then, with the journal that it had. A
     /// spent world answers it to every step.
@@ -111,7 +111,8 @@ impl World {
         self.board.is_open(step)
     }
 
-    /// The step that is taken next: by round robin, or by the seed. None exactly where no slot is open. It takes no memory.
+    /// The step that is taken next: by round robin, or by the seed. None exactly where no slot is open. It takes no
+    /// memory.
     pub fn choose(&mut self, seed: Option<u64>) -> Option<Step>
         ensures chosen { (program : Program) → WorldStands program self.old → self.old.is_spent ≡ false
             → IsChosenStep program seed result self.old }
@@ -120,8 +121,8 @@ impl World {
         self.board.choose(seed)
     }
 
-    /// Whether every thread of a client that isn't lost has ended, no message between the server and such a client is in
-    /// flight, and no loss or break is due. It takes no memory.
+    /// Whether every thread of a client that isn't lost has ended, no message between the server and such a client is
+    /// in flight, and no loss or break is due. It takes no memory.
     pub fn finished(&self) -> bool
         ensures { (program : Program) → WorldStands program self.now → self.now.is_spent ≡ false
             → result ≡ is_finished (settings_of program) (entries_in self.now) }

@@ -1,7 +1,7 @@
 //! Rows of calls of the parts of a client and of a server, with what each answers.
 //!
-//! A row of the input is a sentence, `: `, and a command; it is printed as the sentence, `: `, and the answer. Any other
-//! line is printed as it stands, and all parts are new from there on. The commands are told in `parts.rt`.
+//! A row of the input is a sentence, `: `, and a command; it is printed as the sentence, `: `, and the answer. Any
+//! other line is printed as it stands, and all parts are new from there on. The commands are told in `parts.rt`.
 #![tactic(auto)]
 
 mod block_rows;

@@ -5,7 +5,8 @@ use dso_base::{Level, LockName, NoMemory};
 use dso_lease::{Leases, Want};
 use std::alloc::Global;
 
-/// How one of four locks stands: its lease's level, whether it was entered and is closing, and whether it was asked for.
+/// How one of four locks stands: its lease's level, whether it was entered and is closing, and whether it was asked
+/// for.
 #[derive(Clone, Copy)]
 struct Row {
     level: Option<Level>,

@@ -42,8 +42,8 @@ pub fn compared_locks(alloc: Global, first: &str, second: &str) -> Result<String
 }
 
 impl Comparison for LockComparison {
-    /// One call in fifty loses a client; of the others a client returns a lease that it has, and requests a lock that it
-    /// neither has nor waits for.
+    /// One call in fifty loses a client; of the others a client returns a lease that it has, and requests a lock that
+    /// it neither has nor waits for.
     fn agrees(&mut self, alloc: Global, drawn: u64) -> Result<bool, NoMemory> {
         let (locks, lists) = (&mut self.locks, &mut self.lists);
         let row = Row {

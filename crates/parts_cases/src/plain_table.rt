@@ -11,9 +11,9 @@ use std::alloc::Global;
 /// How many objects are to be kept.
 const LIMIT: u32 = 2;
 
-/// What is known of one of six objects: whether it was asked for and isn't resident yet, the value of its copy's field, the
-/// number of the last record that changed it and isn't acknowledged, and of each of two threads whether its open block puts
-/// to the object and whether it wants it.
+/// What is known of one of six objects: whether it was asked for and isn't resident yet, the value of its copy's field,
+/// the number of the last record that changed it and isn't acknowledged, and of each of two threads whether its open
+/// block puts to the object and whether it wants it.
 #[derive(Clone, Copy)]
 struct Row {
     is_asked: bool,

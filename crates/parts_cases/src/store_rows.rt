@@ -1,6 +1,6 @@
 //! The server's graph, of two roots: `publish 1 7 5` (client 1's record 7 publishes object 5, an array of two longs),
-//! `set 1 8 5 0 9` (its record 8 sets element 0 of object 5 to 9), `others 1 8 5 0 9` (who is told of that record), `hold 1 5`,
-//! `unhold 1 5`, `lose 1`, `holds 1 5`, `last 1`, `object 5`, `random 7 500`.
+//! `set 1 8 5 0 9` (its record 8 sets element 0 of object 5 to 9), `others 1 8 5 0 9` (who is told of that record),
+//! `hold 1 5`, `unhold 1 5`, `lose 1`, `holds 1 5`, `last 1`, `object 5`, `random 7 500`.
 
 use crate::plain_store::compared_stores;
 use crate::store_records::{publishing, setting};

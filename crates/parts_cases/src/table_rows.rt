@@ -4,8 +4,8 @@
 //! An object has one field, a long. A number behind a `put` or a `set` is that of the own record that changed it.
 
 use crate::plain_table::compared_tables;
-use case_words::{count, debugged, first_of, long, number, shown, thread};
-use dso_base::{Body, ClassId, Items, NoMemory, Set, ThreadId, Value};
+use case_words::{count, debugged, first_of, long, number, shown, single, thread};
+use dso_base::{Body, ClassId, NoMemory, Set, ThreadId, Value};
 use dso_table::Table;
 use std::alloc::Global;
 
@@ -112,8 +112,7 @@ pub fn put_value(
     value: i64,
     changed: Option<u64>,
 ) -> Result<(), NoMemory> {
-    let mut values = Items::new(alloc);
-    values.push(Value::Long(value))?;
+    let values = single(alloc, Value::Long(value))?;
     let body = Body {
         object,
         class: ClassId::Plain(0),

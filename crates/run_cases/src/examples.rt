@@ -1,12 +1,9 @@
 //! The programs of the gallery, each run over the files of its folder.
-use crate::trial::{Answer, Trial, show_answer};
+use crate::trial::{Answer, ROOM, Trial, show_answer};
 use dso_base::NoMemory;
 use dso_io::{MemSink, StdFiles};
 use dso_run::dso_main;
 use std::{fs, io};
-
-/// How many bytes the sink has room for.
-const ROOM: usize = 4096;
 
 /// Runs the program of a folder, and prints how it ended; what its sink took, too, where that isn't the report that
 /// lies in the folder.

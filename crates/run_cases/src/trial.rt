@@ -7,7 +7,10 @@ use std::alloc::{AllocError, Global};
 use std::io;
 
 /// How many bytes the sink has room for.
-const ROOM: usize = 4096;
+pub const ROOM: usize = 4096;
+
+/// How many spaces stand in a file's place at most.
+const MOST_SPACES: usize = 1 << 21;
 
 /// What a call is tried on. The configuration is the file `c`, the program the file `p`. A call of number 0 is none.
 #[derive(Clone, Copy)]
@@ -98,7 +101,7 @@ impl<'a> Trial<'a> {
     /// The program's text.
     fn text(&self, alloc: Global) -> Result<String, AllocError> {
         if self.spaces > 0 {
-            return " ".repeat(alloc, self.spaces.min(1 << 21));
+            return " ".repeat(alloc, self.spaces.min(MOST_SPACES));
         }
         if self.old.is_empty() {
             return unescaped(alloc, self.program);
@@ -110,7 +113,7 @@ impl<'a> Trial<'a> {
     /// The configuration's text.
     fn config_text(&self, alloc: Global) -> Result<String, AllocError> {
         if self.config_spaces > 0 {
-            return " ".repeat(alloc, self.config_spaces.min(1 << 21));
+            return " ".repeat(alloc, self.config_spaces.min(MOST_SPACES));
         }
         unescaped(alloc, self.config)
     }
@@ -196,8 +199,8 @@ pub fn show_trial(rt: &HostRuntime, name: &str, trial: &Trial<'_>) -> io::Result
 }
 
 /// Tries these words over a configuration that is no TOML, and prints what becomes of them: the configuration's fault
-/// where the words are taken and name the two files, or what is wrong with the words or the names; of a load how its run
-/// ended.
+/// where the words are taken and name the two files, or what is wrong with the words or the names; of a load how its
+/// run ended.
 pub fn show_words(rt: &HostRuntime, line: &str) -> io::Result<()> {
     words_ask_once();
     let trial = Trial {

@@ -7,7 +7,7 @@ use std::io;
 const SEEDS: u64 = 10;
 
 /// The last number that stands in a configuration in the place of `K`.
-const LAST_NUMBER: u64 = 60;
+pub const LAST_NUMBER: u64 = 60;
 
 /// Tries the call by round robin and by each seed, and prints what it comes to where that differs from the one before.
 pub fn show_seeds(rt: &HostRuntime, name: &str, trial: &Trial<'_>) -> io::Result<()> {
@@ -86,49 +86,47 @@ fn is_same(answer: &Answer, last: &Option<Answer>) -> bool {
 fn show_counts(rt: &HostRuntime, name: &str, label: &str, trial: &Trial<'_>) -> io::Result<()> {
     match trial.answer(rt.alloc()) {
         Ok(answer) => {
-            let entries = answer.done.journal.entries.as_slice();
-            let grants = grant_count(entries);
-            let recalls = recall_count(entries);
-            let flushes = flush_count(entries);
+            let Counts {
+                grants,
+                recalls,
+                flushes,
+            } = counts_of(answer.done.journal.entries.as_slice());
             println!(rt; "{name}, {label}: {grants} grants, {recalls} recalls, {flushes} flushes")
         }
         Err(NoMemory) => println!(rt; "{name}, {label}: no memory"),
     }
 }
 
-/// How many leases the entries grant.
-fn grant_count(entries: &[Entry]) -> u64 {
-    let mut count: u64 = 0;
-    for entry in entries {
-        for sent in entry.sent.as_slice() {
-            if matches!(sent, Sent::ToClient(_, Down::Grant(..))) {
-                count = count.saturating_add(1);
-            }
-        }
-    }
-    count
+/// How many leases entries grant and recall, and how many objects they flush.
+struct Counts {
+    grants: u64,
+    recalls: u64,
+    flushes: u64,
 }
 
-/// How many leases the entries recall.
-fn recall_count(entries: &[Entry]) -> u64 {
-    let mut count: u64 = 0;
-    for entry in entries {
-        for sent in entry.sent.as_slice() {
-            if matches!(sent, Sent::ToClient(_, Down::Recall(..))) {
-                count = count.saturating_add(1);
-            }
-        }
-    }
-    count
-}
-
-/// How many of the entries flush an object.
-fn flush_count(entries: &[Entry]) -> u64 {
-    let mut count: u64 = 0;
+/// What the entries have of each kind.
+fn counts_of(entries: &[Entry]) -> Counts {
+    let mut counts = Counts {
+        grants: 0,
+        recalls: 0,
+        flushes: 0,
+    };
     for entry in entries {
         if matches!(entry.input, Input::Flush(_)) {
-            count = count.saturating_add(1);
+            counts.flushes = counts.flushes.saturating_add(1);
+        }
+        for sent in entry.sent.as_slice() {
+            count_sent(&mut counts, sent);
         }
     }
-    count
+    counts
+}
+
+/// Counts a message that is sent.
+fn count_sent(counts: &mut Counts, sent: &Sent) {
+    match sent {
+        Sent::ToClient(_, Down::Grant(..)) => counts.grants = counts.grants.saturating_add(1),
+        Sent::ToClient(_, Down::Recall(..)) => counts.recalls = counts.recalls.saturating_add(1),
+        _ => {}
+    }
 }

@@ -10,8 +10,9 @@
 //! | `afters NAME` | the program with each number from 0 to 60 in the place of `K` in the configuration, by round robin and by that number as its seed |
 //! | `walk SEED COUNT NAME` | so many steps that are drawn from the seed, those that aren't open too |
 //!
-//! Of each run it prints how it ended, how many entries the journal has, what it weighs, and the clock and the node of the
-//! last entry; of a walk how many steps made an entry, and at how many of them `enabled` said before what `step` then did.
+//! Of each run it prints how it ended, how many entries the journal has, what it weighs, and the clock and the node of
+//! the last entry; of a walk how many steps made an entry, and at how many of them `enabled` said before what `step`
+//! then did.
 #![tactic(auto)]
 
 mod draws;

@@ -3,7 +3,7 @@ ghost use Rattle.dso_class.specs.Sound.{IsSound};
 ghost use Rattle.dso_world.specs.WorldStands.{WorldStands};
 
 use crate::shown::{shown_refusal, shown_world};
-use crate::stepping::take;
+use crate::stepping::{MOST_ENTRIES, take};
 use case_programs::Case;
 use dso_base::NoMemory;
 use dso_class::Program;
@@ -15,9 +15,6 @@ const SEEDS: u64 = 100;
 
 /// How many numbers stand in a configuration in the place of `K`, from 0 on.
 const NUMBERS: u64 = 61;
-
-/// How many steps a run may have.
-const MOST_STEPS: u32 = 4_000_000;
 
 /// How a run ended.
 #[derive(Clone, Copy, Debug)]
@@ -120,7 +117,7 @@ fn run(
     requires sound { IsSound program.now }
     requires stands { WorldStands program.now world.old }
 {
-    for _turn in 0..MOST_STEPS {
+    for _turn in 0..MOST_ENTRIES {
         if world.finished() {
             return Ok(Ending::Finished);
         }

@@ -1,5 +1,4 @@
 //! A step of a cluster.
-ghost use Rattle.std.specs.Prelude.{◌≡◌};
 ghost use Rattle.dso_class.specs.Sound.{IsSound};
 ghost use Rattle.dso_world.specs.WorldStands.{WorldStands};
 
@@ -9,7 +8,7 @@ use dso_world::{Step, World};
 use std::alloc::Global;
 
 /// How many entries a journal may have.
-const MOST_ENTRIES: usize = 4_000_000;
+pub const MOST_ENTRIES: u32 = 4_000_000;
 
 /// Makes the step, where its slot is open and the journal has room: whether it was made.
 pub fn take(
@@ -22,7 +21,7 @@ pub fn take(
     requires stands { WorldStands program.now world.old }
     ensures { WorldStands program.now world.new }
 {
-    if world.journal().entries.len() < MOST_ENTRIES {
+    if world.journal().entries.len() < MOST_ENTRIES as usize {
         world.step(alloc, program, step)
     } else {
         Ok(false)

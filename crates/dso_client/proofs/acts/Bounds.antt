@@ -1,12 +1,11 @@
 -- How often locks are to be held again, once a request was answered.
 use Rattle.std.specs.List.{AllZip}
-use Rattle.std.proofs.Common.{◌≡◌, ◌≤◌, ℕ, zero, suc, refl, arith, List, [], ◌∷◌, map, slice_get}
+use Rattle.std.proofs.Common.{◌≡◌, ◌≤◌, ℕ, zero, suc, refl, List, [], ◌∷◌, map, slice_get}
 use Rattle.dso_client.specs.declared.answered.Answered.{Answered}
 use Rattle.dso_client.specs.declared.kept.Kept.{Kept}
 use Rattle.dso_client.specs.declared.locking.Locking.{Locking}
 use Rattle.dso_client.specs.declared.seat.Seat.{Seat}
 use Rattle.dso_client.specs.Acting.{HoldsAtMost, count_again}
-use Rattle.dso_client.specs.Entering.{count_owed}
 use Rattle.dso_client.specs.Living.{CountsAtMost}
 use Rattle.dso_client.specs.LivingSeats.{LivesOn, LiveOn}
 use Rattle.dso_client.specs.SeatPlaces.{seat_in}
@@ -31,10 +30,3 @@ pub most_kept : (old new : Kept) → new.locking.holds ≡ old.locking.holds →
 most_kept old new holds waits most h =
     let all = keeps_most old (record new { ledger = old.ledger }) (record { holds = holds; waits = waits; records = refl }) most h in
     record { held = all.held; waiting = all.waiting }
-
--- nor by more than one then
-pub one_more_most : (kept : Kept) (most : ℕ) → HoldsAtMost most kept → HoldsAtMost (suc most) kept
-one_more_most kept most h = record { held = λ t l. more _ (h.held t l); waiting = λ index. more _ (h.waiting index) }
-  where
-    more : (n : ℕ) → n ≤ most → n ≤ suc most
-    more n less = omega (arith, less)

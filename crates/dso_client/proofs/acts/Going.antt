@@ -16,10 +16,10 @@ use Rattle.dso_client.specs.LedgerStands.{LedgerStands}
 use Rattle.dso_client.specs.LockingStands.{LockingStands}
 use Rattle.dso_client.specs.Openings.{first_threads}
 use Rattle.dso_client.specs.Points.{Point}
-use Rattle.dso_client.specs.SeatPlaces.{seat_in, running}
+use Rattle.dso_client.specs.SeatPlaces.{running}
 use Rattle.dso_client.specs.SeatStands.{SeatStands}
 use Rattle.dso_client.specs.TableStands.{TableStands}
-use Rattle.dso_client.proofs.acts.Places.{seat_set, seat_of_all, set_there, told_set}
+use Rattle.dso_client.proofs.acts.Places.{seat_set, seat_of_all, told_set}
 
 module _ (at : Point) (code : Code) (reply : Reply) (old new : Kept) (index : ℕ) (next : Option Request) (gone : HasGoneOn code index reply old.seats.items new.seats.items next)
     (others : new ≡ record old { seats = new.seats }) where
@@ -48,10 +48,6 @@ module _ (at : Point) (code : Code) (reply : Reply) (old new : Kept) (index : �
     ledger = subst (LedgerStands at) (sym (ap (λ (kept : Kept). kept.ledger) others)) h.ledger;
     facts = h.facts;
   }
-
-  -- the seat of the thread is still there
-  pub gone_there : seat_in new.seats.items index ≡ Some now
-  gone_there = ap (λ seats. seat_in seats index) gone.set ∙ set_there old.seats.items index gone.seat now gone.there
 
 -- all waits are as they were
 pub waits_gone : (code : Code) (index : ℕ) (reply : Reply) (old new : List Seat) (next : Option Request) → HasGoneOn code index reply old new next

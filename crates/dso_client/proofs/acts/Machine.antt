@@ -1,9 +1,8 @@
 -- The acting thread has gone on to its next request.
 use Rattle.std.specs.List.{AllByRecursion}
-use Rattle.std.proofs.Common.{◌≡◌, ◌≢◌, ℕ, refl, sym, ◌∙◌, ap, subst, Bool, true, false, cond, Option, Some, None, List, [], ◌∷◌, ◌++◌, map, length}
+use Rattle.std.proofs.Common.{◌≡◌, ◌≢◌, ℕ, refl, sym, ◌∙◌, ap, subst, Bool, true, false, cond, Option, Some, List, [], ◌∷◌, ◌++◌, map, length}
 use Rattle.dso_base.specs.declared.journal.Entry.{Entry}
 use Rattle.dso_base.specs.declared.lock.ThreadId.{ThreadId}
-use Rattle.dso_base.specs.declared.request.Event.{Event}
 use Rattle.dso_base.specs.declared.request.Event.TheVariants.{Act}
 use Rattle.dso_base.specs.declared.request.Reply.{Reply}
 use Rattle.dso_base.specs.declared.request.Request.{Request}
@@ -60,9 +59,6 @@ module _ (code : Code) (clock c index : ℕ) (act : Answered) (es : List Entry) 
   pub asks_next : AllByRecursion (λ (seat : Seat). ThreadStands code seat.id seat.thread (events_in seat.id es)) old → next ≡ next_request code h.seat.id (events_in h.seat.id (lived_entry clock c act ∷ es))
   asks_next stands = h.goes.asks (events_in h.seat.id es) act.request act.woken (seat_of_all (λ (seat : Seat). ThreadStands code seat.id seat.thread (events_in seat.id es)) old index h.seat stands h.there)
       ∙ ap (next_request code h.seat.id) (ap (λ t. events_in h.seat.id es ++ Act t act.request act.reply act.woken ∷ []) mine ∙ sym (events_here clock c act es h.seat.id mine))
-
-  pub asks_as_before : (k : ℕ) (seat : Seat) → k ≢ index → seat_in old k ≡ Some seat → next_request code seat.id (events_in seat.id (lived_entry clock c act ∷ es)) ≡ next_request code seat.id (events_in seat.id es)
-  asks_as_before k seat differ there = ap (next_request code seat.id) (events_there clock c act es seat.id (others k seat differ there))
 
 -- The threads run the code still.
 pub runs_gone_on : (code : Code) (index : ℕ) (reply : Reply) (old new : List Seat) (next : Option Request) → HasGoneOn code index reply old new next → AllByRecursion (SeatRuns code) old

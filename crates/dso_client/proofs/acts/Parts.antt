@@ -16,22 +16,21 @@ use Rattle.dso_client.specs.declared.answered.Answered.{Answered}
 use Rattle.dso_client.specs.declared.kept.Kept.{Kept}
 use Rattle.dso_client.specs.declared.seat.Seat.{Seat}
 use Rattle.dso_client.specs.Answering.{IsAnswering, StandsLived}
-use Rattle.dso_client.specs.Committing.{HasLived, IsActing, Lives, WorksAlone, changed_seat, with_work}
+use Rattle.dso_client.specs.Committing.{HasLived, Lives, WorksAlone, with_work}
 use Rattle.dso_client.specs.GoingOn.{with_seat}
-use Rattle.dso_client.specs.KeptStands.{PartsStand}
 use Rattle.dso_client.specs.LedgerStands.{LedgerStands}
 use Rattle.dso_client.specs.Living.{lived}
 use Rattle.dso_client.specs.LivingSeats.{RestStands, LivesOn, LiveOn}
 use Rattle.dso_client.specs.LockingStands.{LockingStands}
 use Rattle.dso_client.specs.Openings.{thread_at, first_threads}
 use Rattle.dso_client.specs.Points.{Point}
-use Rattle.dso_client.specs.SeatPlaces.{seat_in, running}
+use Rattle.dso_client.specs.SeatPlaces.{seat_in}
 use Rattle.dso_client.specs.SeatStands.{SeatStands}
 use Rattle.dso_client.specs.TableStands.{TableStands}
 use Rattle.dso_client.proofs.seats.SeatsFound.{seat_is, seat_there}
 use Rattle.dso_client.proofs.acts.Places.{changed_is, seat_of_all, set_there}
 use Rattle.dso_client.proofs.seats.ChangedSeats.{told_unchanged}
-use Rattle.dso_client.proofs.acts.Seats.{WorkLives, rest_of, told_together, work_lives, seats_live}
+use Rattle.dso_client.proofs.acts.Seats.{WorkLives, told_together, work_lives, seats_live}
 
 module _ (at : Point) (shape : Shape) (act : Answered) (old : Kept) (h : IsAnswering at shape act old) where
   -- the acting thread, by the client's number

@@ -1,12 +1,11 @@
 -- One seat of all is another one.
 use Rattle.std.specs.List.{AllByRecursion}
-use Rattle.std.proofs.Common.{◌≡◌, ◌≢◌, ℕ, zero, suc, refl, sym, ◌∙◌, ap, subst, inl, inr, false, eqb, ◌&&◌, Option, Some, None, List, [], ◌∷◌, map, length, slice_get, slice_set}
+use Rattle.std.proofs.Common.{◌≡◌, ◌≢◌, ℕ, zero, suc, refl, sym, ◌∙◌, ap, subst, inl, inr, false, Option, Some, List, [], ◌∷◌, map, slice_get, slice_set}
 use Rattle.dso_client.specs.declared.seat.Seat.{Seat}
 use Rattle.dso_client.specs.Committing.{changed_seat, replaced_at}
 use Rattle.dso_client.specs.GoingOn.{with_seat}
-use Rattle.dso_client.specs.Openings.{thread_at, first_threads}
 use Rattle.dso_client.specs.SeatPlaces.{seat_in}
-use Rattle.dso_client.proofs.seats.SeatsFound.{all_at, seat_is}
+use Rattle.dso_client.proofs.seats.SeatsFound.{all_at}
 use Rattle.dso_client.proofs.heard.Wakes.{all_from, set_get}
 
 -- what holds of each, where it goes on from each but one, and holds of the one in its place

@@ -1,6 +1,6 @@
 -- What is kept of the threads once a request was answered.
 use Rattle.std.specs.List.{AllByRecursion, AllZip}
-use Rattle.std.proofs.Common.{◌≡◌, ◌≢◌, ℕ, refl, sym, ◌∙◌, ap, subst, false, cond, Option, Some, List, [], ◌∷◌, ◌++◌, map, length}
+use Rattle.std.proofs.Common.{◌≡◌, ◌≢◌, ℕ, refl, sym, ◌∙◌, ap, false, cond, Option, Some, List, [], ◌∷◌, map, length}
 use Rattle.dso_base.specs.declared.lock.ThreadId.{ThreadId}
 use Rattle.dso_base.specs.declared.request.Request.{Request}
 use Rattle.dso_base.specs.Following.{is_thread}
@@ -22,7 +22,7 @@ use Rattle.dso_client.specs.SeatPlaces.{seat_in, running}
 use Rattle.dso_client.specs.SeatStands.{SeatStands}
 use Rattle.dso_client.specs.GoingOn.{with_seat}
 use Rattle.dso_client.proofs.seats.SeatsFound.{seat_is}
-use Rattle.dso_client.proofs.acts.Places.{seat_set, seat_of_all}
+use Rattle.dso_client.proofs.acts.Places.{seat_set}
 use Rattle.dso_client.proofs.sent.Parts.{other_thread}
 
 pub rest_of : (at : Point) (seat : Seat) → SeatStands at seat → RestStands at seat

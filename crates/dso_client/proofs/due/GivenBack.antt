@@ -108,7 +108,3 @@ module _ (l : LockName) (rest : List LockName) (old mid : Locking) (first : AreG
 
   pub rest_may : list_any (is_lock l) rest ≡ false → AllByRecursion (λ k. is_returnable (standing_in old.leases k) ≡ true) rest → AllByRecursion (λ k. is_returnable (standing_in mid.leases k) ≡ true) rest
   rest_may apart may = still_may l (standing_in old.leases) (standing_in mid.leases) lease_elsewhere rest apart may
-
--- none is given back
-pub none_given : (old : Locking) → AreGivenBack [] old old
-none_given old = record { holds = refl; leases = λ x. refl; lists = λ x. refl }

@@ -1,6 +1,6 @@
 -- A resident object is among those that were ever resident, so an object that may be flushed is found among the residents.
 use Rattle.std.specs.List.{list_any}
-use Rattle.std.proofs.Common.{ℕ, ◌≡◌, refl, sym, ◌∙◌, ap, subst, Bool, true, false, cond, eqb, ◌&&◌, ◌||◌, List, [], ◌∷◌, filter}
+use Rattle.std.proofs.Common.{ℕ, ◌≡◌, refl, ◌∙◌, ap, Bool, true, false, cond, eqb, ◌&&◌, ◌||◌, List, [], ◌∷◌}
 use Rattle.std.proofs.lemmas.Bool.{eqb-true}
 use Rattle.dso_base.specs.declared.journal.Entry.{Entry}
 use Rattle.dso_base.specs.declared.journal.Input.{Input}
@@ -15,7 +15,7 @@ use Rattle.dso_law.specs.Settings.{Settings}
 use Rattle.dso_law.specs.Entries.{by_taken_down, by_sent_up}
 use Rattle.dso_law.specs.Copies.{is_among, is_resident, resident_by_taken, resident_by_sent, unless_flushed, insert_number, insert_objects, ever_resident, ever_resident_by_taken, ever_resident_by_sent, residents}
 use Rattle.dso_law.specs.ClientStep.{MayFlush, is_flushable, may_flush}
-use Rattle.dso_law.proofs.core.RisingNumbers.{among, among_more, among_some, itself}
+use Rattle.dso_law.proofs.core.RisingNumbers.{among, among_more, among_some}
 use Rattle.dso_lookup.proofs.Tests.{both}
 
 module _ (o : ℕ) where

@@ -95,10 +95,6 @@ module _ (clock : ℕ) (at : Point) (change : Set) (old new : Tables) (h : Table
   change_heard true found is same = written is
   change_heard false found is same = unwritten same (sym found)
 
--- no change leaves all as it is
-pub none_heard : (clock : ℕ) (at : Point) (table : Tables) → TableStands at table → TableStands (heard clock (down.Changes []) at) table
-none_heard clock at table h = record { bodies = h.bodies; asked = h.asked; marks = h.marks; opened = h.opened; wanted = h.wanted; room = h.room; count = h.count; acked = h.acked }
-
 -- one change and then the others are all of them
 pub all_heard : (clock : ℕ) (at : Point) (change : Set) (changes : List Set) (table : Tables)
     → TableStands (heard clock (down.Changes changes) (heard clock (down.Changes (change ∷ [])) at)) table → TableStands (heard clock (down.Changes (change ∷ changes)) at) table

@@ -45,10 +45,6 @@ counts_answered n k t l level old new Entered answer most fits = counts_with n l
 counts_answered n k t l level old new LockUpgrade answer most fits = counts_same n old new answer.1 most
 counts_answered n k t l level old new (Blocked w) answer most fits = counts_same n old new answer.2 most
 
--- one more is allowed
-pub counts_later : (n m : ℕ) (holds : Tables) → n ≤ m → CountsAtMost n holds → CountsAtMost m holds
-counts_later n m holds less most u x = let h = most u x in omega (arith, h, less)
-
 -- where nothing is held, only what is added counts
 pub none_held : (most n count : ℕ) → count ≡ 0 → n ≤ most → count + n ≤ most
 none_held most n count none few = omega (arith, none, few)

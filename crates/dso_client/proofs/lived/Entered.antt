@@ -1,6 +1,6 @@
 -- A thread whose needs are met is let into its lock, and holds it then as the rule says.
 use Rattle.std.specs.List.{list_any}
-use Rattle.std.proofs.Common.{◌≡◌, ℕ, suc, ◌+◌, ◌-◌, inl, inr, refl, sym, ◌∙◌, ap, subst, arith, Bool, true, false, cond, not, ◌&&◌, ◌||◌, is_some, Option, Some, None, List, [], ◌∷◌}
+use Rattle.std.proofs.Common.{◌≡◌, ℕ, suc, ◌+◌, ◌-◌, inl, inr, refl, sym, ◌∙◌, ap, arith, Bool, true, false, cond, not, ◌&&◌, ◌||◌, is_some, Option, Some, None, List, [], ◌∷◌}
 use Rattle.std.proofs.Math.Path.{fun_ext}
 use Rattle.std.proofs.lemmas.Bool.{le-ltb, lt-ltb}
 use Rattle.std.proofs.lemmas.Bool.Decides.{eqb_tells}
@@ -14,12 +14,10 @@ use Rattle.dso_base.specs.declared.request.Reply.{Reply}
 use Rattle.dso_base.specs.declared.request.Reply.TheVariants.{Done, Local}
 use Rattle.dso_base.specs.declared.request.Request.TheVariants.{Enter, Resume}
 use Rattle.dso_base.specs.Following.{is_thread}
-use Rattle.dso_hold.specs.declared.held.Enter as enter
-use Rattle.dso_hold.specs.declared.held.Enter.TheVariants.{Entered, LockUpgrade, Blocked}
 use Rattle.dso_hold.specs.declared.held.Held.{Held}
 use Rattle.dso_hold.specs.declared.tables.Tables.{Tables}
 use Rattle.dso_hold.specs.Holds as hold
-use Rattle.dso_hold.specs.Holds.{HoldsEnough, IsAnswer, IsInConflict, NoConflict}
+use Rattle.dso_hold.specs.Holds.{IsInConflict, NoConflict}
 use Rattle.dso_lookup.specs.Maps.{or_old}
 use Rattle.dso_lookup.specs.Orders.{thread_order}
 use Rattle.dso_plain.specs.After as plain
@@ -71,20 +69,6 @@ with_twice l t first second holds = fun_ext (λ key. by key (hold.is_place l t k
     by key false = refl
 
 -- ---- who is let in
-
--- who is let in has entered
-pub let_in_enters : (t : ThreadId) (l : LockName) (level : Level) (n : ℕ) (old new : LockName × ThreadId → Option Held) (answer : enter.Enter) → IsAnswer t l level n old new answer
-    → (HoldsEnough level (old (l, t)) → answer ≡ Entered) → IsLetIn t l level old → new ≡ hold.with_hold l t (Some (hold.entered level n (old (l, t)))) old
-let_in_enters t l level n old new Entered answer again is_let = answer.2
-let_in_enters t l level n old new LockUpgrade answer again is_let = absurd (cc (sym answer.0 ∙ is_let.0))
-let_in_enters t l level n old new (Blocked w) answer again is_let = by (old (l, t)) refl
-  where
-    by : (held : Option Held) → old (l, t) ≡ held → new ≡ hold.with_hold l t (Some (hold.entered level n (old (l, t)))) old
-    by None e = absurd (is_let.1 e w answer.1.conflict)
-    by (Some held) e =
-        let enough : HoldsEnough level (Some held) = sym (ap (hold.is_upgrade level) e) ∙ is_let.0 in
-        let said : Blocked w ≡ Entered = again (subst (HoldsEnough level) (sym e) enough) in
-        absurd (cc said)
 
 -- of two needs the second is met
 second_met : (a b : Option Need) → first_unmet a b ≡ None → b ≡ None

@@ -49,6 +49,3 @@ module _ (clock : ℕ) (at : Point) (act : Answered) (old : Leases) (h : LeasesS
           ∙ (entered_so (leased l at.entries) (is_entered l at.entries) (is_recalled l at.entries) (is_asked_for l at.entries)
           ∙ ap (λ k. standing_as (leased k at.entries) true (is_recalled k at.entries) (is_asked_for k at.entries)) (same_lock x l e))
       by false e = h x
-
-  pub lease_unentered : entered_lock act.request act.reply ≡ None → LeasesStand (lived clock act at) old
-  lease_unentered is x = h x ∙ ap (after x) (sym (enter_tells x act.request act.reply ∙ ap (λ k. option_map_or (is_lock x) k false) is))

@@ -12,11 +12,6 @@ pub private_tells : (privates : Privates) (block : OpenBlock) (work : Work) (o :
     → bodies_in privates o ≡ body_in o work.privates
 private_tells privates block work o e = ap (λ (hand : Hand). hand.privates o) e
 
--- and so are those published
-pub news_tell : (privates : Privates) (block : OpenBlock) (work : Work) (o : ℕ) → hand_in privates block ≡ hand_of work
-    → news_in block o ≡ body_in o work.news
-news_tell privates block work o e = ap (λ (hand : Hand). hand.news o) e
-
 -- and both
 pub own_tells : (privates : Privates) (block : OpenBlock) (work : Work) (o : ℕ) → hand_in privates block ≡ hand_of work
     → or_else (bodies_in privates o) (news_in block o) ≡ or_else (body_in o work.privates) (body_in o work.news)

@@ -19,7 +19,6 @@ use Rattle.dso_client.specs.declared.locking.Locking.{Locking}
 use Rattle.dso_client.specs.declared.seat.Seat.{Seat}
 use Rattle.dso_client.specs.Acting.{HoldsAtMost, count_again}
 use Rattle.dso_client.specs.ClientStands.{ClientStands, point}
-use Rattle.dso_client.specs.CodeRuns.{SeatRuns, RunsCode}
 use Rattle.dso_client.specs.LedgerStands.{LedgerStands, ids_in}
 use Rattle.dso_client.specs.LockingStands.{LockingStands, as_hold}
 use Rattle.dso_client.specs.Openings.{IsOpening, IsEmptyLocking, IsEmptyLedger, first_threads}
@@ -108,10 +107,6 @@ module _ (code : Code) (p : Settings) (c : ℕ) (shape : p.shape ≡ code.shape)
     };
     threads = all_as (IsOpening code) _ (λ seat h. h.stands) kept.seats.items opening;
   }
-
--- and its threads run the code
-pub runs_at_start : (code : Code) (kept : Kept) → AllByRecursion (IsOpening code) kept.seats.items → RunsCode code kept
-runs_at_start code kept opening = all_as (IsOpening code) (SeatRuns code) (λ seat h. h.runs) kept.seats.items opening
 
 -- and no lock is held, nor to be held again
 none_again : (code : Code) (seats : List Seat) → AllByRecursion (IsOpening code) seats → (place : ℕ) → count_again (slice_get seats place) ≤ 0

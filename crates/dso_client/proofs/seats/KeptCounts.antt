@@ -10,10 +10,6 @@ use Rattle.dso_client.specs.Acting.{HoldsAtMost, KeepsCounts, count_again}
 use Rattle.dso_client.specs.Entering.{count_owed}
 use Rattle.dso_client.specs.SeatPlaces.{seat_in}
 
--- one after the other
-pub counts_then : (a b c : Kept) → KeepsCounts a b → KeepsCounts b c → KeepsCounts a c
-counts_then a b c first second = record { holds = second.holds ∙ first.holds; waits = second.waits ∙ first.waits; records = second.records ∙ first.records }
-
 -- the count of the waits at an index
 abbrev count_in : List (Option Waiting) → ℕ → ℕ
 count_in waits zero = 0

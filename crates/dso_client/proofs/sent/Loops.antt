@@ -19,7 +19,7 @@ use Rattle.dso_client.specs.Committing.{MaySend}
 use Rattle.dso_client.specs.Living.{acting}
 use Rattle.dso_client.specs.Points.{Point}
 use Rattle.dso_client.specs.TableStands.{TableStands}
-use Rattle.dso_client.proofs.sent.Objects.{sent, none_sent, body_sent, set_sent}
+use Rattle.dso_client.proofs.sent.Objects.{sent, body_sent, set_sent}
 
 -- one of a list passes the test
 any_at : {X : Type 0} (test : X → Bool) (xs : List X) (i : ℕ) (none : X) → i < length xs → test (get_or xs i none) ≡ true → list_any test xs ≡ true
@@ -40,9 +40,6 @@ pub record StandsSent (clock : ℕ) (act : Answered) (next : ThreadId → Option
 abbrev pub IsSoFar : Txn → ℕ → ℕ → Tables → Tables → Type 0
 IsSoFar txn n m old new = (clock : ℕ) (act : Answered) (next : ThreadId → Option Request) (at : Point) → TableStands (acting clock act [] next at) old → MaySend at txn
     → StandsSent clock act next at txn (take n txn.news) (take m txn.sets) new
-
-pub none_so_far : (txn : Txn) (table : Tables) → IsSoFar txn 0 0 table table
-none_so_far txn table clock act next at h may = record { stands = none_sent clock act next at txn table h; acked = h.acked }
 
 -- the number of the record wasn't acknowledged
 unacked_so_far : (acked n seq : ℕ) → acked ≤ n → seq ≡ suc n → acked < seq

@@ -218,16 +218,3 @@ module _ (clock : ℕ) (act : Answered) (next : ThreadId → Option Request) (at
           by false e =
               let is = marks copy.0 copy.1 e in
               (remarked copy.0 copy.1 e is, ap (λ (s : State). s.acked) is)
-
-  -- nothing of it was sent yet
-  pub none_sent : (table : Tables) → TableStands (acting clock act [] next at) table → TableStands (sent [] []) table
-  none_sent table h = record {
-    bodies = h.bodies;
-    asked = h.asked;
-    marks = h.marks;
-    opened = h.opened;
-    wanted = h.wanted;
-    room = h.room;
-    count = h.count;
-    acked = let few = h.acked in omega (arith, few);
-  }

@@ -81,10 +81,6 @@ module _ (program : Program) (seed : Option ℕ) where
               (runs.turns, record { unfinished = unfinished; light = light; unstuck = rw unfinished (rw there refl) }, turn.at ∙ sym turn.chosen);
         }
 
-    -- it weighs more
-    pub grows : (old new : World) → TakesTurn program seed old new → weight (entries_in old) < weight (entries_in new)
-    grows old new turn = let more : weight (entries_in new) ≡ weight (turn.entry ∷ entries_in old) = ap weight turn.added in omega (arith, more)
-
     module _ (sound : IsSound program) (world : World) (runs : RunsOn program seed budget world) where
       commits : CommitsLegally (settings_of program) (next_request program.code) (entries_in world)
       commits = central_law (settings_of program) (next_request program.code) (sound_program program.code sound.code) (entries_in world) runs.stands.lawful

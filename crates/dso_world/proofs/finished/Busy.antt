@@ -1,21 +1,17 @@
 -- A journal is finished exactly where no client keeps it going.
 use Rattle.std.specs.List.{list_any, AllByRecursion}
-use Rattle.std.proofs.Common.{ℕ, ◌≡◌, refl, sym, ◌∙◌, ap, Bool, true, false, cond, eqb, ltb, not, ◌&&◌, ◌||◌, List, [], ◌∷◌, filter, length}
+use Rattle.std.proofs.Common.{ℕ, ◌≡◌, refl, sym, ◌∙◌, ap, Bool, true, false, cond, eqb, not, ◌&&◌, ◌||◌, List, [], ◌∷◌, filter}
 use Rattle.dso_base.specs.declared.journal.Entry.{Entry}
 use Rattle.dso_base.specs.declared.journal.Node.TheVariants.{Server}
 use Rattle.dso_base.specs.declared.lock.ThreadId.{ThreadId}
-use Rattle.dso_base.specs.declared.message.Down.{Down}
-use Rattle.dso_base.specs.declared.message.Up.{Up}
 use Rattle.dso_plain.proofs.keys.SameKeys.{number_self, same_number}
 use Rattle.dso_lookup.proofs.Tests.{both, left_holds, right_holds, same_tests}
 use Rattle.dso_law.specs.Settings.{Settings, clients_of, threads_of}
-use Rattle.dso_law.specs.Channels.{down_in_flight, to_client, to_server, up_in_flight}
+use Rattle.dso_law.specs.Channels.{down_in_flight, up_in_flight}
 use Rattle.dso_law.specs.Entries.{entries_of}
 use Rattle.dso_law.specs.ServerReadings.{is_lost}
 use Rattle.dso_legal.specs.Slots.{has_ended, is_any, is_due, is_finished, is_over, is_quiet}
 use Rattle.dso_world.specs.Busy.{is_busy}
-use Rattle.dso_world.specs.PastOf.{AreLeft, letters_posted, letters_taken, past_of}
-use Rattle.dso_world.proofs.journals.Letters.{any_left}
 
 -- ---- lists of which one passes
 
@@ -153,12 +149,3 @@ module _ (p : Settings) (es : List Entry) where
       ∙ ap not (sym (any_either has_on (λ c. not (is_quiet p c es) || is_due p c es) cs))
       ∙ ap not (any_same (λ c. has_on c || (not (is_quiet p c es) || is_due p c es)) (λ c. is_busy p c es)
       (λ c. side_by_side (is_due p c es) (is_lost c (entries_of Server es)) (list_any (λ t. not (has_ended t es)) (threads_of p c)) (is_any (up_in_flight c es) || is_any (down_in_flight c es))) cs)
-
-  -- Quiet: by the numbers of messages sent and taken over the client's connection.
-  pub quiet_is : {M : Type 0} (as_up : Up → M) (as_down : Down → M) (c : ℕ) → AreLeft (to_server c) es → AreLeft (to_client c) es
-      → is_quiet p c es ≡ (is_lost c (entries_of Server es) || not (ltb (past_of as_up as_down c es).up_taken (length (past_of as_up as_down c es).up)
-      || ltb (past_of as_up as_down c es).down_taken (length (past_of as_up as_down c es).down)))
-  quiet_is as_up as_down c up down =
-      ap (λ b. is_lost c (entries_of Server es) || not (b || is_any (down_in_flight c es))) (any_left as_up (letters_taken (to_server c) es) (letters_posted (to_server c) es) (up_in_flight c es) up.left)
-      ∙ ap (λ b. is_lost c (entries_of Server es) || not (ltb (past_of as_up as_down c es).up_taken (length (past_of as_up as_down c es).up) || b))
-      (any_left as_down (letters_taken (to_client c) es) (letters_posted (to_client c) es) (down_in_flight c es) down.left)

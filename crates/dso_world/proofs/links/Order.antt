@@ -1,20 +1,15 @@
 -- What an end gave stays among what it sent, and what the other end has seen was given.
-use Rattle.std.proofs.Common.{ℕ, suc, ◌+◌, ◌-◌, ◌<◌, ◌≤◌, ◌^◌, ◌≡◌, refl, Bool, true, false, cond, eqb, leb, ltb, not, ◌||◌, Option, Some, None, [], ◌∷◌, slice_get, arith}
-use Rattle.std.proofs.lemmas.List.{length-append, length-drop}
+use Rattle.std.proofs.Common.{ℕ, suc, ◌-◌, ◌≤◌, ◌≡◌, refl, Bool, true, false, cond, eqb, leb, ltb, not, ◌||◌, Option, Some, None, [], ◌∷◌, slice_get, arith}
+use Rattle.std.proofs.lemmas.List.{length-drop}
 use Rattle.std.proofs.lemmas.Bool.{ltb-false}
 use Rattle.std.proofs.lemmas.Option.{slice_get_within}
 use Rattle.dso_session.specs.declared.frame.Accepted.TheVariants as accepted
 use Rattle.dso_session.specs.declared.frame.Frame.{Frame}
 use Rattle.dso_session.specs.declared.frame.Frame.TheVariants.{Carry, Hello}
 use Rattle.dso_session.specs.declared.session.Posted.{Posted}
-use Rattle.dso_session.specs.Ends.{End, IsInOrder, after_answer, after_frame, behind_frame, broken, forgotten, gone_on, is_new, next_kept, posted, sent_count}
+use Rattle.dso_session.specs.Ends.{End, IsInOrder, after_answer, after_frame, behind_frame, forgotten, gone_on, is_new, next_kept, sent_count}
 
 module _ {M : Type 0} where
-  -- with one message more
-  pub order_posted : (message : M) (clock : ℕ) (end : End M) → IsInOrder end → sent_count end + 1 < 2 ^ 64 → IsInOrder (posted message clock end)
-  order_posted message clock end order few =
-      let more : sent_count (posted message clock end) ≡ sent_count end + 1 = omega (arith, length-append end.kept (record { message = message; clock = clock } ∷ [])) in
-      record { seen = order.seen; given = omega (arith, order.given, more); few = omega (arith, few, more) }
 
   -- behind a frame
   pub order_behind : (end : End M) → IsInOrder end → IsInOrder (behind_frame end)
@@ -65,7 +60,3 @@ module _ {M : Type 0} where
             given = omega (arith, ltb-false (sent_count end) seen few, length-drop (seen - end.seen) end.kept);
             few = now.few;
           }
-
-  -- a break
-  pub order_broken : (end : End M) → IsInOrder end → IsInOrder (broken end)
-  order_broken end order = record { seen = order.seen; given = order.given; few = order.few }

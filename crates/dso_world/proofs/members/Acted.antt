@@ -1,7 +1,6 @@
 -- A thread of a client acts.
 use Rattle.std.specs.List.{list_any}
-use Rattle.std.specs.List.Sorted.{IsPermutation}
-use Rattle.std.proofs.Common.{ℕ, suc, ◌+◌, ◌≤◌, ◌≡◌, refl, sym, ◌∙◌, ap, subst, Bool, true, false, cond, eqb, ◌&&◌, ◌||◌, Option, Some, None, List, [], ◌∷◌, filter, length, map, arith}
+use Rattle.std.proofs.Common.{ℕ, suc, ◌+◌, ◌≤◌, ◌≡◌, refl, sym, ◌∙◌, ap, subst, Bool, true, false, cond, eqb, ◌||◌, Option, Some, None, List, [], ◌∷◌, filter, length, map, arith}
 use Rattle.std.proofs.lemmas.List.Sorted.{list_any-IsPermutation}
 use Rattle.dso_base.specs.declared.journal.Entry.{Entry}
 use Rattle.dso_base.specs.declared.journal.Input.TheVariants as input
@@ -15,17 +14,15 @@ use Rattle.dso_client.specs.declared.acted.Acted.{Acted}
 use Rattle.dso_client.specs.declared.acted.Acted.TheVariants as acted
 use Rattle.dso_client.specs.declared.cause.Cause.{Cause}
 use Rattle.dso_client.specs.declared.kept.Kept.{Kept}
-use Rattle.dso_client.specs.Acting.{Acts, HasActed, HoldsAtMost, event_entry}
-use Rattle.dso_client.specs.ClientStands.{ClientStands, point}
+use Rattle.dso_client.specs.Acting.{Acts, HasActed, HoldsAtMost}
+use Rattle.dso_client.specs.ClientStands.{ClientStands}
 use Rattle.dso_client.specs.CodeRuns.{RunsCode}
-use Rattle.dso_client.specs.Entries.{asked_entry}
-use Rattle.dso_client.specs.Openings.{thread_at}
 use Rattle.dso_law.specs.ClientRun.{next_in}
 use Rattle.dso_law.specs.ClientStep.{can_act, may_act}
 use Rattle.dso_law.specs.Entries.{entries_of, events_in}
-use Rattle.dso_law.specs.Settings.{clients_of, threads_of}
+use Rattle.dso_law.specs.Settings.{threads_of}
 use Rattle.dso_legal.specs.Lawful.{next_after}
-use Rattle.dso_legal.specs.Slots.{Acts as ActsAt, is_open}
+use Rattle.dso_legal.specs.Slots.{Acts as ActsAt}
 use Rattle.dso_lookup.proofs.Tests.{both}
 use Rattle.dso_machine.specs.declared.code.ThreadBody.{ThreadBody}
 use Rattle.dso_machine.specs.Sound as machine
@@ -36,7 +33,7 @@ use Rattle.dso_world.specs.MemberSteps.{IsJournal, IsMoved, IsOpenAfter, Steps, 
 use Rattle.dso_world.specs.NodesStand.{MemberStands}
 use Rattle.dso_world.specs.Sending.{after_saying, client_entry, clock_after}
 use Rattle.dso_world.specs.WorldSteps.{settings_of}
-use Rattle.dso_world.proofs.members.Said.{Core, acted_follows}
+use Rattle.dso_world.proofs.members.Said.{acted_follows}
 use Rattle.dso_world.proofs.premises.OwnRun.{acts_open}
 use Rattle.dso_world.proofs.premises.Sizes.{sizes_are_kept}
 

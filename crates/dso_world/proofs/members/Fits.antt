@@ -1,11 +1,9 @@
 -- What a client of a short journal keeps is small.
-use Rattle.std.proofs.Common.{ℕ, suc, ◌+◌, ◌<◌, ◌≤◌, ◌≡◌, ◌^◌, refl, sym, ◌∙◌, ap, subst, Bool, true, false, cond, List, [], ◌∷◌, length, arith}
+use Rattle.std.proofs.Common.{ℕ, suc, ◌≤◌, refl, sym, subst, Bool, true, false, cond, List, [], ◌∷◌, length, arith}
 use Rattle.dso_base.specs.declared.journal.Entry.{Entry}
 use Rattle.dso_base.specs.declared.journal.Input.{Input}
 use Rattle.dso_base.specs.declared.journal.Node.{Node}
 use Rattle.dso_base.specs.declared.journal.Node.TheVariants as node
-use Rattle.dso_base.specs.declared.lock.LockName.{LockName}
-use Rattle.dso_base.specs.declared.lock.ThreadId.{ThreadId}
 use Rattle.dso_class.specs.declared.program.Program.{Program}
 use Rattle.dso_client.specs.declared.kept.Kept.{Kept}
 use Rattle.dso_client.specs.Acting.{HoldsAtMost}

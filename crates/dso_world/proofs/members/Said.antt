@@ -1,6 +1,6 @@
 -- What the steps of a client make of a journal and of it.
 use Rattle.std.specs.List.{list_any}
-use Rattle.std.proofs.Common.{ℕ, suc, max, ◌+◌, ◌≤◌, ◌≡◌, refl, sym, ◌∙◌, ap, subst, Bool, true, false, cond, eqb, Option, Some, None, List, [], ◌∷◌, ◌++◌, length, map}
+use Rattle.std.proofs.Common.{ℕ, suc, max, ◌+◌, ◌≤◌, ◌≡◌, refl, ◌∙◌, ap, Bool, true, false, cond, eqb, Option, Some, None, List, [], ◌∷◌, length, map}
 use Rattle.dso_base.specs.declared.journal.Entry.{Entry}
 use Rattle.dso_base.specs.declared.journal.Input.{Input}
 use Rattle.dso_base.specs.declared.journal.Input.TheVariants as input
@@ -17,7 +17,7 @@ use Rattle.dso_client.specs.CodeRuns.{RunsCode}
 use Rattle.dso_law.specs.Channels.{Letter, down_in_flight, last_clock, rejoins, takes_down}
 use Rattle.dso_law.specs.Entries.{entries_of}
 use Rattle.dso_law.specs.Settings.{clients_of}
-use Rattle.dso_legal.specs.Lawful.{IsLawful, MayFollow}
+use Rattle.dso_legal.specs.Lawful.{MayFollow}
 use Rattle.dso_legal.specs.Slots.{Slot, TakesDown}
 use Rattle.dso_machine.specs.Next.{next_request}
 use Rattle.dso_world.specs.declared.both.Both.{Both}
@@ -26,16 +26,16 @@ use Rattle.dso_world.specs.declared.made.Made.{Made}
 use Rattle.dso_world.specs.declared.member.Member.{Member}
 use Rattle.dso_world.specs.ChosenSlot.{slot_at}
 use Rattle.dso_world.specs.Link.{Line}
-use Rattle.dso_world.specs.LinkStands.{Course, Joined, Broken, Half, LinkStands, Past}
+use Rattle.dso_world.specs.LinkStands.{Joined, LinkStands, Past}
 use Rattle.dso_world.specs.MemberSteps.{Follows, IsJournal}
 use Rattle.dso_world.specs.NodesStand.{MemberStands}
 use Rattle.dso_world.specs.PastOf.{course_of, past_of}
 use Rattle.dso_world.specs.Sending.{after_saying, client_entry, clock_after}
 use Rattle.dso_world.specs.WorldSteps.{settings_of}
-use Rattle.dso_world.proofs.follows.Clients.{act_follows, client_rejoin_follows, flush_follows, take_follows}
-use Rattle.dso_world.proofs.follows.Lawful.{lawful_with, lawful_with_client_rejoin}
+use Rattle.dso_world.proofs.follows.Clients.{act_follows, flush_follows, take_follows}
+use Rattle.dso_world.proofs.follows.Lawful.{lawful_with}
 use Rattle.dso_world.proofs.members.With.{member_with}
-use Rattle.dso_world.proofs.pasts.OwnEntry.{own_course, own_half, own_rejoins, own_sends, own_takes}
+use Rattle.dso_world.proofs.pasts.OwnEntry.{own_course, own_sends, own_takes}
 use Rattle.dso_world.proofs.sending.Posts.{all_up_stand, up_post, with_up}
 
 module _ (program : Program) (c : ℕ) (es : List Entry) (journal : IsJournal program es) (its : list_any (eqb c) (clients_of (settings_of program)) ≡ true)

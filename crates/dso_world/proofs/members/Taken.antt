@@ -1,6 +1,6 @@
 -- A client takes the first frame in flight to it, and flushes an object.
 use Rattle.std.specs.List.{list_any}
-use Rattle.std.proofs.Common.{ℕ, suc, max, ◌+◌, ◌<◌, ◌≤◌, ◌^◌, ◌≡◌, ◌≢◌, ◌⊎◌, inl, inr, refl, sym, ◌∙◌, ap, subst, Bool, true, false, eqb, Option, Some, None, List, [], ◌∷◌, length, map, arith}
+use Rattle.std.proofs.Common.{ℕ, suc, ◌+◌, ◌<◌, ◌≤◌, ◌^◌, ◌≡◌, ◌⊎◌, inl, inr, refl, sym, ◌∙◌, ap, subst, Bool, true, false, eqb, Option, Some, None, List, [], ◌∷◌, length, arith}
 use Rattle.dso_base.specs.declared.journal.Entry.{Entry}
 use Rattle.dso_base.specs.declared.journal.Input.TheVariants as input
 use Rattle.dso_base.specs.declared.journal.Node.TheVariants as node
@@ -12,7 +12,7 @@ use Rattle.dso_client.specs.declared.kept.Kept.{Kept}
 use Rattle.dso_client.specs.ClientStands.{ClientStands}
 use Rattle.dso_client.specs.CodeRuns.{RunsCode}
 use Rattle.dso_client.specs.Entries.{flush_entry, taken_entry}
-use Rattle.dso_client.specs.Flushing.{Flushes, NoneDue}
+use Rattle.dso_client.specs.Flushing.{Flushes}
 use Rattle.dso_client.specs.Taking.{Takes}
 use Rattle.dso_law.specs.Channels.{Letter, down_in_flight, takes_up}
 use Rattle.dso_law.specs.ClientRun.{next_in}
@@ -25,13 +25,12 @@ use Rattle.dso_session.specs.declared.frame.Accepted.{Accepted}
 use Rattle.dso_session.specs.declared.frame.Accepted.TheVariants as accepted
 use Rattle.dso_world.specs.declared.both.Both.{Both}
 use Rattle.dso_world.specs.declared.both.Both.TheVariants as both
-use Rattle.dso_world.specs.declared.made.Made.{Made}
 use Rattle.dso_world.specs.declared.member.Member.{Member}
 use Rattle.dso_world.specs.Link.{first_answer, taken_down}
-use Rattle.dso_world.specs.LinkStands.{Broken, Half, LinkStands}
+use Rattle.dso_world.specs.LinkStands.{Half}
 use Rattle.dso_world.specs.MemberSteps.{Follows, IsJournal, IsOpenAfter, Steps}
 use Rattle.dso_world.specs.NodesStand.{MemberStands}
-use Rattle.dso_world.specs.PastOf.{course_of, past_of}
+use Rattle.dso_world.specs.PastOf.{past_of}
 use Rattle.dso_world.specs.Sending.{after_saying, client_entry, clock_after}
 use Rattle.dso_world.specs.WorldSteps.{settings_of}
 use Rattle.dso_world.proofs.journals.Clocks.{Below, clocks_are_few}
@@ -184,6 +183,3 @@ module _ (program : Program) (c : ℕ) (old : Member) where
         records = omega (arith, few, same);
         holds = holds_more (length es) (suc (length es)) kept (omega arith) (holds_kept program.code (settings_of program) c entry own old.client kept refl stands.client client (length es) stands.holds);
       })
-
-  pub not_none : NoneDue old.client → (es : List Entry) → MemberStands program c old es → IsOpenAfter program es (FlushesAt c) → ⊥
-  not_none none es stands opened = absurd (cc (sym (none program.code (settings_of program) c (entries_of (node.Client c) es) stands.client) ∙ opened))

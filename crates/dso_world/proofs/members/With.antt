@@ -1,5 +1,5 @@
 -- A client with one entry more of its own.
-use Rattle.std.proofs.Common.{ℕ, suc, ◌≤◌, ◌≡◌, refl, sym, ◌∙◌, ap, subst, Bool, true, false, cond, eqb, Option, List, [], ◌∷◌, length, map}
+use Rattle.std.proofs.Common.{ℕ, suc, ◌≤◌, ◌≡◌, refl, sym, ◌∙◌, ap, subst, Bool, true, false, cond, Option, List, [], ◌∷◌, length}
 use Rattle.dso_base.specs.declared.journal.Entry.{Entry}
 use Rattle.dso_base.specs.declared.journal.Input.{Input}
 use Rattle.dso_base.specs.declared.journal.Node.TheVariants as node
@@ -15,7 +15,6 @@ use Rattle.dso_plain.proofs.keys.SameKeys.{number_self}
 use Rattle.dso_world.specs.declared.both.Both.{Both}
 use Rattle.dso_world.specs.declared.both.Both.TheVariants as both
 use Rattle.dso_world.specs.declared.member.Member.{Member}
-use Rattle.dso_world.specs.Link.{Line}
 use Rattle.dso_world.specs.LinkStands.{Course, LinkStands, Past}
 use Rattle.dso_world.specs.NodesStand.{MemberStands}
 use Rattle.dso_world.specs.PastOf.{course_of, past_of}

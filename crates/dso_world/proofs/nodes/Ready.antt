@@ -10,7 +10,7 @@ use Rattle.dso_law.specs.Entries.{entries_of}
 use Rattle.dso_machine.specs.Next.{next_request}
 use Rattle.dso_server.specs.declared.server.Server.{Server}
 use Rattle.dso_server.specs.declared.taken.Taken.TheVariants.{Unfit}
-use Rattle.dso_server.specs.Answering.{IsTaken, given_by}
+use Rattle.dso_server.specs.Answering.{IsTaken}
 use Rattle.dso_world.specs.declared.both.Both.{Both}
 use Rattle.dso_world.specs.declared.both.Both.TheVariants as both
 use Rattle.dso_world.specs.declared.member.Member.{Member}
@@ -86,12 +86,6 @@ module _ (program : Program) (c : ℕ) (letter : Letter Up) (nodes : Nodes) (es 
       let of_letter : letter.clock ≤ length es = first.0 in
       let short : length es ≤ 2 ^ 28 = heard.journal.few in
       omega (arith, heard.stands.clock, last, of_letter, short)
-
-  pub heard_given : given_by nodes.server < 2 ^ 54
-  heard_given =
-      let few : given_by nodes.server ≤ length es = heard.stands.given in
-      let short : length es ≤ 2 ^ 28 = heard.journal.few in
-      omega (arith, few, short)
 
   -- and it fits
   pub no_unfit : (messages : List (ℕ × Down)) (server : Server) → IsTaken (settings_of program) c letter.message Unfit messages nodes.server server (entries_of node.Server es) → ⊥

@@ -1,7 +1,6 @@
 -- The nodes once one of the clients made its step.
-use Rattle.std.specs.List.{list_any}
-use Rattle.std.proofs.Common.{ℕ, zero, suc, ◌+◌, ◌-◌, ◌<◌, ◌≤◌, ◌≡◌, ◌≢◌, ◌⊎◌, inl, inr, refl, sym, ◌∙◌, ap, subst, Bool, true, false, cond, eqb, Option, Some, None, List, [], ◌∷◌, length, slice_get, slice_index_or, slice_set, arith}
-use Rattle.std.proofs.lemmas.Bool.{eqb-true, ne_eqb}
+use Rattle.std.proofs.Common.{ℕ, zero, suc, ◌-◌, ◌<◌, ◌≡◌, ◌≢◌, ◌⊎◌, inl, inr, refl, sym, ◌∙◌, ap, subst, Bool, true, false, cond, eqb, Option, Some, List, [], ◌∷◌, length, slice_get, slice_index_or, slice_set, arith}
+use Rattle.std.proofs.lemmas.Bool.{ne_eqb}
 use Rattle.std.specs.Vec.{with_item}
 use Rattle.dso_base.specs.declared.journal.Entry.{Entry}
 use Rattle.dso_base.specs.declared.journal.Node.{Node}
@@ -10,17 +9,15 @@ use Rattle.dso_class.specs.declared.program.Program.{Program}
 use Rattle.dso_client.specs.ClientStands.{ClientStands}
 use Rattle.dso_law.specs.Channels.{last_clock}
 use Rattle.dso_law.specs.Entries.{entries_of}
-use Rattle.dso_law.specs.Settings.{clients_of}
 use Rattle.dso_legal.specs.Slots.{Slot}
 use Rattle.dso_server.specs.ServerStands.{ServerStands}
-use Rattle.dso_world.specs.declared.both.Both.{Both}
 use Rattle.dso_world.specs.declared.both.Both.TheVariants as both
 use Rattle.dso_world.specs.declared.member.Member.{Member}
 use Rattle.dso_world.specs.declared.nodes.Nodes.{Nodes}
-use Rattle.dso_world.specs.LinkStands.{Course, LinkStands, Past}
-use Rattle.dso_world.specs.MemberSteps.{IsJournal, IsOpenAfter, Steps}
+use Rattle.dso_world.specs.LinkStands.{LinkStands}
+use Rattle.dso_world.specs.MemberSteps.{Steps}
 use Rattle.dso_world.specs.NodeSteps.{StepsAll}
-use Rattle.dso_world.specs.NodesStand.{MemberStands, NodesStand}
+use Rattle.dso_world.specs.NodesStand.{MemberStands}
 use Rattle.dso_world.specs.PastOf.{course_of, past_of}
 use Rattle.dso_world.specs.WorldSteps.{settings_of}
 use Rattle.dso_world.proofs.members.Fits.{holds_more}

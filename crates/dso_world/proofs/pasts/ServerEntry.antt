@@ -2,7 +2,6 @@
 use Rattle.std.proofs.Common.{ℕ, suc, ◌+◌, ◌≡◌, refl, ◌∙◌, ap, true, false, cond, eqb, ltb, not, List, ◌∷◌, ◌++◌, arith}
 use Rattle.dso_base.specs.declared.journal.Entry.{Entry}
 use Rattle.dso_base.specs.declared.journal.Node.TheVariants.{Server}
-use Rattle.dso_base.specs.declared.journal.Sent.{Sent}
 use Rattle.dso_base.specs.declared.message.Down.{Down}
 use Rattle.dso_base.specs.declared.message.Up.{Up}
 use Rattle.dso_law.specs.Settings.{Settings}
@@ -42,17 +41,11 @@ module _ (c : ℕ) (es : List Entry) where
     server_takes_other m messages other = ap (λ down. record past { up_taken = cond (eqb c d) (suc past.up_taken) past.up_taken; down = down }) (posts_down c clock messages (letters_posted (to_client c) es))
         ∙ ap (λ b. record past { up_taken = cond b (suc past.up_taken) past.up_taken; down = past.down ++ down_posts c clock messages }) other
 
-    pub server_takes_course : (p : Settings) (m : Up) (sent : List Sent) → course_of p c (took clock d m sent ∷ es) ≡ course_of p c es
-    server_takes_course p m sent = refl
-
     -- ---- a loss
 
     -- At a loss of any client what goes to this one is added.
     pub server_loses : (messages : List (ℕ × Down)) → past_of both.Up both.Down c (lost clock d (sent_of messages) ∷ es) ≡ with_down (down_posts c clock messages) past
     server_loses messages = ap (λ down. record past { down = down }) (posts_down c clock messages (letters_posted (to_client c) es))
-
-    pub server_loses_course : (p : Settings) (sent : List Sent) → course_of p c (lost clock d sent ∷ es) ≡ course_of p c es
-    server_loses_course p sent = refl
 
     -- ---- a break
 
@@ -78,10 +71,6 @@ module _ (c : ℕ) (es : List Entry) where
         ap (λ b. course_by (cond b true (cond false false (is_broken c (entries_of Server es)))) past.rejoins (cond b (suc past.breaks) past.breaks)) other
 
     -- ---- a rejoin
-
-    -- A rejoin of the server adds nothing, and the connection is joined then;
-    pub server_rejoins : past_of both.Up both.Down c (rejoined clock d ∷ es) ≡ past
-    server_rejoins = refl
 
     pub server_rejoins_course : (p : Settings) → eqb c d ≡ true → course_of p c (rejoined clock d ∷ es) ≡ Joined
     server_rejoins_course p its = ap (λ b. course_by (cond false true (cond b false (is_broken c (entries_of Server es)))) past.rejoins past.breaks) its

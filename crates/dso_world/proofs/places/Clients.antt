@@ -22,10 +22,6 @@ pub in_either : (slot : Slot) (xs ys : List Slot) → list_any (is_slot slot) (x
 in_either slot xs ys is = either_is (list_any (is_slot slot) xs) (list_any (is_slot slot) ys) (sym (list_any-append (is_slot slot) xs ys) ∙ is)
 
 module _ (slot : Slot) where
-  -- the slots of each of these clients are its own
-  IsOwn : (ℕ → List Slot) → Type 0
-  IsOwn f = (c : ℕ) → list_any (is_slot slot) (f c) ≡ true → client_of slot ≡ c
-
   among : (f : ℕ → List Slot) → ((c : ℕ) → list_any (is_slot slot) (f c) ≡ true → client_of slot ≡ c) → (cs : List ℕ) → list_any (is_slot slot) (flat_map f cs) ≡ true → list_any (eqb (client_of slot)) cs ≡ true
   among f own [] is = absurd (cc is)
   among f own (c ∷ cs) is = elim (in_either slot (f c) (flat_map f cs) is) [

@@ -6,10 +6,6 @@ module _ {X Y : Type 0} (f g : X → Y) where
   abbrev pub told_to : ℕ → List X → List Y
   told_to i xs = map f (take i xs) ++ map g (drop i xs)
 
-  -- at first all are by the other
-  pub told_at_first : (xs : List X) → told_to 0 xs ≡ map g xs
-  told_at_first xs = refl
-
   marked_at : (i : ℕ) (xs : List X) (x : X) → slice_get xs i ≡ Some x → slice_set (told_to i xs) i (f x) ≡ told_to (suc i) xs
   marked_at i [] x is = absurd (cc is)
   marked_at zero (y ∷ ys) x is = let same : y ≡ x = cc is in ap (λ z. f z ∷ map g ys) (sym same)

@@ -1,10 +1,7 @@
 -- The flags of a row are told anew where an entry may have changed them.
 use Rattle.std.specs.List.{list_any}
-use Rattle.std.specs.Option.{option_map}
-use Rattle.std.proofs.Common.{ℕ, zero, suc, ◌+◌, ◌≤◌, ◌≡◌, refl, sym, ◌∙◌, ap, subst, Bool, true, false, eqb, ◌&&◌, ◌||◌, Option, Some, None, List, [], ◌∷◌, ◌++◌, drop, length, map, slice_get, slice_set, take, arith}
+use Rattle.std.proofs.Common.{ℕ, zero, suc, ◌+◌, ◌≡◌, refl, sym, ◌∙◌, ap, Bool, true, false, eqb, ◌&&◌, ◌||◌, Option, Some, List, [], ◌∷◌, ◌++◌, drop, length, map, slice_get, slice_set, take}
 use Rattle.std.proofs.lemmas.Bool.{eq-eqb}
-use Rattle.std.proofs.lemmas.List.{append-nil, length-map, take_all}
-use Rattle.std.proofs.Math.ListN.{drop_of_length-le}
 use Rattle.dso_base.specs.declared.journal.Entry.{Entry}
 use Rattle.dso_class.specs.declared.program.Program.{Program}
 use Rattle.dso_legal.specs.Slots.{Slot, Acts, TakesDown, Flushes, TakesUp, Loses, Breaks, is_open, slots}
@@ -13,13 +10,13 @@ use Rattle.dso_world.specs.declared.nodes.Nodes.{Nodes}
 use Rattle.dso_world.specs.declared.step.Step.{Step}
 use Rattle.dso_world.specs.ChosenSlot.{is_slot}
 use Rattle.dso_world.specs.Flags.{Row}
-use Rattle.dso_world.specs.Following.{AreFlags, Marks}
+use Rattle.dso_world.specs.Following.{AreFlags}
 use Rattle.dso_world.specs.Looking.{TellsOpen}
 use Rattle.dso_world.specs.MemberSteps.{IsJournal}
 use Rattle.dso_world.specs.NodesStand.{NodesStand}
 use Rattle.dso_world.specs.Touched.{is_touched}
 use Rattle.dso_world.specs.WorldSteps.{settings_of, slot_of}
-use Rattle.dso_world.proofs.places.Marked.{marked, told_at_first, unmarked}
+use Rattle.dso_world.proofs.places.Marked.{marked, unmarked}
 use Rattle.dso_world.proofs.slots.OthersStay.{others_stay}
 
 -- a slot is itself
@@ -65,9 +62,6 @@ module _ (program : Program) (nodes : Nodes) (entry : Entry) (steps : List Step)
     pub flags : (es : List Entry) → IsJournal program (entry ∷ es) → NodesStand program nodes (entry ∷ es) → AreFlags program steps old es
         → row.flags ≡ map (opens (entry ∷ es)) (take place all) ++ map (opens es) (drop place all)
 
-  pub at_start : length steps ≡ length old.flags → MarkedTo 0 old
-  at_start many = record { many = sym many; begin = refl; entries = refl; flags = λ es journal stands are. are.flags }
-
   -- the slot at a place
   slot_at_place : (place : ℕ) (step : Step) (es : List Entry) → AreFlags program steps old es → slice_get steps place ≡ Some step → slice_get all place ≡ Some (slot_of step)
   slot_at_place place step es are is = ap (λ list. slice_get list place) (sym are.listed) ∙ told_place slot_of steps place step is
@@ -92,21 +86,4 @@ module _ (program : Program) (nodes : Nodes) (entry : Entry) (steps : List Step)
     flags = λ es journal stands are.
         unmarked (opens (entry ∷ es)) (opens es) place all row.flags (slot_of step) (marks.flags es journal stands are) (slot_at_place place step es are is)
         (others_stay (settings_of program) (next_request program.code) entry es (slot_of step) untouched);
-  }
-
-  pub at_end : length steps ≡ length old.flags → (place : ℕ) (row : Row) → length steps ≤ place → MarkedTo place row → Marks program nodes entry steps old row
-  at_end same place row past marks = record {
-    many = marks.many ∙ same;
-    begin = marks.begin;
-    entries = marks.entries;
-    flags = λ es journal stands are.
-        let many : length all ≡ length steps = ap length (sym are.listed) ∙ length-map steps slot_of in
-        let long : length all ≤ place = omega (arith, past, many) in
-        record {
-          listed = are.listed;
-          flags = marks.flags es journal stands are
-              ∙ ap (λ list. map (opens (entry ∷ es)) list ++ map (opens es) (drop place all)) (take_all place all long)
-              ∙ ap (λ list. map (opens (entry ∷ es)) all ++ map (opens es) list) (drop_of_length-le all long)
-              ∙ append-nil (map (opens (entry ∷ es)) all);
-        };
   }

@@ -1,12 +1,9 @@
 -- The step at the chosen place is that of the chosen slot.
-use Rattle.std.proofs.Common.{ℕ, zero, suc, ◌<◌, ◌≡◌, ◌↔◌, IfSome, refl, sym, ◌∙◌, ap, Option, Some, None, List, [], ◌∷◌, length, map, option_and_then, option_map, slice_get, arith}
+use Rattle.std.proofs.Common.{ℕ, zero, suc, ◌<◌, ◌≡◌, IfSome, refl, sym, ◌∙◌, ap, Option, Some, None, List, [], ◌∷◌, length, map, option_and_then, option_map, slice_get, arith}
 use Rattle.std.proofs.lemmas.List.{length-map}
-use Rattle.dso_base.specs.declared.journal.Entry.{Entry}
 use Rattle.dso_class.specs.declared.program.Program.{Program}
-use Rattle.dso_legal.specs.Slots.{is_open, open_slots, slots}
+use Rattle.dso_legal.specs.Slots.{is_open, slots}
 use Rattle.dso_machine.specs.Next.{next_request}
-use Rattle.dso_world.specs.declared.board.Board.{Board}
-use Rattle.dso_world.specs.declared.step.Step.{Step}
 use Rattle.dso_world.specs.declared.world.World.{World}
 use Rattle.dso_world.specs.Flags.{chosen_place}
 use Rattle.dso_world.specs.Laws.{IsChosen}

@@ -1,5 +1,5 @@
 -- The board is followed by an entry.
-use Rattle.std.proofs.Common.{ℕ, suc, ◌+◌, ◌<◌, ◌≤◌, ◌≡◌, ◌≢◌, ◌⊎◌, inl, inr, refl, sym, ◌∙◌, ap, subst, Bool, Option, Some, None, List, [], ◌∷◌, length, map, slice_get, AllPairs, arith}
+use Rattle.std.proofs.Common.{ℕ, suc, ◌+◌, ◌<◌, ◌≡◌, ◌≢◌, inl, inr, refl, sym, ◌∙◌, ap, Bool, Option, Some, None, List, [], ◌∷◌, length, slice_get, AllPairs, arith}
 use Rattle.std.proofs.lemmas.List.{length-map}
 use Rattle.std.proofs.lemmas.Option.{slice_get-get_or}
 use Rattle.dso_base.specs.declared.journal.Entry.{Entry}
@@ -14,9 +14,9 @@ use Rattle.dso_world.specs.declared.nodes.Nodes.{Nodes}
 use Rattle.dso_world.specs.ChosenSlot.{slot_at}
 use Rattle.dso_world.specs.Flags.{Row}
 use Rattle.dso_world.specs.Following.{AreFlags, Follows, Marks}
-use Rattle.dso_world.specs.Laws.{RowStands, place_behind}
+use Rattle.dso_world.specs.Laws.{place_behind}
 use Rattle.dso_world.specs.Looking.{TellsFinished}
-use Rattle.dso_world.specs.WorldSteps.{settings_of, slot_of}
+use Rattle.dso_world.specs.WorldSteps.{settings_of}
 use Rattle.dso_world.specs.WorldStands.{BoardStands}
 use Rattle.dso_world.proofs.slots.Once.{rounds_go_on}
 

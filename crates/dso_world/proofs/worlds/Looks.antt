@@ -1,23 +1,21 @@
 -- What the nodes tell: which triggers are due, which slots are open, and which clients keep the run going.
 use Rattle.std.specs.List.{list_any, flat_map}
-use Rattle.std.proofs.Common.{ℕ, zero, suc, ◌+◌, ◌-◌, ◌<◌, ◌≤◌, ◌≡◌, ◌↔◌, inl, inr, refl, sym, ◌∙◌, ap, subst, Bool, true, false, eqb, ltb, not, ◌&&◌, ◌||◌, Some, None, List, [], ◌∷◌, ◌++◌, filter, length, map, slice_get, slice_index_or, arith}
+use Rattle.std.proofs.Common.{ℕ, zero, suc, ◌+◌, ◌-◌, ◌<◌, ◌≤◌, ◌≡◌, ◌↔◌, inl, inr, refl, sym, ◌∙◌, ap, subst, Bool, true, false, eqb, ltb, not, ◌&&◌, ◌||◌, Some, List, [], ◌∷◌, ◌++◌, filter, length, map, slice_get, slice_index_or, arith}
 use Rattle.std.specs.Prelude.{IsTrue}
 use Rattle.std.proofs.lemmas.Bool.{eq-eqb, ltb-false, ltb-true}
 use Rattle.std.proofs.lemmas.List.Folds.{list_any-append}
-use Rattle.std.proofs.lemmas.List.Elements.{recursion_from_All}
 use Rattle.dso_base.specs.declared.journal.Entry.{Entry}
 use Rattle.dso_base.specs.declared.journal.Node.TheVariants as node
 use Rattle.dso_base.specs.declared.journal.Trigger.{Trigger}
 use Rattle.dso_base.specs.declared.lock.ThreadId.{ThreadId}
 use Rattle.dso_base.specs.Following.{is_thread}
 use Rattle.dso_class.specs.declared.program.Program.{Program}
-use Rattle.dso_client.specs.Openings.{thread_at}
 use Rattle.dso_client.specs.Threads.{IsEnabled, TellsAlive}
 use Rattle.dso_law.specs.Channels.{breaks, count_inputs}
 use Rattle.dso_law.specs.Entries.{entries_of}
-use Rattle.dso_law.specs.ServerReadings.{is_break_due, is_loss_due, is_lost, is_reached, taken_count}
+use Rattle.dso_law.specs.ServerReadings.{is_loss_due, is_lost, is_reached, taken_count}
 use Rattle.dso_law.specs.Settings.{Settings, clients_of, threads_of, up_to}
-use Rattle.dso_legal.specs.Slots.{Slot, Acts, TakesDown, Flushes, TakesUp, Loses, Breaks, client_slots, is_due, is_finished, slots}
+use Rattle.dso_legal.specs.Slots.{Acts, TakesDown, Flushes, TakesUp, Loses, Breaks, client_slots, is_due, is_finished, slots}
 use Rattle.dso_machine.specs.Next.{next_request}
 use Rattle.dso_server.specs.ServerStands.{ServerStands}
 use Rattle.dso_server.specs.declared.server.Server.{Server}

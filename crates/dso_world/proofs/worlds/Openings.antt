@@ -1,15 +1,12 @@
 -- A cluster before its first step.
 use Rattle.std.specs.List.{AllByRecursion}
 use Rattle.std.specs.Option.{option_map, option_map_or}
-use Rattle.std.proofs.Common.{ℕ, zero, suc, ◌+◌, ◌<◌, ◌≤◌, ◌≡◌, ◌⊎◌, inl, inr, refl, sym, ◌∙◌, ap, subst, Bool, false, eqb, Option, Some, None, List, [], ◌∷◌, ◌++◌, drop, filter, length, map, replicate, reverse, slice_get, slice_set, take, arith}
+use Rattle.std.proofs.Common.{ℕ, zero, suc, ◌+◌, ◌≤◌, ◌≡◌, ◌⊎◌, inl, inr, refl, sym, ◌∙◌, ap, subst, Bool, false, eqb, Option, Some, None, List, [], ◌∷◌, ◌++◌, drop, filter, length, map, replicate, reverse, slice_get, slice_set, take, arith}
 use Rattle.std.proofs.lemmas.List.{append-nil, length-append, take_all}
 use Rattle.std.proofs.Math.ListN.{drop_of_length-le}
-use Rattle.dso_base.specs.declared.journal.Node.TheVariants as node
-use Rattle.dso_base.specs.declared.lock.LockName.{LockName}
-use Rattle.dso_base.specs.declared.lock.ThreadId.{ThreadId}
 use Rattle.dso_class.specs.declared.program.Program.{Program}
 use Rattle.dso_class.specs.Sound.{IsSound}
-use Rattle.dso_client.specs.Acting.{HoldsAtMost, count_again}
+use Rattle.dso_client.specs.Acting.{count_again}
 use Rattle.dso_client.specs.ClientStands.{ClientStands, point}
 use Rattle.dso_client.specs.CodeRuns.{RunsCode}
 use Rattle.dso_client.specs.LockingStands.{as_hold}
@@ -17,7 +14,6 @@ use Rattle.dso_client.specs.Openings.{HasThreads, first_threads}
 use Rattle.dso_client.specs.Points.{Point}
 use Rattle.dso_client.specs.SeatPlaces.{seat_in}
 use Rattle.dso_client.specs.SeatStands.{SeatStands}
-use Rattle.dso_client.specs.declared.kept.Kept.{Kept}
 use Rattle.dso_client.specs.declared.seat.Seat.{Seat}
 use Rattle.dso_hold.specs.Holds.{count_at, hold_in}
 use Rattle.dso_hold.specs.declared.held.Held.{Held}

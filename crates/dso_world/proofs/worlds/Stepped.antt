@@ -1,21 +1,18 @@
 -- Whether a step can be made, and what a world is once it was.
 use Rattle.std.specs.List.{list_any, position}
 use Rattle.std.specs.Option.{option_and_then, option_map_or}
-use Rattle.std.proofs.Common.{ℕ, suc, ◌+◌, ◌<◌, ◌≤◌, ◌^◌, ◌≡◌, refl, sym, ◌∙◌, ap, subst, Bool, true, false, Option, Some, None, List, filter, map, length, reverse, slice_get, arith}
-use Rattle.std.proofs.lemmas.List.{length-reverse}
+use Rattle.std.proofs.Common.{ℕ, suc, ◌≡◌, refl, sym, ◌∙◌, ap, Bool, true, false, Option, Some, List, filter, slice_get}
 use Rattle.dso_base.specs.declared.journal.Entry.{Entry}
 use Rattle.dso_class.specs.declared.program.Program.{Program}
-use Rattle.dso_class.specs.Sound.{IsSound}
 use Rattle.dso_legal.specs.Slots.{is_open, slots}
 use Rattle.dso_machine.specs.Next.{next_request}
 use Rattle.dso_world.specs.declared.board.Board.{Board}
 use Rattle.dso_world.specs.declared.step.Step.{Step}
-use Rattle.dso_world.specs.declared.world.World.{World}
 use Rattle.dso_world.specs.ChosenSlot.{is_slot}
 use Rattle.dso_world.specs.Flags.{is_set}
 use Rattle.dso_world.specs.MemberSteps.{IsOpenAfter}
 use Rattle.dso_world.specs.WorldSteps.{settings_of, slot_of}
-use Rattle.dso_world.specs.WorldStands.{BoardStands, IsMakeable, WorldStands, entries_in, is_open_step}
+use Rattle.dso_world.specs.WorldStands.{BoardStands}
 use Rattle.dso_world.proofs.places.Found.{found, place_of_told, stands_there}
 use Rattle.dso_world.proofs.places.Marking.{told_place}
 

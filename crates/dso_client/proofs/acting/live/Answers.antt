@@ -1,8 +1,7 @@
 use Rattle.std.proofs.Common.{◌≡◌, ◌≤◌, ℕ, suc, refl, sym, ◌∙◌, ap, subst, arith, Option, Some, None}
 use Rattle.std.specs.Option.{option_and_then}
-use Rattle.dso_client.specs.declared.kept.Kept.{Kept}
 use Rattle.dso_client.specs.declared.seat.Seat.{Seat}
-use Rattle.dso_client.specs.Acting.{HoldsAtMost, count_again}
+use Rattle.dso_client.specs.Acting.{count_again}
 use Rattle.dso_client.specs.Entering.{count_owed}
 use Rattle.dso_client.specs.LockingStands.{LockingStands}
 use Rattle.dso_client.specs.SeatPlaces.{running, seat_in}
@@ -10,7 +9,6 @@ use Rattle.dso_client.proofs.seats.ChangedSeats.{alone_tells}
 use Rattle.dso_client.proofs.acts.Bounds.{most_kept, waits_live}
 use Rattle.dso_client.proofs.acts.Parts.{stands_lived, lives, waits_so}
 use Rattle.dso_client.proofs.acts.Seats.{runs_together}
-use Rattle.dso_client.proofs.acts.Whole.{answered_stands, runs_answered}
 use Rattle.dso_client.proofs.acting.live.Goals as goal
 
 pub returns-clause-stands : goal.returns-clause-stands

@@ -2,11 +2,6 @@ use Rattle.std.proofs.Common.{[], ◌∷◌, ◌++◌, None}
 use Rattle.dso_base.specs.declared.request.Event.TheVariants.{Act}
 use Rattle.dso_machine.specs.Standing.{asked}
 use Rattle.dso_client.proofs.acts.Heard.{listed_for, listed_still}
-use Rattle.dso_client.proofs.acts.Step.{acted_stands}
-use Rattle.dso_client.proofs.acts.Next.{parts_then}
-use Rattle.dso_client.proofs.acts.Seats.{seats_live}
-use Rattle.dso_client.proofs.acts.Bounds.{waits_live}
-use Rattle.dso_client.proofs.acts.Machine.{runs_gone_on}
 use Rattle.dso_client.proofs.going.go_on.Goals as goal
 
 pub answer-requires : goal.answer-requires

@@ -1,5 +1,4 @@
 use Rattle.std.proofs.Common.{sym, ◌∙◌, ap, ◌||◌, is_some, Some}
-use Rattle.dso_law.specs.Copies.{is_resident}
 use Rattle.dso_client.proofs.objects.KnownObjects.{absent, class_of_copy, not_there, resident_with}
 use Rattle.dso_client.proofs.known_objects.class_known.Goals as goal
 

@@ -1,4 +1,4 @@
-use Rattle.std.proofs.Common.{◌+◌, ◌<◌, ◌≤◌, ◌≡◌, ◌^◌, length, sym, subst, arith}
+use Rattle.std.proofs.Common.{◌≤◌, ◌^◌, length, sym, subst, arith}
 use Rattle.dso_base.specs.declared.journal.Input.TheVariants as input
 use Rattle.dso_legal.specs.Slots as slot
 use Rattle.dso_world.specs.MemberSteps.{Steps}

@@ -1,6 +1,5 @@
-use Rattle.std.proofs.Common.{◌+◌, ◌<◌, ◌≤◌, ◌≡◌, ◌^◌, None, [], ◌∷◌, ap, length, sym, subst, arith}
+use Rattle.std.proofs.Common.{◌≤◌, ◌≡◌, ◌^◌, None, [], ◌∷◌, ap, length, sym, subst, arith}
 use Rattle.dso_base.specs.declared.journal.Input.TheVariants as input
-use Rattle.dso_base.specs.declared.message.Up.TheVariants as up
 use Rattle.dso_class.specs.declared.program.Program.{Program}
 use Rattle.dso_legal.specs.Slots as slot
 use Rattle.dso_world.specs.declared.made.Made.{Made}

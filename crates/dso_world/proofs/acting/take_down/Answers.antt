@@ -1,15 +1,14 @@
-use Rattle.std.proofs.Common.{◌+◌, ◌<◌, ◌≤◌, ◌≡◌, ◌∙◌, ◌^◌, None, Some, [], ap, length, sym, subst, arith}
+use Rattle.std.proofs.Common.{◌≤◌, ◌≡◌, ◌∙◌, ◌^◌, None, Some, [], ap, length, sym, subst, arith}
 use Rattle.dso_base.specs.declared.journal.Input.TheVariants as input
 use Rattle.dso_legal.specs.Slots as slot
 use Rattle.dso_session.specs.declared.frame.Accepted.TheVariants as accepted
 use Rattle.dso_world.specs.declared.both.Both.TheVariants as both
 use Rattle.dso_world.specs.declared.made.Made.{Made}
-use Rattle.dso_world.specs.Link.{taken_down}
 use Rattle.dso_world.specs.MemberSteps.{Steps}
 use Rattle.dso_world.specs.Sending.{after_saying, client_entry}
 use Rattle.dso_world.proofs.members.Fits.{IsSmall, small}
 use Rattle.dso_world.proofs.members.Made.{made_ok}
-use Rattle.dso_world.proofs.members.Taken.{answered, heard_few, not_other, not_up, rejoined_steps, seen_few, taken_steps}
+use Rattle.dso_world.proofs.members.Taken.{heard_few, not_other, not_up, rejoined_steps, seen_few, taken_steps}
 use Rattle.dso_world.proofs.acting.take_down.Goals as goal
 
 pub unreachable-requires : goal.unreachable-requires

@@ -1,4 +1,4 @@
-use Rattle.std.proofs.Common.{◌≡◌, ◌∙◌, sym, subst, length, arith}
+use Rattle.std.proofs.Common.{sym, subst, arith}
 use Rattle.dso_world.specs.Following.{Follows, Marks}
 use Rattle.dso_world.proofs.worlds.Followed.{followed}
 use Rattle.dso_world.proofs.following.follow.Goals as goal

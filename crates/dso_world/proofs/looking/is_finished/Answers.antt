@@ -1,4 +1,4 @@
-use Rattle.std.proofs.Common.{◌≤◌, ◌≡◌, ◌∙◌, sym, arith}
+use Rattle.std.proofs.Common.{◌≡◌, ◌∙◌, sym, arith}
 use Rattle.dso_world.proofs.worlds.Looks.{finished_told, going_told, one_further}
 use Rattle.dso_world.proofs.looking.is_finished.Goals as goal
 

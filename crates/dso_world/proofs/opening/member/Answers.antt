@@ -1,4 +1,4 @@
-use Rattle.std.proofs.Common.{◌∙◌, ◌≤◌, ◌≡◌, ap, eqb, filter, length, refl, arith}
+use Rattle.std.proofs.Common.{◌∙◌, ◌≤◌, ap, eqb, filter, length, refl, arith}
 use Rattle.dso_world.proofs.worlds.Openings.{few_threads, member_stands, threads_there}
 use Rattle.dso_world.proofs.opening.member.Goals as goal
 

@@ -1,5 +1,5 @@
 use Rattle.std.proofs.Common.{sym, subst}
-use Rattle.dso_world.specs.WorldStands.{IsChosenStep, entries_in}
+use Rattle.dso_world.specs.WorldStands.{IsChosenStep}
 use Rattle.dso_world.proofs.worlds.Choices.{chosen_step}
 use Rattle.dso_world.proofs.world.World.choose.Goals as goal
 

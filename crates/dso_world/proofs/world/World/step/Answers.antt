@@ -1,9 +1,9 @@
 use Rattle.std.specs.Option.{option_and_then, option_map_or}
-use Rattle.std.proofs.Common.{ℕ, ◌+◌, ◌<◌, ◌≤◌, ◌^◌, ◌≡◌, refl, ◌∙◌, ap, Bool, true, false, Some, length, slice_get, arith}
+use Rattle.std.proofs.Common.{ℕ, ◌<◌, ◌^◌, ◌≡◌, refl, ◌∙◌, ap, Bool, true, false, length, slice_get, arith}
 use Rattle.std.proofs.lemmas.List.{length-reverse}
 use Rattle.dso_world.specs.Flags.{is_set}
 use Rattle.dso_world.specs.WorldStands.{PartsStand, entries_in}
-use Rattle.dso_world.proofs.worlds.Stepped.{flag_in, open_told, opens_there, place_in, slot_stands}
+use Rattle.dso_world.proofs.worlds.Stepped.{flag_in, open_told, opens_there, slot_stands}
 use Rattle.dso_world.proofs.world.World.step.Goals as goal
 
 pub make-requires : goal.make-requires
