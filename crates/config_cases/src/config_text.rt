@@ -1,5 +1,5 @@
-//! A configuration as text: each key with its value, `-` where it is absent, and a section's entries in brackets, or how many
-//! they are where there are more than eight.
+//! A configuration as text: each key with its value, `-` where it is absent, and a section's entries in brackets, or
+//! how many they are where there are more than eight.
 
 use dso_base::{Grade, Items, Trigger, Word};
 use dso_config::{AutoEntry, Config, GuardEntry, NamedEntry, Pattern, RootEntry};

@@ -1,7 +1,7 @@
 //! The rows of the input: `SENTENCE: TEXT`, each with what `read_config` answers of its text.
 //!
-//! In a text `;` stands for a line feed, and `~` before the two hexadecimal digits of a byte. `` `64 (` `` stands for 64 times
-//! what is behind the space, in which `#` is the number of the time, counted from 1.
+//! In a text `;` stands for a line feed, and `~` before the two hexadecimal digits of a byte. `` `64 (` `` stands for
+//! 64 times what is behind the space, in which `#` is the number of the time, counted from 1.
 
 use crate::config_text::configuration;
 use case_words::unescaped;

@@ -1,6 +1,6 @@
 -- What a small journal weighs is small.
 use Rattle.std.specs.List.{list_all}
-use Rattle.std.proofs.Common.{arith, ℕ, ◌≡◌, ◌+◌, ◌<◌, ◌^◌, refl, Bool, true, false, ◌&&◌, List, [], ◌∷◌, length, sum_by}
+use Rattle.std.proofs.Common.{arith, ℕ, ◌≡◌, ◌<◌, ◌^◌, refl, Bool, true, false, ◌&&◌, List, [], ◌∷◌, length, sum_by}
 use Rattle.std.proofs.lemmas.Bool.{eqb-true}
 use Rattle.std.proofs.lemmas.List.Sums.{sum_by-cons}
 use Rattle.dso_base.specs.declared.journal.Entry.{Entry}

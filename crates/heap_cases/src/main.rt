@@ -1,7 +1,7 @@
 //! Rows of events with their answers on one heap, of the base types, and of what a journal tells.
 //!
-//! A row of the input is a sentence, `: `, and a command; it is printed as the sentence, `: `, and the answer. Any other
-//! line is printed as it stands. The commands (`case.rt`) keep one heap and one journal from row to row.
+//! A row of the input is a sentence, `: `, and a command; it is printed as the sentence, `: `, and the answer. Any
+//! other line is printed as it stands. The commands (`case.rt`) keep one heap and one journal from row to row.
 #![tactic(auto)]
 
 mod case;

@@ -1,7 +1,7 @@
 //! The files and the sink of the system, and those in memory, by what they do.
 //!
-//! Each line of the input is a row, `SENTENCE: ACTION NUMBERS`, told by `row.rt`. The files of the system are tried in a
-//! folder of their own, which is made in the folder for temporary files and removed at the end.
+//! Each line of the input is a row, `SENTENCE: ACTION NUMBERS`, told by `row.rt`. The files of the system are tried in
+//! a folder of their own, which is made in the folder for temporary files and removed at the end.
 #![tactic(auto)]
 
 mod memory;

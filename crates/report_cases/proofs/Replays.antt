@@ -1,21 +1,21 @@
 -- A thread that runs again through its events.
-use Rattle.std.proofs.Common.{◌≡◌, ◌≢◌, refl, sym, ◌∙◌, ap, subst, ℕ, ◌<◌, ◌+◌, Bool, true, false, cond, Option, Some, List, [], ◌∷◌, ◌++◌, length, take, drop, get_or, add-one}
+use Rattle.std.proofs.Common.{◌≡◌, refl, sym, ◌∙◌, ap, subst, ℕ, ◌<◌, ◌+◌, Bool, true, false, cond, Option, Some, List, [], ◌∷◌, ◌++◌, length, take, drop, get_or, add-one}
 use Rattle.std.proofs.lemmas.List.{append_assoc, append-nil, take-append-drop}
 use Rattle.std.proofs.lemmas.Option.{none-some}
 use Rattle.std.proofs.Math.Seq.{take-suc}
 use Rattle.dso_base.specs.declared.lock.ThreadId.{ThreadId}
 use Rattle.dso_base.specs.declared.request.Event.{Event}
-use Rattle.dso_base.specs.declared.request.Event.TheVariants.{Act, Lost}
+use Rattle.dso_base.specs.declared.request.Event.TheVariants.{Act}
 use Rattle.dso_base.specs.declared.request.Reply.{Reply}
 use Rattle.dso_base.specs.declared.request.Request.{Request}
-use Rattle.dso_base.specs.Following.{is_thread, FollowsFrom, IsListedFor, Listed}
+use Rattle.dso_base.specs.Following.{FollowsFrom, IsListedFor, Listed}
 use Rattle.dso_machine.specs.declared.code.Code.{Code}
 use Rattle.dso_machine.specs.declared.thread.Thread.{Thread}
 use Rattle.dso_machine.specs.Next.{next_request}
 use Rattle.dso_machine.specs.Standing.{IsOver, ThreadStands}
 use Rattle.dso_machine.proofs.standing.Ends.{over_asks}
 use Rattle.dso_plain.specs.History.{events_of}
-use Rattle.dso_plain.proofs.keys.SameKeys.{same_thread, thread_self}
+use Rattle.dso_plain.proofs.keys.SameKeys.{thread_self}
 use Rattle.dso_plain.proofs.histories.LegalGoesOn.{events_in_parts}
 use Rattle.report_cases.specs.LegalRun.{CanFollow, FollowsCode}
 
@@ -23,11 +23,6 @@ use Rattle.report_cases.specs.LegalRun.{CanFollow, FollowsCode}
 own_part : (t u : ThreadId) (q : Request) (r : Reply) (woken : Option ThreadId) → u ≡ t → events_of t (Act u q r woken ∷ []) ≡ Act t q r woken ∷ []
 own_part t u q r woken same =
     ap (λ v. events_of t (Act v q r woken ∷ [])) same ∙ ap (λ b. cond b (Act t q r woken ∷ []) []) (thread_self t)
-
--- of an act that is another thread's, the thread has no part
-no_part : (t u : ThreadId) (q : Request) (r : Reply) (woken : Option ThreadId) (b : Bool) → is_thread t u ≡ b → u ≢ t → cond b (Act u q r woken ∷ []) [] ≡ []
-no_part t u q r woken true is other = absurd (other (same_thread t u is))
-no_part t u q r woken false is other = refl
 
 module _ (code : Code) (t u : ThreadId) (run : Thread) (q : Request) (r : Reply) (woken : Option ThreadId) where
   -- an act of the thread that it can follow has its next request, and a reply that is listed there
@@ -37,25 +32,6 @@ module _ (code : Code) (t u : ThreadId) (run : Thread) (q : Request) (r : Reply)
   -- a thread that can follow an act of its own goes on
   pub goes : CanFollow code t run (Act u q r woken) → u ≡ t → IsOver run → ⊥
   goes can same over = none-some q (sym (over_asks code t run can.past can.stands over) ∙ (next_is can same).0)
-
-  -- the reply is listed for the request that is out, where that is the next one
-  pub is_listed : (can : CanFollow code t run (Act u q r woken)) (out : Option Request) (request : Request) → u ≡ t → next_request code t can.past ≡ Some request → out ≡ Some request → IsListedFor out r
-  is_listed can out request same asks is = subst (λ found. IsListedFor found r) (asks ∙ sym is) (next_is can same).1
-
--- a thread that has taken the reply of its own act stands for that act, too
-pub followed : (code : Code) (t u : ThreadId) (next : Thread) (q : Request) (r : Reply) (woken : Option ThreadId) (events : List Event) → u ≡ t → ThreadStands code t next (events ++ Act t q r woken ∷ [])
-    → ThreadStands code t next (events ++ events_of t (Act u q r woken ∷ []))
-followed code t u next q r woken events same stands = subst (λ es. ThreadStands code t next (events ++ es)) (sym (own_part t u q r woken same)) stands
-
--- a thread stands for what it stood for, past an act of another thread
-pub passed : (code : Code) (t u : ThreadId) (run : Thread) (q : Request) (r : Reply) (woken : Option ThreadId) (events : List Event) → u ≢ t → ThreadStands code t run events
-    → ThreadStands code t run (events ++ events_of t (Act u q r woken ∷ []))
-passed code t u run q r woken events other stands =
-    subst (λ es. ThreadStands code t run (events ++ es)) (sym (no_part t u q r woken (is_thread t u) refl other)) (subst (λ es. ThreadStands code t run es) (sym (append-nil events)) stands)
-
--- a thread stands for what it stood for, past the loss of a client
-pub passed_loss : (code : Code) (t : ThreadId) (run : Thread) (client : ℕ) (events : List Event) → ThreadStands code t run events → ThreadStands code t run (events ++ events_of t (Lost client ∷ []))
-passed_loss code t run client events stands = subst (λ es. ThreadStands code t run es) (sym (append-nil events)) stands
 
 module _ (code : Code) (t : ThreadId) where
   -- events that follow the code do so from behind the first of them on

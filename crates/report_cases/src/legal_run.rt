@@ -1,6 +1,5 @@
 //! A legal history, made event by event on one heap.
 ghost use Rattle.std.specs.Prelude.{◌≡◌, false, IfOk, OnOk};
-ghost use Rattle.dso_class.specs.Sound.{IsSound};
 ghost use Rattle.report_cases.specs.LegalRun.{IsLegalRun, IsNextEvent};
 
 use dso_base::{Event, NoMemory};

@@ -1,5 +1,6 @@
-//! Cases of reports. Each case of the input is a line `# ` with a sentence, the text of a program, and a line `> ` with what is done: its
-//! threads act and clients are lost, on one heap. The output has each sentence with the report that is written then.
+//! Cases of reports. Each case of the input is a line `# ` with a sentence, the text of a program, and a line `> ` with
+//! what is done: its threads act and clients are lost, on one heap. The output has each sentence with the report that
+//! is written then.
 #![tactic(auto)]
 
 mod cases;

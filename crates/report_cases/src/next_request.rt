@@ -12,8 +12,8 @@ use dso_base::{Event, NoMemory, Request, ThreadId};
 use dso_machine::{Code, Thread, ThreadBody};
 use std::alloc::Global;
 
-/// What a thread of the code asks after its events among these, which follow the code; None after its end. The thread runs from its start
-/// on with the replies that the events have.
+/// What a thread of the code asks after its events among these, which follow the code; None after its end. The thread
+/// runs from its start on with the replies that the events have.
 pub(crate) fn next_request(
     alloc: Global,
     code: &Code,
@@ -32,7 +32,8 @@ pub(crate) fn next_request(
     asked
 }
 
-/// What a thread that stands for no events asks after its events among these, which follow the code; None after its end.
+/// What a thread that stands for no events asks after its events among these, which follow the code; None after its
+/// end.
 fn ask_after(
     alloc: Global,
     code: &Code,

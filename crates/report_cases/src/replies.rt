@@ -14,8 +14,8 @@ pub(crate) const PLAIN_REPLIES: &[Reply] = &[
     Reply::Val(Value::Bool(false)),
 ];
 
-/// The reply to a request that tells of the heap: of a tick or a timeout that the thread was woken; Done to any other. A new object gets
-/// this id.
+/// The reply to a request that tells of the heap: of a tick or a timeout that the thread was woken; Done to any other.
+/// A new object gets this id.
 pub(crate) fn told(plain: &Plain, id: u64, request: Request) -> Reply {
     match request {
         Request::New(..) => Reply::Made(id),

@@ -1,5 +1,5 @@
-//! What is done in a case, word by word: `1.2` is an act of the second thread of client 1, `1.2*` are all acts that it can make now, and
-//! `loss:2` is the loss of client 2; `-` is nothing.
+//! What is done in a case, word by word: `1.2` is an act of the second thread of client 1, `1.2*` are all acts that it
+//! can make now, and `loss:2` is the loss of client 2; `-` is nothing.
 ghost use Rattle.std.specs.Prelude.{◌≡◌, ◌≢◌, Some, None, false, IfOk, OnOk};
 ghost use Rattle.dso_class.specs.Sound.{IsSound};
 ghost use Rattle.dso_machine.specs.Next.{body_of, next_request};
@@ -150,7 +150,8 @@ fn act(
     offer(alloc, program, run, thread, request, PLAIN_REPLIES)
 }
 
-/// Makes the act with the first of these replies that is listed and that the heap takes, and answers whether there is one.
+/// Makes the act with the first of these replies that is listed and that the heap takes, and answers whether there is
+/// one.
 fn offer(
     alloc: Global,
     program: &Program,

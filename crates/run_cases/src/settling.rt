@@ -68,11 +68,13 @@ fn is_settling(entry: &Entry) -> bool {
         index: 1,
     };
     match entry.event {
-        Some(Event::Act {
-            thread,
-            request: Request::Settle,
-            ..
-        }) => thread == settling,
+        Some(
+            Event::Act {
+                thread,
+                request: Request::Settle,
+                ..
+            },
+        ) => thread == settling,
         _ => false,
     }
 }

@@ -1,7 +1,7 @@
 //! Rows of messages to a server and of losses, with what it answers.
 //!
-//! A row of the input is a sentence, `: `, and a command; it is printed as the sentence, `: `, and the answer. Any other
-//! line is printed as it stands, and the server is new from there on. The commands are told in `rows.rt`.
+//! A row of the input is a sentence, `: `, and a command; it is printed as the sentence, `: `, and the answer. Any
+//! other line is printed as it stands, and the server is new from there on. The commands are told in `rows.rt`.
 #![tactic(auto)]
 
 mod answers;

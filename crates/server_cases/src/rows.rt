@@ -21,8 +21,8 @@ use std::alloc::{AllocError, Global};
 /// How many batches a row may ask for.
 const MOST_BATCHES: u64 = 1000;
 
-/// A server of clients with two threads each, 1 to 3, that do nothing, and of this shape: class 0 with a long guarded by the object's
-/// monitor and an object guarded by the named lock 1; one root, two named locks, one text.
+/// A server of clients with two threads each, 1 to 3, that do nothing, and of this shape: class 0 with a long guarded
+/// by the object's monitor and an object guarded by the named lock 1; one root, two named locks, one text.
 #[derive(Drop)]
 pub struct Rows {
     code: Code,

@@ -1,6 +1,6 @@
 //! The two ends of a connection, whose messages tell of flushed objects.
 
-use crate::words::number_of;
+use crate::words::{MOST, number_of};
 use case_words::{debugged, first_of};
 use dso_base::{NoMemory, Up};
 use dso_session::{Frame, Session};
@@ -39,7 +39,7 @@ pub fn told(alloc: Global, end: &mut Session<Up>, text: &str) -> Result<String, 
 fn sent(alloc: Global, end: &mut Session<Up>, text: &str) -> Result<String, NoMemory> {
     let (message, rest) = number_of(text);
     let (clock, _) = number_of(rest);
-    if end.sent() >= 1 << 60 {
+    if end.sent() >= MOST {
         return debugged(alloc, "too many");
     }
     debugged(alloc, end.send(Up::Flushed(message), clock))

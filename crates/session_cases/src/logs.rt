@@ -1,6 +1,6 @@
 //! The logs of the server and of two clients.
 
-use crate::words::number_of;
+use crate::words::{MOST, number_of};
 use case_words::debugged;
 use dso_base::{Input, NoMemory, Node};
 use dso_log::{NodeLog, merge};
@@ -53,7 +53,7 @@ impl Logs {
 
 /// Adds a flush to the log, having heard a clock.
 fn added_to(alloc: Global, log: &mut NodeLog, heard: u64) -> Result<String, NoMemory> {
-    if heard >= 1 << 60 || log.last_clock() >= 1 << 60 {
+    if heard >= MOST || log.last_clock() >= MOST {
         return debugged(alloc, "too late");
     }
     log.reserve()?;

@@ -1,7 +1,7 @@
 //! Rows of calls of the two ends of a connection and of the logs of nodes, with what each answers.
 //!
-//! A row of the input is a sentence, `: `, and a command; it is printed as the sentence, `: `, and the answer. Any other
-//! line is printed as it stands, and all is new from there on.
+//! A row of the input is a sentence, `: `, and a command; it is printed as the sentence, `: `, and the answer. Any
+//! other line is printed as it stands, and all is new from there on.
 //!
 //! | Command | What it calls |
 //! |---|---|

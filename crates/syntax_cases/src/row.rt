@@ -1,6 +1,7 @@
 //! The rows of the input: `SENTENCE: TEXT`, each with what `parse` answers of its text.
 //!
-//! In a text `~` stands before the two hexadecimal digits of a byte, and `` `64 (` `` stands for 64 times what is behind the space.
+//! In a text `~` stands before the two hexadecimal digits of a byte, and `` `64 (` `` stands for 64 times what is
+//! behind the space.
 
 use crate::tree_text::program;
 use case_words::unescaped;

@@ -1,4 +1,5 @@
-//! A tree as text: each form as `(word parts ..)`, with its line as `@2` behind the word where that is not 1, and lists in braces.
+//! A tree as text: each form as `(word parts ..)`, with its line as `@2` behind the word where that is not 1, and lists
+//! in braces.
 
 use dso_base::Word;
 use dso_syntax::{Ast, ExprForm, ExprTree, Ident, Item, Member, StmtForm, StmtTree};

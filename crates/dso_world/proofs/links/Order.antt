@@ -10,7 +10,6 @@ use Rattle.dso_session.specs.declared.session.Posted.{Posted}
 use Rattle.dso_session.specs.Ends.{End, IsInOrder, after_answer, after_frame, behind_frame, forgotten, gone_on, is_new, next_kept, sent_count}
 
 module _ {M : Type 0} where
-
   -- behind a frame
   pub order_behind : (end : End M) → IsInOrder end → IsInOrder (behind_frame end)
   order_behind end order = by end.owes_hello end.is_ready (next_kept end) refl

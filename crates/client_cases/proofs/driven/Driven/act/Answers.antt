@@ -1,4 +1,4 @@
-use Rattle.std.proofs.Common.{ℕ, ◌≤◌, ◌<◌, ◌-◌, ◌^◌, arith}
+use Rattle.std.proofs.Common.{ℕ, ◌≤◌, ◌-◌, ◌^◌, arith}
 use Rattle.dso_client.specs.Acting.{HoldsAtMost}
 use Rattle.dso_client.specs.declared.kept.Kept.{Kept}
 use Rattle.client_cases.specs.Driving.{Goes}
