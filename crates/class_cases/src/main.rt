@@ -3,12 +3,12 @@
 //! Each line is a word, `:` and what the word says.
 //!
 //! - `configuration` and `classes` stand for all cases behind them: the text of the configuration, and the classes
-//! in front of a thread's statements.
+//!   in front of a thread's statements.
 //! - `case` begins a case with its name.
 //! - `names` asks what the names of a text answer, `program` which program it is, and `edge` what so many parts of a
-//! text and one more answer.
+//!   text and one more answer.
 //! - `thread` gives the statements of a thread, or `text` a whole text, and `replies` what it is to be answered, with
-//! `; ` between them: what it asks is printed with its reply.
+//!   `; ` between them: what it asks is printed with its reply.
 //! - `words` asks what is kept of the configuration, and `laws` that the laws of the names hold.
 //!
 //! In the text of a configuration, and in those that `names` and `edge` ask of, `~` stands before the two hexadecimal

@@ -1,10 +1,10 @@
 //! Rows of what one client does that is driven by hand: its threads act, it takes messages and flushes objects, with no
 //! server.
 //!
-//! The input has parts, with an empty line between two of them. A part begins with the lines `program TEXT`, `config
-//! TEXT` and `client NUMBER`; the client of that number in that program is new there. In texts `~0a` stands for the end
-//! of a line. Each line behind them is a row: a sentence, `: `, and steps with `, ` between two of them. It is printed
-//! as the sentence and a line for each step.
+//! The input has parts, with an empty line between two of them. A part begins with the lines `program TEXT`,
+//! `config TEXT` and `client NUMBER`; the client of that number in that program is new there. In texts `~0a` stands for
+//! the end of a line. Each line behind them is a row: a sentence, `: `, and steps with `, ` between two of them. It is
+//! printed as the sentence and a line for each step.
 //!
 //! | Step | What it calls, and what is printed |
 //! |---|---|

@@ -7,8 +7,8 @@
 //! | `1 flushes 7` | the client drops its copy of the object |
 //! | `server takes 1 request n0 read` | the server takes a message of the client |
 //!
-//! Behind ` sends ` stand the messages that it sends, joined by ` and `: to the server as they are, to a client as `to
-//! 2 recall m5`.
+//! Behind ` sends ` stand the messages that it sends, joined by ` and `: to the server as they are, to a client as
+//! `to 2 recall m5`.
 
 use case_words::{
     bare_record, class, first_of, level, lock, number, set, single, small, thread, value,

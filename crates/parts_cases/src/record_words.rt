@@ -1,6 +1,6 @@
-//! How bodies and records are written: `#1 Plain(0) Long(1) Ref(2)`, and `record 3 of 1.1 | #1 Plain(0) Long(1) Ref(2)
-//! | 0.0=Ref(1) | Long(7) | Mon(1) All | Exit(Mon(1))`: the news, the sets, the printed values, the notifications and
-//! the ending.
+//! How bodies and records are written: `#1 Plain(0) Long(1) Ref(2)`, and
+//! `record 3 of 1.1 | #1 Plain(0) Long(1) Ref(2) | 0.0=Ref(1) | Long(7) | Mon(1) All | Exit(Mon(1))`: the news, the
+//! sets, the printed values, the notifications and the ending.
 
 use case_words::{shown, with_sets, with_values};
 use dso_base::{Body, NoMemory, Note, Set, Txn};

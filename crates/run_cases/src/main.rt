@@ -1,9 +1,9 @@
 //! The cases of the top call: reads settings and trials from standard input, and prints what each trial comes to.
 //!
 //! A line is a word, a space and the rest. `try NAME` calls the program with what the lines before it set, and prints
-//! the name, the status, the exit number and the bytes that the sink took; `journal NAME` prints the journal too, `file
-//! FILE NAME` what that file holds then, `reason NAME` only why nothing was run. `seeds NAME` calls it by round robin
-//! and by seeds 0 to 9, and prints what differs from the call before; `afters NAME` does so with the numbers 0 to 60 in
+//! the name, the status, the exit number and the bytes that the sink took; `journal NAME` prints the journal too,
+//! `file FILE NAME` what that file holds then, `reason NAME` only why nothing was run. `seeds NAME` calls it by round
+//! robin and by seeds 0 to 9, and prints what differs from the call before; `afters NAME` does so with the numbers 0 to 60 in
 //! the place of `K` in the configuration; `sends NAME` prints for each schedule how many leases are granted and
 //! recalled, and how many objects are flushed; `settles NAME` takes the same numbers as `afters`, and prints how often
 //! thread 2.1 settles and how many of its values are in the report. Then all but the program is set back. `words LINE`

@@ -1,7 +1,7 @@
 //! How often a thread of a client that is lost settles, beside what the report keeps of it.
 use crate::trial::{Answer, Trial};
 use crate::variants::LAST_NUMBER;
-use dso_base::{Entry, Event, Request, ThreadId};
+use dso_base::{Entry, Event, NoMemory, Request, ThreadId};
 use std::io;
 
 /// How often thread 2.1 settles in a journal, and how many of its values the report has.
@@ -33,8 +33,10 @@ fn settling_after(
 ) -> io::Result<Option<Settling>> {
     let number = format!(in rt.alloc(); "{number}")?;
     let config = trial.config.replace(rt.alloc(), "K", number.as_str())?;
-    let answer = trial.set("config", config.as_str()).answer(rt.alloc());
-    Ok(answer.ok().map(|answer| settling_of(&answer)))
+    match trial.set("config", config.as_str()).answer(rt.alloc()) {
+        Ok(answer) => Ok(Some(settling_of(rt, &answer)?)),
+        Err(NoMemory) => Ok(None),
+    }
 }
 
 /// Prints what thread 2.1 does from this number on.
@@ -53,12 +55,13 @@ fn show_settling(
 }
 
 /// What thread 2.1 did in a call.
-fn settling_of(answer: &Answer) -> Settling {
+fn settling_of(rt: &HostRuntime, answer: &Answer) -> io::Result<Settling> {
     let entries = answer.done.journal.entries.as_slice();
-    Settling {
+    let report = String::from_utf8_lossy(rt.alloc(), answer.taken.as_slice())?;
+    Ok(Settling {
         times: entries.iter().filter(|entry| is_settling(entry)).count(),
-        values: value_count(answer.taken.as_slice()),
-    }
+        values: value_count(report.as_str()),
+    })
 }
 
 /// Whether thread 2.1 settles in this entry.
@@ -80,10 +83,7 @@ fn is_settling(entry: &Entry) -> bool {
 }
 
 /// How many values a report has of thread 2.1, which is the last of its threads.
-fn value_count(report: &[u8]) -> usize {
-    let Ok(report) = std::str::from_utf8(report) else {
-        return 0;
-    };
+fn value_count(report: &str) -> usize {
     match report.split_once("thread 2.1 ") {
         Some((_, values)) => values.lines().filter(|line| line.starts_with("| ")).count(),
         None => 0,
