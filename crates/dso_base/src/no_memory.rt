@@ -2,18 +2,23 @@ use std::alloc::{AllocError, AllocFailed};
 
 /// An allocation was refused.
 ///
-/// It stands for that alone: no call answers it for another cause.
+/// It stands for that alone: no call answers it for another cause. Its field is private, so that it is made from the
+/// allocator's own refusal, and else only handed on: a spent value keeps the one that spent it.
 #[derive(Clone, Copy, Debug, PartialEq, Eq)]
-pub struct NoMemory;
+pub struct NoMemory {
+    refusal: AllocError,
+}
 
 impl From<AllocError> for NoMemory {
-    fn from(_refused: AllocError) -> NoMemory {
-        NoMemory
+    fn from(refusal: AllocError) -> NoMemory {
+        NoMemory { refusal }
     }
 }
 
 impl<T: Drop> From<AllocFailed<T>> for NoMemory {
     fn from(_refused: AllocFailed<T>) -> NoMemory {
-        NoMemory
+        NoMemory {
+            refusal: AllocError,
+        }
     }
 }

@@ -64,9 +64,9 @@ impl<K: Ord + Copy + Drop> Interner<K> {
         }
         let number = self.things.len();
         self.things.push(thing)?;
-        if self.numbers.insert(thing, number).is_err() {
+        if let Err(refused) = self.numbers.insert(thing, number) {
             self.things.pop();
-            return Err(NoMemory);
+            return Err(refused.into());
         }
         Ok(true)
     }

@@ -167,7 +167,7 @@ impl Files for MemFiles {
         }
         match self.add(alloc, name, bytes) {
             Ok(()) => Ok(()),
-            Err(NoMemory) => Err(FileFault::NoMemory),
+            Err(_) => Err(FileFault::NoMemory),
         }
     }
 }

@@ -117,9 +117,9 @@ fn push_full(
     others.insert(last)?;
     match recent.push(object, ()) {
         Ok(_) => Ok(()),
-        Err(_) => {
+        Err(refused) => {
             others.remove(&last);
-            Err(NoMemory)
+            Err(refused.into())
         }
     }
 }
