@@ -1,1 +1,2 @@
+pub mod FaultCounts
 pub mod SinkPieces

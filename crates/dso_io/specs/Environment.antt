@@ -1,7 +1,8 @@
 -- Files and a sink as the program sees them: what is told of their bytes, and their counts of faults.
-use Rattle.std.specs.Prelude.{◌≡◌, ℕ, ◌++◌, ◌+◌, ◌-◌, ◌<◌, ◌≤◌, ◌^◌, ◌⊎◌, min}
-use Rattle.std.specs.Prelude.{List, length, take, Option, None, Result, Ok, Err}
+use Rattle.std.specs.Prelude.{◌≡◌, ℕ, ◌++◌, ◌+◌, ◌-◌, ◌<◌, ◌≤◌, ◌^◌, ◌⊎◌, min, count_by}
+use Rattle.std.specs.Prelude.{List, ◌∷◌, length, take, Option, None, Result, Ok, Err}
 use Rattle.std.specs.Option.{option_map}
+use Rattle.std.specs.Str.{bytes_eq}
 use Rattle.dso_io.specs.declared.environment.FileFault.{FileFault}
 use Rattle.dso_io.specs.declared.environment.FileFault.TheVariants.{Failed, NoMemory}
 
@@ -35,7 +36,17 @@ counted count = min (count + 1) (2 ^ 64 - 1)
 abbrev pub faults_after : {A : Type 0} → ℕ → Result A FileFault → ℕ
 faults_after faults (Ok answer) = faults
 faults_after faults (Err Failed) = counted faults
-faults_after faults (Err NoMemory) = faults
+faults_after faults (Err (NoMemory refusal)) = faults
+
+-- the names of the files whose reads failed, after a read of this name that answered so: the latest comes first
+abbrev pub noted_after : {A : Type 0} → List (List ℕ) → List ℕ → Result A FileFault → List (List ℕ)
+noted_after names name (Ok answer) = names
+noted_after names name (Err Failed) = name ∷ names
+noted_after names name (Err (NoMemory refusal)) = names
+
+-- how many of these failed reads were of the file of this name
+abbrev pub faults_of : List (List ℕ) → List ℕ → ℕ
+faults_of names name = count_by (λ failed. bytes_eq failed name) names
 
 -- what is told of a sink that doesn't tell what it took
 abbrev pub nothing_told : Option (List ℕ)

@@ -1,4 +1,5 @@
 pub mod Environment
+pub mod Giving
 pub mod Memory
 pub mod MemoryFile
 pub mod SystemFile

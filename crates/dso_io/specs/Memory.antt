@@ -1,9 +1,12 @@
 -- Files and a sink in memory, as contracts see them.
-use Rattle.std.specs.Prelude.{ℕ, ◌-◌, min, Bool, ◌&&◌, ◌||◌, nat_eq, nat_lt, List, [], ◌∷◌, ◌++◌, length, take}
-use Rattle.std.specs.Prelude.{Option, Some, None, if◌then◌else◌}
+use Rattle.std.specs.Prelude.{◌≡◌, ℕ, ◌-◌, min, Bool, true, false, ◌&&◌, ◌||◌, nat_eq, nat_lt}
+use Rattle.std.specs.Prelude.{List, [], ◌∷◌, ◌++◌, length, take}
+use Rattle.std.specs.Prelude.{Option, Some, None, Result, Ok, Err, if◌then◌else◌}
 use Rattle.std.specs.List.{list_any}
 use Rattle.std.specs.Str.{bytes_eq}
-use Rattle.dso_io.specs.Environment.{Told, Untold, Missing, Holds, counted}
+use Rattle.dso_io.specs.declared.environment.Failed.{Failed}
+use Rattle.dso_io.specs.declared.environment.FileFault.{FileFault}
+use Rattle.dso_io.specs.Environment.{Told, Untold, Missing, Holds, counted, faults_after, noted_after}
 
 -- The sink: what it took, how much it takes at once and in all, the numbers of the calls that are to fail, how many
 -- calls there were, and how many failed.
@@ -35,13 +38,22 @@ after_put sink bytes =
     then record sink { calls = counted sink.calls; failed = counted sink.failed }
     else record sink { calls = counted sink.calls; bytes = sink.bytes ++ take (room_for sink (length bytes)) bytes }
 
--- The files: names with bytes, the one written last first; the numbers of the calls that are to fail, how many calls
--- there were, and how many reads and writes failed.
+-- a put of these bytes is answered so: it fails, or takes what there is room for
+abbrev pub Answers : MemorySink → List ℕ → Result ℕ Failed → Type 0
+Answers sink bytes (Ok count) = (fails_put sink bytes ≡ false) × (count ≡ room_for sink (length bytes))
+Answers sink bytes (Err fault) = fails_put sink bytes ≡ true
+
+-- what is told of a put: all of it
+abbrev pub IsPut : MemorySink → List ℕ → Result ℕ Failed → MemorySink → Type 0
+IsPut sink bytes answer next = Answers sink bytes answer × (next ≡ after_put sink bytes)
+
+-- The files: names with bytes, the one written last first; the numbers of the calls that are to fail, and how many
+-- calls there were; the names of the files whose reads failed, the latest first, and how many writes failed.
 pub record MemoryFiles : Type 0 where
   pub kept : List (List ℕ × List ℕ)
   pub fails : List ℕ
   pub calls : ℕ
-  pub failed_reads : ℕ
+  pub failed_reads : List (List ℕ)
   pub failed_writes : ℕ
 
 -- the file of a name: the first that is kept under it
@@ -68,15 +80,20 @@ bytes_read files name most =
 abbrev pub called : MemoryFiles → MemoryFiles
 called files = record files { calls = counted files.calls }
 
--- the files after a read that gave this: the call is counted, and where it failed so is the fault
-abbrev pub after_read : MemoryFiles → Option (List ℕ) → MemoryFiles
-after_read files (Some bytes) = called files
-after_read files None = record (called files) { failed_reads = counted files.failed_reads }
+-- the files after a read of this name that answered so: the call is counted, and a fault is noted where it is answered
+abbrev pub after_read : {A : Type 0} → MemoryFiles → List ℕ → Result A FileFault → MemoryFiles
+after_read files name answer = record (called files) { failed_reads = noted_after files.failed_reads name answer }
 
--- the files after a write that was done: the call is counted, and these bytes are the file of that name
-abbrev pub after_write : MemoryFiles → List ℕ → List ℕ → MemoryFiles
-after_write files name bytes = record (called files) { kept = (name, bytes) ∷ files.kept }
+-- the files kept once these bytes were written under this name, with this answer
+abbrev pub kept_after : {A : Type 0} → List (List ℕ × List ℕ) → List ℕ → List ℕ → Result A FileFault
+    → List (List ℕ × List ℕ)
+kept_after kept name bytes (Ok answer) = (name, bytes) ∷ kept
+kept_after kept name bytes (Err fault) = kept
 
--- the files after a write that failed: the call and the fault are counted
-abbrev pub after_failed_write : MemoryFiles → MemoryFiles
-after_failed_write files = record (called files) { failed_writes = counted files.failed_writes }
+-- the files after a write that answered so: the call is counted, and the bytes are kept, or a fault is counted where it
+-- is answered
+abbrev pub after_write : {A : Type 0} → MemoryFiles → List ℕ → List ℕ → Result A FileFault → MemoryFiles
+after_write files name bytes answer = record (called files) {
+  kept = kept_after files.kept name bytes answer;
+  failed_writes = faults_after files.failed_writes answer;
+}

@@ -2,6 +2,7 @@
 #![tactic(auto)]
 
 mod environment;
+mod failed_reads;
 mod mem_files;
 mod mem_sink;
 mod std_files;

@@ -1,13 +1,14 @@
-ghost use Rattle.std.specs.Prelude.{◌≡◌, ◌≢◌, ◌↔◌, ℕ, ◌≤◌, List, [], ◌∷◌, IfOk, IfErr, IsErrOf, OnOk, OnErr, MatchOption, Some, None, nat_eq, take, true};
+ghost use Rattle.std.specs.Prelude.{◌≡◌, ◌≢◌, ◌↔◌, ℕ, ◌≤◌, List, [], ◌∷◌, IfOk, IfErr, IsErrOf, OnOk, OnErr, MatchOption, Some, None, Err, nat_eq, take, true};
 ghost use Rattle.std.specs.List.{list_any};
-ghost use Rattle.dso_io.specs.Environment.{Missing, Holds, MayGive, Rose, replaced};
-ghost use Rattle.dso_io.specs.Memory.{file_of, told_by, bytes_read, called, is_next_listed, after_read, after_write, after_failed_write};
+ghost use Rattle.dso_io.specs.Environment.{Missing, Holds, MayGive, Rose, faults_of, noted_after, replaced};
+ghost use Rattle.dso_io.specs.Memory.{file_of, told_by, bytes_read, called, is_next_listed, after_read, after_write};
 ghost use Rattle.dso_io.specs.MemoryFile.{named_bytes};
 
 use crate::environment::one_more;
+use crate::failed_reads::FailedReads;
 use crate::{FileFault, Files};
 use dso_base::NoMemory;
-use std::alloc::{AllocError, Global};
+use std::alloc::Global;
 use std::marker::Model;
 
 /// A file in memory.
@@ -19,13 +20,14 @@ struct MemFile {
 
 /// Files in memory, which tell their bytes and fail when they are asked to.
 ///
-/// A read of a name that isn't there fails too.
+/// A read of a name that isn't there fails too. The name of a file whose read failed is kept, which takes memory: where
+/// there is none, that is the answer.
 #[derive(Drop)]
 pub struct MemFiles {
     files: Vec<MemFile>,
     fails: Vec<u64>,
     calls: u64,
-    failed_reads: u64,
+    failed_reads: FailedReads,
     failed_writes: u64,
 }
 
@@ -51,7 +53,7 @@ impl MemFiles {
           kept = [];
           fails = fails.now;
           calls = 0;
-          failed_reads = 0;
+          failed_reads = [];
           failed_writes = 0;
         }) }
     {
@@ -59,7 +61,7 @@ impl MemFiles {
             files: Vec::new(alloc),
             fails: Vec::from_slice(alloc, fails)?,
             calls: 0,
-            failed_reads: 0,
+            failed_reads: FailedReads::new(alloc),
             failed_writes: 0,
         })
     }
@@ -82,6 +84,16 @@ impl MemFiles {
         ensures { MatchOption result (told_by self.now name.now ≡ Missing) (λ bytes. told_by self.now name.now ≡ Holds bytes.now) }
     {
         find(self.files.as_slice(), name)
+    }
+
+    /// Notes that a read of this name failed, and answers that it did; or that there is no memory to note it.
+    fn failed_read(&mut self, alloc: Global, name: &str) -> FileFault
+        ensures noted { self.new ≡ record self.old { failed_reads = noted_after {A = ℕ} self.old.failed_reads name.now (Err result) } }
+        ensures rose { result ≡ FileFault.Failed → Rose (faults_of self.old.failed_reads name.now) (faults_of self.new.failed_reads name.now) }
+        ensures reads { (name : List ℕ) → faults_of self.old.failed_reads name ≤ faults_of self.new.failed_reads name }
+        ensures others { (other : List ℕ) → other ≢ name.now → faults_of self.new.failed_reads other ≡ faults_of self.old.failed_reads other }
+    {
+        self.failed_reads.fault(alloc, name)
     }
 
     /// Counts a call, and tells whether it is to fail.
@@ -116,34 +128,32 @@ fn find<'a>(files: &'a [MemFile], name: &str) -> Option<&'a [u8]>
 }
 
 impl Files for MemFiles {
-    ghost read_faults = { λ files. files.failed_reads };
+    ghost read_faults = { λ files name. faults_of files.failed_reads name };
 
     ghost write_faults = { λ files. files.failed_writes };
 
-    ghost content = { told_by };
+    ghost content = { λ files name. told_by files name };
 
     fn read(&mut self, alloc: Global, name: &str, most: u64) -> Result<Vec<u8>, FileFault>
         ensures bytes { IfOk result (λ bytes. MayGive (told_by self.old name.now) most bytes.items) }
-        ensures failed { IsErrOf result FileFault.Failed → Rose self.old.failed_reads self.new.failed_reads }
-        ensures reads { self.old.failed_reads ≤ self.new.failed_reads }
+        ensures failed { IsErrOf result FileFault.Failed → Rose (faults_of self.old.failed_reads name.now) (faults_of self.new.failed_reads name.now) }
+        ensures reads { (name : List ℕ) → faults_of self.old.failed_reads name ≤ faults_of self.new.failed_reads name }
+        ensures others { (other : List ℕ) → other ≢ name.now → faults_of self.new.failed_reads other ≡ faults_of self.old.failed_reads other }
+        ensures sound { OnOk result ((name : List ℕ) → faults_of self.new.failed_reads name ≡ faults_of self.old.failed_reads name) }
         ensures writes { self.new.failed_writes ≡ self.old.failed_writes }
         ensures unchanged { (name : List ℕ) → told_by self.new name ≡ told_by self.old name }
 
-        // It fails exactly where the call is listed or there is no file of that name, and counts the call and the fault.
+        // It fails exactly where the call is listed or there is no file of that name, or there is no memory.
         ensures given { IfOk result (λ bytes. bytes_read self.old name.now most ≡ Some bytes.items) }
-        ensures cause { IsErrOf result FileFault.Failed ↔ (bytes_read self.old name.now most ≡ None) }
-        ensures after { self.new ≡ after_read self.old (bytes_read self.old name.now most) }
+        ensures cause { IsErrOf result FileFault.Failed → bytes_read self.old name.now most ≡ None }
+        ensures after { self.new ≡ after_read self.old name.now result }
     {
         if self.is_to_fail() {
-            self.failed_reads = one_more(self.failed_reads);
-            return Err(FileFault::Failed);
+            return Err(self.failed_read(alloc, name));
         }
         match find(self.files.as_slice(), name) {
-            Some(bytes) => first_bytes(alloc, bytes, most),
-            None => {
-                self.failed_reads = one_more(self.failed_reads);
-                Err(FileFault::Failed)
-            }
+            Some(bytes) => Ok(first_bytes(alloc, bytes, most)?),
+            None => Err(self.failed_read(alloc, name)),
         }
     }
 
@@ -152,35 +162,28 @@ impl Files for MemFiles {
         ensures others { (other : List ℕ) → other ≢ name.now → told_by self.new other ≡ told_by self.old other }
         ensures err { OnErr result (told_by self.new name.now ≡ told_by self.old name.now) }
         ensures failed { IsErrOf result FileFault.Failed → Rose self.old.failed_writes self.new.failed_writes }
-        ensures reads { self.new.failed_reads ≡ self.old.failed_reads }
+        ensures sound { OnOk result (self.new.failed_writes ≡ self.old.failed_writes) }
+        ensures reads { (name : List ℕ) → faults_of self.new.failed_reads name ≡ faults_of self.old.failed_reads name }
         ensures writes { self.old.failed_writes ≤ self.new.failed_writes }
 
-        // It fails exactly where the call is listed, and counts the call and the fault.
+        // It fails exactly where the call is listed.
         ensures cause { IsErrOf result FileFault.Failed ↔ (is_next_listed self.old.fails self.old.calls ≡ true) }
-        ensures done { OnOk result (self.new ≡ after_write self.old name.now bytes.now) }
-        ensures after_fault { IsErrOf result FileFault.Failed → self.new ≡ after_failed_write self.old }
-        ensures no_memory { IsErrOf result FileFault.NoMemory → self.new ≡ called self.old }
+        ensures after { self.new ≡ after_write self.old name.now bytes.now result }
     {
         if self.is_to_fail() {
             self.failed_writes = one_more(self.failed_writes);
             return Err(FileFault::Failed);
         }
-        match self.add(alloc, name, bytes) {
-            Ok(()) => Ok(()),
-            Err(_) => Err(FileFault::NoMemory),
-        }
+        self.add(alloc, name, bytes)?;
+        Ok(())
     }
 }
 
 /// The first bytes, at most so many, in a vector of their own.
-fn first_bytes(alloc: Global, bytes: &[u8], most: u64) -> Result<Vec<u8>, FileFault>
-    ensures ok { IfOk result (λ first. first.items ≡ take most bytes.now) }
-    ensures err { IfErr result (λ fault. fault ≡ FileFault.NoMemory) }
+fn first_bytes(alloc: Global, bytes: &[u8], most: u64) -> Result<Vec<u8>, NoMemory>
+    ensures { IfOk result (λ first. first.items ≡ take most bytes.now) }
 {
     let count = bytes.len().min(most as usize);
     let (first, _) = bytes.split_at(count);
-    match Vec::from_slice(alloc, first) {
-        Ok(copy) => Ok(copy),
-        Err(AllocError) => Err(FileFault::NoMemory),
-    }
+    Ok(Vec::from_slice(alloc, first)?)
 }

@@ -1,6 +1,6 @@
-ghost use Rattle.std.specs.Prelude.{◌≡◌, ◌<◌, ◌≤◌, [], false, length, take, true, Some, IfOk, OnErr, MatchResult};
+ghost use Rattle.std.specs.Prelude.{◌≡◌, ◌<◌, ◌≤◌, [], length, take, Some, IfOk, OnOk, OnErr};
 ghost use Rattle.dso_io.specs.Environment.{Rose, taken_after};
-ghost use Rattle.dso_io.specs.Memory.{after_put, fails_put, room_for};
+ghost use Rattle.dso_io.specs.Memory.{IsPut};
 
 use crate::environment::one_more;
 use crate::{Failed, Sink};
@@ -76,19 +76,19 @@ impl Sink for MemSink {
 
     ghost taken = { λ sink. Some sink.bytes };
 
+    ghost puts = { IsPut };
+
     fn put(&mut self, bytes: &[u8]) -> Result<usize, Failed>
         ensures within { IfOk result (λ count. count ≤ length bytes.now) }
         ensures some { IfOk result (λ count. 0 < length bytes.now → 0 < count) }
         ensures taken { IfOk result (λ count. Some self.new.bytes ≡ taken_after (Some self.old.bytes) (take count bytes.now)) }
         ensures untaken { OnErr result (Some self.new.bytes ≡ Some self.old.bytes) }
         ensures failed { OnErr result (Rose self.old.failed self.new.failed) }
+        ensures sound { OnOk result (self.new.failed ≡ self.old.failed) }
         ensures faults { self.old.failed ≤ self.new.failed }
 
         // It fails exactly where the call is listed or there is no room, else takes what the piece and the room allow.
-        ensures exact { MatchResult result
-            (λ count. (fails_put self.old bytes.now ≡ false) × (count ≡ room_for self.old (length bytes.now)))
-            (λ fault. fails_put self.old bytes.now ≡ true) }
-        ensures after { self.new ≡ after_put self.old bytes.now }
+        ensures told { IsPut self.old bytes.now result self.new }
     {
         self.calls = one_more(self.calls);
         if self.fails.contains(&self.calls) {

@@ -1,4 +1,4 @@
-ghost use Rattle.std.specs.Prelude.{◌≡◌, ◌<◌, ◌≤◌, length, take, IfOk, OnErr, MatchResult};
+ghost use Rattle.std.specs.Prelude.{◌≡◌, ◌<◌, ◌≤◌, length, take, ⊤, IfOk, OnOk, OnErr, MatchResult};
 ghost use Rattle.dso_io.specs.Environment.{Rose, counted, nothing_told, taken_after};
 
 use crate::environment::one_more;
@@ -26,13 +26,17 @@ impl<R: Print + Drop> Sink for StdSink<R> {
 
     ghost taken = { λ sink. nothing_told };
 
+    ghost puts = { λ sink bytes answer next. ⊤ };
+
     fn put(&mut self, bytes: &[u8]) -> Result<usize, Failed>
         ensures within { IfOk result (λ count. count ≤ length bytes.now) }
         ensures some { IfOk result (λ count. 0 < length bytes.now → 0 < count) }
         ensures taken { IfOk result (λ count. nothing_told ≡ taken_after nothing_told (take count bytes.now)) }
         ensures untaken { OnErr result (nothing_told ≡ nothing_told) }
         ensures failed { OnErr result (Rose self.old.failed self.new.failed) }
+        ensures sound { OnOk result (self.new.failed ≡ self.old.failed) }
         ensures faults { self.old.failed ≤ self.new.failed }
+        ensures told { ⊤ }
 
         // A fault is counted exactly where it is answered.
         ensures counted { MatchResult result

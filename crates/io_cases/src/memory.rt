@@ -15,7 +15,7 @@ fn opened(alloc: Global) -> Result<MemFiles, NoMemory> {
 pub fn show_files(rt: &HostRuntime) -> io::Result<()> {
     match opened(rt.alloc()) {
         Ok(mut files) => show_answers(rt, &mut files),
-        Err(NoMemory) => println!(rt; "files in memory: no memory"),
+        Err(_) => println!(rt; "files in memory: no memory"),
     }
 }
 

@@ -38,7 +38,7 @@ pub fn show(rt: &HostRuntime, system: &System, row: &str) -> io::Result<()> {
         "put_failing" => show_put(rt, sentence, None, numbers.first),
         "print" => print_text(rt, sentence, rest),
         _ => {
-            let outcome = of_name(rt, system, action);
+            let outcome = of_name(rt, system, action)?;
             println!(rt; "{sentence}: {outcome}")
         }
     }
@@ -105,8 +105,18 @@ fn of_file(
     }
 }
 
-/// What comes of an action on a name.
-fn of_name(rt: &HostRuntime, system: &System, action: &str) -> Outcome {
+/// What comes of an action on a name, after which the folder is to have as many entries as before.
+fn of_name(rt: &HostRuntime, system: &System, action: &str) -> io::Result<Outcome> {
+    let before = system.entries(rt)?;
+    let outcome = answer_of_name(rt, system, action);
+    if system.entries(rt)? != before {
+        return Ok(Outcome::Disturbed);
+    }
+    Ok(outcome)
+}
+
+/// What an action on a name answers.
+fn answer_of_name(rt: &HostRuntime, system: &System, action: &str) -> Outcome {
     match action {
         "read_missing" => System::read_name(rt, system.missing()),
         "read_nowhere" => System::read_name(rt, system.nowhere()),

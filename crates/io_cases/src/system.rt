@@ -19,7 +19,7 @@ pub struct System {
 }
 
 /// What a row comes to.
-#[derive(Clone, Copy)]
+#[derive(Clone, Copy, PartialEq)]
 pub enum Outcome {
     /// So many bytes, and they are the first ones of the file.
     First(usize),
@@ -27,6 +27,8 @@ pub enum Outcome {
     Others(usize),
     /// Nothing was read or written.
     Fault(FileFault),
+    /// A second read came to something else, or the folder doesn't hold what it is to hold.
+    Disturbed,
 }
 
 impl Display for Outcome {
@@ -35,6 +37,7 @@ impl Display for Outcome {
             Outcome::First(count) => write!(f, "{count} bytes, the right ones"),
             Outcome::Others(count) => write!(f, "{count} bytes, wrong ones"),
             Outcome::Fault(fault) => write!(f, "{fault}"),
+            Outcome::Disturbed => write!(f, "not so a second time, or the folder is disturbed"),
         }
     }
 }
@@ -77,7 +80,18 @@ impl System {
         self.nowhere.as_str()
     }
 
-    /// Makes a file of so many bytes, and reads at most so many of it.
+    /// How many entries the folder has.
+    pub fn entries(&self, rt: &HostRuntime) -> io::Result<usize> {
+        let mut count: usize = 0;
+        for entry in fs::read_dir(rt, self.folder.as_str())? {
+            entry?;
+            count = count.saturating_add(1);
+        }
+        Ok(count)
+    }
+
+    /// Makes a file of so many bytes, and reads at most so many of it, twice. Both reads are to come to the same, and the
+    /// folder is to hold this file then, with its bytes, and nothing else.
     pub fn read(
         &self,
         rt: &HostRuntime,
@@ -87,23 +101,41 @@ impl System {
     ) -> io::Result<Outcome> {
         let bytes = bytes_of(rt.alloc(), size)?;
         fs::write(rt, self.file.as_str(), bytes.as_slice())?;
-        let mut files = StdFiles::new(SlowFiles { host: rt, pace });
-        match files.read(rt.alloc(), self.file.as_str(), most as u64) {
-            Ok(read) => Ok(compared(read.as_slice(), bytes.as_slice(), size.min(most))),
-            Err(fault) => Ok(Outcome::Fault(fault)),
+        let mut files = StdFiles::new(rt.alloc(), SlowFiles { host: rt, pace });
+        let first = self.read_once(&mut files, rt.alloc(), bytes.as_slice(), most);
+        let second = self.read_once(&mut files, rt.alloc(), bytes.as_slice(), most);
+        let left = fs::read(rt, self.file.as_str())?;
+        if first != second || left != bytes || self.entries(rt)? != 1 {
+            return Ok(Outcome::Disturbed);
+        }
+        Ok(first)
+    }
+
+    /// Reads at most so many bytes of the file, which has these.
+    fn read_once<F: Files>(
+        &self,
+        files: &mut F,
+        alloc: Global,
+        bytes: &[u8],
+        most: usize,
+    ) -> Outcome {
+        match files.read(alloc, self.file.as_str(), most as u64) {
+            Ok(read) => compared(read.as_slice(), bytes, bytes.len().min(most)),
+            Err(fault) => Outcome::Fault(fault),
         }
     }
 
     /// Reads under a name, and tells how many bytes came.
     pub fn read_name(rt: &HostRuntime, name: &str) -> Outcome {
-        let mut files = StdFiles::new(rt);
+        let mut files = StdFiles::new(rt.alloc(), rt);
         match files.read(rt.alloc(), name, 100) {
             Ok(read) => Outcome::Others(read.len()),
             Err(fault) => Outcome::Fault(fault),
         }
     }
 
-    /// Makes a file of so many bytes, writes so many over it, and looks at what it has then.
+    /// Makes a file of so many bytes, writes so many over it, and looks at what it has then. The folder is to hold nothing
+    /// else.
     pub fn write(
         &self,
         rt: &HostRuntime,
@@ -114,8 +146,12 @@ impl System {
         let old = bytes_of(rt.alloc(), before)?;
         fs::write(rt, self.file.as_str(), old.as_slice())?;
         let bytes = bytes_of(rt.alloc(), size)?;
-        let mut files = StdFiles::new(SlowFiles { host: rt, pace });
-        if let Err(fault) = files.write(rt.alloc(), self.file.as_str(), bytes.as_slice()) {
+        let mut files = StdFiles::new(rt.alloc(), SlowFiles { host: rt, pace });
+        let written = files.write(rt.alloc(), self.file.as_str(), bytes.as_slice());
+        if self.entries(rt)? != 1 {
+            return Ok(Outcome::Disturbed);
+        }
+        if let Err(fault) = written {
             return Ok(Outcome::Fault(fault));
         }
         let now = fs::read(rt, self.file.as_str())?;
@@ -124,7 +160,7 @@ impl System {
 
     /// Writes a few bytes under a name.
     pub fn write_name(rt: &HostRuntime, name: &str) -> Outcome {
-        let mut files = StdFiles::new(rt);
+        let mut files = StdFiles::new(rt.alloc(), rt);
         match files.write(rt.alloc(), name, b"text") {
             Ok(()) => Outcome::First(4),
             Err(fault) => Outcome::Fault(fault),

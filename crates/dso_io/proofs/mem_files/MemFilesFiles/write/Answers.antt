@@ -18,7 +18,7 @@ replaced-file_of (file ∷ files) name bytes = replaced-cond (bytes_eq file.0 na
 file_of-first : (files : List (List ℕ × List ℕ)) (name bytes : List ℕ) → file_of ((name, bytes) ∷ files) name ≡ Holds bytes
 file_of-first files name bytes = let same : bytes_eq name name ≡ true = (bytes_eq-Decides name name).1 refl in rw same refl
 
-pub returns-in-Ok-clause-written : goal.returns-in-Ok-clause-written
-returns-in-Ok-clause-written c =
-    rw c.in-Ok.ensures.ok
+pub returns-clause-written : goal.returns-clause-written
+returns-clause-written c =
+    rw c.in_ok-add.ensures.ok
     (file_of-first c.is_to_fail.new.self.kept c.args.name.now c.args.bytes.now ∙ sym (replaced-file_of c.args.self.now.kept c.args.name.now c.args.bytes.now))
