@@ -7,6 +7,7 @@ use std::alloc::Global;
 use std::marker::Model;
 
 /// The entries of one node, the first of them first. Contracts see them, and whether there is room for one more (`Log`).
+/// Each is the node's own, and has a greater clock than the one before it, the first at least 1 (`LogKeeps`).
 #[derive(Drop)]
 pub struct NodeLog {
     node: Node,
