@@ -101,7 +101,9 @@ pub fn read_config(alloc: Global, text: &[u8]) -> Result<Config, ConfigFault>
     match toml::table_from_slice(alloc, text) {
         Ok(table) => configuration(alloc, &table),
         // toml tells that an allocation was refused, and hands no refusal on.
-        Err(refused) if refused.is_memory() => Err(ConfigFault::NoMemory(NoMemory::from(AllocError))),
+        Err(refused) if refused.is_memory() => Err(ConfigFault::NoMemory(NoMemory::from(
+            AllocError,
+        ))),
         Err(_) => Err(ConfigFault::NotToml),
     }
 }

@@ -25,7 +25,7 @@ pub fn report(alloc: Global, program: &Program, plain: &Plain) -> Result<Vec<u8>
 {
     match report_of_state(alloc, &program.names, program.threads.as_slice(), plain) {
         Ok(text) => Ok(text),
-        Err(Unwritten::NoMemory) => Err(NoMemory),
+        Err(Unwritten::NoMemory(refusal)) => Err(refusal),
         Err(Unwritten::Missing) => unreachable!(),
     }
 }
