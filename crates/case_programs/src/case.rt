@@ -40,7 +40,7 @@ impl<'a> Case<'a> {
         let program = unescaped(alloc, self.program)?;
         match read_config(alloc, config.as_slice()) {
             Ok(config) => program_under(alloc, &config, program.as_slice()),
-            Err(ConfigFault::NoMemory) => Err(NoMemory),
+            Err(ConfigFault::NoMemory(refusal)) => Err(refusal),
             Err(_) => Ok(None),
         }
     }
@@ -53,7 +53,7 @@ fn program_under(alloc: Global, config: &Config, text: &[u8]) -> Result<Option<P
 {
     match parse(alloc, text) {
         Ok(tree) => program_of(alloc, config, &tree),
-        Err(SyntaxFault::NoMemory) => Err(NoMemory),
+        Err(SyntaxFault::NoMemory(refusal)) => Err(refusal),
         Err(_) => Ok(None),
     }
 }
@@ -65,7 +65,7 @@ fn program_of(alloc: Global, config: &Config, tree: &Ast) -> Result<Option<Progr
 {
     match resolve(alloc, tree, config) {
         Ok(program) => Ok(Some(program)),
-        Err(NameFault::NoMemory) => Err(NoMemory),
+        Err(NameFault::NoMemory(refusal)) => Err(refusal),
         Err(_) => Ok(None),
     }
 }

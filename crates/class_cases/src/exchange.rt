@@ -5,7 +5,7 @@ ghost use Rattle.dso_config.specs.InRange.{IsInRange};
 ghost use Rattle.dso_machine.specs.Sound as machine;
 ghost use Rattle.class_cases.specs.Talks.{Talks};
 
-use crate::names::program_of;
+use crate::names::{program_of, refusal_line};
 use case_words::{is_listed, reply};
 use dso_base::{NoMemory, Reply, Request};
 use dso_config::Config;
@@ -23,7 +23,7 @@ pub(crate) fn exchanges(
 {
     match program_of(alloc, config, text.as_bytes()) {
         Ok(program) => exchanges_of(alloc, &program.code, replies),
-        Err(refusal) => Ok(format!(in alloc; "{refusal:?}\n")?),
+        Err(refusal) => refusal_line(alloc, refusal),
     }
 }
 
@@ -36,18 +36,18 @@ enum Stop {
     Unread,
     /// The reply isn't listed for the request.
     Unlisted(Request, Reply),
-    NoMemory,
+    NoMemory(NoMemory),
 }
 
 impl From<AllocError> for Stop {
-    fn from(_: AllocError) -> Self {
-        Stop::NoMemory
+    fn from(refused: AllocError) -> Self {
+        Stop::NoMemory(NoMemory::from(refused))
     }
 }
 
 impl From<NoMemory> for Stop {
-    fn from(_: NoMemory) -> Self {
-        Stop::NoMemory
+    fn from(refusal: NoMemory) -> Self {
+        Stop::NoMemory(refusal)
     }
 }
 
@@ -87,7 +87,7 @@ fn stop_line(alloc: Global, stop: Stop, words: &str) -> Result<String, NoMemory>
         Stop::Unlisted(request, reply) => {
             Ok(format!(in alloc; "{request:?} is not answered {reply:?}\n")?)
         }
-        Stop::NoMemory => Err(NoMemory),
+        Stop::NoMemory(refusal) => Err(refusal),
     }
 }
 

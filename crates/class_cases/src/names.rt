@@ -51,7 +51,16 @@ pub(crate) fn answer(alloc: Global, config: &Config, written: &str) -> Result<St
         Err(Refusal::Names(NameFault::At { kind, line })) => {
             Ok(format!(in alloc; "{kind:?} on line {line}\n")?)
         }
-        Err(refusal) => Ok(format!(in alloc; "{refusal:?}\n")?),
+        Err(refusal) => refusal_line(alloc, refusal),
+    }
+}
+
+/// Why a text is no program, in words; where an allocation was refused there are none.
+pub(crate) fn refusal_line(alloc: Global, refusal: Refusal) -> Result<String, NoMemory> {
+    match refusal {
+        Refusal::Syntax(SyntaxFault::NoMemory(refused)) => Err(refused),
+        Refusal::Names(NameFault::NoMemory(refused)) => Err(refused),
+        _ => Ok(format!(in alloc; "{refusal:?}\n")?),
     }
 }
 

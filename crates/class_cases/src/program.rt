@@ -2,7 +2,7 @@
 
 ghost use Rattle.dso_config.specs.InRange.{IsInRange};
 
-use crate::names::program_of;
+use crate::names::{program_of, refusal_line};
 use dso_base::{FieldShape, NoMemory, ThreadId};
 use dso_class::Program;
 use dso_config::Config;
@@ -20,7 +20,7 @@ pub(crate) fn described(alloc: Global, config: &Config, text: &str) -> Result<St
             add_program(&mut words, &program)?;
             Ok(words)
         }
-        Err(refusal) => Ok(format!(in alloc; "{refusal:?}\n")?),
+        Err(refusal) => refusal_line(alloc, refusal),
     }
 }
 

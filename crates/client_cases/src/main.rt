@@ -26,7 +26,6 @@ mod parts;
 mod queries;
 mod rows;
 
-use dso_base::NoMemory;
 use std::alloc::AllocError;
 use std::io;
 
@@ -35,7 +34,7 @@ fn main(rt: HostRuntime) -> io::Result<()> {
     for part in text.as_str().split("\n\n") {
         match parts::told(rt.alloc(), part) {
             Ok(rows) => print!(rt; "{rows}")?,
-            Err(NoMemory) => Err(AllocError)?,
+            Err(_) => Err(AllocError)?,
         }
     }
     Ok(())

@@ -5,7 +5,7 @@
 
 use crate::config_text::configuration;
 use case_words::unescaped;
-use dso_config::read_config;
+use dso_config::{ConfigFault, read_config};
 use std::alloc::{AllocError, Global};
 use std::fmt::Write;
 
@@ -33,6 +33,7 @@ fn text_of(alloc: Global, written: &str) -> Result<Vec<u8>, AllocError> {
 fn tell(alloc: Global, answer: &mut String, text: &[u8]) -> Result<(), AllocError> {
     match read_config(alloc, text) {
         Ok(config) => configuration(answer, &config),
+        Err(ConfigFault::NoMemory(_)) => Err(AllocError),
         Err(fault) => write!(answer, "refused: {fault}"),
     }
 }

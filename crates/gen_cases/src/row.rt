@@ -12,7 +12,7 @@ pub fn answered(alloc: Global, row: &str) -> Result<String, AllocError> {
     match texts(alloc, asked) {
         Ok(Some(texts)) => format!(in alloc; "{sentence}\n{texts}"),
         Ok(None) => format!(in alloc; "{sentence}\nnothing is asked\n"),
-        Err(NoMemory) => format!(in alloc; "{sentence}\nno memory\n"),
+        Err(_) => Err(AllocError),
     }
 }
 

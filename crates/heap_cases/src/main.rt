@@ -14,14 +14,13 @@ mod parts;
 mod shape;
 
 use case::Case;
-use dso_base::NoMemory;
 use std::alloc::AllocError;
 use std::io;
 
 fn main(rt: HostRuntime) -> io::Result<()> {
     let mut case = match Case::new(rt.alloc()) {
         Ok(case) => case,
-        Err(NoMemory) => return Err(AllocError.into()),
+        Err(_) => return Err(AllocError.into()),
     };
     for line in rt.lines(rt.alloc()) {
         let answer = case.answered(rt.alloc(), line?.as_str())?;

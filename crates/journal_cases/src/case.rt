@@ -35,7 +35,7 @@ impl Case {
         match entry_of(alloc, clock, line) {
             Ok(Some(entry)) => self.added(alloc, clock, entry),
             Ok(None) => format!(in alloc; "{line}\n"),
-            Err(NoMemory) => Err(AllocError),
+            Err(_) => Err(AllocError),
         }
     }
 
@@ -54,7 +54,7 @@ impl Case {
         self.clock = 0;
         match told(alloc, &journal) {
             Ok(text) => Ok(text),
-            Err(NoMemory) => Err(AllocError),
+            Err(_) => Err(AllocError),
         }
     }
 }

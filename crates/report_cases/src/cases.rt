@@ -32,30 +32,36 @@ pub(crate) enum Unreported {
     /// What is to be done isn't read, or isn't possible.
     Script,
     /// An allocation was refused.
-    NoMemory,
+    NoMemory(NoMemory),
 }
 
 impl From<AllocError> for Unreported {
-    fn from(_refused: AllocError) -> Self {
-        Unreported::NoMemory
+    fn from(refused: AllocError) -> Self {
+        Unreported::NoMemory(NoMemory::from(refused))
     }
 }
 
 impl From<NoMemory> for Unreported {
-    fn from(_refused: NoMemory) -> Self {
-        Unreported::NoMemory
+    fn from(refusal: NoMemory) -> Self {
+        Unreported::NoMemory(refusal)
     }
 }
 
 impl From<SyntaxFault> for Unreported {
-    fn from(_fault: SyntaxFault) -> Self {
-        Unreported::Syntax
+    fn from(fault: SyntaxFault) -> Self {
+        match fault {
+            SyntaxFault::NoMemory(refusal) => Unreported::NoMemory(refusal),
+            _ => Unreported::Syntax,
+        }
     }
 }
 
 impl From<NameFault> for Unreported {
-    fn from(_fault: NameFault) -> Self {
-        Unreported::Names
+    fn from(fault: NameFault) -> Self {
+        match fault {
+            NameFault::NoMemory(refusal) => Unreported::NoMemory(refusal),
+            NameFault::At { .. } => Unreported::Names,
+        }
     }
 }
 
@@ -86,6 +92,7 @@ impl Cases {
 fn answer(alloc: Global, text: &str, script: &str) -> Result<String, AllocError> {
     match reported(alloc, text, script) {
         Ok(report) => Ok(report),
+        Err(Unreported::NoMemory(_)) => Err(AllocError),
         Err(refused) => format!(in alloc; "no report: {refused:?}\n"),
     }
 }

@@ -110,7 +110,7 @@ impl Rows {
     pub fn new(alloc: Global) -> Result<Rows, AllocError> {
         match opened(alloc) {
             Ok(rows) => Ok(rows),
-            Err(NoMemory) => Err(AllocError),
+            Err(_) => Err(AllocError),
         }
     }
 

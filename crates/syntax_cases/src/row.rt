@@ -5,7 +5,7 @@
 
 use crate::tree_text::program;
 use case_words::unescaped;
-use dso_syntax::parse;
+use dso_syntax::{SyntaxFault, parse};
 use std::alloc::{AllocError, Global};
 use std::fmt::Write;
 
@@ -30,6 +30,7 @@ fn tell(alloc: Global, answer: &mut String, text: &[u8], short: bool) -> Result<
     match parse(alloc, text) {
         Ok(_) if short => answer.push_str("a program"),
         Ok(ast) => program(answer, &ast),
+        Err(SyntaxFault::NoMemory(_)) => Err(AllocError),
         Err(fault) => write!(answer, "{fault:?}"),
     }
 }
