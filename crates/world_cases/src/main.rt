@@ -35,7 +35,7 @@ fn main(rt: HostRuntime) -> io::Result<()> {
             Some(("config", text)) => case = case.under(text),
             Some((word, rest)) => match told(rt.alloc(), case, word, rest) {
                 Ok(rows) => print!(rt; "{rows}")?,
-                Err(NoMemory) => Err(AllocError)?,
+                Err(_) => Err(AllocError)?,
             },
             None => {}
         }
