@@ -1,7 +1,7 @@
 -- What a simulated cluster is, by its journal. Entries stand with the newest first.
 use Rattle.std.specs.List.{list_any}
 use Rattle.std.specs.Prelude.{ℕ, ◌≡◌, ◌<◌, ◌-◌, ◌^◌, ◌↔◌, min, Bool, true, false, Option, Some, None, List, [], ◌∷◌}
-use Rattle.std.specs.Prelude.{◌++◌, length, map, option_map, reverse, slice_get}
+use Rattle.std.specs.Prelude.{◌++◌, is_some, length, map, option_map, reverse, slice_get}
 use Rattle.dso_base.specs.declared.journal.Entry.{Entry}
 use Rattle.dso_class.specs.declared.program.Program.{Program}
 use Rattle.dso_legal.specs.Lawful.{IsLawful}
@@ -19,6 +19,10 @@ use Rattle.dso_world.specs.WorldSteps.{settings_of, slot_of}
 -- the entries of the world's journal, the newest first
 abbrev pub entries_in : World → List Entry
 entries_in world = reverse world.journal.entries
+
+-- whether the world is spent: it keeps the refusal of an allocation
+abbrev pub is_spent : World → Bool
+is_spent world = is_some world.spent
 
 module _ (program : Program) where
   -- The board after the entries: its steps are those of all slots, in their order; each flag tells whether its slot is
@@ -38,7 +42,7 @@ module _ (program : Program) where
   -- after the journal's entries.
   pub record WorldStands (world : World) : Type 0 where
     pub lawful : IsLawful (settings_of program) (next_request program.code) (entries_in world)
-    pub parts : world.is_spent ≡ false → PartsStand world (entries_in world)
+    pub parts : is_spent world ≡ false → PartsStand world (entries_in world)
 
   -- whether the step's slot is one of the cluster's that are open
   abbrev pub is_open_step : Step → World → Bool

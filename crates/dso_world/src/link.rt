@@ -117,9 +117,7 @@ impl<M: Data + Drop> Link<M> {
         requires { self.old.client.seen < 2 ^ 63 }
         ensures { OnOk result (self.new ≡ sent_up message clock self.old) }
     {
-        if self.client.send(message, clock).is_err() {
-            return Err(NoMemory);
-        }
+        self.client.send(message, clock)?;
         self.pump_up()
     }
 
@@ -128,9 +126,7 @@ impl<M: Data + Drop> Link<M> {
         requires { self.old.server.seen < 2 ^ 63 }
         ensures { OnOk result (self.new ≡ sent_down message clock self.old) }
     {
-        if self.server.send(message, clock).is_err() {
-            return Err(NoMemory);
-        }
+        self.server.send(message, clock)?;
         self.pump_down()
     }
 

@@ -1,10 +1,10 @@
 //! The cluster in one program.
-ghost use Rattle.std.specs.Prelude.{◌≡◌, ◌<◌, ◌-◌, ◌^◌, false, true, [], length, min, slice_get, IfOk, OnErr, OnOk};
+ghost use Rattle.std.specs.Prelude.{◌≡◌, ◌<◌, ◌-◌, ◌^◌, false, true, [], length, min, slice_get, IfOk, IsErr, OnErr, OnOk};
 ghost use Rattle.std.specs.Option.{option_copied};
 ghost use Rattle.dso_class.specs.declared.program.Program.{Program};
 ghost use Rattle.dso_class.specs.Sound.{IsSound};
 ghost use Rattle.dso_legal.specs.Slots.{is_finished, weight};
-ghost use Rattle.dso_world.specs.WorldStands.{IsChosenStep, IsMade, IsMakeable, IsStepped, WorldStands, entries_in, is_open_step};
+ghost use Rattle.dso_world.specs.WorldStands.{IsChosenStep, IsMade, IsMakeable, IsStepped, WorldStands, entries_in, is_open_step, is_spent};
 ghost use Rattle.dso_world.specs.WorldSteps.{settings_of};
 
 use crate::applying::apply;
@@ -22,11 +22,11 @@ use std::alloc::Global;
 /// journal of all that they did. It goes on step by step; which step is next is the caller's choice.
 ///
 /// Contracts say of which program it is (`WorldStands`): its journal is lawful for that program, also once the world is
-/// spent, which it is after `NoMemory`. A step costs the logarithm of what the nodes hold, times the number of a
-/// client's threads, and a pass over the slots; no call walks the journal.
+/// spent, which it is after `NoMemory`: it keeps that refusal, and answers it to every step. A step costs the logarithm
+/// of what the nodes hold, times the number of a client's threads, and a pass over the slots; no call walks the journal.
 #[derive(Drop)]
 pub struct World {
-    pub(crate) is_spent: bool,
+    pub(crate) spent: Option<NoMemory>,
     pub(crate) nodes: Nodes,
     pub(crate) board: Board,
     pub(crate) weight: u64,
@@ -38,13 +38,13 @@ impl World {
     pub fn new(alloc: Global, program: &Program) -> Result<World, NoMemory>
         requires { IsSound program.now }
         ensures stands { IfOk result (WorldStands program.now) }
-        ensures whole { IfOk result (λ world. world.is_spent ≡ false) }
+        ensures whole { IfOk result (λ world. is_spent world ≡ false) }
         ensures empty { IfOk result (λ world. world.journal.entries ≡ []) }
     {
         let nodes = nodes(alloc, program)?;
         let board = board(alloc, program, &nodes)?;
         Ok(World {
-            is_spent: false,
+            spent: None,
             nodes,
             board,
             weight: 0,
@@ -58,29 +58,29 @@ impl World {
     /// that is open, and false with nothing changed exactly where it isn't. The journal has fewer than 2^28 entries.
     ///
     /// It answers `NoMemory` where an allocation was refused: the world is spent then, with the journal that it had. A
-    /// spent world answers it to every step.
+    /// spent world answers that refusal to every step, and nothing changes.
     pub fn step(&mut self, alloc: Global, program: &Program, step: Step) -> Result<bool, NoMemory>
         requires sound { IsSound program.now }
         requires stands { WorldStands program.now self.old }
         requires few { length self.old.journal.entries < 2 ^ 28 }
         ensures stands { WorldStands program.now self.new }
         ensures stepped { IfOk result (λ made. IsStepped program.now step made self.old self.new) }
-        ensures whole { OnOk result (self.new.is_spent ≡ false) }
-        ensures spent { OnErr result (self.new.is_spent ≡ true) }
+        ensures whole { OnOk result (is_spent self.new ≡ false) }
+        ensures spent { OnErr result (is_spent self.new ≡ true) }
+        ensures refused { is_spent self.old ≡ true → IsErr result × (self.new ≡ self.old) }
         ensures journal { OnErr result (self.new.journal ≡ self.old.journal) }
     {
-        if self.is_spent {
-            return Err(NoMemory);
+        if let Some(refusal) = self.spent {
+            return Err(refusal);
         }
-        match self.board.open_place(step) {
-            Some(place) => {
-                self.is_spent = true;
-                self.make(alloc, program, step, place)?;
-                self.is_spent = false;
-                Ok(true)
-            }
-            None => Ok(false),
+        let Some(place) = self.board.open_place(step) else {
+            return Ok(false);
+        };
+        if let Err(refusal) = self.make(alloc, program, step, place) {
+            self.spent = Some(refusal);
+            return Err(refusal);
         }
+        Ok(true)
     }
 
     /// Makes the step at this place, which is open.
@@ -94,7 +94,7 @@ impl World {
         requires { IsMakeable program.now step place self.old }
         ensures made { OnOk result (IsMade program.now step self.old self.new) }
         ensures journal { OnErr result (self.new.journal ≡ self.old.journal) }
-        ensures spent { self.new.is_spent ≡ self.old.is_spent }
+        ensures spent { self.new.spent ≡ self.old.spent }
     {
         let entry = apply(alloc, program, &mut self.nodes, step)?;
         follow(program, &self.nodes, &entry, place, &mut self.board);
@@ -105,7 +105,7 @@ impl World {
 
     /// Whether the step's slot is open. It takes no memory.
     pub fn enabled(&self, step: Step) -> bool
-        ensures { (program : Program) → WorldStands program self.now → self.now.is_spent ≡ false
+        ensures { (program : Program) → WorldStands program self.now → is_spent self.now ≡ false
             → result ≡ is_open_step program step self.now }
     {
         self.board.is_open(step)
@@ -114,7 +114,7 @@ impl World {
     /// The step that is taken next: by round robin, or by the seed. None exactly where no slot is open. It takes no
     /// memory.
     pub fn choose(&mut self, seed: Option<u64>) -> Option<Step>
-        ensures chosen { (program : Program) → WorldStands program self.old → self.old.is_spent ≡ false
+        ensures chosen { (program : Program) → WorldStands program self.old → is_spent self.old ≡ false
             → IsChosenStep program seed result self.old }
         ensures same { self.new ≡ self.old }
     {
@@ -124,7 +124,7 @@ impl World {
     /// Whether every thread of a client that isn't lost has ended, no message between the server and such a client is
     /// in flight, and no loss or break is due. It takes no memory.
     pub fn finished(&self) -> bool
-        ensures { (program : Program) → WorldStands program self.now → self.now.is_spent ≡ false
+        ensures { (program : Program) → WorldStands program self.now → is_spent self.now ≡ false
             → result ≡ is_finished (settings_of program) (entries_in self.now) }
     {
         self.board.is_finished
@@ -132,7 +132,7 @@ impl World {
 
     /// The journal's weight, and 2^64 - 1 where that is more. It takes no memory.
     pub fn weight(&self) -> u64
-        ensures { (program : Program) → WorldStands program self.now → self.now.is_spent ≡ false
+        ensures { (program : Program) → WorldStands program self.now → is_spent self.now ≡ false
             → result ≡ min (weight (entries_in self.now)) (2 ^ 64 - 1) }
     {
         self.weight

@@ -32,7 +32,7 @@ module _ (code : Code) (p : Settings) (c clock : ℕ) (es : List Entry) (kept : 
     places = h.parts.places;
     numbered = h.parts.numbered;
     seats = all_as (SeatStands (point code p c es)) (SeatStands (point code p c now)) (λ seat s. record { next = s.next; work = s.work; seen = s.seen; waiting = s.waiting; marked = s.marked; last = s.last }) kept.seats.items h.parts.seats;
-    table = let t = h.parts.table in record { bodies = t.bodies; asked = t.asked; marks = t.marks; opened = t.opened; wanted = t.wanted; room = t.room; count = t.count; acked = t.acked };
+    table = let t = h.parts.table in record { bodies = t.bodies; asked = t.asked; marks = t.marks; opened = t.opened; wanted = t.wanted; room = t.room; count = t.count; acked = t.acked; order = t.order };
     locking = let l = h.parts.locking in record { holds = l.holds; leases = l.leases; lists = l.lists };
     ledger = let l = h.parts.ledger in record { ids = l.ids; bounded = l.bounded; end = l.end; asking = l.asking; records = l.records; unacked = l.unacked };
     facts = run_facts p c (next_request code) now goes_on;

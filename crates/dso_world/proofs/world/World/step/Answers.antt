@@ -1,19 +1,25 @@
 use Rattle.std.specs.Option.{option_and_then, option_map_or}
-use Rattle.std.proofs.Common.{ℕ, ◌<◌, ◌^◌, ◌≡◌, refl, ◌∙◌, ap, Bool, true, false, length, slice_get, arith}
+use Rattle.std.proofs.Common.{ℕ, ◌<◌, ◌^◌, ◌≡◌, refl, ◌∙◌, ap, Bool, true, false, is_some, Option, Some, None, length, slice_get, arith}
 use Rattle.std.proofs.lemmas.List.{length-reverse}
+use Rattle.dso_base.specs.declared.no_memory.NoMemory.{NoMemory}
 use Rattle.dso_world.specs.Flags.{is_set}
 use Rattle.dso_world.specs.WorldStands.{PartsStand, entries_in}
 use Rattle.dso_world.proofs.worlds.Stepped.{flag_in, open_told, opens_there, slot_stands}
 use Rattle.dso_world.proofs.world.World.step.Goals as goal
+
+-- what holds no refusal isn't spent
+not_spent : (spent : Option NoMemory) → ((refusal : NoMemory) → spent ≡ Some refusal → ⊥) → is_some spent ≡ false
+not_spent None none = refl
+not_spent (Some refusal) none = absurd (none refusal refl)
 
 pub make-requires : goal.make-requires
 make-requires c =
     let program = c.args.program.now in
     let step = c.args.step in
     let world = c.args.self.now in
-    let place = c.in-Some.place in
-    let there = c.in-Some.ensures in
-    let parts : PartsStand program world (entries_in world) = c.requires.stands.parts c.if-self.false in
+    let place = c.in-Some-open_place.place in
+    let there = c.in-Some-open_place.ensures in
+    let parts : PartsStand program world (entries_in world) = c.requires.stands.parts (not_spent _ c.in_default.not-Some) in
     let few : length world.journal.entries < 2 ^ 28 = c.requires.few in
     let long : length (entries_in world) ≡ length world.journal.entries = length-reverse world.journal.entries in
     record {
@@ -28,21 +34,21 @@ make-requires c =
       opened = opens_there program step world.board (entries_in world) parts.board place there.place there.«open»;
     }
 
-pub returns-in_ok-make-in-Some-clause-stepped : goal.returns-in_ok-make-in-Some-clause-stepped
-returns-in_ok-make-in-Some-clause-stepped c =
+pub returns-clause-stepped : goal.returns-clause-stepped
+returns-clause-stepped c =
     let program = c.args.program.now in
     let step = c.args.step in
     let world = c.args.self.now in
-    let place = c.in-Some.place in
-    let there = c.in-Some.ensures in
-    let parts : PartsStand program world (entries_in world) = c.requires.stands.parts c.if-self.false in
+    let place = c.in-Some-open_place.place in
+    let there = c.in-Some-open_place.ensures in
+    let parts : PartsStand program world (entries_in world) = c.requires.stands.parts (not_spent _ c.in_default.not-Some) in
     let set : flag_in step world.board ≡ true =
     ap (λ at. option_map_or is_set (option_and_then (slice_get world.board.chooser.flags) at) false) there.place ∙ ap (λ flag. option_map_or is_set flag false) there.«open» in
-    let makes = c.in_ok-make-in-Some.ensures.made.makes in
+    let makes = c.in_default-make.ensures.made.makes in
     (open_told program step world.board (entries_in world) parts.board ∙ set, record { entry = makes.entry; added = makes.added; at = makes.at })
 
-pub returns-in-None-clause-stepped : goal.returns-in-None-clause-stepped
-returns-in-None-clause-stepped c =
+pub returns-in_default-open_place-clause-stepped : goal.returns-in_default-open_place-clause-stepped
+returns-in_default-open_place-clause-stepped c =
     let world = c.args.self.now in
-    let parts : PartsStand c.args.program.now world (entries_in world) = c.requires.stands.parts c.if-self.false in
-    (open_told c.args.program.now c.args.step world.board (entries_in world) parts.board ∙ c.in-None.ensures.none, refl)
+    let parts : PartsStand c.args.program.now world (entries_in world) = c.requires.stands.parts (not_spent _ c.in_default.not-Some) in
+    (open_told c.args.program.now c.args.step world.board (entries_in world) parts.board ∙ c.in_default-open_place.ensures.none, refl)
