@@ -1,2 +1,2 @@
 pub mod TextInput
-pub mod Talking
+pub mod FirstBody

@@ -1,9 +1,7 @@
 //! What the first thread of a text asks, each request with the reply that it is given.
 
-ghost use Rattle.std.specs.Prelude.{IfOk};
 ghost use Rattle.dso_config.specs.InRange.{IsInRange};
 ghost use Rattle.dso_machine.specs.Sound as machine;
-ghost use Rattle.class_cases.specs.Talks.{Talks};
 
 use crate::names::program_of;
 use case_words::{is_listed, reply};
@@ -36,23 +34,23 @@ enum Stop {
     Unread,
     /// The reply isn't listed for the request.
     Unlisted(Request, Reply),
-    NoMemory,
+    NoMemory(NoMemory),
 }
 
 impl From<AllocError> for Stop {
-    fn from(_: AllocError) -> Self {
-        Stop::NoMemory
+    fn from(refused: AllocError) -> Self {
+        Stop::NoMemory(NoMemory::from(refused))
     }
 }
 
 impl From<NoMemory> for Stop {
-    fn from(_: NoMemory) -> Self {
-        Stop::NoMemory
+    fn from(refusal: NoMemory) -> Self {
+        Stop::NoMemory(refusal)
     }
 }
 
 /// What the first thread of the code asks, and whether it ended behind the last reply.
-#[tactic(auto, using(crate::proofs::Talking::first_there))]
+#[tactic(auto, using(crate::proofs::FirstBody::first_there))]
 fn exchanges_of(alloc: Global, code: &Code, replies: &str) -> Result<String, NoMemory>
     requires { machine.IsSound code.now }
 {
@@ -87,15 +85,13 @@ fn stop_line(alloc: Global, stop: Stop, words: &str) -> Result<String, NoMemory>
         Stop::Unlisted(request, reply) => {
             Ok(format!(in alloc; "{request:?} is not answered {reply:?}\n")?)
         }
-        Stop::NoMemory => Err(NoMemory),
+        Stop::NoMemory(refusal) => Err(refusal),
     }
 }
 
 /// What the thread asks next, with its reply.
 fn exchange(alloc: Global, code: &Code, thread: &mut Thread, words: &str) -> Result<String, Stop>
-    requires sound { machine.IsSound code.now }
-    requires talks { Talks code.now thread.old }
-    ensures { IfOk result (λ line. Talks code.now thread.new) }
+    requires { machine.IsSound code.now }
 {
     if thread.over() {
         return Err(Stop::Ended);
