@@ -52,8 +52,7 @@ fn ask_after(
 
 /// What a thread that stands for some events asks next; None after its end.
 fn ask(alloc: Global, code: &Code, run: &mut Thread) -> Result<Option<Request>, NoMemory>
-    requires sound { IsSound code.now }
-    requires stands { (thread : ThreadId) × ((events : List Event) × ThreadStands code.now thread run.old events) }
+    requires { IsSound code.now }
     ensures { IfOk result (λ asked. (thread : ThreadId) (events : List Event) → ThreadStands code.now thread run.old events → asked ≡ next_request code.now thread events) }
 {
     if run.over() {
