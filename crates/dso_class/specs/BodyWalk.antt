@@ -75,7 +75,7 @@ Answers source owner before mentions met now Means (Ok value) =
     IsRight source owner before mentions met now (λ n. Means n value)
 Answers source owner before mentions met now Means (Err (fault.At kind line)) =
     IsFaultAmong source.config source.ast before mentions kind line
-Answers source owner before mentions met now Means (Err fault.NoMemory) = Unit {0}
+Answers source owner before mentions met now Means (Err (fault.NoMemory refusal)) = Unit {0}
 
 -- The answer of a part of the walk is right.
 pub record IsWalked {A : Type 0} (source : Source) (owner : Owner) (before mentions : List Mention) (met now : Met)
@@ -86,7 +86,7 @@ pub record IsWalked {A : Type 0} (source : Source) (owner : Owner) (before menti
 abbrev pub IsMade : {A : Type 0} → Result A NameFault → A → Type 0
 IsMade (Ok value) wanted = value ≡ wanted
 IsMade (Err (fault.At kind line)) wanted = ⊥
-IsMade (Err fault.NoMemory) wanted = Unit {0}
+IsMade (Err (fault.NoMemory refusal)) wanted = Unit {0}
 
 -- the variables of the body so far, in the order of their numbers
 abbrev pub variables_in : Scope → List Word

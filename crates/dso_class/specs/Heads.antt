@@ -3,6 +3,7 @@ use Rattle.std.specs.Prelude.{◌≡◌, ◌⊎◌, ℕ, suc, ℤ, pos, int_le, 
 use Rattle.std.specs.Prelude.{Contains, count_by, Option}
 use Rattle.dso_base.specs.declared.lock.Grade.{Grade}
 use Rattle.dso_base.specs.declared.lock.ThreadId.{ThreadId}
+use Rattle.dso_base.specs.declared.no_memory.NoMemory.{NoMemory}
 use Rattle.dso_machine.specs.declared.code.ThreadBody.{ThreadBody}
 use Rattle.dso_syntax.specs.declared.tree.Ident.{Ident}
 use Rattle.dso_class.specs.declared.fault.NameFault.{NameFault}
@@ -21,7 +22,7 @@ use Rattle.dso_class.specs.TextWalk.{HasMetClass, clients_in}
 pub data IsRefused (Taken Full : Type 0) (sort : What) (line : ℕ) : NameFault → Type 0 where
   twice : Taken → IsRefused Taken Full sort line (fault.At kind.Twice line)
   many : (Taken → ⊥) → Full → IsRefused Taken Full sort line (fault.At (kind.TooMany sort) line)
-  no_memory : IsRefused Taken Full sort line fault.NoMemory
+  no_memory : (refusal : NoMemory) → IsRefused Taken Full sort line (fault.NoMemory refusal)
 
 -- no class may have the name behind classes of these names
 abbrev pub IsClassTaken : List Word → Word → Type 0

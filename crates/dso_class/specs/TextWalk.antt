@@ -81,12 +81,12 @@ AnswersBody source owner before params statements texts now (Ok body) =
     IsBodyRight source owner before params statements texts now body
 AnswersBody source owner before params statements texts now (Err (fault.At kind line)) =
     IsFaultAmong source.config source.ast before (mention.body owner params statements) kind line
-AnswersBody source owner before params statements texts now (Err fault.NoMemory) = Unit {0}
+AnswersBody source owner before params statements texts now (Err (fault.NoMemory refusal)) = Unit {0}
 
 -- the fault is right for these mentions, behind those before them: it is the first among them, or there was no memory
 abbrev pub IsToldOf : Source → List Mention → List Mention → NameFault → Type 0
 IsToldOf source before mentions (fault.At kind line) = IsFaultAmong source.config source.ast before mentions kind line
-IsToldOf source before mentions fault.NoMemory = Unit {0}
+IsToldOf source before mentions (fault.NoMemory refusal) = Unit {0}
 
 -- The answer is right for these mentions, behind those before them: what is given is so, or the fault is right.
 abbrev pub Gives : {A : Type 0} → Source → List Mention → List Mention → (A → Type 0) → Result A NameFault → Type 0

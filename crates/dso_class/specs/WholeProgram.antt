@@ -34,7 +34,7 @@ pub record IsWhole (source : Source) (resolved : Resolved) : Type 0 where
 abbrev pub AnswersWhole : Source → Result Resolved NameFault → Type 0
 AnswersWhole source (Ok resolved) = IsWhole source resolved
 AnswersWhole source (Err (fault.At kind line)) = IsFirstFault source.config source.ast kind line
-AnswersWhole source (Err fault.NoMemory) = Unit {0}
+AnswersWhole source (Err (fault.NoMemory refusal)) = Unit {0}
 
 -- The program is made of what was resolved, of these words, and of what the configuration says.
 pub record IsMadeOf (setting : Setting) (words : Names) (resolved : Resolved) (program : Program) : Type 0 where

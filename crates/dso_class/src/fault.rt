@@ -1,6 +1,7 @@
 //! What is wrong with a name.
 
 ghost use Rattle.std.specs.Prelude.{◌≡◌};
+ghost use Rattle.dso_base.specs.declared.no_memory.NoMemory as base;
 ghost use Rattle.dso_class.specs.declared.fault.NameFault.TheVariants as fault;
 
 use dso_base::NoMemory;
@@ -58,21 +59,21 @@ pub enum NameFault {
     #[error("line {line}: {kind}")]
     At { kind: NameKind, line: u32 },
     #[error("out of memory")]
-    NoMemory,
+    NoMemory(NoMemory),
 }
 
 impl From<NoMemory> for NameFault {
-    ghost from_gives = { λ _ e. e ≡ fault.NoMemory };
+    ghost from_gives = { λ refusal e. e ≡ fault.NoMemory refusal };
 
-    fn from(_refused: NoMemory) -> Self {
-        NameFault::NoMemory
+    fn from(refusal: NoMemory) -> Self {
+        NameFault::NoMemory(refusal)
     }
 }
 
 impl<T: Drop> From<AllocFailed<T>> for NameFault {
-    ghost from_gives = { λ _ e. e ≡ fault.NoMemory };
+    ghost from_gives = { λ _ e. (refusal : base.NoMemory) × (e ≡ fault.NoMemory refusal) };
 
-    fn from(_refused: AllocFailed<T>) -> Self {
-        NameFault::NoMemory
+    fn from(refused: AllocFailed<T>) -> Self {
+        NameFault::NoMemory(NoMemory::from(refused))
     }
 }

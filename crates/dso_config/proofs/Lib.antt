@@ -1,5 +1,6 @@
 pub mod ExactRules
 pub mod ExactSections
+pub mod NoWant
 pub mod OneAnswer
 pub mod Ranges
 pub mod SectionFaults

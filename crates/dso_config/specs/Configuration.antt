@@ -115,4 +115,4 @@ HasSpot (fault.BadGuard spot) = ⊤
 HasSpot (fault.Twice spot) = ⊤
 HasSpot fault.TooLong = ⊥
 HasSpot (fault.BadName spot) = ⊤
-HasSpot fault.NoMemory = ⊥
+HasSpot (fault.NoMemory refused) = ⊥

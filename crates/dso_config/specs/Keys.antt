@@ -1,5 +1,5 @@
 -- What stands at a key of a table, and what is wrong with it.
-use Rattle.std.specs.Prelude.{◌≡◌, ◌≢◌, ℕ, ℤ, pos, negsuc, Bool, true, false, ◌&&◌, nat_le, List, [], ◌∷◌, Option}
+use Rattle.std.specs.Prelude.{⊤, ◌≡◌, ℕ, ℤ, pos, negsuc, Bool, true, false, ◌&&◌, nat_le, List, [], ◌∷◌, Option}
 use Rattle.std.specs.Prelude.{Some, None, if◌then◌else◌, codes, bytes_eq, option_and_then}
 use Rattle.std.specs.List.{list_any}
 use Rattle.toml.specs.Data.{Members, no_members, member, get_member, as_str, as_integer}
@@ -102,6 +102,19 @@ pub record IsSaid {A : Type 0} (value : Option A) (wrong : Option ConfigFault) (
   pub is : value ≡ Some said
   pub right : wrong ≡ None
 
+-- a fault of the text, and not that an allocation was refused
+abbrev pub IsOfText : ConfigFault → Type 0
+IsOfText fault.NotToml = ⊤
+IsOfText (fault.UnknownKey spot) = ⊤
+IsOfText (fault.WrongKind spot) = ⊤
+IsOfText (fault.OutOfRange spot) = ⊤
+IsOfText (fault.BadMethodPattern spot) = ⊤
+IsOfText (fault.BadGuard spot) = ⊤
+IsOfText (fault.Twice spot) = ⊤
+IsOfText fault.TooLong = ⊤
+IsOfText (fault.BadName spot) = ⊤
+IsOfText (fault.NoMemory refused) = ⊥
+
 -- what is told is what is wrong, but for want of memory
 pub record IsTold (wrong : Option ConfigFault) (told : ConfigFault) : Type 0 where
-  pub is : told ≢ fault.NoMemory → wrong ≡ Some told
+  pub is : IsOfText told → wrong ≡ Some told

@@ -1,18 +1,18 @@
 //! A whole configuration.
 
-ghost use Rattle.std.specs.Prelude.{◌≢◌, ◌≤◌, IfOk, IfErr};
+ghost use Rattle.std.specs.Prelude.{◌≤◌, IfOk, IfErr};
 ghost use Rattle.toml.specs.Data.{get_member};
 ghost use Rattle.toml.specs.View.{table_view};
 ghost use Rattle.dso_config.specs.Configuration.{IsConfigurationOf, IsFaultOf, Says, setting, setting_fault, clients_of, clients_fault, resident_of, resident_fault};
 ghost use Rattle.dso_config.specs.Configuration.{table_fault};
 ghost use Rattle.dso_config.specs.InRange.{IsInRange};
-ghost use Rattle.dso_config.specs.Keys.{IsSaid, IsTold};
-ghost use Rattle.dso_config.specs.declared.fault.ConfigFault.TheVariants as fault;
+ghost use Rattle.dso_config.specs.Keys.{IsOfText, IsSaid, IsTold};
 
 use crate::rules::{Autolocks, Breaks, Guards, Losses, NamedLocks, Roots};
 use crate::section::{section, section_or_empty};
 use crate::{Config, ConfigFault, Section, Spot, keys};
-use std::alloc::Global;
+use dso_base::NoMemory;
+use std::alloc::{AllocError, Global};
 use toml::Table;
 
 /// The most bytes of a text.
@@ -93,14 +93,15 @@ fn configuration(alloc: Global, table: &Table) -> Result<Config, ConfigFault>
 pub fn read_config(alloc: Global, text: &[u8]) -> Result<Config, ConfigFault>
     ensures ok { IfOk result (IsConfigurationOf text.now) }
     ensures in_range { IfOk result IsInRange }
-    ensures refused { IfErr result (λ wrong. wrong ≢ fault.NoMemory → IsFaultOf text.now wrong) }
+    ensures refused { IfErr result (λ wrong. IsOfText wrong → IsFaultOf text.now wrong) }
 {
     if text.len() > MOST_BYTES {
         return Err(ConfigFault::TooLong);
     }
     match toml::table_from_slice(alloc, text) {
         Ok(table) => configuration(alloc, &table),
-        Err(refused) if refused.is_memory() => Err(ConfigFault::NoMemory),
+        // toml tells that an allocation was refused, and hands no refusal on.
+        Err(refused) if refused.is_memory() => Err(ConfigFault::NoMemory(NoMemory::from(AllocError))),
         Err(_) => Err(ConfigFault::NotToml),
     }
 }

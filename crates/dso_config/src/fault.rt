@@ -58,7 +58,7 @@ pub enum ConfigFault {
     BadName(Spot),
     /// An allocation was refused.
     #[error("out of memory")]
-    NoMemory,
+    NoMemory(NoMemory),
 }
 
 impl Section {
@@ -105,20 +105,21 @@ impl From<NoMemory> for ConfigFault {
     ghost use Rattle.std.specs.Prelude.{◌≡◌};
     ghost use Rattle.dso_config.specs.declared.fault.ConfigFault.TheVariants as fault;
 
-    ghost from_gives = { λ _ e. e ≡ fault.NoMemory };
+    ghost from_gives = { λ refused e. e ≡ fault.NoMemory refused };
 
-    fn from(_refused: NoMemory) -> ConfigFault {
-        ConfigFault::NoMemory
+    fn from(refused: NoMemory) -> ConfigFault {
+        ConfigFault::NoMemory(refused)
     }
 }
 
 impl<T: Drop> From<AllocFailed<T>> for ConfigFault {
     ghost use Rattle.std.specs.Prelude.{◌≡◌};
+    ghost use Rattle.dso_base.specs.declared.no_memory.NoMemory as base;
     ghost use Rattle.dso_config.specs.declared.fault.ConfigFault.TheVariants as fault;
 
-    ghost from_gives = { λ _ e. e ≡ fault.NoMemory };
+    ghost from_gives = { λ _ e. (refused : base.NoMemory) × (e ≡ fault.NoMemory refused) };
 
-    fn from(_refused: AllocFailed<T>) -> ConfigFault {
-        ConfigFault::NoMemory
+    fn from(refused: AllocFailed<T>) -> ConfigFault {
+        ConfigFault::NoMemory(NoMemory::from(refused))
     }
 }

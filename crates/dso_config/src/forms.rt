@@ -16,6 +16,7 @@ use toml::Table;
 const LATEST_MESSAGE: u64 = 1_000_000;
 
 /// The name at a key; the other fault where a text there is no name.
+#[tactic(auto, using(crate::proofs::NoWant::untold))]
 pub fn name_at(
     alloc: Global,
     table: &Table,
@@ -32,6 +33,7 @@ pub fn name_at(
 }
 
 /// The pattern at a key; the other fault where a text there is no pattern.
+#[tactic(auto, using(crate::proofs::NoWant::untold))]
 fn pattern_at(
     alloc: Global,
     table: &Table,
@@ -85,6 +87,7 @@ fn root(alloc: Global, text: &str) -> Result<Option<RootEntry>, NoMemory>
 }
 
 /// The static field at `field`.
+#[tactic(auto, using(crate::proofs::NoWant::untold))]
 pub fn root_at(alloc: Global, table: &Table, spot: Spot) -> Result<RootEntry, ConfigFault>
     ensures ok { IfOk result (IsSaid (form_at root_of (codes "field") (table_view table.now))
         (form_fault spot (fault.BadName spot) root_of (codes "field") (table_view table.now))) }
@@ -109,6 +112,7 @@ fn fields(alloc: Global, text: &str) -> Result<Option<Guarded>, NoMemory>
 }
 
 /// The fields at `field`.
+#[tactic(auto, using(crate::proofs::NoWant::untold))]
 fn fields_at(alloc: Global, table: &Table, spot: Spot) -> Result<Guarded, ConfigFault>
     ensures ok { IfOk result (IsSaid (form_at guarded_of (codes "field") (table_view table.now))
         (form_fault spot (fault.BadGuard spot) guarded_of (codes "field") (table_view table.now))) }

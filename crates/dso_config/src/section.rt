@@ -63,6 +63,7 @@ fn item<R: SectionRules>(
 }
 
 /// The entries that the items say, one each.
+#[tactic(auto, using(crate::proofs::NoWant::untold))]
 fn entries<R: SectionRules>(
     alloc: Global,
     rules: &R,

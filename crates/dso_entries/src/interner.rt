@@ -64,10 +64,12 @@ impl<K: Ord + Copy + Drop> Interner<K> {
         }
         let number = self.things.len();
         self.things.push(thing)?;
-        if let Err(refused) = self.numbers.insert(thing, number) {
-            self.things.pop();
-            return Err(refused.into());
+        match self.numbers.insert(thing, number) {
+            Ok(_) => Ok(true),
+            Err(refused) => {
+                self.things.pop();
+                Err(refused.into())
+            }
         }
-        Ok(true)
     }
 }

@@ -6,7 +6,7 @@ ghost use Rattle.dso_session.specs.declared.session.Role.TheVariants as role;
 
 use crate::frame::{Accepted, Frame};
 use dso_base::{Data, NoMemory};
-use std::alloc::Global;
+use std::alloc::{AllocFailed, Global};
 use std::collections::VecDeque;
 use std::marker::Model;
 
@@ -83,12 +83,12 @@ impl<M: Drop> Session<M> {
     }
 
     /// Numbers the message and keeps it until the other end has seen it. Fewer than 2^63 messages were seen there; so many
-    /// more are never kept. Where an allocation was refused the message is handed back, and the session is as before.
-    pub fn send(&mut self, message: M, clock: u64) -> Result<(), M>
+    /// more are never kept. Where an allocation was refused the refusal holds the message, and the session is as before.
+    pub fn send(&mut self, message: M, clock: u64) -> Result<(), AllocFailed<M>>
         requires { self.old.seen < 2 ^ 63 }
         ensures ok { OnOk result (self.new ≡ posted message clock self.old) }
         ensures err { OnErr result (self.new ≡ self.old) }
-        ensures given_back { IfErr result (λ back. back ≡ message) }
+        ensures given_back { IfErr result (λ back. back.value ≡ message) }
         ensures order { IsInOrder self.new }
     {
         match self.kept.push_back(Posted { message, clock }) {
@@ -96,7 +96,9 @@ impl<M: Drop> Session<M> {
                 self.clock = clock;
                 Ok(())
             }
-            Err(refused) => Err(refused.value.message),
+            Err(refused) => Err(AllocFailed {
+                value: refused.value.message,
+            }),
         }
     }
 

@@ -51,19 +51,19 @@ answer_of tokens end = answer_by end (program most_levels tokens)
 
 -- the fault for which a function of the parser stops
 abbrev pub fault_of : Stop → Ending → SyntaxFault
-fault_of stop.NoMemory end = fault.NoMemory
+fault_of (stop.NoMemory refused) end = fault.NoMemory refused
 fault_of (stop.Unexpected tokens) end = fault_by unexpected (place_of tokens.now) end
 fault_of (stop.TooWide tokens) end = fault_by too_wide (place_of tokens.now) end
 fault_of (stop.TooDeep tokens) end = fault_by too_deep (place_of tokens.now) end
 
 -- A result is this answer, unless memory ran out.
 abbrev pub Answers : Result Ast SyntaxFault → Result Ast SyntaxFault → Type 0
-Answers (Err fault.NoMemory) answer = Unit {0}
+Answers (Err (fault.NoMemory refused)) answer = Unit {0}
 Answers result answer = result ≡ answer
 
 -- What a refusal says of a text: nothing where memory ran out; that it is too long; else that it is the program of no
 -- tree, and that this is its fault.
 abbrev pub Refuses : Text → SyntaxFault → Type 0
-Refuses text fault.NoMemory = Unit {0}
+Refuses text (fault.NoMemory refused) = Unit {0}
 Refuses text fault.TooLong = longest_text < length text
 Refuses text other = (length text ≤ longest_text) × ((ast : Ast) → IsText text ast → ⊥) × HasFault text other

@@ -1,5 +1,6 @@
 //! What is wrong with a program text.
 
+use dso_base::NoMemory;
 use thiserror::Error;
 
 /// Why a text is no program, with the place of the byte where it is so, counted from 0.
@@ -25,5 +26,16 @@ pub enum SyntaxFault {
     NestTooDeep(u64),
     /// An allocation was refused.
     #[error("out of memory")]
-    NoMemory,
+    NoMemory(NoMemory),
+}
+
+impl From<NoMemory> for SyntaxFault {
+    ghost use Rattle.std.specs.Prelude.{◌≡◌};
+    ghost use Rattle.dso_syntax.specs.declared.fault.SyntaxFault.TheVariants as fault;
+
+    ghost from_gives = { λ refused e. e ≡ fault.NoMemory refused };
+
+    fn from(refused: NoMemory) -> SyntaxFault {
+        SyntaxFault::NoMemory(refused)
+    }
 }

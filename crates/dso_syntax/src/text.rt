@@ -39,7 +39,7 @@ fn fault_of(stop: Stop<'_>, ending: Ending) -> SyntaxFault
     ensures { result ≡ answer.fault_of stop.entry ending }
 {
     match stop {
-        Stop::NoMemory => SyntaxFault::NoMemory,
+        Stop::NoMemory(refused) => SyntaxFault::NoMemory(refused),
         Stop::Unexpected(tokens) => match place_of(tokens) {
             Some(place) => SyntaxFault::Unexpected(place),
             None => fault_behind(ending),
@@ -85,8 +85,6 @@ pub fn parse(alloc: Global, text: &[u8]) -> Result<Ast, SyntaxFault>
     if text.len() > LONGEST_TEXT {
         return Err(SyntaxFault::TooLong);
     }
-    let Ok(lexed) = tokens_of(alloc, text) else {
-        return Err(SyntaxFault::NoMemory);
-    };
+    let lexed = tokens_of(alloc, text)?;
     tree_of(alloc, &lexed)
 }

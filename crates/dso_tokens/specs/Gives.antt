@@ -14,7 +14,7 @@ abbrev pub Fails : {A : Type 0} → Stop → Outcome A → Type 0
 Fails (stop.Unexpected tokens) outcome = outcome ≡ Err (unexpected, tokens.now)
 Fails (stop.TooWide tokens) outcome = outcome ≡ Err (too_wide, tokens.now)
 Fails (stop.TooDeep tokens) outcome = outcome ≡ Err (too_deep, tokens.now)
-Fails stop.NoMemory outcome = Unit {0}
+Fails (stop.NoMemory refused) outcome = Unit {0}
 
 -- What a function answered, with the value seen so, is what the reader gives, unless memory ran out.
 abbrev pub Gives : {A B : Type 0} → (A → B) → Result (A × Rest) Stop → Outcome B → Type 0

@@ -1,4 +1,4 @@
--- How what is told of mentions composes: in front, behind, of one mention alone; and what is told where a name is refused or there was no memory.
+-- How what is told of mentions composes: in front, behind, of one mention alone; and what is told where a name is refused.
 use Rattle.std.proofs.Common.{◌≡◌, ℕ, List, [], ◌∷◌, ◌++◌, sym, subst, Result, Ok, Err, IsErr, IsErrAnd}
 use Rattle.dso_syntax.specs.declared.tree.Ident.{Ident}
 use Rattle.dso_syntax.specs.declared.tree.StmtTree.{StmtTree}
@@ -18,12 +18,12 @@ use Rattle.dso_class.proofs.rules.OfDeclarations.{IsDeclared, declared_twice, de
 module _ (source : Source) where
   -- what is told of the front is told of the whole
   pub told_front : (before xs ys : List Mention) (e : NameFault) → IsToldOf source before xs e → IsToldOf source before (xs ++ ys) e
-  told_front before xs ys fault.NoMemory told = tt
+  told_front before xs ys (fault.NoMemory refusal) told = tt
   told_front before xs ys (fault.At kind line) told = fault_in_front source.config source.ast before xs ys kind line told
 
   -- behind mentions that are fine, what is told of the rest is told of the whole
   pub told_behind : (before xs ys : List Mention) (e : NameFault) → AreFine source.config source.ast before xs → IsToldOf source (behind before xs) ys e → IsToldOf source before (xs ++ ys) e
-  told_behind before xs ys fault.NoMemory fine told = tt
+  told_behind before xs ys (fault.NoMemory refusal) fine told = tt
   told_behind before xs ys (fault.At kind line) fine told = fault_behind source.config source.ast before xs ys kind line fine told
 
   -- what is told of one mention alone
@@ -35,19 +35,16 @@ module _ (source : Source) where
       → IsRefused Taken Full sort line e → IsToldOf source before (on line here ∷ []) e
   told_refused before line here _ rules (twice taken) = told_alone before line here _ (declared_twice rules taken)
   told_refused before line here _ rules (many free full) = told_alone before line here _ (declared_many rules free full)
-  told_refused before line here _ rules no_memory = tt
+  told_refused before line here _ rules (no_memory refusal) = tt
 
   -- what is told of a body
   pub told_of_body : (owner : Owner) (before : List Mention) (params : List Ident) (statements : List StmtTree) (texts now : List Word) (e : NameFault)
       → AnswersBody source owner before params statements texts now (Err e) → IsToldOf source before (body owner params statements) e
-  told_of_body owner before params statements texts now fault.NoMemory told = tt
+  told_of_body owner before params statements texts now (fault.NoMemory refusal) told = tt
   told_of_body owner before params statements texts now (fault.At kind line) told = told
 
-  -- an answer that passes a fault on, and one where there was no memory
+  -- an answer that passes a fault on
   pub passed_on : {A : Type 0} (before ms : List Mention) (P : A → Type 0) (result : Result A NameFault) (e : NameFault) → IsErr result × IsErrAnd result (λ told. told ≡ e) → IsToldOf source before ms e
       → Gives source before ms P result
   passed_on before ms P (Ok value) e is told = absurd is.1
   passed_on before ms P (Err other) e is told = subst (IsToldOf source before ms) (sym is.1) told
-
-  pub no_memory_left : {A : Type 0} (before ms : List Mention) (P : A → Type 0) (result : Result A NameFault) → IsErr result × IsErrAnd result (λ told. told ≡ fault.NoMemory) → Gives source before ms P result
-  no_memory_left before ms P result is = passed_on before ms P result fault.NoMemory is tt

@@ -1,6 +1,7 @@
 -- Names that are declared: whether one is taken, and what is told where there is no memory.
 use Rattle.std.proofs.Common.{ℕ, ◌≡◌, sym, ◌∙◌, subst, Bool, true, false, Option, Some, None, is_some, List, Contains, Result, Ok, Err, IsErr, IsErrAnd, IfErr}
 use Rattle.std.specs.Borrow.{Bor}
+use Rattle.dso_base.specs.declared.no_memory.NoMemory.{NoMemory}
 use Rattle.dso_class.specs.declared.fault.NameFault.{NameFault}
 use Rattle.dso_class.specs.declared.fault.NameFault.TheVariants as fault
 use Rattle.dso_class.specs.declared.fault.What.{What}
@@ -24,6 +25,6 @@ free names word None is tells fails spelt there = keyed.absent by_bytes (λ w. w
 free names word (Some n) is tells fails spelt there = cc (sym tells ∙ fails)
 
 -- where there was no memory the answer is right
-pub refused : {A : Type 0} (Taken Full : Type 0) (sort : What) (line : ℕ) (result : Result A NameFault) → IsErr result × IsErrAnd result (λ e. e ≡ fault.NoMemory) → IfErr result (IsRefused Taken Full sort line)
+pub refused : {A : Type 0} (Taken Full : Type 0) (sort : What) (line : ℕ) (result : Result A NameFault) {refusal : NoMemory} → IsErr result × IsErrAnd result (λ e. e ≡ fault.NoMemory refusal) → IfErr result (IsRefused Taken Full sort line)
 refused Taken Full sort line (Ok value) fails = absurd fails.1
-refused Taken Full sort line (Err e) fails = subst (IsRefused Taken Full sort line) (sym fails.1) no_memory
+refused Taken Full sort line (Err e) fails = subst (IsRefused Taken Full sort line) (sym fails.1) (no_memory _)

@@ -21,4 +21,4 @@ pub class_refused : (names : List Word) (name : Word) (Full : Type 0) (sort : Wh
     → IsRefused (IsClassTaken names name) Full sort line e
 class_refused names name Full sort line _ other (twice there) = twice (inr there)
 class_refused names name Full sort line _ other (many free full) = many (class_free names name other free) full
-class_refused names name Full sort line _ other no_memory = no_memory
+class_refused names name Full sort line _ other (no_memory refusal) = no_memory refusal

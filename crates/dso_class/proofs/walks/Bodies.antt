@@ -147,7 +147,7 @@ judged_counted params i before fresh below = params_counted (take i params) befo
 pub body_fails : {A : Type 0} {source : Source} {owner : Owner} {before : List Mention} {old now : Met} {Both : Numbers → A → Type 0} {result : Result Body NameFault} (params : List Ident) (trees : List StmtTree)
     (texts later : List Word) (refused : NameFault) → result ≡ Err refused → IsWalked source owner before (body owner params trees) old now Both (Err refused) → AnswersBody source owner before params trees texts later result
 body_fails {source = source} {owner} {before} params trees texts later (fault.At which line) told walked = subst (AnswersBody source owner before params trees texts later) (sym told) walked.answer
-body_fails {source = source} {owner} {before} params trees texts later fault.NoMemory told walked = subst (AnswersBody source owner before params trees texts later) (sym told) tt
+body_fails {source = source} {owner} {before} params trees texts later (fault.NoMemory refusal) told walked = subst (AnswersBody source owner before params trees texts later) (sym told) tt
 
 -- a body whose statements were walked to its end is right
 pub body_right : {source : Source} {owner : Owner} {before : List Mention} {old now : Met} (params : List Ident) (trees : List StmtTree) (given : Body) → in_body before ≡ [] → given.vars ≡ length now.variables

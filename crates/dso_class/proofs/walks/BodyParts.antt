@@ -62,26 +62,26 @@ right_nothing {source} {met = met} Means has means = record { fine = tt; met = h
 pub failed_first : {A B : Type 0} {source : Source} {owner : Owner} {before xs : List Mention} (ys : List Mention) {met mid now : Met} {One : Numbers → A → Type 0} (Both : Numbers → B → Type 0)
     (refused : NameFault) → IsWalked source owner before xs met mid One (Err refused) → IsWalked source owner before (xs ++ ys) met now Both (Err refused)
 failed_first {source = source} {before = before} {xs = xs} ys Both (fault.At which line) broken = record { answer = fault_in_front source.config source.ast before xs ys which line broken.answer }
-failed_first ys Both fault.NoMemory broken = record { answer = tt }
+failed_first ys Both (fault.NoMemory refusal) broken = record { answer = tt }
 
 -- a fault behind a right front is one of the whole
 pub failed_behind : {A B : Type 0} {source : Source} {owner : Owner} {before xs ys : List Mention} {met mid now later : Met} {One : Numbers → Type 0} {Two : Numbers → A → Type 0} (Both : Numbers → B → Type 0)
     (refused : NameFault) → IsRight source owner before xs met mid One → IsWalked source owner (behind before xs) ys mid now Two (Err refused) → IsWalked source owner before (xs ++ ys) met later Both (Err refused)
 failed_behind {source = source} {before = before} {xs = xs} {ys = ys} Both (fault.At which line) right broken = record { answer = fault_behind source.config source.ast before xs ys which line right.fine broken.answer }
-failed_behind Both fault.NoMemory right broken = record { answer = tt }
+failed_behind Both (fault.NoMemory refusal) right broken = record { answer = tt }
 
 -- a fault is one whatever the part should have meant
 pub failed_as : {A B : Type 0} {source : Source} {owner : Owner} {before xs : List Mention} {met now later : Met} {One : Numbers → A → Type 0} (Other : Numbers → B → Type 0)
     (refused : NameFault) → IsWalked source owner before xs met now One (Err refused) → IsWalked source owner before xs met later Other (Err refused)
 failed_as Other (fault.At which line) broken = record { answer = broken.answer }
-failed_as Other fault.NoMemory broken = record { answer = tt }
+failed_as Other (fault.NoMemory refusal) broken = record { answer = tt }
 
 -- a value that is made of what is right
 pub made : {A : Type 0} {source : Source} {owner : Owner} {before xs : List Mention} {old now : Met} (Means : Numbers → A → Type 0) (result : Result A NameFault) (value : A)
     → IsMade result value → IsRight source owner before xs old now (λ n. Means n value) → IsWalked source owner before xs old now Means result
 made {source = source} {owner} {before} {xs} {old} {now} Means (Ok given) value is right = record { answer = subst (λ v. IsRight source owner before xs old now (λ n. Means n v)) (sym is) right }
 made Means (Err (fault.At which line)) value is right = absurd is
-made Means (Err fault.NoMemory) value is right = record { answer = tt }
+made Means (Err (fault.NoMemory refusal)) value is right = record { answer = tt }
 
 -- a mention that begins no body is behind those of the body so far
 pub in_body_more : (here : Mention) (before : List Mention) → begins_body here.what ≡ false → in_body (here ∷ before) ≡ here ∷ in_body before
@@ -217,4 +217,4 @@ third_tail {xs = xs} {ys} (Err refused) is join first second third = third_of_th
 pub no_memory : {A B : Type 0} {source : Source} {owner : Owner} {before all : List Mention} {old now : Met} {Both : Numbers → B → Type 0} {result : Result B NameFault} (wanted : A)
     (refused : NameFault) → result ≡ Err refused → IsMade {A = A} (Err refused) wanted → IsWalked source owner before all old now Both result
 no_memory wanted (fault.At which line) told nothing = absurd nothing
-no_memory {source = source} {owner} {before} {all} {old} {now} {Both} wanted fault.NoMemory told nothing = subst (λ result. IsWalked source owner before all old now Both result) (sym told) (record { answer = tt })
+no_memory {source = source} {owner} {before} {all} {old} {now} {Both} wanted (fault.NoMemory refusal) told nothing = subst (λ result. IsWalked source owner before all old now Both result) (sym told) (record { answer = tt })

@@ -108,7 +108,7 @@ first_of_items source items kind line same among =
 -- what the walk over the items refuses, is refused
 pub refused_whole : (source : Source) (items : List Item) (refused : NameFault) → source.ast.items ≡ items → IsToldOf source [] (flat_map of_item items) refused → AnswersWhole source (Err refused)
 refused_whole source items (fault.At kind line) same among = first_of_items source items kind line same among
-refused_whole source items fault.NoMemory same among = tt
+refused_whole source items (fault.NoMemory refusal) same among = tt
 
 -- the refusal of an answer, this one where it is none
 abbrev refusal_or : {T : Type 0} → NameFault → Result T NameFault → NameFault

@@ -1,5 +1,5 @@
 -- Places in a list to which things are added at the end.
-use Rattle.std.proofs.Common.{ℕ, suc, is_some, is_err, OnOk, Result, Ok, Err, ◌≡◌, refl, sym, ◌∙◌, ap, subst, inl, inr, Bool, true, false, cond, Option, Some, None, List, [], ◌∷◌, ◌++◌, length, map, Contains, slice_get}
+use Rattle.std.proofs.Common.{ℕ, suc, is_some, ◌≡◌, refl, sym, ◌∙◌, ap, subst, inl, inr, Bool, true, false, cond, Option, Some, None, List, [], ◌∷◌, ◌++◌, length, map, Contains, slice_get}
 use Rattle.std.proofs.Math.Path.{fun_ext}
 use Rattle.std.specs.declared.cmp.Ordering.{Ordering}
 use Rattle.std.specs.declared.cmp.Ordering.TheVariants.{Less, Equal, Greater}
@@ -93,11 +93,6 @@ nowhere x there = All-contains (λ z. ⊥) [] x (All-nil (λ z. ⊥)) there
 -- what stands at a place is there
 pub stands_there : {B : Type 0} (xs : List B) (x : B) (n : ℕ) → slice_get xs n ≡ Some x → Contains xs x
 stands_there xs x n e = (n, slice_get_within xs n x e, get_or_from_slice_get xs n x x e)
-
--- what a call promises where it succeeds, and where it isn't seen to fail
-pub succeeded : {A E P : Type 0} (result : Result A E) {fails : Bool} → fails ≡ is_err result → fails ≡ false → OnOk result P → P
-succeeded (Ok value) tells stands promise = promise
-succeeded (Err refused) tells stands promise = absurd (cc (sym tells ∙ stands))
 
 -- what is found at a place, and that nothing was missed, where f reads all that the order compares
 module _ {A B : Type 0} (R : A → A → Ordering) (f : A → B) where

@@ -54,7 +54,7 @@ by_fault : (cause : StopCause) (rest tokens : Tokens) (end : Ending) → items_f
 by_fault cause rest tokens end read = is_answer (fault_by cause (place_of rest) end) (sym (answered tokens end (Err (cause, rest)) read))
   where
     is_answer : (f : SyntaxFault) → Err f ≡ answer_of tokens end → Answers (Err f) (answer_of tokens end)
-    is_answer fault.NoMemory same = tt
+    is_answer (fault.NoMemory refused) same = tt
     is_answer (fault.BadByte place) same = same
     is_answer (fault.BadToken place) same = same
     is_answer (fault.Unexpected place) same = same
@@ -64,7 +64,7 @@ by_fault cause rest tokens end read = is_answer (fault_by cause (place_of rest) 
 
 -- reading stops
 pub stop_answered : (why : Stop) (tokens : Tokens) (end : Ending) → Fails why (items_from body (length tokens) 64 tokens) → Answers (Err (fault_of why end)) (answer_of tokens end)
-stop_answered stop.NoMemory tokens end fails = tt
+stop_answered (stop.NoMemory refused) tokens end fails = tt
 stop_answered (stop.Unexpected rest) tokens end fails = by_fault unexpected rest.now tokens end fails
 stop_answered (stop.TooWide rest) tokens end fails = by_fault too_wide rest.now tokens end fails
 stop_answered (stop.TooDeep rest) tokens end fails = by_fault too_deep rest.now tokens end fails
@@ -134,7 +134,7 @@ tree_given (Err which) text tokens end reads same = tt
 -- a fault that is answered is the text's
 pub refusal_given : (r : Result Ast SyntaxFault) (text : Text) (tokens : Tokens) (end : Ending) → length text ≤ 1048576 → Reads 0 1 text tokens end → Answers r (answer_of tokens end) → IfErr r (λ which. Refuses text which)
 refusal_given (Ok ast) text tokens end short reads same = tt
-refusal_given (Err fault.NoMemory) text tokens end short reads same = tt
+refusal_given (Err (fault.NoMemory refused)) text tokens end short reads same = tt
 refusal_given (Err fault.TooLong) text tokens end short reads same = absurd (never_long tokens end (sym same))
 refusal_given (Err (fault.BadByte place)) text tokens end short reads same = (short, (λ ast. no_text text tokens end (fault.BadByte place) ast reads (sym same)), right_fault text tokens end (fault.BadByte place) reads (sym same))
 refusal_given (Err (fault.BadToken place)) text tokens end short reads same = (short, (λ ast. no_text text tokens end (fault.BadToken place) ast reads (sym same)), right_fault text tokens end (fault.BadToken place) reads (sym same))

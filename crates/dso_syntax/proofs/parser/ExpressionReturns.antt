@@ -31,7 +31,7 @@ Read = Result (ExprTree × Rest) Stop
 
 -- where the first step stops, both stop
 pub stops_first : {A B : Type 0} (why : Stop) (o : Outcome A) (f : A → Parser B) → Fails why o → Fails why (and_then o f)
-stops_first stop.NoMemory o f fails = tt
+stops_first (stop.NoMemory refused) o f fails = tt
 stops_first (stop.Unexpected tokens) o f fails = rw fails refl
 stops_first (stop.TooWide tokens) o f fails = rw fails refl
 stops_first (stop.TooDeep tokens) o f fails = rw fails refl
@@ -62,7 +62,7 @@ whole_is : (n : ℕ) (i : Input) → 0 < n → whole n i ≡ restored i.room (cl
 whole_is n i h = whole_at n (n - 1) i (omega (arith, h))
 
 restored_stops : (why : Stop) (room : ℕ) (o : Outcome ExprTree) → Fails why o → Fails why (restored room o)
-restored_stops stop.NoMemory room o fails = tt
+restored_stops (stop.NoMemory refused) room o fails = tt
 restored_stops (stop.Unexpected tokens) room o fails = rw fails refl
 restored_stops (stop.TooWide tokens) room o fails = rw fails refl
 restored_stops (stop.TooDeep tokens) room o fails = rw fails refl

@@ -47,7 +47,7 @@ braces_close {A} item front count i total is so_far = sym so_far ∙ ap (with_fr
 -- an item is not read
 pub braces_stop : {A : Type 0} (why : Stop) (item : Parser A) (front : List A) (count below : ℕ) (i : Input) (total : Outcome (List A)) → count ≡ suc below → is_mark m.CloseBrace (next_mark i.tokens) ≡ false
     → Fails why (item i) → with_front front (until_brace item count i) ≡ total → Fails why total
-braces_stop stop.NoMemory item front count below i total e not fails so_far = tt
+braces_stop (stop.NoMemory refused) item front count below i total e not fails so_far = tt
 braces_stop (stop.Unexpected tokens) item front count below i total e not fails so_far = sym so_far ∙ rw (e, not, fails) refl
 braces_stop (stop.TooWide tokens) item front count below i total e not fails so_far = sym so_far ∙ rw (e, not, fails) refl
 braces_stop (stop.TooDeep tokens) item front count below i total e not fails so_far = sym so_far ∙ rw (e, not, fails) refl

@@ -31,7 +31,7 @@ names_go front count below i j l a t total e read comma took so_far =
 
 -- a name is not read
 pub names_stop : (why : Stop) (front : List Ident) (count below : ℕ) (i : Input) (total : Outcome (List Ident)) → count ≡ suc below → Fails why (take_name i) → with_front front (names count i) ≡ total → Fails why total
-names_stop stop.NoMemory front count below i total e fails so_far = tt
+names_stop (stop.NoMemory refused) front count below i total e fails so_far = tt
 names_stop (stop.Unexpected tokens) front count below i total e fails so_far = sym so_far ∙ rw (e, fails) refl
 names_stop (stop.TooWide tokens) front count below i total e fails so_far = sym so_far ∙ rw (e, fails) refl
 names_stop (stop.TooDeep tokens) front count below i total e fails so_far = sym so_far ∙ rw (e, fails) refl
@@ -61,7 +61,7 @@ items_at front count below room [] e some = absurd (omega arith)
 items_at front count below room (t ∷ rest) e some = rw e refl
 
 fails_in_front : (why : Stop) (front : List Item) (below : ℕ) (o : Outcome Item) (total : Outcome (List Item)) → Fails why o → with_front front (and_then o (behind_item below)) ≡ total → Fails why total
-fails_in_front stop.NoMemory front below o total fails so_far = tt
+fails_in_front (stop.NoMemory refused) front below o total fails so_far = tt
 fails_in_front (stop.Unexpected tokens) front below o total fails so_far = sym so_far ∙ ap (λ q. with_front front (and_then q (behind_item below))) fails
 fails_in_front (stop.TooWide tokens) front below o total fails so_far = sym so_far ∙ ap (λ q. with_front front (and_then q (behind_item below))) fails
 fails_in_front (stop.TooDeep tokens) front below o total fails so_far = sym so_far ∙ ap (λ q. with_front front (and_then q (behind_item below))) fails

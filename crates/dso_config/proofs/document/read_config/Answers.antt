@@ -1,12 +1,11 @@
-use Rattle.std.proofs.Common.{◌≢◌, ◌≤◌, ℕ, List, Result, Ok, Err, IfOk, IfErr, length, arith}
+use Rattle.std.proofs.Common.{◌≤◌, ℕ, List, Result, Ok, Err, IfOk, IfErr, length, arith}
 use Rattle.toml.specs.Data.{Members}
 use Rattle.toml.specs.View.{table_view}
 use Rattle.dso_config.specs.declared.config.Config.{Config}
 use Rattle.dso_config.specs.declared.fault.ConfigFault.{ConfigFault}
-use Rattle.dso_config.specs.declared.fault.ConfigFault.TheVariants as fault
 use Rattle.dso_config.specs.Configuration.{IsToml, IsFaultOf, Says, too_long, not_toml, in_table, most_bytes, table_fault}
 use Rattle.dso_config.specs.InRange.{IsInRange}
-use Rattle.dso_config.specs.Keys.{IsTold}
+use Rattle.dso_config.specs.Keys.{IsTold, IsOfText}
 use Rattle.dso_config.proofs.Ranges.{says-in_range}
 use Rattle.dso_config.proofs.document.read_config.Goals as goal
 
@@ -17,7 +16,7 @@ in_range table (Err wrong) says = says
 
 -- what is told of a table is what is wrong with its text
 told : (text : List ℕ) (table : Members) (result : Result Config ConfigFault) → length text ≤ most_bytes → IsToml text table
-    → IfErr result (IsTold (table_fault table)) → IfErr result (λ wrong. wrong ≢ fault.NoMemory → IsFaultOf text wrong)
+    → IfErr result (IsTold (table_fault table)) → IfErr result (λ wrong. IsOfText wrong → IsFaultOf text wrong)
 told text table (Ok config) short toml h = h
 told text table (Err wrong) short toml h = λ no_want. in_table wrong table short toml (h.is no_want)
 
