@@ -24,7 +24,7 @@ pub fn row_answer(
 ) -> Result<String, AllocError> {
     match answer {
         Ok(answer) => format!(in alloc; "{name}: {answer}"),
-        Err(NoMemory) => Err(AllocError),
+        Err(_) => Err(AllocError),
     }
 }
 

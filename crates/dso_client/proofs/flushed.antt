@@ -1,4 +1,5 @@
 pub mod Flushable
 pub mod Flushed
+pub mod OneVictim
 pub mod ResidentsListed
 pub mod FlushMade

@@ -4,13 +4,12 @@ use Rattle.std.specs.Prelude.{◌≡◌, ◌||◌, ℕ, zero, suc, Bool, true, c
 use Rattle.std.specs.Prelude.{List, [], ◌∷◌, slice_get, slice_set}
 use Rattle.dso_base.specs.declared.record.Ending.{Ending}
 use Rattle.dso_base.specs.declared.record.Txn.{Txn}
-use Rattle.dso_base.specs.declared.request.Request.{Request}
-use Rattle.dso_base.specs.declared.request.Request.TheVariants.{Look, Get, Put}
 use Rattle.dso_base.specs.declared.shape.Shape.{Shape}
 use Rattle.dso_change.specs.Hands.{IsOnce, hand_of}
 use Rattle.dso_law.specs.ClientStep.{commits}
 use Rattle.dso_law.specs.Copies.{is_resident}
 use Rattle.dso_law.specs.Records.{records}
+use Rattle.dso_law.specs.RequestNeeds.{unmet}
 use Rattle.dso_law.specs.Threads.{ending_by, locks_of, work_of}
 use Rattle.dso_table.specs.States.{State, used}
 use Rattle.dso_txn.specs.declared.open_block.OpenBlock.{OpenBlock}
@@ -73,25 +72,20 @@ pub record HasLived (clock : ℕ) (at : Point) (act : Answered) (index : ℕ) (t
   pub work : (seat : Seat) → seat_in new.seats.items index ≡ Some seat → HasWork (lived clock act at) seat
   pub commits : record_sent txn ≡ commits at.settings act.thread (event_of act) at.entries
 
--- The request of the thread of this index is answered at this point, where the objects and the ids stand.
+-- The request of the thread of this index is answered at this point, where the objects and the ids stand: its needs are
+-- met.
 pub record Lives (at : Point) (shape : Shape) (act : Answered) (index : ℕ) (ending : Option Ending) (old : Kept)
     : Type 0 where
   pub its : act.thread ≡ thread_at at.client index
   pub table : TableStands at old.table
   pub ledger : LedgerStands at old.ledger
   pub acting : (seat : Seat) → seat_in old.seats.items index ≡ Some seat → IsActing at shape act ending seat
+  pub met : unmet at.settings at.client at.next act.thread act.request at.entries ≡ None
 
 -- the record may be sent: it has the next number, and what it sets is resident
 pub record MaySend (at : Point) (txn : Txn) : Type 0 where
   pub next : txn.seq ≡ suc (records at.entries)
   pub resident : (o : ℕ) → list_any (λ set. eqb set.object o) txn.sets ≡ true → is_resident o at.entries ≡ true
-
--- the object that a look, a get or a put is of
-abbrev pub object_of : Request → Option ℕ
-object_of (Look o) = Some o
-object_of (Get o f) = Some o
-object_of (Put o f v) = Some o
-object_of request = None
 
 -- the thread has the object in hand: it is private to it, or published in its open block
 abbrev pub has_in_hand : Seat → ℕ → Bool

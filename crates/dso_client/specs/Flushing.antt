@@ -3,6 +3,7 @@ use Rattle.std.specs.Prelude.{◌≡◌, ℕ, Bool, false, List, ◌∷◌}
 use Rattle.dso_base.specs.declared.journal.Entry.{Entry}
 use Rattle.dso_law.specs.Settings.{Settings}
 use Rattle.dso_law.specs.ClientStep.{may_flush}
+use Rattle.dso_law.specs.UseOrder.{IsFlushVictim}
 use Rattle.dso_machine.specs.declared.code.Code.{Code}
 use Rattle.dso_client.specs.declared.kept.Kept.{Kept}
 use Rattle.dso_client.specs.ClientStands.{ClientStands}
@@ -13,6 +14,11 @@ use Rattle.dso_client.specs.Entries.{flush_entry}
 abbrev pub Flushes : Kept → Kept → ℕ → Type 0
 Flushes old new o = (code : Code) (p : Settings) (c clock : ℕ) (es : List Entry) → ClientStands code p c old es
     → ClientStands code p c new (flush_entry clock c o ∷ es)
+
+-- Whatever entries the client stood for, they name this object for the flush, and no other.
+abbrev pub IsVictimOf : Kept → ℕ → Type 0
+IsVictimOf kept o = (code : Code) (p : Settings) (c : ℕ) (es : List Entry) → ClientStands code p c kept es
+    → IsFlushVictim p c es o × ((x : ℕ) → IsFlushVictim p c es x → x ≡ o)
 
 -- whatever entries the client stands for, the client rule has no flush behind them
 abbrev pub NoneDue : Kept → Type 0

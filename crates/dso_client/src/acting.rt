@@ -89,6 +89,7 @@ fn live(
     ensures runs { OnOk result (map running kept.new.seats.items ≡ map running kept.old.seats.items) }
     ensures records { OnOk result (kept.new.ledger.records ≡ kept.old.ledger.records) }
     ensures holds { OnOk result ((most : ℕ) → HoldsAtMost most kept.old → HoldsAtMost (suc most) kept.new) }
+    ensures spent { kept.new.spent ≡ kept.old.spent }
 {
     let index = act.thread.index;
     let ending = ending_of(&kept.locking, act);
@@ -108,6 +109,7 @@ fn hand_over(alloc: Global, kept: &mut Kept, index: u8, txn: Txn) -> Result<Vec<
     ensures seats { OnOk result (kept.new.seats.items ≡ changed_seat index (with_record txn.seq) kept.old.seats.items) }
     ensures locking { kept.new.locking ≡ kept.old.locking }
     ensures records { OnOk result (kept.new.ledger.records ≤ kept.old.ledger.records + 1) }
+    ensures spent { kept.new.spent ≡ kept.old.spent }
 {
     send_record(alloc, kept, index, &txn)?;
     let mut sent = Vec::new(alloc);
@@ -127,6 +129,7 @@ fn hand_in(alloc: Global, kept: &mut Kept, index: u8, txn: Option<Txn>) -> Resul
     ensures waits { OnOk result (map (λ seat. seat.waiting) kept.new.seats.items ≡ map (λ seat. seat.waiting) kept.old.seats.items) }
     ensures locking { kept.new.locking ≡ kept.old.locking }
     ensures records { OnOk result (kept.new.ledger.records ≤ kept.old.ledger.records + 1) }
+    ensures spent { kept.new.spent ≡ kept.old.spent }
 {
     match txn {
         Some(txn) => hand_over(alloc, kept, index, txn),
@@ -224,6 +227,7 @@ pub(crate) fn act_answering(
     ensures runs { OnOk result (RunsCode code.now kept.new) }
     ensures records { OnOk result (kept.new.ledger.records ≤ kept.old.ledger.records + 1) }
     ensures holds { OnOk result ((most : ℕ) → HoldsAtMost most kept.old → HoldsAtMost (suc most) kept.new) }
+    ensures spent { kept.new.spent ≡ kept.old.spent }
 {
     let index = act.thread.index;
     let next = go_on_in(alloc, code, kept, act)?;

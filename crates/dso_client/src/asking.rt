@@ -70,6 +70,7 @@ fn ask(alloc: Global, kept: &mut Kept, thread: ThreadId, message: &Up) -> Result
     ensures seats { kept.new.seats ≡ kept.old.seats }
     ensures records { kept.new.ledger.records ≡ kept.old.ledger.records }
     ensures holds { kept.new.locking.holds ≡ kept.old.locking.holds }
+    ensures spent { kept.new.spent ≡ kept.old.spent }
 {
     kept.table.acted(thread);
     match message {
@@ -98,6 +99,7 @@ pub(crate) fn act_asking(
     ensures seats { kept.new.seats ≡ kept.old.seats }
     ensures records { kept.new.ledger.records ≡ kept.old.ledger.records }
     ensures holds { kept.new.locking.holds ≡ kept.old.locking.holds }
+    ensures spent { kept.new.spent ≡ kept.old.spent }
 {
     let thread = ThreadId {
         client: kept.number,

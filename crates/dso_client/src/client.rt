@@ -1,5 +1,6 @@
 //! A client.
-ghost use Rattle.std.specs.Prelude.{ℕ, ◌≡◌, ◌≤◌, ◌<◌, ◌+◌, ◌-◌, ◌^◌, suc, true, false, List, [], IfNone, IfOk, IfSome, OnOk};
+ghost use Rattle.std.specs.Prelude.{ℕ, ◌≡◌, ◌≤◌, ◌<◌, ◌+◌, ◌-◌, ◌^◌, suc, true, false, List, [], IfNone, IfOk, IfSome, OnErr, OnOk};
+ghost use Rattle.std.specs.Result.{is_err};
 ghost use Rattle.dso_base.specs.declared.journal.Entry.{Entry};
 ghost use Rattle.dso_law.specs.Records.{records};
 ghost use Rattle.dso_law.specs.Settings.{Settings, threads_of};
@@ -10,7 +11,8 @@ ghost use Rattle.dso_table.specs.Victims.{IsVictim};
 ghost use Rattle.dso_client.specs.Acting.{Acts, HoldsAtMost, LeavesAlone};
 ghost use Rattle.dso_client.specs.ClientStands.{ClientStands};
 ghost use Rattle.dso_client.specs.CodeRuns.{RunsCode};
-ghost use Rattle.dso_client.specs.Flushing.{Flushes, NoneDue, TellsFlush};
+ghost use Rattle.dso_client.specs.Flushing.{Flushes, IsVictimOf, NoneDue, TellsFlush};
+ghost use Rattle.dso_client.specs.Spent.{WhileWhole, is_spent};
 ghost use Rattle.dso_client.specs.Taking.{Takes};
 ghost use Rattle.dso_client.specs.Threads.{IsEnabled, TellsAlive, TellsOver, WhereAbsent};
 ghost use Rattle.dso_client.specs.declared.acted.Acted.TheVariants as acted;
@@ -41,7 +43,8 @@ use std::marker::Model;
 /// entries that it stood for (`ClientStands`) what becomes of it.
 ///
 /// A call costs the logarithm of what the client holds, times the number of its threads where it looks what they await.
-/// After `NoMemory` the client is spent: it stands for no list of entries that is known.
+/// After `NoMemory` the client is spent: it stands for no list of entries that is known, and each later act and message
+/// is answered `NoMemory`, with the refusal that spent it.
 #[derive(Drop)]
 pub struct Client {
     kept: Kept,
@@ -88,6 +91,7 @@ fn opening_kept(alloc: Global, number: u8, seats: Vec<Seat>, table: Table) -> Ke
     ensures table { result.table ≡ table }
     ensures locking { IsEmptyLocking result.locking }
     ensures ledger { IsEmptyLedger result.ledger }
+    ensures whole { is_spent result ≡ false }
 {
     Kept {
         number,
@@ -95,6 +99,7 @@ fn opening_kept(alloc: Global, number: u8, seats: Vec<Seat>, table: Table) -> Ke
         table,
         locking: opening_locking(alloc),
         ledger: opening_ledger(alloc),
+        spent: None,
     }
 }
 
@@ -115,6 +120,7 @@ impl Client {
         ensures runs { IfOk result (RunsCode code.now) }
         ensures records { IfOk result (λ client. client.ledger.records ≡ 0) }
         ensures holds { IfOk result (HoldsAtMost 0) }
+        ensures whole { IfOk result (λ client. is_spent client ≡ false) }
         ensures stands { IfOk result (λ client. (p : Settings) → p.shape ≡ code.now.shape → p.resident ≡ resident
             → threads_of p number ≡ first_threads number threads → ClientStands code.now p number client []) }
     {
@@ -137,7 +143,8 @@ impl Client {
     /// no act of the thread, with the first need that isn't met; `Over` exactly where the thread has ended, and where
     /// there is no such thread; nothing is changed or sent then.
     ///
-    /// It answers `NoMemory` where an allocation was refused; the client is spent then.
+    /// It answers `NoMemory` where an allocation was refused; the client is spent then. A spent client answers it to
+    /// each call, and nothing changes; then nothing is asked of the code of its threads and of its counts.
     pub fn act(
         &mut self,
         alloc: Global,
@@ -145,17 +152,29 @@ impl Client {
         index: u8,
     ) -> Result<(Acted, Vec<Up>), NoMemory>
         requires sound { IsSound code.now }
-        requires runs { RunsCode code.now self.old }
-        requires few { self.old.ledger.records < 2 ^ 62 }
-        requires counts { HoldsAtMost (2 ^ 32 - 2) self.old }
+        requires runs { WhileWhole self.old (RunsCode code.now self.old) }
+        requires few { WhileWhole self.old (self.old.ledger.records < 2 ^ 62) }
+        requires counts { WhileWhole self.old (HoldsAtMost (2 ^ 32 - 2) self.old) }
         ensures acts { IfOk result (λ made. Acts code.now index self.old self.new made.0 made.1.items) }
         ensures alone { IfOk result (λ made. LeavesAlone made.0 made.1.items self.old self.new) }
         ensures absent { WhereAbsent self.old index (IfOk result (λ made. made.0 ≡ acted.Over)) }
         ensures runs { OnOk result (RunsCode code.now self.new) }
         ensures records { OnOk result (self.new.ledger.records ≤ self.old.ledger.records + 1) }
         ensures holds { OnOk result ((most : ℕ) → HoldsAtMost most self.old → HoldsAtMost (suc most) self.new) }
+        ensures whole { OnOk result (is_spent self.new ≡ false) }
+        ensures spent { OnErr result (is_spent self.new ≡ true) }
+        ensures refused { is_spent self.old ≡ true → (is_err result ≡ true) × (self.new ≡ self.old) }
     {
-        act(alloc, code, &mut self.kept, index)
+        if let Some(refused) = self.kept.spent {
+            return Err(refused);
+        }
+        match act(alloc, code, &mut self.kept, index) {
+            Ok(made) => Ok(made),
+            Err(refused) => {
+                self.kept.spent = Some(refused);
+                Err(refused)
+            }
+        }
     }
 
     /// Takes a message of the server, and answers what the client sends. Whatever entries the client stood for: where
@@ -163,29 +182,44 @@ impl Client {
     /// the client rule; a message that doesn't fit changes and sends nothing. The shape is that of the code of the
     /// threads.
     ///
-    /// It answers `NoMemory` where an allocation was refused; the client is spent then.
+    /// It answers `NoMemory` where an allocation was refused; the client is spent then. A spent client answers it to
+    /// each message, and nothing changes.
     pub fn take(&mut self, alloc: Global, code: &Code, message: &Down) -> Result<Vec<Up>, NoMemory>
         ensures takes { IfOk result (λ sent. Takes code.now message.now self.old self.new sent.items) }
         ensures runs { (code : Code) → RunsCode code self.old → RunsCode code self.new }
         ensures holds { (most : ℕ) → HoldsAtMost most self.old → HoldsAtMost most self.new }
         ensures records { self.new.ledger.records ≡ self.old.ledger.records }
+        ensures whole { OnOk result (is_spent self.new ≡ false) }
+        ensures spent { OnErr result (is_spent self.new ≡ true) }
+        ensures refused { is_spent self.old ≡ true → (is_err result ≡ true) × (self.new ≡ self.old) }
     {
-        take(alloc, &mut self.kept, &code.shape, message)
+        if let Some(refused) = self.kept.spent {
+            return Err(refused);
+        }
+        match take(alloc, &mut self.kept, &code.shape, message) {
+            Ok(sent) => Ok(sent),
+            Err(refused) => {
+                self.kept.spent = Some(refused);
+                Err(refused)
+            }
+        }
     }
 
     /// Flushes an object: the table's victim, which may be flushed where more objects are resident than the client is
-    /// to keep. Whatever entries the client stood for, it stands for them with the flush, which follows by the client
-    /// rule.
+    /// to keep. Whatever entries the client stood for, they name it, by the order in which they used objects; and the
+    /// client stands for them with the flush, which follows by the client rule.
     ///
     /// None, with nothing changed, exactly where the rule has no flush. It takes no memory.
     pub fn flush(&mut self) -> Option<u64>
         ensures victim { IfSome result (IsVictim (state_in self.old.table)) }
+        ensures named { IfSome result (IsVictimOf self.old) }
         ensures made { IfSome result (Flushes self.old self.new) }
         ensures none { IfNone result (NoneDue self.old) }
         ensures unchanged { IfNone result (self.new ≡ self.old) }
         ensures runs { (code : Code) → RunsCode code self.old → RunsCode code self.new }
         ensures holds { (most : ℕ) → HoldsAtMost most self.old → HoldsAtMost most self.new }
         ensures records { self.new.ledger.records ≡ self.old.ledger.records }
+        ensures spent { is_spent self.new ≡ is_spent self.old }
     {
         flush(&mut self.kept.table)
     }

@@ -50,6 +50,7 @@ fn take_turn(
     ensures runs { OnOk result (RunsCode code.now kept.new) }
     ensures records { OnOk result (kept.new.ledger.records ≤ kept.old.ledger.records + 1) }
     ensures holds { OnOk result ((most : ℕ) → HoldsAtMost most kept.old → HoldsAtMost (suc most) kept.new) }
+    ensures spent { kept.new.spent ≡ kept.old.spent }
 {
     let (request, turn) = next;
     match turn {
@@ -92,6 +93,7 @@ pub(crate) fn act(
     ensures runs { OnOk result (RunsCode code.now kept.new) }
     ensures records { OnOk result (kept.new.ledger.records ≤ kept.old.ledger.records + 1) }
     ensures holds { OnOk result ((most : ℕ) → HoldsAtMost most kept.old → HoldsAtMost (suc most) kept.new) }
+    ensures spent { kept.new.spent ≡ kept.old.spent }
 {
     match turn_at(kept, &code.shape, index) {
         Some(next) => take_turn(alloc, code, kept, index, next),

@@ -81,10 +81,12 @@ fn fits_change(table: &Table, shape: &Shape, set: Set) -> bool
 fn fit_changes(table: &Table, shape: &Shape, sets: &[Set]) -> bool
     ensures { (at : Point) → TableStands at table.now → IsTrue result ↔ AllByRecursion (FitsChange shape.now at.entries) sets.now }
 {
-    match sets {
-        [] => true,
-        [set, rest @ ..] => fits_change(table, shape, *set) && fit_changes(table, shape, rest),
+    for set in sets {
+        if !fits_change(table, shape, *set) {
+            return false;
+        }
     }
+    true
 }
 
 /// Whether the acknowledgement is of the first record that isn't acknowledged.

@@ -93,12 +93,8 @@ fn hear_change(alloc: Global, table: &mut Table, set: Set)
 pub(crate) fn hear_changes(alloc: Global, table: &mut Table, sets: &[Set])
     ensures { (clock : ℕ) (at : Point) → TableStands at table.old → TableStands (heard clock (down.Changes sets.now) at) table.new }
 {
-    match sets {
-        [] => {}
-        [set, rest @ ..] => {
-            hear_change(alloc, table, *set);
-            hear_changes(alloc, table, rest);
-        }
+    for set in sets {
+        hear_change(alloc, table, *set);
     }
 }
 
@@ -123,6 +119,7 @@ pub(crate) fn hear(alloc: Global, kept: &mut Kept, message: &Down) -> Result<(),
         → PartsStand (heard clock message.now at) kept.new) }
     ensures runs { map running kept.new.seats.items ≡ map running kept.old.seats.items }
     ensures counts { KeepsCounts kept.old kept.new }
+    ensures spent { kept.new.spent ≡ kept.old.spent }
 {
     match message {
         Down::Ids(first) => {

@@ -1,5 +1,5 @@
 //! What an answered request makes of what a client keeps, before anything is sent.
-ghost use Rattle.std.specs.Prelude.{ℕ, ◌≡◌, None, OnOk, is_some, [], ◌∷◌, ◌++◌};
+ghost use Rattle.std.specs.Prelude.{ℕ, ◌≡◌, List, None, OnOk, is_some, [], ◌∷◌, ◌++◌};
 ghost use Rattle.std.specs.BTreeMap.{is_at};
 ghost use Rattle.dso_lookup.specs.Maps.{look, writes, written};
 ghost use Rattle.dso_lookup.specs.Orders.{lock_order};
@@ -10,7 +10,7 @@ ghost use Rattle.dso_client.specs.Living.{HasList, LeasesStand, ListsStand, live
 ghost use Rattle.dso_client.specs.LockingStands.{list_at};
 ghost use Rattle.dso_wait.specs.Waiters.{without};
 ghost use Rattle.dso_client.specs.Points.{Point};
-ghost use Rattle.dso_client.specs.TableStands.{TableStands};
+ghost use Rattle.dso_client.specs.TableStands.{TableTells};
 
 use crate::answered::{Answered, entered_lock, put_to};
 use crate::ledger::Ledger;
@@ -42,8 +42,8 @@ pub(crate) fn live_table(
     act: Answered,
     is_ending: bool,
 ) -> Result<(), NoMemory>
-    ensures { OnOk result ((clock : ℕ) (at : Point) → TableStands at table.old → act.thread.client ≡ at.client
-        → is_ending ≡ is_some (ending_by act.request act.reply (locks_of act.thread at.entries)) → TableStands (lived clock act at) table.new) }
+    ensures { OnOk result ((clock : ℕ) (at : Point) (used : List ℕ) → TableTells at used table.old → act.thread.client ≡ at.client
+        → is_ending ≡ is_some (ending_by act.request act.reply (locks_of act.thread at.entries)) → TableTells (lived clock act at) used table.new) }
 {
     table.acted(act.thread);
     if is_ending {

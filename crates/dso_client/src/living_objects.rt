@@ -2,8 +2,9 @@
 ghost use Rattle.std.specs.Prelude.{ℕ, ◌≡◌, ◌≢◌, ◌||◌, ◌<◌, ◌^◌, suc, None, IfOk, OnOk};
 ghost use Rattle.dso_law.specs.ClientStep.{commits};
 ghost use Rattle.dso_law.specs.Records.{records};
+ghost use Rattle.dso_law.specs.UseOrder.{object_used};
 ghost use Rattle.dso_table.specs.Tables.{state_in};
-ghost use Rattle.dso_client.specs.Committing.{HasLived, HasWork, IsActing, Lives, WorksAlone, has_in_hand, object_of, used_by};
+ghost use Rattle.dso_client.specs.Committing.{HasLived, HasWork, IsActing, Lives, WorksAlone, has_in_hand, used_by};
 ghost use Rattle.dso_client.specs.Living.{event_of, lived};
 ghost use Rattle.dso_client.specs.Points.{Point};
 ghost use Rattle.dso_client.specs.Returning.{record_sent};
@@ -19,8 +20,8 @@ use dso_table::Table;
 use std::alloc::Global;
 
 /// The object that a look, a get or a put is of.
-fn object_of(request: Request) -> Option<u64>
-    ensures { result ≡ object_of request }
+fn object_used(request: Request) -> Option<u64>
+    ensures { result ≡ object_used request }
 {
     match request {
         Request::Look(object) | Request::Get(object, _) | Request::Put(object, ..) => Some(object),
@@ -39,9 +40,9 @@ fn has_in_hand(seat: &Seat, object: u64) -> bool
 ///
 /// It answers `NoMemory` where an allocation was refused.
 fn live_used(table: &mut Table, seat: &Seat, request: Request) -> Result<(), NoMemory>
-    ensures { OnOk result (state_in table.new ≡ used_by seat.now (object_of request) (state_in table.old)) }
+    ensures { OnOk result (state_in table.new ≡ used_by seat.now (object_used request) (state_in table.old)) }
 {
-    match object_of(request) {
+    match object_used(request) {
         Some(object) => {
             if has_in_hand(seat, object) {
                 Ok(())
@@ -99,6 +100,7 @@ pub(crate) fn live_objects(
     ensures number { kept.new.number ≡ kept.old.number }
     ensures locking { kept.new.locking ≡ kept.old.locking }
     ensures records { kept.new.ledger.records ≡ kept.old.ledger.records }
+    ensures spent { kept.new.spent ≡ kept.old.spent }
 {
     let at = index as usize - 1;
     let seq = kept.ledger.records + 1;

@@ -117,6 +117,7 @@ pub(crate) fn send_record(
     ensures number { kept.new.number ≡ kept.old.number }
     ensures locking { kept.new.locking ≡ kept.old.locking }
     ensures records { OnOk result (kept.new.ledger.records ≡ kept.old.ledger.records + 1) }
+    ensures spent { kept.new.spent ≡ kept.old.spent }
 {
     send_objects(alloc, &mut kept.table, txn)?;
     count_record(&mut kept.ledger, txn.seq)?;

@@ -132,6 +132,7 @@ fn settle_one(alloc: Global, kept: &mut Kept, lock: LockName) -> Result<Vec<Up>,
         → (is_some (leased lock (heard clock m at).entries) && is_due at.settings at.client at.next lock (heard clock m at).entries) ≡ true → Settles clock m at sent.items kept.new) }
     ensures seats { kept.new.seats ≡ kept.old.seats }
     ensures counts { KeepsCounts kept.old kept.new }
+    ensures spent { kept.new.spent ≡ kept.old.spent }
 {
     let threads = give_back(alloc, &mut kept.locking, lock)?;
     return_alone(alloc, lock, threads)
@@ -149,6 +150,7 @@ pub(crate) fn settle(
         → Settles clock m at sent.items kept.new) }
     ensures seats { kept.new.seats ≡ kept.old.seats }
     ensures counts { KeepsCounts kept.old kept.new }
+    ensures spent { kept.new.spent ≡ kept.old.spent }
 {
     match lock {
         Some(lock) => {

@@ -24,6 +24,7 @@ pub(crate) fn take(
     ensures takes { IfOk result (λ sent. (code : Code) → code.shape ≡ shape.now → Takes code message.now kept.old kept.new sent.items) }
     ensures runs { map running kept.new.seats.items ≡ map running kept.old.seats.items }
     ensures counts { KeepsCounts kept.old kept.new }
+    ensures spent { kept.new.spent ≡ kept.old.spent }
 {
     if !fits_down(kept, shape, message) {
         return Ok(Vec::new(alloc));

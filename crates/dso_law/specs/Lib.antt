@@ -27,3 +27,4 @@ pub mod ResidentCount
 pub mod CoreLaws
 pub mod ClientRun
 pub mod RunLaws
+pub mod UseOrder

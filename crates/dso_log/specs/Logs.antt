@@ -1,5 +1,7 @@
 -- The entries of one node, and the clock of the next one.
-use Rattle.std.specs.Prelude.{ℕ, suc, ◌-◌, length, max, slice_get, Bool, false, Option, Some, None, List, [], ◌∷◌, ◌++◌}
+use Rattle.std.specs.Prelude.{ℕ, suc, ◌-◌, ◌<◌, ◌≤◌, ◌≡◌, length, max, reverse, slice_get, Bool, false, Option, Some, None}
+use Rattle.std.specs.Prelude.{List, [], ◌∷◌, ◌++◌}
+use Rattle.std.specs.List.{AllByRecursion}
 use Rattle.dso_base.specs.declared.journal.Entry.{Entry}
 use Rattle.dso_base.specs.declared.journal.Input.{Input}
 use Rattle.dso_base.specs.declared.journal.Node.{Node}
@@ -11,6 +13,18 @@ pub record Log : Type 0 where
   pub node : Node
   pub entries : List Entry
   pub has_room : Bool
+
+-- each entry, the newest first, has a greater clock than all before it
+abbrev pub Climbs : List Entry → Type 0
+Climbs [] = Unit {0}
+Climbs (e ∷ es) = Climbs es × AllByRecursion (λ before. before.clock < e.clock) es
+
+-- What a log keeps, its entries read with the newest first: each is the node's own, its clock is at least 1, and it is
+-- greater than the clocks of all before it.
+pub record LogKeeps (node : Node) (entries : List Entry) : Type 0 where
+  pub own : AllByRecursion (λ e. e.node ≡ node) (reverse entries)
+  pub from_one : AllByRecursion (λ e. 1 ≤ e.clock) (reverse entries)
+  pub climbs : Climbs (reverse entries)
 
 -- the clock of an entry, 0 where there is none
 abbrev pub clock_at : Option Entry → ℕ

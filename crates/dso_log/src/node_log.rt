@@ -1,12 +1,13 @@
 //! The entries of one node.
 ghost use Rattle.std.specs.Prelude.{◌<◌, ◌^◌, ◌≡◌, [], OnErr, OnOk, true, false};
-ghost use Rattle.dso_log.specs.Logs.{entry_of, last_clock, next_clock, with_entry};
+ghost use Rattle.dso_log.specs.Logs.{LogKeeps, entry_of, last_clock, next_clock, with_entry};
 
 use dso_base::{Entry, Event, Input, Items, NoMemory, Node, Sent};
 use std::alloc::Global;
 use std::marker::Model;
 
 /// The entries of one node, the first of them first. Contracts see them, and whether there is room for one more (`Log`).
+/// Each is the node's own, and has a greater clock than the one before it, the first at least 1 (`LogKeeps`).
 #[derive(Drop)]
 pub struct NodeLog {
     node: Node,
@@ -17,13 +18,13 @@ pub struct NodeLog {
 impl Model for NodeLog {
     ghost use Rattle.std.specs.Prelude.{◌<◌, ◌≡◌, true, length};
     ghost use Rattle.std.specs.Vec.{vec_capacity};
-    ghost use Rattle.dso_log.specs.Logs.{Log};
+    ghost use Rattle.dso_log.specs.Logs.{Log, LogKeeps};
 
     ghost Value = { Log };
 
     ghost view = { λ log. record { node = log.node; entries = log.entries.items; has_room = log.has_room } };
 
-    ghost invariant = { λ log. log.has_room ≡ true → length log.entries.items < vec_capacity log.entries };
+    ghost invariant = { λ log. (log.has_room ≡ true → length log.entries.items < vec_capacity log.entries) × LogKeeps log.node log.entries.items };
 }
 
 impl NodeLog {
@@ -88,9 +89,10 @@ impl NodeLog {
         self.node
     }
 
-    /// All entries in order. It takes no memory.
+    /// All entries in order, each of the node and with a greater clock than the one before it. It takes no memory.
     pub fn into_entries(self) -> Vec<Entry>
-        ensures { result.items ≡ self.entries }
+        ensures entries { result.items ≡ self.entries }
+        ensures keeps { LogKeeps self.node self.entries }
     {
         self.entries
     }

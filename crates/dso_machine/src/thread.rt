@@ -107,7 +107,8 @@ impl Thread {
 
     /// Whether the thread's end was answered: it asks nothing more. It takes no memory.
     pub fn over(&self) -> bool
-        ensures { (code : Code) (t : ThreadId) (events : List Event) → ThreadStands code t self.now events → (IsTrue result ↔ (next_request code t events ≡ None)) }
+        ensures ended { IsTrue result ↔ IsOver self.now }
+        ensures asks { (code : Code) (t : ThreadId) (events : List Event) → ThreadStands code t self.now events → (IsTrue result ↔ (next_request code t events ≡ None)) }
     {
         matches!(self.due, Due::Over)
     }

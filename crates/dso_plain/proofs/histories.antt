@@ -1,4 +1,5 @@
--- The two kinds of runs, and legal histories that go on.
+-- The two kinds of runs, legal histories that go on, and what reads of a history give.
 pub mod RunKinds
 pub mod LegalGoesOn
 pub mod OtherMarks
+pub mod HeapReads

@@ -3,6 +3,7 @@ pub mod State
 pub mod Possible
 pub mod After
 pub mod History
+pub mod Reads
 pub mod Touches
 pub mod Past
 pub mod StepInvariants

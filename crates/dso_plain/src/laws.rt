@@ -3,6 +3,7 @@ ghost use Rattle.dso_plain.specs.Loss.{Loss, MarksAfterLoss, WaitersLeft, Choice
 ghost use Rattle.dso_lookup.specs.Reaching.{ReachTells};
 ghost use Rattle.dso_plain.specs.Publishing.{PublishedIsReached};
 ghost use Rattle.dso_plain.specs.Own.{Own, Guarded};
+ghost use Rattle.dso_plain.specs.Reads.{CountNeverFalls, HeapReads};
 ghost use Rattle.dso_plain.specs.Laws.{RunsAreChoices, Diamond, ChoicesSwap, RunsInParts, RunsButMarksInParts, EndsInParts, Past, Growth, LegalGoesOn, Monitors};
 
 /// A run is a run whatever is marked, in which each event finds the marks that it asks for.
@@ -53,6 +54,13 @@ pub fn publishing()
 /// A legal history with more events behind it is legal where these run from its last state and follow the program.
 pub fn legal_goes_on()
     ensures { LegalGoesOn }
+{}
+
+/// The count of unguarded reads never falls; where it is 0 after a legal history, each read in the history gave the value that
+/// the heap had at its place, of a shared object as of a private one.
+pub fn heap_reads()
+    ensures never_falls { CountNeverFalls }
+    ensures none { HeapReads }
 {}
 
 /// Who holds a lock at Write holds it alone; only waiters are marked; threads that have ended or whose client is lost

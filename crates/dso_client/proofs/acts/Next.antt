@@ -27,7 +27,7 @@ module _ (at : Point) (later : ThreadId → Option Request) where
   then = record at { next = later }
 
   pub table_then : (table : Tables) → TableStands at table → TableStands then table
-  table_then table h = record { bodies = h.bodies; asked = h.asked; marks = h.marks; opened = h.opened; wanted = h.wanted; room = h.room; count = h.count; acked = h.acked }
+  table_then table h = record { bodies = h.bodies; asked = h.asked; marks = h.marks; opened = h.opened; wanted = h.wanted; room = h.room; count = h.count; acked = h.acked; order = h.order }
 
   pub locking_then : (locking : Locking) → LockingStands at locking → LockingStands then locking
   locking_then locking h = record { holds = h.holds; leases = h.leases; lists = h.lists }

@@ -65,6 +65,7 @@ module _ (at : Point) (shape : Shape) (act : Answered) (old : Kept) (h : IsAnswe
       once = h.stands.facts.once act.thread;
       ends = ends;
     };
+    met = h.answers.met;
   }
 
   module _ (clock : ℕ) (mid new : Kept) (txn : Option Txn) (alone : WorksAlone act.thread.index old.seats.items mid.seats.items) (lived_so : HasLived clock at act act.thread.index txn mid)

@@ -1,5 +1,5 @@
 -- The table once a thread asked for what it lacks.
-use Rattle.std.proofs.Common.{◌≡◌, ℕ, refl, sym, ◌∙◌, ap, Bool, true, false, cond, eqb, ◌&&◌, ◌||◌, is_some, Option, Some, None, subst, ◌≤◌}
+use Rattle.std.proofs.Common.{◌≡◌, ℕ, refl, sym, ◌∙◌, ap, Bool, true, false, cond, eqb, ◌&&◌, ◌||◌, is_some, Option, Some, None, subst, ◌≤◌, List}
 use Rattle.std.proofs.lemmas.Bool.{eqb-true}
 use Rattle.std.specs.BTreeMap.{is_at}
 use Rattle.std.specs.Cmp.{unsigned_tied}
@@ -27,7 +27,7 @@ use Rattle.dso_table.specs.States.{State, body_of, is_asked, is_absent, acted}
 use Rattle.dso_table.specs.Tables.{state_in}
 use Rattle.dso_client.specs.Asking.{asked}
 use Rattle.dso_client.specs.Points.{Point}
-use Rattle.dso_client.specs.TableStands.{TableStands}
+use Rattle.dso_client.specs.TableStands.{TableTells}
 use Rattle.dso_client.proofs.flushed.Flushed.{at_number}
 
 -- the wants without those of a thread
@@ -53,7 +53,7 @@ none_there : (body : Option Body) → is_some body ≡ false → body ≡ None
 none_there None e = refl
 none_there (Some body) e = absurd (cc e)
 
-module _ (clock : ℕ) (at : Point) (t : ThreadId) (mine : t.client ≡ at.client) (old : Tables) (h : TableStands at old) where
+module _ (clock : ℕ) (at : Point) (t : ThreadId) (mine : t.client ≡ at.client) (old : Tables) (used : List ℕ) (h : TableTells at used old) where
   -- whether a thread is the one that acts
   pub same : (u : ThreadId) → is_at (thread_order t) u ≡ (eqb u.client at.client && eqb t.index u.index)
   same u = thread_at t u ∙ (ap (λ c. eqb u.client c && eqb u.index t.index) mine ∙ ap (λ b. eqb u.client at.client && b) (lock_either_way (Name t.index) (Name u.index)))
@@ -64,7 +64,7 @@ module _ (clock : ℕ) (at : Point) (t : ThreadId) (mine : t.client ≡ at.clien
       ∙ dropped (eqb u.client at.client) (eqb t.index u.index) (wants_object x u.index at.entries) ((state_in old).wanted (u, x)) (h.wanted u x)
 
   -- ids are asked for
-  pub ids_asked : (new : Tables) → state_in new ≡ acted t (state_in old) → TableStands (asked clock t.index up.IdAsk at) new
+  pub ids_asked : (new : Tables) → state_in new ≡ acted t (state_in old) → TableTells (asked clock t.index up.IdAsk at) used new
   ids_asked new is = record {
     bodies = λ x. ap (λ (s : State). body_of (s.standing x)) is ∙ h.bodies x;
     asked = λ x. ap (λ (s : State). is_asked (s.standing x)) is ∙ h.asked x;
@@ -74,10 +74,11 @@ module _ (clock : ℕ) (at : Point) (t : ThreadId) (mine : t.client ≡ at.clien
     room = ap (λ (s : State). s.limit) is ∙ h.room;
     count = ap (λ (s : State). s.residents) is ∙ h.count;
     acked = subst (λ n. n ≤ records at.entries) (sym (ap (λ (s : State). s.acked) is)) h.acked;
+    order = ap (λ (s : State). s.used) is ∙ h.order;
   }
 
   -- a lock is asked for
-  pub lease_asked : (l : LockName) (level : Level) (new : Tables) → state_in new ≡ acted t (state_in old) → TableStands (asked clock t.index (up.Request l level) at) new
+  pub lease_asked : (l : LockName) (level : Level) (new : Tables) → state_in new ≡ acted t (state_in old) → TableTells (asked clock t.index (up.Request l level) at) used new
   lease_asked l level new is = record {
     bodies = λ x. ap (λ (s : State). body_of (s.standing x)) is ∙ h.bodies x;
     asked = λ x. ap (λ (s : State). is_asked (s.standing x)) is ∙ h.asked x;
@@ -87,6 +88,7 @@ module _ (clock : ℕ) (at : Point) (t : ThreadId) (mine : t.client ≡ at.clien
     room = ap (λ (s : State). s.limit) is ∙ h.room;
     count = ap (λ (s : State). s.residents) is ∙ h.count;
     acked = subst (λ n. n ≤ records at.entries) (sym (ap (λ (s : State). s.acked) is)) h.acked;
+    order = ap (λ (s : State). s.used) is ∙ h.order;
   }
 
   module _ (o : ℕ) (away : is_resident o at.entries ≡ false) where
@@ -97,7 +99,7 @@ module _ (clock : ℕ) (at : Point) (t : ThreadId) (mine : t.client ≡ at.clien
     absent unasked = absent_so ((state_in old).standing o) (h.bodies o ∙ not_held) (h.asked o ∙ unasked)
 
     -- an object is asked for
-    pub object_asked : (new : Tables) → state_in new ≡ states.asked o t (acted t (state_in old)) → TableStands (asked clock t.index (up.Fault o) at) new
+    pub object_asked : (new : Tables) → state_in new ≡ states.asked o t (acted t (state_in old)) → TableTells (asked clock t.index (up.Fault o) at) used new
     object_asked new is = record {
       bodies = λ x. ap (λ (s : State). body_of (s.standing x)) is ∙ (ap body_of (at_number o (Some Asked) (state_in old).standing x) ∙ bodies x (eqb o x) refl);
       asked = λ x. ap (λ (s : State). is_asked (s.standing x)) is ∙ (ap is_asked (at_number o (Some Asked) (state_in old).standing x) ∙ asks x (eqb o x));
@@ -107,6 +109,7 @@ module _ (clock : ℕ) (at : Point) (t : ThreadId) (mine : t.client ≡ at.clien
       room = ap (λ (s : State). s.limit) is ∙ h.room;
       count = ap (λ (s : State). s.residents) is ∙ h.count;
       acked = subst (λ n. n ≤ records at.entries) (sym (ap (λ (s : State). s.acked) is)) h.acked;
+      order = ap (λ (s : State). s.used) is ∙ h.order;
     }
       where
         bodies : (x : ℕ) (b : Bool) → eqb o x ≡ b → body_of (cond b (Some Asked) ((state_in old).standing x)) ≡ held_body x at.entries

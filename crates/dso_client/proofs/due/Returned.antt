@@ -118,7 +118,7 @@ module _ (clock : ℕ) (m : Down) (at : Point) (l : LockName) where
     places = h.places;
     numbered = h.numbered;
     seats = all_as (SeatStands (heard clock m at)) (SeatStands given) (λ seat s. record { next = s.next; work = s.work; seen = s.seen; waiting = s.waiting; marked = s.marked; last = s.last }) old.seats.items h.seats;
-    table = record { bodies = h.table.bodies; asked = h.table.asked; marks = h.table.marks; opened = h.table.opened; wanted = h.table.wanted; room = h.table.room; count = h.table.count; acked = h.table.acked };
+    table = record { bodies = h.table.bodies; asked = h.table.asked; marks = h.table.marks; opened = h.table.opened; wanted = h.table.wanted; room = h.table.room; count = h.table.count; acked = h.table.acked; order = h.table.order };
     locking = locking;
     ledger = record { ids = h.ledger.ids; bounded = h.ledger.bounded; end = h.ledger.end; asking = h.ledger.asking; records = h.ledger.records; unacked = h.ledger.unacked };
   })

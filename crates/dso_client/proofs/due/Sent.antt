@@ -90,6 +90,7 @@ module _ (clock : ℕ) (act : Answered) (next : ThreadId → Option Request) (at
     room = h.room;
     count = h.count ∙ ap (λ (s : Presence). s.count) (left presence_by_sent (record { request = λ l level s. refl; return_of = λ l threads s. refl }) (presence at.entries));
     acked = subst (λ n. (state_in table).acked ≤ n) (left records_by_sent (record { request = λ l level s. refl; return_of = λ l threads s. refl }) (records at.entries)) h.acked;
+    order = h.order;
   }
 
   ledger_on : (ledger : Ledger) → LedgerStands before ledger → LedgerStands after ledger

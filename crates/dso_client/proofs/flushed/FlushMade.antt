@@ -9,9 +9,10 @@ use Rattle.dso_table.specs.Tables.{state_in}
 use Rattle.dso_table.specs.Victims.{IsFlushable, IsVictim, NoVictim}
 use Rattle.dso_client.specs.declared.kept.Kept.{Kept}
 use Rattle.dso_client.specs.ClientStands.{point}
-use Rattle.dso_client.specs.Flushing.{Flushes, NoneDue, TellsFlush}
-use Rattle.dso_client.proofs.flushed.Flushable.{may_flush_it, none_due}
+use Rattle.dso_client.specs.Flushing.{Flushes, IsVictimOf, NoneDue, TellsFlush}
+use Rattle.dso_client.proofs.flushed.Flushable.{may_flush_it, none_due, victim_as}
 use Rattle.dso_client.proofs.flushed.Flushed.{stands_flushed}
+use Rattle.dso_client.proofs.flushed.OneVictim.{one_victim}
 use Rattle.dso_client.proofs.flushed.ResidentsListed.{may_flush_some}
 
 victim_goes : (kept : Kept) (o : ℕ) → IsVictim (state_in kept.table) o → IsFlushable (state_in kept.table) o
@@ -26,6 +27,13 @@ flush_made (Some o) old new victim is same = λ code p c clock es h.
     stands_flushed code p c clock o es old new h
     (may_flush_it (point code p c es) old.table table h.parts.facts (records_are_acked_in_order p c (next_request code) es h.run) o victim.full goes)
     (sym (ap is_some (table.bodies o) ∙ (bodies_are_held o es).resident) ∙ goes.resident) is same
+
+-- the victim is the one that the entries name
+pub flush_named : (found : Option ℕ) (kept : Kept) → IfSome found (IsVictim (state_in kept.table)) → IfSome found (IsVictimOf kept)
+flush_named None kept victim = tt
+flush_named (Some o) kept victim = λ code p c es h.
+    let named = victim_as (point code p c es) kept.table h.parts.table h.parts.facts (records_are_acked_in_order p c (next_request code) es h.run) o victim in
+    (named, λ x other. one_victim p c o x es named other)
 
 pub flush_none : (found : Option ℕ) (kept : Kept) → IfNone found (NoVictim (state_in kept.table)) → IfNone found (NoneDue kept)
 flush_none (Some o) kept none = tt

@@ -1,17 +1,19 @@
 -- Which objects may be flushed, by the table and by the client rule.
 use Rattle.std.specs.List.{list_any}
-use Rattle.std.proofs.Common.{◌≡◌, ℕ, refl, sym, ◌∙◌, ap, Bool, true, false, cond, not, eqb, ◌&&◌, ◌||◌, is_some, Option, Some, None, List, [], ◌∷◌, filter}
+use Rattle.std.proofs.Common.{◌≡◌, ℕ, refl, sym, ◌∙◌, ap, Bool, true, false, cond, not, eqb, ◌&&◌, ◌||◌, is_some, inl, inr, Option, Some, None, List, [], ◌∷◌, filter}
 use Rattle.std.specs.Prelude.{ltb}
 use Rattle.std.proofs.lemmas.Bool.{lt-ltb, ltb-true}
 use Rattle.dso_base.specs.declared.lock.ThreadId.{ThreadId}
 use Rattle.dso_base.specs.Following.{is_thread}
 use Rattle.dso_plain.proofs.keys.SameKeys.{same_thread}
+use Rattle.dso_lookup.specs.Search.{is_listed}
 use Rattle.dso_lookup.proofs.Tests.{both}
 use Rattle.dso_law.specs.Settings.{threads_of}
 use Rattle.dso_law.specs.Threads.{open_block}
 use Rattle.dso_law.specs.Copies.{is_resident, residents}
 use Rattle.dso_law.specs.Records.{unacked}
 use Rattle.dso_law.specs.ClientStep.{changes_object, event_puts_to, wants_object, is_flushable, is_full, may_flush, MayFlush}
+use Rattle.dso_law.specs.UseOrder.{IsFlushVictim, IsOldestVictim, IsUnusedVictim}
 use Rattle.dso_law.proofs.core.Bodies.{bodies_are_held}
 use Rattle.dso_law.proofs.core.Counts.{residents_are_counted}
 use Rattle.dso_law.proofs.core.Marks.{marks_tell}
@@ -19,7 +21,7 @@ use Rattle.dso_law.specs.ChangeMarks.{AcksInOrder}
 use Rattle.dso_table.specs.declared.tables.Tables.{Tables}
 use Rattle.dso_table.specs.States as states
 use Rattle.dso_table.specs.Tables.{state_in}
-use Rattle.dso_table.specs.Victims.{IsFlushable, IsFull, NoVictim}
+use Rattle.dso_table.specs.Victims.{IsFlushable, IsFull, IsLeastRecent, IsLeastUnused, IsVictim, NoVictim}
 use Rattle.dso_client.specs.Points.{Point}
 use Rattle.dso_client.specs.RunFacts.{RunFacts}
 use Rattle.dso_client.specs.TableStands.{TableStands}
@@ -125,6 +127,30 @@ module _ (at : Point) (table : Tables) (stands : TableStands at table) (facts : 
       unwanted t none true mine true its = fails_too t (λ t. wants_object o t.index at.entries) (threads_of at.settings at.client) none its
       unwanted t none true mine false its = facts.unwanted t o its mine
       unwanted t none false mine c its = refl
+
+  unused_as : (o : ℕ) → IsLeastUnused (state_in table) o → IsUnusedVictim at.settings at.client o at.entries
+  unused_as o h = record {
+    flushable = may_go o h.flushable;
+    unused = ap (is_listed o) (sym stands.order) ∙ h.unused;
+    least = λ x may free. h.least x (goes x may) (ap (is_listed x) stands.order ∙ free);
+  }
+
+  oldest_as : (o : ℕ) → IsLeastRecent (state_in table) o → IsOldestVictim at.settings at.client o at.entries
+  oldest_as o h = record {
+    flushable = may_go o h.flushable;
+    all_used = λ x may. ap (is_listed x) (sym stands.order) ∙ h.all_used x (goes x may);
+    later = h.later;
+    earlier = h.earlier;
+    stands = sym stands.order ∙ h.stands;
+    last = λ x may. h.longest x (goes x may);
+  }
+
+  -- the table's victim is the one that the entries name
+  pub victim_as : (o : ℕ) → IsVictim (state_in table) o → IsFlushVictim at.settings at.client at.entries o
+  victim_as o h = record {
+    full = sym full_as ∙ lt-ltb (state_in table).limit (state_in table).residents h.full;
+    chosen = elim h.chosen [ inl first ↦ inl (unused_as o first) | inr last ↦ inr (oldest_as o last) ];
+  }
 
   -- so where the table has no victim, the rule has no flush
   pub none_due : NoVictim (state_in table) → may_flush at.settings at.client at.entries ≡ false

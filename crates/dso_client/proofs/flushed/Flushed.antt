@@ -65,6 +65,7 @@ module _ (code : Code) (p : Settings) (c clock o : ℕ) (es : List Entry) where
     room = ap (λ (s : State). s.limit) is ∙ h.room;
     count = ap (λ (s : State). s.residents) is ∙ (ap (λ n. n - 1) h.count ∙ ap (λ b. cond b (resident_count es - 1) (resident_count es)) (sym ((residents_are_counted es).has o ∙ there)));
     acked = subst (λ n. n ≤ records es) (sym (ap (λ (s : State). s.acked) is)) h.acked;
+    order = ap (λ (s : State). s.used) is ∙ ap (states.without o) h.order;
   }
     where
       bodies : (x : ℕ) (b : Bool) → body_of (cond b None ((state_in old).standing x)) ≡ cond b None (held_body x es)

@@ -77,6 +77,7 @@ acked_heard clock seq at old new h sent is = record {
   room = ap (λ (s : State). s.limit) is ∙ h.room;
   count = ap (λ (s : State). s.residents) is ∙ h.count;
   acked = subst (λ n. n ≤ records at.entries) (sym (ap (λ (s : State). s.acked) is)) (most (state_in old).acked h.acked);
+  order = ap (λ (s : State). s.used) is ∙ h.order;
 }
   where
     most : (n : ℕ) → n ≤ records at.entries → max seq n ≤ records at.entries

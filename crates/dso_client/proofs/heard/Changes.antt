@@ -1,7 +1,7 @@
 -- Changes that were taken.
-use Rattle.std.proofs.Common.{◌≡◌, ℕ, zero, suc, ◌≤◌, refl, sym, ◌∙◌, ap, arith, Bool, true, false, cond, eqb, Option, Some, None, List, [], ◌∷◌, length, slice_set, drop, take, get_or, ◌-◌, subst}
+use Rattle.std.proofs.Common.{◌≡◌, ℕ, zero, suc, ◌+◌, ◌<◌, ◌≤◌, refl, sym, ◌∙◌, ap, arith, Bool, true, false, cond, eqb, Option, Some, None, List, [], ◌∷◌, ◌++◌, length, slice_set, take, get_or, subst}
 use Rattle.std.proofs.lemmas.Bool.{eqb-true, ltb-false}
-use Rattle.std.proofs.lemmas.List.{take_all}
+use Rattle.std.proofs.lemmas.List.{take_all, take_more}
 use Rattle.std.specs.Bool.{OnTrue, OnFalse}
 use Rattle.std.specs.Option.{option_map}
 use Rattle.dso_base.specs.declared.message.Down.TheVariants as down
@@ -11,7 +11,7 @@ use Rattle.dso_base.specs.declared.value.Value.{Value}
 use Rattle.dso_change.specs.Hands.{has_field}
 use Rattle.dso_law.specs.HeldBody.{held_body}
 use Rattle.dso_law.specs.Copies.{is_object_asked}
-use Rattle.dso_law.specs.Store.{body_with}
+use Rattle.dso_law.specs.Store.{body_by_sets, body_with}
 use Rattle.dso_table.specs.declared.slot.Standing.{Standing}
 use Rattle.dso_table.specs.declared.slot.Standing.TheVariants.{Asked, Resident}
 use Rattle.dso_law.specs.Records.{records}
@@ -60,6 +60,7 @@ module _ (clock : ℕ) (at : Point) (change : Set) (old new : Tables) (h : Table
     room = ap (λ (s : State). s.limit) is ∙ h.room;
     count = ap (λ (s : State). s.residents) is ∙ h.count;
     acked = subst (λ n. n ≤ records at.entries) (sym (ap (λ (s : State). s.acked) is)) h.acked;
+    order = ap (λ (s : State). s.used) is ∙ h.order;
   }
     where
       bodies : (x : ℕ) (b : Bool) → eqb change.object x ≡ b
@@ -83,6 +84,7 @@ module _ (clock : ℕ) (at : Point) (change : Set) (old new : Tables) (h : Table
     room = ap (λ (s : State). s.limit) is ∙ h.room;
     count = ap (λ (s : State). s.residents) is ∙ h.count;
     acked = subst (λ n. n ≤ records at.entries) (sym (ap (λ (s : State). s.acked) is)) h.acked;
+    order = ap (λ (s : State). s.used) is ∙ h.order;
   }
     where
       bodies : (x : ℕ) (b : Bool) → eqb change.object x ≡ b → held_body x at.entries ≡ cond b (body_with change (held_body x at.entries)) (held_body x at.entries)
@@ -95,22 +97,43 @@ module _ (clock : ℕ) (at : Point) (change : Set) (old new : Tables) (h : Table
   change_heard true found is same = written is
   change_heard false found is same = unwritten same (sym found)
 
--- one change and then the others are all of them
-pub all_heard : (clock : ℕ) (at : Point) (change : Set) (changes : List Set) (table : Tables)
-    → TableStands (heard clock (down.Changes changes) (heard clock (down.Changes (change ∷ [])) at)) table → TableStands (heard clock (down.Changes (change ∷ changes)) at) table
-all_heard clock at change changes table h = record { bodies = h.bodies; asked = h.asked; marks = h.marks; opened = h.opened; wanted = h.wanted; room = h.room; count = h.count; acked = h.acked }
+-- one more set behind the others
+pub sets_more : (x : ℕ) (sets : List Set) (change : Set) (before : Option Body)
+    → body_by_sets x (sets ++ change ∷ []) before ≡ cond (eqb change.object x) (body_with change (body_by_sets x sets before)) (body_by_sets x sets before)
+sets_more x [] change before = refl
+sets_more x (first ∷ sets) change before = sets_more x sets change (cond (eqb first.object x) (body_with first before) before)
 
--- all but the first
-rest_is : (changes : List Set) → take (length changes - 1) (drop 1 changes) ≡ drop 1 changes
-rest_is [] = take_all (0 - 1) [] (omega arith)
-rest_is (change ∷ changes) =
-    let many : suc (length changes) - 1 ≡ length changes = omega arith in
-    ap (λ n. take n changes) many ∙ take_all (length changes) changes (omega arith)
+-- so many of the changes were heard
+abbrev pub HeardUpTo : ℕ → List Set → Tables → Tables → Type 0
+HeardUpTo n changes old new = (clock : ℕ) (at : Point) → TableStands at old → TableStands (heard clock (down.Changes (take n changes)) at) new
 
--- so for a list that isn't empty, by its first change and the rest
-pub changes_heard : (clock : ℕ) (at : Point) (changes : List Set) (other : Set) (table : Tables) → 1 ≤ length changes
-    → TableStands (heard clock (down.Changes (take (length changes - 1) (drop 1 changes))) (heard clock (down.Changes (get_or changes 0 other ∷ [])) at)) table
-    → TableStands (heard clock (down.Changes changes) at) table
-changes_heard clock at [] other table some h = absurd (omega (arith, some))
-changes_heard clock at (change ∷ changes) other table some h = all_heard clock at change changes table
-    (subst (λ rest. TableStands (heard clock (down.Changes rest) (heard clock (down.Changes (change ∷ [])) at)) table) (rest_is (change ∷ changes)) h)
+-- before the first
+pub none_heard : (changes : List Set) (table : Tables) → HeardUpTo 0 changes table table
+none_heard changes table clock at h = record { bodies = h.bodies; asked = h.asked; marks = h.marks; opened = h.opened; wanted = h.wanted; room = h.room; count = h.count; acked = h.acked; order = h.order }
+
+-- changes, and one more behind them, are all of them
+one_behind : (clock : ℕ) (at : Point) (changes : List Set) (change : Set) (table : Tables)
+    → TableStands (heard clock (down.Changes (change ∷ [])) (heard clock (down.Changes changes) at)) table → TableStands (heard clock (down.Changes (changes ++ change ∷ [])) at) table
+one_behind clock at changes change table h = record {
+  bodies = λ x. h.bodies x ∙ sym (sets_more x changes change (held_body x at.entries));
+  asked = h.asked;
+  marks = h.marks;
+  opened = h.opened;
+  wanted = h.wanted;
+  room = h.room;
+  count = h.count;
+  acked = h.acked;
+  order = h.order;
+}
+
+-- one more
+pub one_more_heard : (i : ℕ) (changes : List Set) (other : Set) (old mid new : Tables) → i < length changes → HeardUpTo i changes old mid
+    → ((clock : ℕ) (at : Point) → TableStands at mid → TableStands (heard clock (down.Changes (get_or changes i other ∷ [])) at) new) → HeardUpTo (i + 1) changes old new
+one_more_heard i changes other old mid new less before hears clock at h =
+    subst (λ changes. TableStands (heard clock (down.Changes changes) at) new) (sym (take_more changes i other less))
+    (one_behind clock at (take i changes) (get_or changes i other) new (hears clock (heard clock (down.Changes (take i changes)) at) (before clock at h)))
+
+-- all of them
+pub all_heard : (n : ℕ) (changes : List Set) (old new : Tables) → length changes ≤ n → HeardUpTo n changes old new
+    → (clock : ℕ) (at : Point) → TableStands at old → TableStands (heard clock (down.Changes changes) at) new
+all_heard n changes old new all before clock at h = subst (λ changes. TableStands (heard clock (down.Changes changes) at) new) (take_all n changes all) (before clock at h)

@@ -43,13 +43,13 @@ LeavesTable (down.Changes sets) = ⊥
 LeavesTable (down.Wake l t) = Unit {0}
 
 pub table_kept : (clock : ℕ) (m : Down) (at : Point) (part : Tables) → LeavesTable m → TableStands at part → TableStands (heard clock m at) part
-table_kept clock (down.Ids first) at part leaves h = record { bodies = h.bodies; asked = h.asked; marks = h.marks; opened = h.opened; wanted = h.wanted; room = h.room; count = h.count; acked = h.acked }
+table_kept clock (down.Ids first) at part leaves h = record { bodies = h.bodies; asked = h.asked; marks = h.marks; opened = h.opened; wanted = h.wanted; room = h.room; count = h.count; acked = h.acked; order = h.order }
 table_kept clock (down.Object body) at part leaves h = absurd leaves
-table_kept clock (down.Grant l level) at part leaves h = record { bodies = h.bodies; asked = h.asked; marks = h.marks; opened = h.opened; wanted = h.wanted; room = h.room; count = h.count; acked = h.acked }
-table_kept clock (down.Recall l) at part leaves h = record { bodies = h.bodies; asked = h.asked; marks = h.marks; opened = h.opened; wanted = h.wanted; room = h.room; count = h.count; acked = h.acked }
+table_kept clock (down.Grant l level) at part leaves h = record { bodies = h.bodies; asked = h.asked; marks = h.marks; opened = h.opened; wanted = h.wanted; room = h.room; count = h.count; acked = h.acked; order = h.order }
+table_kept clock (down.Recall l) at part leaves h = record { bodies = h.bodies; asked = h.asked; marks = h.marks; opened = h.opened; wanted = h.wanted; room = h.room; count = h.count; acked = h.acked; order = h.order }
 table_kept clock (down.Ack seq) at part leaves h = absurd leaves
 table_kept clock (down.Changes sets) at part leaves h = absurd leaves
-table_kept clock (down.Wake l t) at part leaves h = record { bodies = h.bodies; asked = h.asked; marks = h.marks; opened = h.opened; wanted = h.wanted; room = h.room; count = h.count; acked = h.acked }
+table_kept clock (down.Wake l t) at part leaves h = record { bodies = h.bodies; asked = h.asked; marks = h.marks; opened = h.opened; wanted = h.wanted; room = h.room; count = h.count; acked = h.acked; order = h.order }
 
 -- which messages leave it
 abbrev pub LeavesLocking : Down → Type 0

@@ -35,6 +35,7 @@ object_heard clock at body old new h is = record {
   count = ap (λ (s : State). s.residents) is ∙ (ap (λ n. n + cond (states.is_resident ((state_in old).standing body.object)) 0 1) h.count
       ∙ (ap (λ b. resident_count at.entries + cond b 0 1) there ∙ counted ((presence at.entries).has body.object) (resident_count at.entries)));
   acked = subst (λ n. n ≤ records at.entries) (sym (ap (λ (s : State). s.acked) is)) h.acked;
+  order = ap (λ (s : State). s.used) is ∙ h.order;
 }
   where
     there : states.is_resident ((state_in old).standing body.object) ≡ (presence at.entries).has body.object

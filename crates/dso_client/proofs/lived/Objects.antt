@@ -1,6 +1,6 @@
 -- The table once a request was answered.
 use Rattle.std.specs.List.{list_any}
-use Rattle.std.proofs.Common.{◌≡◌, ℕ, refl, sym, ◌∙◌, ap, Bool, true, false, cond, eqb, ◌&&◌, ◌||◌, is_some, Some, None, [], ◌∷◌, ◌++◌, subst, ◌≤◌}
+use Rattle.std.proofs.Common.{◌≡◌, ℕ, refl, sym, ◌∙◌, ap, Bool, true, false, cond, eqb, ◌&&◌, ◌||◌, is_some, Some, None, [], ◌∷◌, ◌++◌, subst, ◌≤◌, List}
 use Rattle.std.proofs.lemmas.List.Folds.{list_any-append}
 use Rattle.std.specs.BTreeMap.{is_at}
 use Rattle.std.specs.Cmp.{unsigned_tied}
@@ -28,7 +28,7 @@ use Rattle.dso_table.specs.Tables.{state_in}
 use Rattle.dso_client.specs.declared.answered.Answered.{Answered}
 use Rattle.dso_client.specs.Living.{event_of, lived, put_to}
 use Rattle.dso_client.specs.Points.{Point}
-use Rattle.dso_client.specs.TableStands.{TableStands}
+use Rattle.dso_client.specs.TableStands.{TableTells}
 use Rattle.dso_client.proofs.asked.Objects.{unwanted}
 
 -- a done put is to its object
@@ -55,7 +55,7 @@ goes_on true note true e = e
 goes_on true note false e = e
 goes_on false note block e = e
 
-module _ (clock : ℕ) (at : Point) (act : Answered) (mine : act.thread.client ≡ at.client) (old : Tables) (h : TableStands at old) where
+module _ (clock : ℕ) (at : Point) (act : Answered) (mine : act.thread.client ≡ at.client) (old : Tables) (used : List ℕ) (h : TableTells at used old) where
   abbrev is_ending : Bool
   is_ending = is_some (ending_by act.request act.reply (locks_of act.thread at.entries))
 
@@ -92,27 +92,28 @@ module _ (clock : ℕ) (at : Point) (act : Answered) (mine : act.thread.client �
       ∙ ap (λ b. eqb act.thread.client u.client && b) (lock_either_way (Name act.thread.index) (Name u.index)))
 
   lived_so : (notes : ThreadId × ℕ → Bool) (new : Tables) → state_in new ≡ record (acted act.thread (state_in old)) { opened = notes } → ((u : ThreadId) (x : ℕ) → notes (u, x) ≡ puts u x)
-      → TableStands (lived clock act at) new
+      → TableTells (lived clock act at) used new
   lived_so notes new is noted = record {
     bodies = λ x. ap (λ (s : State). body_of (s.standing x)) is ∙ h.bodies x;
     asked = λ x. ap (λ (s : State). is_asked (s.standing x)) is ∙ h.asked x;
     marks = λ x. ap (λ (s : State). s.marks x) is ∙ h.marks x;
     opened = λ u x. ap (λ (s : State). s.opened (u, x)) is ∙ noted u x;
-    wanted = λ u x. ap (λ (s : State). s.wanted (u, x)) is ∙ unwanted clock at act.thread mine old h u x;
+    wanted = λ u x. ap (λ (s : State). s.wanted (u, x)) is ∙ unwanted clock at act.thread mine old used h u x;
     room = ap (λ (s : State). s.limit) is ∙ h.room;
     count = ap (λ (s : State). s.residents) is ∙ h.count;
     acked = subst (λ n. n ≤ records at.entries) (sym (ap (λ (s : State). s.acked) is)) h.acked;
+    order = ap (λ (s : State). s.used) is ∙ h.order;
   }
 
   -- an ending closes the block
-  pub block_closed : (new : Tables) → is_ending ≡ true → state_in new ≡ closed act.thread (acted act.thread (state_in old)) → TableStands (lived clock act at) new
+  pub block_closed : (new : Tables) → is_ending ≡ true → state_in new ≡ closed act.thread (acted act.thread (state_in old)) → TableTells (lived clock act at) used new
   block_closed new ending is = lived_so (states.without_thread act.thread (state_in old).opened) new is (λ u x.
       ap (λ b. or_old (cond b (Some false) None) ((state_in old).opened (u, x))) (either u)
       ∙ (ends (is_thread u act.thread) ((state_in old).opened (u, x)) (before u x) (h.opened u x) ∙ sym (of_block u x true ending)))
 
   -- a done put opens its object
   pub block_puts : (o : ℕ) (new : Tables) → is_ending ≡ false → put_to act.request act.reply ≡ Some o → state_in new ≡ opened o act.thread (acted act.thread (state_in old))
-      → TableStands (lived clock act at) new
+      → TableTells (lived clock act at) used new
   block_puts o new ending put is = lived_so (states.with_note act.thread o (state_in old).opened) new is (λ u x.
       ap (λ b. or_old (cond (b && is_at (nat_cmp o) x) (Some true) None) ((state_in old).opened (u, x))) (either u)
       ∙ (ap (λ b. or_old (cond (is_thread u act.thread && b) (Some true) None) ((state_in old).opened (u, x))) (unsigned_tied o x)
@@ -121,7 +122,7 @@ module _ (clock : ℕ) (at : Point) (act : Answered) (mine : act.thread.client �
       ∙ sym (of_block u x false ending)))))
 
   -- all else leaves it open as it was
-  pub block_goes_on : (new : Tables) → is_ending ≡ false → put_to act.request act.reply ≡ None → state_in new ≡ acted act.thread (state_in old) → TableStands (lived clock act at) new
+  pub block_goes_on : (new : Tables) → is_ending ≡ false → put_to act.request act.reply ≡ None → state_in new ≡ acted act.thread (state_in old) → TableTells (lived clock act at) used new
   block_goes_on new ending put is = lived_so (state_in old).opened new is (λ u x.
       goes_on (is_thread u act.thread) ((state_in old).opened (u, x)) (before u x) (h.opened u x)
       ∙ (ap (λ b. cond (is_thread u act.thread) (before u x || (b || false)) (before u x)) (sym (put_tells x act.request act.reply ∙ ap (λ p. option_map_or (λ k. eqb k x) p false) put))

@@ -50,6 +50,7 @@ module _ (code : Code) (p : Settings) (c : ℕ) (shape : p.shape ≡ code.shape)
     room = ap (λ (s : State). s.limit) is ∙ sym room;
     count = ap (λ (s : State). s.residents) is;
     acked = subst (λ n. n ≤ 0) (sym (ap (λ (s : State). s.acked) is)) (omega arith);
+    order = ap (λ (s : State). s.used) is;
   }
 
   locking_stands : (locking : Locking) → IsEmptyLocking locking → LockingStands (point code p c []) locking

@@ -31,19 +31,13 @@ use Rattle.dso_client.specs.Points.{Point}
 use Rattle.dso_client.specs.TableStands.{TableStands}
 use Rattle.dso_client.proofs.flushed.Flushed.{at_number, not_asked}
 use Rattle.dso_client.proofs.objects.HeldObjects.{held_object}
-use Rattle.dso_client.proofs.heard.Changes.{with_it, asked_as, no_field}
+use Rattle.dso_client.proofs.heard.Changes.{with_it, asked_as, no_field, sets_more}
 use Rattle.dso_client.proofs.heard.Objects.{counted}
 
 -- one more body behind the others
 news_more : (x : ℕ) (news : List Body) (body : Body) (before : Option Body) → body_by_news x (news ++ body ∷ []) before ≡ cond (eqb body.object x) (Some body) (body_by_news x news before)
 news_more x [] body before = refl
 news_more x (first ∷ news) body before = news_more x news body (cond (eqb first.object x) (Some first) before)
-
--- one more set behind the others
-sets_more : (x : ℕ) (sets : List Set) (change : Set) (before : Option Body)
-    → body_by_sets x (sets ++ change ∷ []) before ≡ cond (eqb change.object x) (body_with change (body_by_sets x sets before)) (body_by_sets x sets before)
-sets_more x [] change before = refl
-sets_more x (first ∷ sets) change before = sets_more x sets change (cond (eqb first.object x) (body_with first before) before)
 
 -- by whether it is the last one, or one of those before
 asked_more : (among here asked : Bool) → cond (among || (here || false)) false asked ≡ cond here false (cond among false asked)
@@ -112,6 +106,7 @@ module _ (clock : ℕ) (act : Answered) (next : ThreadId → Option Request) (at
           ∙ (ap (λ b. resident_count (sent news []).entries + cond b 0 1) there ∙ (counted ((presence (sent news []).entries).has body.object) (resident_count (sent news []).entries)
           ∙ ap (λ (s : Presence). s.count) (sym (fold-append (λ s body. come s body.object) (presence at.entries) news (body ∷ []))))));
       acked = subst (λ n. n ≤ suc (records at.entries)) (sym (ap (λ (s : State). s.acked) is)) h.acked;
+      order = ap (λ (s : State). s.used) is ∙ h.order;
     }
       where
         bodies : (x : ℕ) (b : Bool) → body_of (cond b (Some (Resident body)) ((state_in old).standing x)) ≡ cond b (Some body) (body_by_news x news (held_body x at.entries))
@@ -150,6 +145,7 @@ module _ (clock : ℕ) (act : Answered) (next : ThreadId → Option Request) (at
         room = ap (λ (s : State). s.limit) is ∙ h.room;
         count = ap (λ (s : State). s.residents) is ∙ h.count;
         acked = subst (λ n. n ≤ suc (records at.entries)) (sym (ap (λ (s : State). s.acked) is)) h.acked;
+        order = ap (λ (s : State). s.used) is ∙ h.order;
       }
         where
           bodies : (x : ℕ) (b : Bool) → eqb change.object x ≡ b
@@ -178,6 +174,7 @@ module _ (clock : ℕ) (act : Answered) (next : ThreadId → Option Request) (at
         room = ap (λ (s : State). s.limit) is ∙ h.room;
         count = ap (λ (s : State). s.residents) is ∙ (ap (λ b. (state_in old).residents + cond b 0 1) there ∙ (zero_more (state_in old).residents ∙ h.count));
         acked = subst (λ n. n ≤ suc (records at.entries)) (sym (ap (λ (s : State). s.acked) is)) h.acked;
+        order = ap (λ (s : State). s.used) is ∙ h.order;
       }
         where
           is_held : so_far change.object ≡ Some copy

@@ -1,5 +1,6 @@
 use Rattle.std.proofs.Common.{◌≡◌, ℕ, sym, ◌∙◌, ap, subst, true, Some}
 use Rattle.dso_base.specs.declared.message.Up.TheVariants as up
+use Rattle.dso_law.specs.UseOrder.{use_order}
 use Rattle.dso_lease.specs.Leases.{after_want, standing_in, with_standing}
 use Rattle.dso_table.specs.States.{State, asked as with_asked, is_absent}
 use Rattle.dso_table.specs.Tables.{state_in}
@@ -19,7 +20,7 @@ returns-in-IdAsk-clause-parts c = λ clock at h mine missing.
     let table = c.acted.new.self in
     let ledger = record old.ledger { is_asking = true } in
     subst (λ m. PartsStand (asked clock t.index m at) (record old { table = table; ledger = ledger })) (sym c.in-IdAsk.is)
-    (parts_asked clock t.index at up.IdAsk tt old h table old.locking ledger (ids_asked clock at t mine old.table h.table table c.acted.ensures)
+    (parts_asked clock t.index at up.IdAsk tt old h table old.locking ledger (ids_asked clock at t mine old.table (use_order at.settings at.entries) h.table table c.acted.ensures)
     (locking_ids clock t.index at old.locking h.locking) (ledger_ids clock t.index at old.ledger h.ledger))
 
 pub returns-in-Fault-clause-parts : goal.returns-in-Fault-clause-parts
@@ -34,10 +35,10 @@ returns-in-Fault-clause-parts c =
     ((clock : ℕ) (at : Point) → KeptStands at old → t.client ≡ at.client → IsMissing at.entries c.args.message.now → PartsStand (asked clock t.index c.args.message.now at) (record old { table = table }))
     (λ is. λ clock at h mine missing.
     let lacks = subst (IsMissing at.entries) c.in-Fault.is missing in
-    let away = absent clock at t mine old.table h.table o lacks.0 lacks.1 in
+    let away = absent clock at t mine old.table (use_order at.settings at.entries) h.table o lacks.0 lacks.1 in
     let there = is (ap (λ (s : State). is_absent (s.standing o)) c.acted.ensures ∙ away) ∙ ap (with_asked o t) c.acted.ensures in
     subst (λ m. PartsStand (asked clock t.index m at) (record old { table = table })) (sym c.in-Fault.is)
-    (parts_asked clock t.index at m lacks old h table old.locking old.ledger (object_asked clock at t mine old.table h.table o lacks.0 table there)
+    (parts_asked clock t.index at m lacks old h table old.locking old.ledger (object_asked clock at t mine old.table (use_order at.settings at.entries) h.table o lacks.0 table there)
     (locking_object clock t.index at o old.locking h.locking) (ledger_kept clock t.index at m lacks (λ e. cc e) old.ledger h.ledger)))
     c.ask_object.ensures
 
@@ -56,7 +57,7 @@ returns-in-Request-clause-parts c =
     (λ is. λ clock at h mine missing.
     let lacks = subst (IsMissing at.entries) c.in-Request.is missing in
     subst (λ m. PartsStand (asked clock t.index m at) (record old { table = table; locking = locking })) (sym c.in-Request.is)
-    (parts_asked clock t.index at m lacks old h table locking old.ledger (lease_asked clock at t mine old.table h.table l level table c.acted.ensures)
+    (parts_asked clock t.index at m lacks old h table locking old.ledger (lease_asked clock at t mine old.table (use_order at.settings at.entries) h.table l level table c.acted.ensures)
     (lock_asked clock t.index at l level old.locking locking h.locking lacks.0 lacks.1 c.ask_lock.ensures.holds c.ask_lock.ensures.lists is)
     (ledger_kept clock t.index at m lacks (λ e. cc e) old.ledger h.ledger)))
     c.ask_lock.ensures.wanted

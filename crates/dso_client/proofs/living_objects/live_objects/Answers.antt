@@ -1,7 +1,8 @@
 use Rattle.std.proofs.Common.{◌≡◌, ◌-◌, refl, sym, ◌∙◌, ap, arith, subst, is_some, Some, length, get_or, slice_set}
 use Rattle.std.proofs.lemmas.List.{with_items_is}
 use Rattle.dso_base.specs.declared.lock.ThreadId.{ThreadId}
-use Rattle.dso_client.specs.Committing.{HasWork, changed_seat, object_of, with_work}
+use Rattle.dso_law.specs.UseOrder.{use_order}
+use Rattle.dso_client.specs.Committing.{HasWork, changed_seat, with_work}
 use Rattle.dso_client.specs.Living.{lived}
 use Rattle.dso_client.specs.SeatPlaces.{seat_in}
 use Rattle.dso_client.proofs.seats.ChangedSeats.{length_unchanged, changed_there, seat_there, changed_at_place}
@@ -25,10 +26,14 @@ returns-clause-lived c = λ clock at h.
     let many = ap length changed ∙ (length_unchanged (with_work new.privates new.block) (λ seat. refl) items index ∙ (ap length (sym value) ∙ c.as_mut_slice-seats.ensures.len)) in
     let all = with_items_is old.seats (slice_set c.as_mut_slice-seats.result.now (index - 1) new) many ∙ changed in
     let acting = h.acting seat there in
+    let user = get_or c.as_mut_slice-seats.result.now (index - 1) c.index-seats-at.result in
+    let using = h.acting user (subst (λ xs. seat_in items index ≡ Some (get_or xs (index - 1) c.index-seats-at.result)) (sym value)
+    (seat_there items index c.index-seats-at.result c.requires.there)) in
     let mine = ap (λ (t : ThreadId). t.client) h.its in
     let sent = h.ledger.records in
     record {
-      table = c.in_ok-live_table.ensures clock at (used_stands at (get_or c.as_mut_slice-seats.result.now (index - 1) c.index-seats-at.result) (object_of act.request) old.table c.live_used.new.table h.table c.in_ok-live_used.ensures) mine
+      table = c.in_ok-live_table.ensures clock at (use_order at.settings (lived clock act at).entries)
+          (used_stands clock at act user using.its using.work h.met old.table c.live_used.new.table h.table c.in_ok-live_used.ensures) mine
           (c.is_some.ensures ∙ ap is_some acting.ends);
       ledger = c.live_ledger.ensures.stands clock at h.ledger;
       work = λ s found.
