@@ -77,6 +77,6 @@ fn unread(fault: FileFault) -> Result<Verdict, NoMemory>
 fn judge_load(alloc: Global, number: u32) -> Result<Verdict, NoMemory>
     ensures { IfOk result (IsVerdictBy (LoadGives number) ⊥) }
 {
-    let (config, program) = generate(alloc, number)?;
-    judge_texts(alloc, config.as_slice(), program.as_slice())
+    let (config_text, program_text) = generate(alloc, number)?;
+    judge_texts(alloc, config_text.as_slice(), program_text.as_slice())
 }
