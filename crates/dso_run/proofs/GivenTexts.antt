@@ -5,7 +5,8 @@ use Rattle.dso_config.specs.declared.config.Config.{Config}
 use Rattle.dso_config.specs.declared.fault.ConfigFault.{ConfigFault}
 use Rattle.dso_config.specs.declared.fault.ConfigFault.TheVariants as fault
 use Rattle.dso_config.specs.Configuration.{IsFaultOf}
-use Rattle.dso_io.specs.Environment.{Told, MayGive, Rose}
+use Rattle.dso_config.specs.Keys.{IsOfText}
+use Rattle.dso_io.specs.Environment.{Told, MayGive}
 use Rattle.dso_run.specs.declared.verdict.Verdict.{Verdict}
 use Rattle.dso_run.specs.declared.verdict.Verdict.TheVariants.{Refused, Accepted}
 use Rattle.dso_class.specs.declared.program.Program as whole
@@ -14,22 +15,22 @@ use Rattle.dso_run.specs.declared.status.Refusal.TheVariants.{Words, Reading, Pr
 use Rattle.dso_run.specs.declared.status.Refusal.TheVariants as refusal
 use Rattle.dso_run.specs.Accepted.{IsConfigRefusal}
 use Rattle.dso_run.specs.Files.{AreAsBefore}
-use Rattle.dso_run.specs.Headline.{CallInput, FilesGive, HasCause, IsAccepted, most_read}
+use Rattle.dso_run.specs.Headline.{CallInput, FilesGive, Gives, HasCause, IsAccepted, RoseOf, most_read}
 use Rattle.dso_run.specs.Verdict.{IsVerdictBy, IsVerdictOn, IsVerdictOnGiven, IsVerdictOnTexts}
 use Rattle.dso_words.specs.Words.{AreLawful, Command}
 
 -- A configuration that has a fault is refused for it.
-pub fault_refused : (config program : List ℕ) (wrong : ConfigFault) → wrong ≢ fault.NoMemory → IsFaultOf config wrong → IsConfigRefusal config program wrong
-fault_refused config program fault.NotToml enough is = is
-fault_refused config program (fault.UnknownKey spot) enough is = is
-fault_refused config program (fault.WrongKind spot) enough is = is
-fault_refused config program (fault.OutOfRange spot) enough is = is
-fault_refused config program (fault.BadMethodPattern spot) enough is = is
-fault_refused config program (fault.BadGuard spot) enough is = is
-fault_refused config program (fault.Twice spot) enough is = is
-fault_refused config program fault.TooLong enough is = is
-fault_refused config program (fault.BadName spot) enough is = is
-fault_refused config program fault.NoMemory enough is = absurd (enough refl)
+pub fault_refused : (config program : List ℕ) (wrong : ConfigFault) → (IsOfText wrong → IsFaultOf config wrong) → (IsOfText wrong → IsConfigRefusal config program wrong)
+fault_refused config program fault.NotToml is of_text = is of_text
+fault_refused config program (fault.UnknownKey spot) is of_text = is of_text
+fault_refused config program (fault.WrongKind spot) is of_text = is of_text
+fault_refused config program (fault.OutOfRange spot) is of_text = is of_text
+fault_refused config program (fault.BadMethodPattern spot) is of_text = is of_text
+fault_refused config program (fault.BadGuard spot) is of_text = is of_text
+fault_refused config program (fault.Twice spot) is of_text = is of_text
+fault_refused config program fault.TooLong is of_text = is of_text
+fault_refused config program (fault.BadName spot) is of_text = is of_text
+fault_refused config program (fault.NoMemory refusal) is never = absurd never
 
 -- what the texts come to that are given is the verdict on them
 module _ (Given : List ℕ → List ℕ → Type 0) (failed : Type 0) (config_text program_text : List ℕ) (given : Given config_text program_text) where
@@ -57,7 +58,7 @@ files_give content after_first config program config_text program_text first sam
 -- THE CAUSE, for a lawful command
 module _ (input : CallInput) (command : Command) (words : AreLawful input.words command) where
   -- a refusal by what is given has its cause
-  pub cause_of : (why : Refusal) → IsVerdictOn input.content (Rose input.failed_before input.failed_after) command (Refused why) → HasCause input why
+  pub cause_of : (why : Refusal) → IsVerdictOn input.content (RoseOf input.failed_before input.failed_after) command (Refused why) → HasCause input why
   cause_of Words never = absurd never
   cause_of Reading is = record { command = command; words = words; failed = is }
   cause_of (refusal.Config wrong) is = record {
@@ -76,8 +77,8 @@ module _ (input : CallInput) (command : Command) (words : AreLawful input.words 
   }
 
   -- a program that is taken is accepted
-  pub accepted_of : (p : whole.Program) → IsVerdictOn input.content (Rose input.failed_before input.failed_after) command (Accepted p) → IsAccepted input command p
-  accepted_of p is = record {
+  pub accepted_of : (failed : Type 0) (p : whole.Program) → IsVerdictBy (Gives input.content command) failed (Accepted p) → IsAccepted input command p
+  accepted_of failed p is = record {
     config = is.config_text;
     program = is.program_text;
     read = record { words = words; given = is.given };

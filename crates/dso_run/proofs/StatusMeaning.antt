@@ -1,14 +1,20 @@
 -- What a status means, from the verdict and from what was written.
 use Rattle.std.proofs.Common.{◌≡◌, ◌∙◌, inl, inr, refl, sym, ap, subst, ℕ, List, [], Option, Some, None}
 use Rattle.dso_class.specs.declared.program.Program.{Program}
+use Rattle.dso_class.specs.declared.fault.NameFault.TheVariants as name
+use Rattle.dso_config.specs.declared.config.Config as set
+use Rattle.dso_config.specs.declared.fault.ConfigFault.{ConfigFault}
+use Rattle.dso_config.specs.declared.fault.ConfigFault.TheVariants as config_fault
+use Rattle.dso_syntax.specs.declared.fault.SyntaxFault.TheVariants as syntax
+use Rattle.dso_run.specs.declared.status.ProgramFault.{ProgramFault}
 use Rattle.dso_run.specs.declared.status.ProgramFault.TheVariants as program
 use Rattle.dso_run.specs.declared.status.Refusal.{Refusal}
 use Rattle.dso_run.specs.declared.status.Refusal.TheVariants.{Words, Reading, Config}
 use Rattle.dso_run.specs.declared.status.Refusal.TheVariants as refusal
 use Rattle.dso_run.specs.declared.status.Status.{Status}
 use Rattle.dso_run.specs.declared.status.Status.TheVariants.{Finished, FinishedFault, Usage, BadConfig, BadProgram, ReadFault, WriteFault, Stuck, Budget, NoMemory}
-use Rattle.dso_run.specs.Accepted.{IsConfigRefusal, IsProgramRefusal}
-use Rattle.dso_io.specs.Environment.{Told, Rose, replaced, taken_after}
+use Rattle.dso_run.specs.Accepted.{IsConfigRefusal, IsTextFault}
+use Rattle.dso_io.specs.Environment.{Told, replaced, taken_after}
 use Rattle.dso_run.specs.declared.running.Outcome.{Outcome}
 use Rattle.dso_run.specs.declared.running.Outcome.TheVariants as outcome
 use Rattle.dso_run.specs.Files.{AreAsBefore, IsWritten}
@@ -46,6 +52,8 @@ module _ (input : CallInput) (output : CallOutput) where
       text = told.2.0;
       due = report_due ended told.2.0 told.0 told.1 told.2.1;
       took = told.2.2;
+      sink_sound = told.3;
+      files_sound = told.4;
     }
 
     -- what was told of the run means what the status is to mean
@@ -84,24 +92,31 @@ module _ (input : CallInput) (output : CallOutput) where
 
   -- the refusal's line was written whole
   line_written : (refusal : Refusal) → HasCause input refusal → output.journal ≡ [] → AreAsBefore input.content output.content → output.sink_after ≡ taken_after output.sink_before (line_of refusal)
-      → WroteWhole input output (IsLineDue input output refusal)
-  line_written refusal cause none same took = record { text = line_of refusal; due = line_due refusal cause none same; took = took }
+      → output.failed_after ≡ output.failed_before → output.writes_after ≡ output.writes_before → WroteWhole input output (IsLineDue input output refusal)
+  line_written refusal cause none same took sink files = record {
+    text = line_of refusal;
+    due = line_due refusal cause none same;
+    took = took;
+    sink_sound = sink;
+    files_sound = files;
+  }
 
   -- so the refusal's status means what it is to mean
   line_means : (refusal : Refusal) → HasCause input refusal → output.journal ≡ [] → AreAsBefore input.content output.content → output.sink_after ≡ taken_after output.sink_before (line_of refusal)
-      → StatusMeans input output (status_of refusal)
-  line_means Words cause none same took = line_written Words cause none same took
-  line_means Reading cause none same took = line_written Reading cause none same took
-  line_means (Config fault) cause none same took = line_written (Config fault) cause none same took
-  line_means (refusal.Program fault) cause none same took = line_written (refusal.Program fault) cause none same took
+      → output.failed_after ≡ output.failed_before → output.writes_after ≡ output.writes_before → StatusMeans input output (status_of refusal)
+  line_means Words cause none same took sink files = line_written Words cause none same took sink files
+  line_means Reading cause none same took sink files = line_written Reading cause none same took sink files
+  line_means (Config fault) cause none same took sink files = line_written (Config fault) cause none same took sink files
+  line_means (refusal.Program fault) cause none same took sink files = line_written (refusal.Program fault) cause none same took sink files
 
   -- a refusal, by what was written of its line
   pub refusal_means : (refusal : Refusal) (answer : Status) → HasCause input refusal → output.journal ≡ [] → AreAsBefore input.content output.content
-      → Wrote output.sink_before output.sink_after (Rose output.failed_before output.failed_after) (line_of refusal) (status_of refusal) answer
+      → output.writes_after ≡ output.writes_before
+      → Wrote output.sink_before output.sink_after output.failed_before output.failed_after (line_of refusal) (status_of refusal) answer
       → StatusMeans input output answer
-  refusal_means refusal answer cause none same (inl whole) =
-      subst (StatusMeans input output) (sym whole.0) (line_means refusal cause none same whole.1)
-  refusal_means refusal answer cause none same (inr part) =
+  refusal_means refusal answer cause none same files (inl whole) =
+      subst (StatusMeans input output) (sym whole.0) (line_means refusal cause none same whole.1 whole.2 files)
+  refusal_means refusal answer cause none same files (inr part) =
       let cut : StatusMeans input output WriteFault = inl (record {
         text = line_of refusal;
         due = inl (refusal, line_due refusal cause none same);
@@ -110,11 +125,31 @@ module _ (input : CallInput) (output : CallOutput) where
       }) in subst (StatusMeans input output) (sym part.0) cut
 
 -- A refusal by what is given has a line: no want of memory is a fault of a configuration or a program.
+config_has_line : (config program : List ℕ) (wrong : ConfigFault) → IsConfigRefusal config program wrong → HasLine (Config wrong)
+config_has_line config program config_fault.NotToml is = tt
+config_has_line config program (config_fault.UnknownKey spot) is = tt
+config_has_line config program (config_fault.WrongKind spot) is = tt
+config_has_line config program (config_fault.OutOfRange spot) is = tt
+config_has_line config program (config_fault.BadMethodPattern spot) is = tt
+config_has_line config program (config_fault.BadGuard spot) is = tt
+config_has_line config program (config_fault.Twice spot) is = tt
+config_has_line config program config_fault.TooLong is = tt
+config_has_line config program (config_fault.BadName spot) is = tt
+config_has_line config program (config_fault.NoMemory refusal) never = never
+
+text_has_line : (config : set.Config) (text : List ℕ) (wrong : ProgramFault) → IsTextFault config text wrong → HasLine (refusal.Program wrong)
+text_has_line config text (program.Syntax (syntax.BadByte place)) is = tt
+text_has_line config text (program.Syntax (syntax.BadToken place)) is = tt
+text_has_line config text (program.Syntax (syntax.Unexpected place)) is = tt
+text_has_line config text (program.Syntax (syntax.NumberTooWide place)) is = tt
+text_has_line config text (program.Syntax (syntax.NestTooDeep place)) is = tt
+text_has_line config text (program.Syntax syntax.TooLong) is = tt
+text_has_line config text (program.Syntax (syntax.NoMemory refusal)) never = never
+text_has_line config text (program.Name (name.At kind line)) is = tt
+text_has_line config text (program.Name (name.NoMemory refusal)) never = never.refused
+
 pub verdict_has_line : (Given : List ℕ → List ℕ → Type 0) (failed : Type 0) (refusal : Refusal) → IsVerdictBy Given failed (Refused refusal) → HasLine refusal
 verdict_has_line Given failed Words is = tt
 verdict_has_line Given failed Reading is = tt
-verdict_has_line Given failed (Config wrong) is = λ same. let never = subst (IsConfigRefusal is.config_text is.program_text) same is.verdict in never
-verdict_has_line Given failed (refusal.Program (program.Syntax fault)) is = λ same.
-    let never = subst (λ f. IsProgramRefusal is.config_text is.program_text (program.Syntax f)) same is.verdict in never.holds
-verdict_has_line Given failed (refusal.Program (program.Name fault)) is = λ same.
-    let never = subst (λ f. IsProgramRefusal is.config_text is.program_text (program.Name f)) same is.verdict in never.holds.refused
+verdict_has_line Given failed (Config wrong) is = config_has_line is.config_text is.program_text wrong is.verdict
+verdict_has_line Given failed (refusal.Program wrong) is = text_has_line is.verdict.config is.program_text wrong is.verdict.holds

@@ -50,7 +50,7 @@ module _ (config : Config) where
   -- Why a program text is refused: it is too long, or the program of no tree and this is its fault, or it has a tree
   -- and this is the tree's first fault. The fault is never a want of memory.
   abbrev pub IsTextFault : List ℕ → ProgramFault → Type 0
-  IsTextFault text (fault.Syntax syntax.NoMemory) = ⊥
+  IsTextFault text (fault.Syntax (syntax.NoMemory refusal)) = ⊥
   IsTextFault text (fault.Syntax which) = Refuses text which
   IsTextFault text which = HasTreeFault text which
 
@@ -64,7 +64,7 @@ module _ (config_text program_text : List ℕ) where
 
   -- why the configuration is refused: for its fault, and never for want of memory
   abbrev pub IsConfigRefusal : ConfigFault → Type 0
-  IsConfigRefusal config_fault.NoMemory = ⊥
+  IsConfigRefusal (config_fault.NoMemory refusal) = ⊥
   IsConfigRefusal which = IsFaultOf config_text which
 
   -- why the program is refused: nothing is wrong with the configuration, and under it the program has this fault

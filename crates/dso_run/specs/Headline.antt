@@ -38,13 +38,13 @@ use Rattle.dso_words.specs.Words.{AreLawful, AreUnlawful, Command, Sim, Run, Big
 abbrev pub most_read : ℕ
 most_read = suc longest_text
 
--- What a call reads: the words behind the program's name; what is told of each file before the call; how many reads had
--- failed before the call, and how many have after it.
+-- What a call reads: the words behind the program's name; what is told of each file before the call; how many reads of
+-- each file had failed before the call, and how many have after it.
 pub record CallInput : Type 0 where
   pub words : List (List ℕ)
   pub content : List ℕ → Told
-  pub failed_before : ℕ
-  pub failed_after : ℕ
+  pub failed_before : List ℕ → ℕ
+  pub failed_after : List ℕ → ℕ
 
 -- What a call leaves: what its sink had taken before the call, and has after it; how many calls of the sink had failed
 -- before, and how many have after it; what is told of each file after the call; how many writes of files had failed
@@ -58,6 +58,30 @@ pub record CallOutput : Type 0 where
   pub writes_before : ℕ
   pub writes_after : ℕ
   pub journal : List Entry
+
+-- What files and a sink leave of a call, and what was read of them, by their own words (what is told of a file, how many
+-- reads of each have failed; how many writes have; what the sink has taken, and how many of its calls have failed), as
+-- the files and the sink were before the call and are after it.
+abbrev pub read_by : {F : Type 0} → (F → List ℕ → Told) → (F → List ℕ → ℕ) → F → F → List (List ℕ) → CallInput
+read_by content read_faults files_before files_after words = record {
+  words = words;
+  content = content files_before;
+  failed_before = read_faults files_before;
+  failed_after = read_faults files_after;
+}
+
+abbrev pub left_by : {F K : Type 0} → (F → List ℕ → Told) → (F → ℕ) → (K → Option (List ℕ)) → (K → ℕ)
+    → F → F → K → K → List Entry → CallOutput
+left_by content write_faults taken faults files_before files_after sink_before sink_after journal = record {
+  sink_before = taken sink_before;
+  sink_after = taken sink_after;
+  failed_before = faults sink_before;
+  failed_after = faults sink_after;
+  content = content files_after;
+  writes_before = write_faults files_before;
+  writes_after = write_faults files_after;
+  journal = journal;
+}
 
 -- the files of these names gave these bytes: all that a file has, or the first `most_read` bytes of a longer one
 abbrev pub FilesGive : (List ℕ → Told) → List ℕ → List ℕ → List ℕ → List ℕ → Type 0
@@ -74,11 +98,16 @@ Gives content (Sim call) config program = FilesGive content call.config call.pro
 Gives content (Run call) config program = FilesGive content call.config call.program config program
 Gives content (Big number) config program = LoadGives number config program
 
--- a read of a command's files failed, where the count of reads that failed rose; `big` reads no file
-abbrev pub ReadFailed : Command → Type 0 → Type 0
-ReadFailed (Sim call) rose = rose
-ReadFailed (Run call) rose = rose
-ReadFailed (Big number) rose = ⊥
+-- a read of one of a command's two files failed, where it is said of each name what tells that a read of it did; `big`
+-- reads no file
+abbrev pub ReadFailed : Command → (List ℕ → Type 0) → Type 0
+ReadFailed (Sim call) failed = failed call.config ⊎ failed call.program
+ReadFailed (Run call) failed = failed call.config ⊎ failed call.program
+ReadFailed (Big number) failed = ⊥
+
+-- how many reads of the file of a name failed has risen
+abbrev pub RoseOf : (List ℕ → ℕ) → (List ℕ → ℕ) → List ℕ → Type 0
+RoseOf before after name = Rose (before name) (after name)
 
 -- WHAT WAS READ, AND WHICH PROGRAM IT IS
 module _ (input : CallInput) where
@@ -94,11 +123,11 @@ module _ (input : CallInput) where
     pub read : WereRead command config program
     pub taken : AreTaken config program p
 
-  -- The words are lawful, and a read failed.
+  -- The words ask for this, and a read of one of its two files failed: the count of that file rose.
   pub record IsUnread : Type 0 where
     pub command : Command
     pub words : AreLawful input.words command
-    pub failed : ReadFailed command (Rose input.failed_before input.failed_after)
+    pub failed : ReadFailed command (RoseOf input.failed_before input.failed_after)
 
   -- Both texts were read, and the configuration is refused for this fault.
   pub record IsConfigRefused (fault : ConfigFault) : Type 0 where
@@ -193,11 +222,13 @@ module _ (input : CallInput) (output : CallOutput) where
   abbrev pub IsDue : List ℕ → Type 0
   IsDue text = ((refusal : Refusal) × IsLineDue refusal text) ⊎ ((outcome : Outcome) × IsReportDue outcome text)
 
-  -- What was to be written was written whole.
+  -- What was to be written was written whole, and nothing failed in writing.
   pub record WroteWhole (Due : List ℕ → Type 0) : Type 0 where
     pub text : List ℕ
     pub due : Due text
     pub took : output.sink_after ≡ taken_after output.sink_before text
+    pub sink_sound : output.failed_after ≡ output.failed_before
+    pub files_sound : output.writes_after ≡ output.writes_before
 
   -- The sink failed, and took a prefix of what was to be written.
   pub record WrotePrefix (Due : List ℕ → Type 0) : Type 0 where

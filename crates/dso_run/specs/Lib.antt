@@ -1,7 +1,9 @@
 pub mod Accepted
 pub mod Completeness
+pub mod Exit
 pub mod Failing
 pub mod Files
+pub mod Finished
 pub mod Headline
 pub mod RunEnds
 pub mod Status

@@ -15,7 +15,7 @@ use Rattle.dso_config.specs.declared.fault.ConfigFault.TheVariants as config
 use Rattle.dso_config.specs.declared.fault.Section.{Section}
 use Rattle.dso_config.specs.declared.fault.Section.TheVariants as section
 use Rattle.dso_config.specs.declared.fault.Spot.{Spot}
-use Rattle.dso_config.specs.Keys.{key_of}
+use Rattle.dso_config.specs.Keys.{IsOfText, key_of}
 use Rattle.dso_run.specs.declared.status.ProgramFault.TheVariants as program
 use Rattle.dso_run.specs.declared.status.Refusal.{Refusal}
 use Rattle.dso_run.specs.declared.status.Refusal.TheVariants.{Words, Reading, Config, Program}
@@ -70,7 +70,7 @@ syntax_text (syntax.Unexpected place) = at_place (codes "Unexpected") place
 syntax_text (syntax.NumberTooWide place) = at_place (codes "NumberTooWide") place
 syntax_text (syntax.NestTooDeep place) = at_place (codes "NestTooDeep") place
 syntax_text syntax.TooLong = codes "TooLong"
-syntax_text syntax.NoMemory = []
+syntax_text (syntax.NoMemory refusal) = []
 
 -- the name of a fault of a name
 abbrev pub kind_text : NameKind → List ℕ
@@ -87,7 +87,7 @@ kind_text kind.UnknownVariable = codes "UnknownVariable"
 -- what is said of a fault of a name
 abbrev pub name_text : NameFault → List ℕ
 name_text (name.At kind line) = on_line (kind_text kind) line
-name_text name.NoMemory = []
+name_text (name.NoMemory refusal) = []
 
 -- what is said of a fault of the program
 abbrev pub fault_text : ProgramFault → List ℕ
@@ -119,7 +119,7 @@ config_text (config.BadGuard spot) = at_spot (codes "BadGuard") spot
 config_text (config.Twice spot) = at_spot (codes "Twice") spot
 config_text config.TooLong = codes "TooLong"
 config_text (config.BadName spot) = at_spot (codes "BadName") spot
-config_text config.NoMemory = []
+config_text (config.NoMemory refusal) = []
 
 -- the one line that a refusal writes
 abbrev pub line_of : Refusal → List ℕ
@@ -130,7 +130,7 @@ line_of (Program fault) = ended (codes "dsorun: BadProgram " ++ fault_text fault
 
 -- The refusal has a line: its fault is no want of memory.
 abbrev pub HasLine : Refusal → Type 0
-HasLine (Config fault) = fault ≢ config.NoMemory
-HasLine (Program (program.Syntax fault)) = fault ≢ syntax.NoMemory
-HasLine (Program (program.Name fault)) = fault ≢ name.NoMemory
+HasLine (Config fault) = IsOfText fault
+HasLine (Program (program.Syntax (syntax.NoMemory refusal))) = ⊥
+HasLine (Program (program.Name (name.NoMemory refusal))) = ⊥
 HasLine refusal = Unit {0}

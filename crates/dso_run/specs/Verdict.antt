@@ -51,6 +51,6 @@ module _ (Given : List ℕ → List ℕ → Type 0) (failed : Type 0) where
   IsVerdictBy (Refused (refusal.Program fault)) = IsVerdictOnGiven (Refused (refusal.Program fault))
   IsVerdictBy (Accepted p) = IsVerdictOnGiven (Accepted p)
 
--- what a command's texts come to, by what is told of each file, and by whether the count of reads that failed rose
-abbrev pub IsVerdictOn : (List ℕ → Told) → Type 0 → Command → Verdict → Type 0
-IsVerdictOn content rose command = IsVerdictBy (Gives content command) (ReadFailed command rose)
+-- what a command's texts come to, by what is told of each file, and by what tells of each that a read of it failed
+abbrev pub IsVerdictOn : (List ℕ → Told) → (List ℕ → Type 0) → Command → Verdict → Type 0
+IsVerdictOn content failed command = IsVerdictBy (Gives content command) (ReadFailed command failed)

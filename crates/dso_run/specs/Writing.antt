@@ -11,12 +11,12 @@ use Rattle.dso_run.specs.Files.{AreAsBefore}
 use Rattle.dso_run.specs.Headline.{CallOutput, IsKept, IsRunOf, IsRunText}
 use Rattle.dso_words.specs.Words.{Command, journal_of, seed_of, steps_of}
 
--- The sink took the whole text and the answer is this status, or it took a prefix and counted a fault, and the answer
--- is WriteFault.
-abbrev pub Wrote : Option (List ℕ) → Option (List ℕ) → Type 0 → List ℕ → Status → Status → Type 0
-Wrote before now sink_rose text status answer =
-    ((answer ≡ status) × (now ≡ taken_after before text))
-    ⊎ ((answer ≡ WriteFault) × TookPrefix before text now × sink_rose)
+-- The sink took the whole text, its count of faults is as before and the answer is this status; or it took a prefix and
+-- counted a fault, and the answer is WriteFault.
+abbrev pub Wrote : Option (List ℕ) → Option (List ℕ) → ℕ → ℕ → List ℕ → Status → Status → Type 0
+Wrote before now faults_before faults_now text status answer =
+    ((answer ≡ status) × (now ≡ taken_after before text) × (faults_now ≡ faults_before))
+    ⊎ ((answer ≡ WriteFault) × TookPrefix before text now × Rose faults_before faults_now)
 
 -- For a command, its program, what is told of the files before the run, and what the run leaves:
 module _ (command : Command) (p : Program) (before : List ℕ → Told) (output : CallOutput) where
@@ -24,12 +24,13 @@ module _ (command : Command) (p : Program) (before : List ℕ → Told) (output 
   abbrev pub Ran : Outcome → Type 0
   Ran outcome = IsRunOf p (seed_of command) (steps_of command) outcome output.journal
 
-  -- the run ended so, its journal is kept, and what is told of it was written whole
+  -- the run ended so, its journal is kept, what is told of it was written whole, and nothing failed in writing
   abbrev pub ToldWhole : Outcome → Type 0
   ToldWhole outcome =
       Ran outcome × IsKept command output.journal before output.content
       × ((text : List ℕ) × IsRunText command p output.journal text
       × (output.sink_after ≡ taken_after output.sink_before text))
+      × (output.failed_after ≡ output.failed_before) × (output.writes_after ≡ output.writes_before)
 
   -- the run ended in one of the four ways, its journal is kept, and a prefix of what is told of it was written
   abbrev pub ToldPrefix : Type 0

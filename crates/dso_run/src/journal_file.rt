@@ -5,7 +5,7 @@ ghost use Rattle.dso_report.specs.JournalText.{journal_text};
 ghost use Rattle.dso_run.specs.Files.{AreAsBefore, IsWritten};
 ghost use Rattle.dso_words.specs.Given.{told};
 
-use dso_base::{Journal, NoMemory};
+use dso_base::Journal;
 use dso_io::{FileFault, Files};
 use dso_report::journal_text;
 use std::alloc::Global;
@@ -25,7 +25,8 @@ pub(crate) fn keep_journal<F: Files>(
     ensures unchanged { OnErr result (AreAsBefore (F.content files.old) (F.content files.new)) }
     ensures named { IsErrOf result FileFault.Failed → (file : List ℕ) × (told name.entry ≡ Some file) }
     ensures failed { IsErrOf result FileFault.Failed → Rose (F.write_faults files.old) (F.write_faults files.new) }
-    ensures reads { F.read_faults files.new ≡ F.read_faults files.old }
+    ensures sound { OnOk result (F.write_faults files.new ≡ F.write_faults files.old) }
+    ensures reads { (name : List ℕ) → F.read_faults files.new name ≡ F.read_faults files.old name }
 {
     match name {
         Some(name) => write_journal(alloc, name, journal, files),
@@ -43,10 +44,9 @@ fn write_journal<F: Files>(
     ensures written { OnOk result (IsWritten (Some name.now) (journal_text journal.now) (F.content files.old) (F.content files.new)) }
     ensures unchanged { OnErr result (AreAsBefore (F.content files.old) (F.content files.new)) }
     ensures failed { IsErrOf result FileFault.Failed → Rose (F.write_faults files.old) (F.write_faults files.new) }
-    ensures reads { F.read_faults files.new ≡ F.read_faults files.old }
+    ensures sound { OnOk result (F.write_faults files.new ≡ F.write_faults files.old) }
+    ensures reads { (name : List ℕ) → F.read_faults files.new name ≡ F.read_faults files.old name }
 {
-    match journal_text(alloc, journal) {
-        Ok(text) => files.write(alloc, name, text.as_slice()),
-        Err(NoMemory) => Err(FileFault::NoMemory),
-    }
+    let text = journal_text(alloc, journal)?;
+    files.write(alloc, name, text.as_slice())
 }

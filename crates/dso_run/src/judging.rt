@@ -1,8 +1,7 @@
 //! What a command's run goes by: the files or the generated load, and the judgement of them.
-ghost use Rattle.std.specs.Prelude.{◌≡◌, IfOk};
-ghost use Rattle.dso_io.specs.Environment.{Rose};
+ghost use Rattle.std.specs.Prelude.{◌≡◌, ◌⊎◌, IfOk};
 ghost use Rattle.dso_run.specs.Files.{AreAsBefore};
-ghost use Rattle.dso_run.specs.Headline.{FilesGive, LoadGives};
+ghost use Rattle.dso_run.specs.Headline.{FilesGive, LoadGives, RoseOf};
 ghost use Rattle.dso_run.specs.Verdict.{IsVerdictBy, IsVerdictOn};
 ghost use Rattle.dso_words.specs.Said.{said};
 ghost use Rattle.dso_words.specs.Words.{CanBeAsked};
@@ -26,7 +25,7 @@ pub(crate) fn judge<F: Files>(
     files: &mut F,
 ) -> Result<Verdict, NoMemory>
     requires { CanBeAsked (said command) }
-    ensures verdict { IfOk result (IsVerdictOn (F.content files.old) (Rose (F.read_faults files.old) (F.read_faults files.new)) (said command.entry)) }
+    ensures verdict { IfOk result (IsVerdictOn (F.content files.old) (RoseOf (F.read_faults files.old) (F.read_faults files.new)) (said command.entry)) }
     ensures unchanged { AreAsBefore (F.content files.old) (F.content files.new) }
     ensures writes { F.write_faults files.new ≡ F.write_faults files.old }
 {
@@ -48,7 +47,8 @@ fn judge_files<F: Files>(
     program: &str,
     files: &mut F,
 ) -> Result<Verdict, NoMemory>
-    ensures verdict { IfOk result (IsVerdictBy (FilesGive (F.content files.old) config.now program.now) (Rose (F.read_faults files.old) (F.read_faults files.new))) }
+    ensures verdict { IfOk result (IsVerdictBy (FilesGive (F.content files.old) config.now program.now)
+        (RoseOf (F.read_faults files.old) (F.read_faults files.new) config.now ⊎ RoseOf (F.read_faults files.old) (F.read_faults files.new) program.now)) }
     ensures unchanged { AreAsBefore (F.content files.old) (F.content files.new) }
     ensures writes { F.write_faults files.new ≡ F.write_faults files.old }
 {
@@ -69,7 +69,7 @@ fn unread(fault: FileFault) -> Result<Verdict, NoMemory>
 {
     match fault {
         FileFault::Failed => Ok(Verdict::Refused(Refusal::Reading)),
-        FileFault::NoMemory => Err(NoMemory),
+        FileFault::NoMemory(refused) => Err(refused),
     }
 }
 
@@ -77,6 +77,6 @@ fn unread(fault: FileFault) -> Result<Verdict, NoMemory>
 fn judge_load(alloc: Global, number: u32) -> Result<Verdict, NoMemory>
     ensures { IfOk result (IsVerdictBy (LoadGives number) ⊥) }
 {
-    let (config, program) = generate(alloc, number)?;
-    judge_texts(alloc, config.as_slice(), program.as_slice())
+    let (config_text, program_text) = generate(alloc, number)?;
+    judge_texts(alloc, config_text.as_slice(), program_text.as_slice())
 }

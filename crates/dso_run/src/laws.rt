@@ -1,10 +1,28 @@
 //! Laws of the top call. Each is the contract of a function that does nothing.
-ghost use Rattle.dso_run.specs.Completeness.{Completeness};
+ghost use Rattle.dso_run.specs.Completeness.{Completeness, MayRunRuns, TakenIsNotRefused};
+ghost use Rattle.dso_run.specs.Finished.{FinishedMeans};
 
 pub use dso_words::words_ask_once;
 
-/// Where the words ask for a run, its files give only texts that are taken, and no count of faults rises, the status is
-/// that of a run that ended, or `NoMemory`: no other has its cause then.
+/// What exit 0 means, in one place: the words, the bytes of both files, the lawful journal, the legal history that it
+/// commits, each thread's events, the report, and what the sink took.
+pub fn finished_means()
+    ensures { FinishedMeans }
+{}
+
+/// Where no count of faults rises, the status is Usage with unlawful words, BadConfig or BadProgram with bytes that were
+/// read and fail, that of a run that ended, or `NoMemory`: no other has its cause then.
 pub fn calls_are_complete()
     ensures { Completeness }
+{}
+
+/// Texts that are taken as a program are not refused, so the bytes that were read decide for one thing.
+pub fn taken_is_not_refused()
+    ensures { TakenIsNotRefused }
+{}
+
+/// Where the words ask for a run, its files give only texts that are taken, and no count of faults rises, the status is
+/// that of a run that ended, or `NoMemory`.
+pub fn calls_that_may_run_do()
+    ensures { MayRunRuns }
 {}

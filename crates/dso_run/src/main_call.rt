@@ -1,8 +1,7 @@
 ghost use Rattle.std.specs.Prelude.{◌≡◌, ◌≢◌, ℕ, List, [], Some, map, IfOk};
 ghost use Rattle.std.specs.String.{string_bytes};
 ghost use Rattle.dso_class.specs.Sound.{IsSound};
-ghost use Rattle.dso_io.specs.Environment.{Rose};
-ghost use Rattle.dso_run.specs.Headline.{IsRunOf, IsRunText, IsUsage, StatusMeans};
+ghost use Rattle.dso_run.specs.Headline.{IsRunOf, IsRunText, IsUsage, StatusMeans, left_by, read_by};
 ghost use Rattle.dso_run.specs.Status.{HasLine, line_of, status_of, status_of_run};
 ghost use Rattle.dso_run.specs.Writing.{ToldRun, Wrote};
 ghost use Rattle.dso_words.specs.Said.{said};
@@ -25,7 +24,7 @@ use std::alloc::Global;
 
 /// Writes a text. The answer is this status, or WriteFault where the sink failed. It takes no memory.
 fn write_or_fail<K: Sink>(text: &[u8], status: Status, out: &mut K) -> Status
-    ensures { Wrote (K.taken out.old) (K.taken out.new) (Rose (K.faults out.old) (K.faults out.new)) text.now status result }
+    ensures { Wrote (K.taken out.old) (K.taken out.new) (K.faults out.old) (K.faults out.new) text.now status result }
 {
     match write_text(out, text) {
         Ok(()) => status,
@@ -36,7 +35,7 @@ fn write_or_fail<K: Sink>(text: &[u8], status: Status, out: &mut K) -> Status
 /// Writes the line of a refusal. It takes no memory.
 fn refuse<K: Sink>(refusal: Refusal, out: &mut K) -> Status
     requires { HasLine refusal }
-    ensures { Wrote (K.taken out.old) (K.taken out.new) (Rose (K.faults out.old) (K.faults out.new)) (line_of refusal) (status_of refusal) result }
+    ensures { Wrote (K.taken out.old) (K.taken out.new) (K.faults out.old) (K.faults out.new) (line_of refusal) (status_of refusal) result }
 {
     let line = line_of(refusal);
     write_or_fail(line.as_str().as_bytes(), refusal.status(), out)
@@ -75,21 +74,13 @@ fn run_and_write<F: Files, K: Sink>(
     requires sound { IsSound program.now }
     requires asked { CanBeAsked (said command) }
     ensures told { ToldRun (said command.entry) program.now (F.content files.old)
-        (record {
-          sink_before = K.taken out.old;
-          sink_after = K.taken out.new;
-          failed_before = K.faults out.old;
-          failed_after = K.faults out.new;
-          content = F.content files.new;
-          writes_before = F.write_faults files.old;
-          writes_after = F.write_faults files.new;
-          journal = result.journal.entries;
-        })
+        (left_by F.content F.write_faults K.taken K.faults files.old files.new out.old out.new result.journal.entries)
         result.status }
-    ensures reads { F.read_faults files.new ≡ F.read_faults files.old }
+    ensures reads { (name : List ℕ) → F.read_faults files.new name ≡ F.read_faults files.old name }
 {
-    let Ok((run, text)) = run_and_tell(alloc, program, command) else {
-        return nothing_ran(alloc, Status::NoMemory);
+    let (run, text) = match run_and_tell(alloc, program, command) {
+        Ok(told) => told,
+        Err(refused) => return out_of_memory(alloc, refused),
     };
     match keep_journal(alloc, command.journal(), &run.journal, files) {
         Ok(()) => {
@@ -97,7 +88,7 @@ fn run_and_write<F: Files, K: Sink>(
             ended(run, status)
         }
         Err(FileFault::Failed) => ended(run, Status::WriteFault),
-        Err(FileFault::NoMemory) => nothing_ran(alloc, Status::NoMemory),
+        Err(FileFault::NoMemory(refused)) => out_of_memory(alloc, refused),
     }
 }
 
@@ -137,15 +128,25 @@ fn nothing_ran(alloc: Global, status: Status) -> Done
     }
 }
 
+/// The answer where an allocation was refused.
+fn out_of_memory(alloc: Global, _refused: NoMemory) -> Done
+    ensures status { result.status ≡ Status.NoMemory }
+    ensures empty { result.journal.entries ≡ [] }
+{
+    nothing_ran(alloc, Status::NoMemory)
+}
+
 /// Does all that the program does: it reads the words and the files, runs the program and writes what is to be printed.
 ///
 /// The words are those after the program's name. The order is: the words, reading the configuration, reading the
 /// program, judging the configuration, judging the program, the run, writing: the journal to its file, where the words
 /// name one, and then what is told of the run. With `big` the texts of the generated load stand for those that are
 /// read, and the line of the load for the report. Clause `answer` is the table of the statuses: what each means of the
-/// words, the files, the journal and the sink. So each status has its cause, and where the cause of one is there no
-/// other can be answered but `WriteFault`, where the sink's count or the files' count of writes rose, and `NoMemory`,
-/// where an allocation was refused.
+/// words, the files, the journal and the sink. Each but `NoMemory` has its cause: other words; a count of failed reads
+/// that rose, of one of the two files; the bytes that were read; the journal of the run, of which all was written and
+/// nothing failed in writing; or, for `WriteFault`, the sink's count or the files' count of writes, which rose. `NoMemory`
+/// is answered where an allocation was refused. So where no count rises the words and the bytes that were read decide,
+/// or it is `NoMemory` (`laws::calls_are_complete`).
 pub fn dso_main<F: Files, K: Sink>(
     alloc: Global,
     words: &[String],
@@ -153,22 +154,8 @@ pub fn dso_main<F: Files, K: Sink>(
     out: &mut K,
 ) -> Done
     ensures answer { StatusMeans
-        (record {
-          words = map string_bytes words.now;
-          content = F.content files.old;
-          failed_before = F.read_faults files.old;
-          failed_after = F.read_faults files.new;
-        })
-        (record {
-          sink_before = K.taken out.old;
-          sink_after = K.taken out.new;
-          failed_before = K.faults out.old;
-          failed_after = K.faults out.new;
-          content = F.content files.new;
-          writes_before = F.write_faults files.old;
-          writes_after = F.write_faults files.new;
-          journal = result.journal.entries;
-        })
+        (read_by F.content F.read_faults files.old files.new (map string_bytes words.now))
+        (left_by F.content F.write_faults K.taken K.faults files.old files.new out.old out.new result.journal.entries)
         result.status }
 
     // Other words need no memory to be refused.
@@ -193,28 +180,14 @@ fn carry_out<F: Files, K: Sink>(
 ) -> Done
     requires { CanBeAsked (said command) }
     ensures answer { (words : List (List ℕ)) → AreLawful words (said command.entry) → StatusMeans
-        (record {
-          words = words;
-          content = F.content files.old;
-          failed_before = F.read_faults files.old;
-          failed_after = F.read_faults files.new;
-        })
-        (record {
-          sink_before = K.taken out.old;
-          sink_after = K.taken out.new;
-          failed_before = K.faults out.old;
-          failed_after = K.faults out.new;
-          content = F.content files.new;
-          writes_before = F.write_faults files.old;
-          writes_after = F.write_faults files.new;
-          journal = result.journal.entries;
-        })
+        (read_by F.content F.read_faults files.old files.new words)
+        (left_by F.content F.write_faults K.taken K.faults files.old files.new out.old out.new result.journal.entries)
         result.status }
     ensures unchanged { (name : List ℕ) → journal_of (said command.entry) ≢ Some name → F.content files.new name ≡ F.content files.old name }
 {
     match judge(alloc, command, files) {
         Ok(Verdict::Refused(refusal)) => nothing_ran(alloc, refuse(refusal, out)),
         Ok(Verdict::Accepted(program)) => run_and_write(alloc, &program, command, files, out),
-        Err(NoMemory) => nothing_ran(alloc, Status::NoMemory),
+        Err(refused) => out_of_memory(alloc, refused),
     }
 }

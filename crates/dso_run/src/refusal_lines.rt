@@ -1,12 +1,10 @@
 //! The lines that refusals write.
-ghost use Rattle.std.specs.Prelude.{◌≡◌, ◌≢◌, ◌≤◌, ◌++◌, length, codes};
+ghost use Rattle.std.specs.Prelude.{◌≡◌, ◌≤◌, ◌++◌, length, codes};
 ghost use Rattle.std.specs.Fmt.{decimal};
-ghost use Rattle.dso_class.specs.declared.fault.NameFault.TheVariants as name;
-ghost use Rattle.dso_config.specs.declared.fault.ConfigFault.TheVariants as config;
 ghost use Rattle.dso_config.specs.Keys.{key_of};
+ghost use Rattle.dso_run.specs.declared.status.ProgramFault.TheVariants as program;
 ghost use Rattle.dso_run.specs.declared.status.Refusal.TheVariants as refusal;
 ghost use Rattle.dso_run.specs.Status.{HasLine, at_spot, config_text, ended, entry_text, fault_text, kind_text, line_of, name_text, syntax_text};
-ghost use Rattle.dso_syntax.specs.declared.fault.SyntaxFault.TheVariants as syntax;
 
 use crate::ProgramFault;
 use crate::status::Refusal;
@@ -44,7 +42,7 @@ fn line(text: &str) -> Line
 
 /// The line of a fault of the configuration.
 fn config_line(fault: ConfigFault) -> Line
-    requires { fault ≢ config.NoMemory }
+    requires { HasLine (refusal.Config fault) }
     ensures { result.bytes ≡ ended (codes "dsorun: BadConfig " ++ config_text fault) }
 {
     match fault {
@@ -57,7 +55,7 @@ fn config_line(fault: ConfigFault) -> Line
         ConfigFault::Twice(spot) => spot_line("Twice", spot),
         ConfigFault::TooLong => line("dsorun: BadConfig TooLong\n"),
         ConfigFault::BadName(spot) => spot_line("BadName", spot),
-        ConfigFault::NoMemory => unreachable!(),
+        ConfigFault::NoMemory(_) => unreachable!(),
     }
 }
 
@@ -101,7 +99,7 @@ fn program_line(fault: ProgramFault) -> Line
 
 /// The line of a fault of the grammar.
 fn syntax_line(fault: SyntaxFault) -> Line
-    requires { fault ≢ syntax.NoMemory }
+    requires { HasLine (refusal.Program (program.Syntax fault)) }
     ensures { result.bytes ≡ ended (codes "dsorun: BadProgram " ++ syntax_text fault) }
 {
     match fault {
@@ -111,18 +109,18 @@ fn syntax_line(fault: SyntaxFault) -> Line
         SyntaxFault::NumberTooWide(place) => numbered_line("NumberTooWide", " at ", place),
         SyntaxFault::NestTooDeep(place) => numbered_line("NestTooDeep", " at ", place),
         SyntaxFault::TooLong => line("dsorun: BadProgram TooLong\n"),
-        SyntaxFault::NoMemory => unreachable!(),
+        SyntaxFault::NoMemory(_) => unreachable!(),
     }
 }
 
 /// The line of a fault of a name.
 fn name_line(fault: NameFault) -> Line
-    requires { fault ≢ name.NoMemory }
+    requires { HasLine (refusal.Program (program.Name fault)) }
     ensures { result.bytes ≡ ended (codes "dsorun: BadProgram " ++ name_text fault) }
 {
     match fault {
         NameFault::At { kind, line } => numbered_line(name_of(kind), " line ", line as u64),
-        NameFault::NoMemory => unreachable!(),
+        NameFault::NoMemory(_) => unreachable!(),
     }
 }
 

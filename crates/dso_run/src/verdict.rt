@@ -28,7 +28,7 @@ pub(crate) fn judge_texts(alloc: Global, config: &[u8], program: &[u8]) -> Resul
 {
     match read_config(alloc, config) {
         Ok(config) => judge_program(alloc, &config, program),
-        Err(ConfigFault::NoMemory) => Err(NoMemory),
+        Err(ConfigFault::NoMemory(refused)) => Err(refused),
         Err(fault) => Ok(Verdict::Refused(Refusal::Config(fault))),
     }
 }
@@ -40,7 +40,7 @@ fn judge_program(alloc: Global, config: &Config, text: &[u8]) -> Result<Verdict,
 {
     match parse(alloc, text) {
         Ok(tree) => judge_tree(alloc, config, &tree),
-        Err(SyntaxFault::NoMemory) => Err(NoMemory),
+        Err(SyntaxFault::NoMemory(refused)) => Err(refused),
         Err(fault) => Ok(refused(ProgramFault::Syntax(fault))),
     }
 }
@@ -53,7 +53,7 @@ fn judge_tree(alloc: Global, config: &Config, tree: &Ast) -> Result<Verdict, NoM
 {
     match resolve(alloc, tree, config) {
         Ok(program) => Ok(Verdict::Accepted(program)),
-        Err(NameFault::NoMemory) => Err(NoMemory),
+        Err(NameFault::NoMemory(refused)) => Err(refused),
         Err(NameFault::At { kind, line }) => {
             Ok(refused(ProgramFault::Name(NameFault::At { kind, line })))
         }

@@ -2,23 +2,15 @@
 #![tactic(auto)]
 
 use dso_io::{StdFiles, StdSink};
-use dso_run::dso_main;
+use dso_run::dso_exit;
 use std::process::ExitCode;
 use std::{env, io};
 
 fn main(rt: HostRuntime) -> ExitCode {
-    let words = match words(&rt) {
-        Ok(words) => words,
-        Err(error) if error.kind() == io::ErrorKind::OutOfMemory => {
-            return ExitCode::from(dso_run::Status::NoMemory.exit_number());
-        }
-        // a word that isn't text is none of a lawful list
-        Err(_) => Vec::new(rt.alloc()),
-    };
-    let mut files = StdFiles::new(&rt);
+    let words = words(&rt);
+    let mut files = StdFiles::new(rt.alloc(), &rt);
     let mut out = StdSink::new(&rt);
-    let done = dso_main(rt.alloc(), words.as_slice(), &mut files, &mut out);
-    ExitCode::from(done.status.exit_number())
+    dso_exit(rt.alloc(), words, &mut files, &mut out)
 }
 
 /// The words behind the program's name.

@@ -10,7 +10,7 @@ use std::{fs, io};
 pub fn show_example(rt: &HostRuntime, name: &str) -> io::Result<()> {
     match example_answer(rt, name, "") {
         Ok(answer) => show_compared(rt, name, &answer),
-        Err(NoMemory) => println!(rt; "{name}: no memory"),
+        Err(_) => println!(rt; "{name}: no memory"),
     }
 }
 
@@ -21,7 +21,7 @@ pub fn show_traced(rt: &HostRuntime, name: &str) -> io::Result<()> {
             show_compared(rt, name, &answer)?;
             show_written(rt, name)
         }
-        Err(NoMemory) => println!(rt; "{name}: no memory"),
+        Err(_) => println!(rt; "{name}: no memory"),
     }
 }
 
@@ -35,7 +35,7 @@ fn example_answer(rt: &HostRuntime, name: &str, options: &str) -> Result<Answer,
 
 /// Calls the program with these words over the files of the system.
 fn called(rt: &HostRuntime, words: &[String]) -> Result<Answer, NoMemory> {
-    let mut files = StdFiles::new(rt);
+    let mut files = StdFiles::new(rt.alloc(), rt);
     let mut out = MemSink::new(rt.alloc(), ROOM, ROOM, &[])?;
     let done = dso_main(rt.alloc(), words, &mut files, &mut out);
     let taken = Vec::from_slice(rt.alloc(), out.taken())?;

@@ -35,7 +35,7 @@ fn settling_after(
     let config = trial.config.replace(rt.alloc(), "K", number.as_str())?;
     match trial.set("config", config.as_str()).answer(rt.alloc()) {
         Ok(answer) => Ok(Some(settling_of(rt, &answer)?)),
-        Err(NoMemory) => Ok(None),
+        Err(_) => Ok(None),
     }
 }
 

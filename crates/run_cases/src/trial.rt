@@ -194,7 +194,7 @@ fn unescaped(alloc: Global, text: &str) -> Result<String, AllocError> {
 pub fn show_trial(rt: &HostRuntime, name: &str, trial: &Trial<'_>) -> io::Result<()> {
     match trial.answer(rt.alloc()) {
         Ok(answer) => show_answer(rt, name, &answer),
-        Err(NoMemory) => println!(rt; "{name}: no memory"),
+        Err(_) => println!(rt; "{name}: no memory"),
     }
 }
 
@@ -210,7 +210,7 @@ pub fn show_words(rt: &HostRuntime, line: &str) -> io::Result<()> {
     };
     match trial.answer(rt.alloc()) {
         Ok(answer) => println!(rt; "{line}: {:?}", answer.done.status),
-        Err(NoMemory) => println!(rt; "{line}: no memory"),
+        Err(_) => println!(rt; "{line}: no memory"),
     }
 }
 
@@ -221,7 +221,7 @@ pub fn show_journal(rt: &HostRuntime, name: &str, trial: &Trial<'_>) -> io::Resu
             show_answer(rt, name, &answer)?;
             show_entries(rt, &answer.done)
         }
-        Err(NoMemory) => println!(rt; "{name}: no memory"),
+        Err(_) => println!(rt; "{name}: no memory"),
     }
 }
 
@@ -233,7 +233,7 @@ pub fn show_file(rt: &HostRuntime, rest: &str, trial: &Trial<'_>) -> io::Result<
             show_answer(rt, name, &answer)?;
             show_content(rt, file, &files)
         }
-        Err(NoMemory) => println!(rt; "{name}: no memory"),
+        Err(_) => println!(rt; "{name}: no memory"),
     }
 }
 
@@ -257,7 +257,7 @@ pub fn show_reason(rt: &HostRuntime, name: &str, trial: &Trial<'_>) -> io::Resul
             Status::BadProgram(fault) => println!(rt; "{name}: {fault}"),
             status => println!(rt; "{name}: {status:?}"),
         },
-        Err(NoMemory) => println!(rt; "{name}: no memory"),
+        Err(_) => println!(rt; "{name}: no memory"),
     }
 }
 

@@ -64,7 +64,7 @@ fn show_next(
             }
             Ok(Some(answer))
         }
-        Err(NoMemory) => {
+        Err(_) => {
             println!(rt; "{name}, {label}: no memory")?;
             Ok(None)
         }
@@ -93,7 +93,7 @@ fn show_counts(rt: &HostRuntime, name: &str, label: &str, trial: &Trial<'_>) -> 
             } = counts_of(answer.done.journal.entries.as_slice());
             println!(rt; "{name}, {label}: {grants} grants, {recalls} recalls, {flushes} flushes")
         }
-        Err(NoMemory) => println!(rt; "{name}, {label}: no memory"),
+        Err(_) => println!(rt; "{name}, {label}: no memory"),
     }
 }
 

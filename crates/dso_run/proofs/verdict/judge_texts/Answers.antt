@@ -4,4 +4,4 @@ use Rattle.dso_run.proofs.verdict.judge_texts.Goals as goal
 
 -- a fault of the configuration
 pub returns-in-Err : goal.returns-in-Err
-returns-in-Err c = fault_refused c.args.config.now c.args.program.now c.in-Err.fault (search rules) (c.in-Err.ensures.refused (search rules))
+returns-in-Err c = fault_refused c.args.config.now c.args.program.now c.in-Err.fault c.in-Err.ensures.refused (search rules)
