@@ -6,7 +6,7 @@ use Rattle.dso_legal.specs.Slots.{Slot, open_slots}
 use Rattle.dso_machine.specs.Next.{next_request}
 use Rattle.dso_world.specs.declared.world.World.{World}
 use Rattle.dso_world.specs.ChosenSlot.{chosen_slot, slot_at}
-use Rattle.dso_world.specs.WorldStands.{WorldStands, entries_in}
+use Rattle.dso_world.specs.WorldStands.{WorldStands, entries_in, is_spent}
 use Rattle.dso_world.specs.WorldSteps.{settings_of}
 use Rattle.dso_run.specs.declared.running.Outcome.{Outcome}
 use Rattle.dso_run.specs.declared.running.Outcome.TheVariants.{Finished, FinishedFault}
@@ -37,5 +37,5 @@ module _ (program : Program) (seed : Option ℕ) where
   -- budget.
   pub record RunsOn (budget : ℕ) (world : World) : Type 0 where
     pub stands : WorldStands program world
-    pub whole : world.is_spent ≡ false
+    pub whole : is_spent world ≡ false
     pub turns : TakesTurns (settings_of program) (next_request program.code) seed budget (entries_in world)

@@ -5,7 +5,7 @@ ghost use Rattle.dso_legal.specs.Slots.{weight};
 ghost use Rattle.dso_run.specs.Headline.{IsRunOf};
 ghost use Rattle.dso_run.specs.RunEnds.{is_faulty};
 ghost use Rattle.dso_run.specs.Stepping.{IsTurn, RunsOn, finish_by};
-ghost use Rattle.dso_world.specs.WorldStands.{WorldStands, entries_in};
+ghost use Rattle.dso_world.specs.WorldStands.{WorldStands, entries_in, is_spent};
 
 use crate::failing::is_faulty;
 use dso_base::{Journal, NoMemory};
@@ -101,11 +101,11 @@ fn take_step(
 ) -> Result<bool, NoMemory>
     requires sound { IsSound program.now }
     requires stands { WorldStands program.now world.old }
-    requires whole { world.old.is_spent ≡ false }
+    requires whole { is_spent world.old ≡ false }
     requires light { weight (entries_in world.old) < BUDGET }
     ensures turn { IfOk result (λ made. IsTurn program.now schedule.seed made world.old world.new) }
     ensures stands { OnOk result (WorldStands program.now world.new) }
-    ensures whole { OnOk result (world.new.is_spent ≡ false) }
+    ensures whole { OnOk result (is_spent world.new ≡ false) }
 {
     match world.choose(schedule.seed) {
         Some(step) => world.step(alloc, program, step),

@@ -13,7 +13,7 @@ use Rattle.dso_legal.proofs.programs.SoundCode.{sound_program}
 use Rattle.dso_machine.specs.Next.{next_request}
 use Rattle.dso_world.specs.declared.step.Step.{Step}
 use Rattle.dso_world.specs.declared.world.World.{World}
-use Rattle.dso_world.specs.WorldStands.{IsChosenStep, IsStepped, WorldStands, entries_in}
+use Rattle.dso_world.specs.WorldStands.{IsChosenStep, IsStepped, WorldStands, entries_in, is_spent}
 use Rattle.dso_world.specs.WorldSteps.{settings_of, slot_of}
 use Rattle.dso_run.specs.declared.running.Outcome.TheVariants.{Stuck, Budget}
 use Rattle.dso_run.specs.Headline.{IsRunOf}
@@ -61,7 +61,7 @@ module _ (program : Program) (seed : Option ℕ) where
 
   module _ (budget : ℕ) where
     -- before the first step
-    pub begins : (world : World) → WorldStands program world → world.is_spent ≡ false → world.journal.entries ≡ [] → RunsOn program seed budget world
+    pub begins : (world : World) → WorldStands program world → is_spent world ≡ false → world.journal.entries ≡ [] → RunsOn program seed budget world
     begins world stands whole empty = record {
       stands = stands;
       whole = whole;
@@ -70,7 +70,7 @@ module _ (program : Program) (seed : Option ℕ) where
 
     -- one step more
     pub goes_on : (old new : World) → RunsOn program seed budget old → is_finished (settings_of program) (entries_in old) ≡ false → weight (entries_in old) < budget
-        → TakesTurn program seed old new → WorldStands program new → new.is_spent ≡ false → RunsOn program seed budget new
+        → TakesTurn program seed old new → WorldStands program new → is_spent new ≡ false → RunsOn program seed budget new
     goes_on old new runs unfinished light turn stands whole =
         let there : is_any (open_slots (settings_of program) (next_request program.code) (entries_in old)) ≡ true
         = some_found _ _ (chosen_open (settings_of program) (next_request program.code) (entries_in old) seed turn.slot turn.chosen) in
