@@ -2,8 +2,8 @@
 use Rattle.std.specs.Prelude.{ℕ, ◌+◌, ◌<◌, List, length, drop, Result, Ok, Err}
 use Rattle.dso_io.specs.declared.environment.Failed.{Failed}
 
--- For what is told of a put (the sink before it, the bytes that it was given, its answer, and the sink after it), a text
--- and the sink before the first put:
+-- For what is told of a put (the sink before it, the bytes that it was given, its answer, and the sink after it), a
+-- text, and the sink before the first put:
 module _ {S : Type 0} (Puts : S → List ℕ → Result ℕ Failed → S → Type 0) (text : List ℕ) (before : S) where
   -- Puts of all that was left each took something, so many bytes in all, and the sink is this one then.
   pub data GaveRests : ℕ → S → Type 0 where

@@ -59,8 +59,8 @@ pub record CallOutput : Type 0 where
   pub writes_after : ℕ
   pub journal : List Entry
 
--- What files and a sink leave of a call, and what was read of them, by their own words (what is told of a file, how many
--- reads of each have failed; how many writes have; what the sink has taken, and how many of its calls have failed), as
+-- What files and a sink leave of a call, and what was read of them, by their own words (what is told of a file, how
+-- many reads of each have failed; how many writes have; what the sink has taken, and how many of its calls have failed), as
 -- the files and the sink were before the call and are after it.
 abbrev pub read_by : {F : Type 0} → (F → List ℕ → Told) → (F → List ℕ → ℕ) → F → F → List (List ℕ) → CallInput
 read_by content read_faults files_before files_after words = record {
