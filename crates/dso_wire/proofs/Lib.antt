@@ -1,0 +1,9 @@
+pub mod Bytes
+pub mod Exact
+pub mod Ways
+pub mod Several
+pub mod Grammar
+pub mod OverItems
+pub mod Meaning
+pub mod Going
+pub mod Lengths
