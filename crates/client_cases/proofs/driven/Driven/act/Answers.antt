@@ -13,13 +13,13 @@ more few most kept less holds = record {
 }
 
 pub act-requires-clause-few : goal.act-requires-clause-few
-act-requires-clause-few c =
+act-requires-clause-few c = λ whole.
     let sent = c.requires.goes.records in
     let few = c.requires.goes.few in
     omega (arith, sent, few)
 
 pub act-requires-clause-counts : goal.act-requires-clause-counts
-act-requires-clause-counts c =
+act-requires-clause-counts c = λ whole.
     let few = c.requires.goes.few in
     more c.args.self.now.acts (2 ^ 32 - 2) c.args.self.now.client (omega (arith, few)) c.requires.goes.holds
 
