@@ -1,5 +1,5 @@
 -- What has bytes has what encoding asks for.
-use Rattle.std.proofs.Common.{List, [], ◌∷◌, All}
+use Rattle.std.proofs.Common.{List, [], ◌∷◌}
 use Rattle.std.specs.List.{AllByRecursion}
 use Rattle.std.proofs.lemmas.List.Elements.{All-from_recursion}
 use Rattle.dso_base.specs.declared.message.Down.{Down}

@@ -1,10 +1,9 @@
 -- How many bytes a record has at most.
-use Rattle.std.proofs.Common.{◌≡◌, ℕ, ◌+◌, ◌*◌, ◌≤◌, List, [], ◌∷◌, ◌++◌, length, refl, arith}
+use Rattle.std.proofs.Common.{ℕ, ◌+◌, ◌*◌, ◌≤◌, List, [], ◌∷◌, ◌++◌, length, arith}
 use Rattle.std.specs.List.{flat_map, sum_by}
 use Rattle.std.proofs.lemmas.List.{length-append}
 use Rattle.std.proofs.lemmas.List.Sums.{sum_by-cons}
-use Rattle.std.specs.Int.{w32, w64}
-use Rattle.dso_base.specs.Weight.{body_values_of, txn_values_of}
+use Rattle.dso_base.specs.Weight.{body_values_of}
 use Rattle.dso_base.specs.declared.lock.LockName.{LockName}
 use Rattle.dso_base.specs.declared.lock.LockName.TheVariants.{Mon, Name}
 use Rattle.dso_base.specs.declared.record.Body.{Body}
@@ -21,10 +20,10 @@ use Rattle.dso_base.specs.declared.value.Kind.{Kind}
 use Rattle.dso_base.specs.declared.value.Kind.TheVariants as kind
 use Rattle.dso_base.specs.declared.value.Value.{Value}
 use Rattle.dso_base.specs.declared.value.Value.TheVariants as value
-use Rattle.std.specs.Prelude.{Bool, true, false}
-use Rattle.dso_wire.specs.Cells.{Cell, bytes_of, number, listed}
+use Rattle.std.specs.Prelude.{true, false}
+use Rattle.dso_wire.specs.Cells.{Cell, listed}
 use Rattle.dso_wire.specs.Laws.{IsShort}
-use Rattle.dso_wire.specs.Spelling.{truth_cells, value_cells, lock_cells, thread_cells, kind_cells, class_cells, body_cells, set_cells, choice_cells, note_cells, ending_cells, record_cells}
+use Rattle.dso_wire.specs.Spelling.{value_cells, lock_cells, kind_cells, class_cells, body_cells, set_cells, choice_cells, note_cells, ending_cells, record_cells}
 use Rattle.dso_wire.proofs.Meaning.{length_bytes}
 
 value_length : (v : Value) → length (value_cells v) ≤ 9

@@ -19,7 +19,7 @@ pub enum WireFault {
     #[error("byte {0}: out of range")]
     Range(u64),
     /// A whole frame ends before this place, and there are more bytes.
-    #[error("byte {0}: more than one frame")]
+    #[error("byte {0}: behind the end")]
     Rest(u64),
     /// An allocation was refused.
     #[error("out of memory")]
