@@ -14,7 +14,7 @@ pub struct Pace {
     pub left: usize,
 }
 
-/// The files of the system, each opened anew at this pace. Nothing but opening is built.
+/// The files of the system, each opened anew at this pace. What is done to names goes to the system, so that a row sees it.
 #[derive(Drop)]
 pub struct SlowFiles<'a> {
     pub host: &'a HostRuntime,
@@ -108,36 +108,36 @@ impl<'a> rt::Files for SlowFiles<'a> {
         Err(unsupported())
     }
 
-    fn metadata(&self, _path: &str) -> io::Result<Metadata> {
-        Err(unsupported())
+    fn metadata(&self, path: &str) -> io::Result<Metadata> {
+        self.host.metadata(path)
     }
 
-    fn symlink_metadata(&self, _path: &str) -> io::Result<Metadata> {
-        Err(unsupported())
+    fn symlink_metadata(&self, path: &str) -> io::Result<Metadata> {
+        self.host.symlink_metadata(path)
     }
 
-    fn copy(&self, _from: &str, _to: &str) -> io::Result<u64> {
-        Err(unsupported())
+    fn copy(&self, from: &str, to: &str) -> io::Result<u64> {
+        self.host.copy(from, to)
     }
 
-    fn rename(&self, _from: &str, _to: &str) -> io::Result<()> {
-        Err(unsupported())
+    fn rename(&self, from: &str, to: &str) -> io::Result<()> {
+        self.host.rename(from, to)
     }
 
-    fn remove_file(&self, _path: &str) -> io::Result<()> {
-        Err(unsupported())
+    fn remove_file(&self, path: &str) -> io::Result<()> {
+        self.host.remove_file(path)
     }
 
-    fn create_dir(&self, _path: &str) -> io::Result<()> {
-        Err(unsupported())
+    fn create_dir(&self, path: &str) -> io::Result<()> {
+        self.host.create_dir(path)
     }
 
-    fn remove_dir(&self, _path: &str) -> io::Result<()> {
-        Err(unsupported())
+    fn remove_dir(&self, path: &str) -> io::Result<()> {
+        self.host.remove_dir(path)
     }
 
-    fn remove_dir_all<B: Allocator>(&self, _alloc: B, _path: &str) -> io::Result<()> {
-        Err(unsupported())
+    fn remove_dir_all<B: Allocator>(&self, alloc: B, path: &str) -> io::Result<()> {
+        self.host.remove_dir_all(alloc, path)
     }
 }
 
