@@ -9,11 +9,14 @@ use Rattle.dso_base.specs.declared.value.Value.{Value}
 use Rattle.dso_base.specs.declared.value.Value.TheVariants as value
 use Rattle.dso_map.specs.declared.map_op.MapOp.{MapOp}
 use Rattle.dso_map.specs.declared.map_op.MapOp.TheVariants as op
-use Rattle.dso_map.specs.Bodies.{Body, set, left_by, given_by, asked_by}
-use Rattle.dso_map.specs.Talk.{takes, Field, Talk, slots, slot_of, is_true, is_null, more, less, either, resizes, fills, found, missing, talk}
-use Rattle.dso_map.specs.Talk.Field.{Touched, Key, Held, Size}
+use Rattle.dso_map.specs.Bodies.{MapBody, set, left_by, given_by, asked_by}
+use Rattle.dso_map.specs.Fields.{MapField, slots, field_takes}
+use Rattle.dso_map.specs.Talk.{Talk, slot_of, is_true, is_null, more, less, either, resizes, fills, found, missing, talk}
+use Rattle.dso_map.specs.Fields.MapField.{Touched, Key, Held, Size}
 use Rattle.dso_map.specs.Talk.Talk.{Gets, Puts, Ends}
-use Rattle.dso_map.specs.Table.{touched, key, one_more, count, IsReached, IsSound, IsApart, Content, value_in, Holds, HasKeys, Same, with, or_null, IsFull, HasRoom, Meets, Keeps, PutsObject}
+use Rattle.dso_map.specs.SoundMap.{touched, key, one_more, count, IsReached, IsSoundMap}
+use Rattle.dso_map.specs.Contents.{Content, value_in, Holds, HasKeys, Same, with, or_null, IsFull, HasRoom, Meets}
+use Rattle.dso_map.specs.KeptMaps.{IsApart, IsQuestion, KeepsMap, PutsObject}
 use Rattle.dso_map.proofs.Paths.{longs, Comes, Passed, IsHole, PathEnds, slot_below, null_is, bound, whole_path}
 use Rattle.dso_map.proofs.Counts.{full, few, fewer, all_full, one_changed, has_keys}
 use Rattle.dso_map.proofs.Updates.{Fills, MayFill, filled_sound, filled_holds}
@@ -21,46 +24,54 @@ use Rattle.dso_map.proofs.Round.{HasPlace, on_path}
 use Rattle.dso_map.proofs.Sizes.{slots_are, one_more_fits, one_less_fits}
 
 -- a talk that keeps what a call has to
-record KeepsBy (op : MapOp) (b : Body) (t : Talk) (n : ℕ) : Type 0 where
+record KeepsBy (op : MapOp) (b : MapBody) (t : Talk) (n : ℕ) : Type 0 where
   few : asked_by t b ≤ n
-  sound : IsSound (left_by t b)
+  sound : IsSoundMap (left_by t b)
   meets : (m : Content) → Holds b m → (n : Content) × Holds (left_by t b) n × Meets op (given_by t b) m n
   slot : ℕ
-  only : (f : Field) → IsApart slot f → left_by t b f ≡ b f
+  within : slot < slots
+  only : (f : MapField) → IsApart slot f → left_by t b f ≡ b f
+  asks : IsQuestion op → left_by t b ≡ b
 
 -- what comes to it keeps it
-before : (op : MapOp) (b : Body) (s t : Talk) (m n : ℕ) → Comes b s t m → KeepsBy op b t n → KeepsBy op b s (m + n)
+before : (op : MapOp) (b : MapBody) (s t : Talk) (m n : ℕ) → Comes b s t m → KeepsBy op b t n → KeepsBy op b s (m + n)
 before op b s t m n comes keeps = record {
   few = let a : asked_by s b ≤ m + asked_by t b = comes.asked in let c : asked_by t b ≤ n = keeps.few in omega (arith, a, c);
-  sound = subst IsSound (sym comes.left) keeps.sound;
+  sound = subst IsSoundMap (sym comes.left) keeps.sound;
   meets = λ map holds. let after : (n : Content) × Holds (left_by t b) n × Meets op (given_by t b) map n = keeps.meets map holds in
       (after.0, subst (λ x. Holds x after.0) (sym comes.left) after.1, subst (λ r. Meets op r map after.0) (sym comes.given) after.2);
   slot = keeps.slot;
-  only = λ f apart. ap (λ (x : Body). x f) comes.left ∙ keeps.only f apart;
+  within = keeps.within;
+  only = λ f apart. ap (λ (x : MapBody). x f) comes.left ∙ keeps.only f apart;
+  asks = λ is. comes.left ∙ keeps.asks is;
 }
 
 same_map : (m : Content) → Same m m
 same_map m k = refl
 
 -- a talk that writes nothing
-reads : (op : MapOp) (b : Body) (t : Talk) (n : ℕ) → IsSound b → asked_by t b ≤ n → left_by t b ≡ b → ((m : Content) → Holds b m → Meets op (given_by t b) m m) → KeepsBy op b t n
+reads : (op : MapOp) (b : MapBody) (t : Talk) (n : ℕ) → IsSoundMap b → asked_by t b ≤ n → left_by t b ≡ b → ((m : Content) → Holds b m → Meets op (given_by t b) m m) → KeepsBy op b t n
 reads op b t n sound few same meets = record {
   few = few;
-  sound = subst IsSound (sym same) sound;
+  sound = subst IsSoundMap (sym same) sound;
   meets = λ m holds. (m, subst (λ x. Holds x m) (sym same) holds, meets m holds);
   slot = 0;
-  only = λ f apart. ap (λ (x : Body). x f) same;
+  within = omega (arith, slots_are);
+  only = λ f apart. ap (λ (x : MapBody). x f) same;
+  asks = λ is. same;
 }
 
 -- a talk that fills a slot
-writes : (op : MapOp) (b : Body) (t : Talk) (k : ℤ) (i : ℕ) (v : Value) (n : ℕ) → IsSound b → asked_by t b ≤ n → MayFill b k i → Fills b (left_by t b) k i v
+writes : (op : MapOp) (b : MapBody) (t : Talk) (k : ℤ) (i : ℕ) (v : Value) (n : ℕ) → (IsQuestion op → ⊥) → IsSoundMap b → asked_by t b ≤ n → MayFill b k i → Fills b (left_by t b) k i v
     → ((m : Content) → Holds b m → Meets op (given_by t b) m (with k (value_in v) m)) → KeepsBy op b t n
-writes op b t k i v n sound few may fills meets = record {
+writes op b t k i v n writing sound few may fills meets = record {
   few = few;
   sound = filled_sound b (left_by t b) k i v sound may fills;
   meets = λ m holds. (with k (value_in v) m, filled_holds b (left_by t b) k i v sound may fills m holds, meets m holds);
   slot = i;
+  within = may.below;
   only = fills.others;
+  asks = λ is. absurd (writing is);
 }
 
 -- ---- values
@@ -87,21 +98,21 @@ true_is (value.Text b) is = absurd (cc is)
 true_is (value.Ref b) is = absurd (cc is)
 
 -- a reference to an object fits
-ref_taken : (i o : ℕ) → o ≢ 0 → takes (Held i) (value.Ref o) ≡ true
+ref_taken : (i o : ℕ) → o ≢ 0 → field_takes (Held i) (value.Ref o) ≡ true
 ref_taken i zero real = absurd (real refl)
 ref_taken i (suc o) real = refl
 
 -- ---- fields
 
 -- a field of the slot
-abbrev IsOf : ℕ → Field → Type 0
+abbrev IsOf : ℕ → MapField → Type 0
 IsOf i (Touched j) = j ≡ i
 IsOf i (Key j) = j ≡ i
 IsOf i (Held j) = j ≡ i
 IsOf i Size = Unit {0}
 
 -- what is written into it leaves the fields apart
-set_apart : (i : ℕ) (f g : Field) (v : Value) (b : Body) → IsOf i f → IsApart i g → set f v b g ≡ b g
+set_apart : (i : ℕ) (f g : MapField) (v : Value) (b : MapBody) → IsOf i f → IsApart i g → set f v b g ≡ b g
 set_apart i (Touched j) (Touched l) v b is apart = ap (λ t. cond t v (b (Touched l))) (ne_eqb l j (λ same. apart (sym (same ∙ is))))
 set_apart i (Key j) (Key l) v b is apart = ap (λ t. cond t v (b (Key l))) (ne_eqb l j (λ same. apart (sym (same ∙ is))))
 set_apart i (Held j) (Held l) v b is apart = ap (λ t. cond t v (b (Held l))) (ne_eqb l j (λ same. apart (sym (same ∙ is))))
@@ -121,28 +132,28 @@ own : (i : ℕ) (v w : Value) → cond (eqb i i) v w ≡ v
 own i v w = ap (λ t. cond t v w) (eq-eqb i i refl)
 
 -- the count where one slot that had no value has one
-grown : (b c : Body) (i : ℕ) → i < slots → ((f : Field) → IsApart i f → c f ≡ b f) → full b i ≡ false → full c i ≡ true → count c slots ≡ suc (count b slots)
+grown : (b c : MapBody) (i : ℕ) → i < slots → ((f : MapField) → IsApart i f → c f ≡ b f) → full b i ≡ false → full c i ≡ true → count c slots ≡ suc (count b slots)
 grown b c i less others no_ yes_ =
     let moved : count c slots + one_more (full b i) 0 ≡ count b slots + one_more (full c i) 0 = one_changed b c slots i less (λ j below unlike. ap (λ v. not (is_null v)) (others (Held j) unlike)) in
     let none : one_more (full b i) 0 ≡ 0 = ap (λ t. one_more t 0) no_ in
     let one : one_more (full c i) 0 ≡ 1 = ap (λ t. one_more t 0) yes_ in
     omega (arith, moved, none, one)
 
-shrunk : (b c : Body) (i : ℕ) → i < slots → ((f : Field) → IsApart i f → c f ≡ b f) → full b i ≡ true → full c i ≡ false → count b slots ≡ suc (count c slots)
+shrunk : (b c : MapBody) (i : ℕ) → i < slots → ((f : MapField) → IsApart i f → c f ≡ b f) → full b i ≡ true → full c i ≡ false → count b slots ≡ suc (count c slots)
 shrunk b c i less others yes_ no_ =
     let moved : count c slots + one_more (full b i) 0 ≡ count b slots + one_more (full c i) 0 = one_changed b c slots i less (λ j below unlike. ap (λ v. not (is_null v)) (others (Held j) unlike)) in
     let one : one_more (full b i) 0 ≡ 1 = ap (λ t. one_more t 0) yes_ in
     let none : one_more (full c i) 0 ≡ 0 = ap (λ t. one_more t 0) no_ in
     omega (arith, moved, none, one)
 
-level : (b c : Body) (i : ℕ) → i < slots → ((f : Field) → IsApart i f → c f ≡ b f) → full b i ≡ true → full c i ≡ true → count c slots ≡ count b slots
+level : (b c : MapBody) (i : ℕ) → i < slots → ((f : MapField) → IsApart i f → c f ≡ b f) → full b i ≡ true → full c i ≡ true → count c slots ≡ count b slots
 level b c i less others was is =
     let moved : count c slots + one_more (full b i) 0 ≡ count b slots + one_more (full c i) 0 = one_changed b c slots i less (λ j below unlike. ap (λ v. not (is_null v)) (others (Held j) unlike)) in
     let one : one_more (full b i) 0 ≡ 1 = ap (λ t. one_more t 0) was in
     let other : one_more (full c i) 0 ≡ 1 = ap (λ t. one_more t 0) is in
     omega (arith, moved, one, other)
 
-module _ (b : Body) (k : ℤ) (sound : IsSound b) where
+module _ (b : MapBody) (k : ℤ) (sound : IsSoundMap b) where
   -- where the path ended before the key, no touched slot has it
   absent : (d : ℕ) → Passed b k d → (touched b (slot_of k d) ≡ false) ⊎ (d ≡ slots) → (i : ℕ) → i < slots → touched b i ≡ true → key b i ≢ k
   absent d passed end i less is same = at (sound.paths i less is)
@@ -203,18 +214,18 @@ module _ (b : Body) (k : ℤ) (sound : IsSound b) where
 
   module _ (o : ℕ) (real : o ≢ 0) where
     -- the object fits
-    object_fits : (i : ℕ) → takes (Held i) (value.Ref o) ≡ true
+    object_fits : (i : ℕ) → field_takes (Held i) (value.Ref o) ≡ true
     object_fits i = ref_taken i o real
 
     -- the slot of the key has no value yet: it gets one
     put_empty : (i : ℕ) → MayFill b k i → touched b i ≡ true → key b i ≡ k → is_null (b (Held i)) ≡ true
         → KeepsBy (op.Put k o) b (Gets (Held i) (λ v. Puts (Held i) (value.Ref o) (resizes more))) 8
-    put_empty i may is same null = writes (op.Put k o) b _ k i (value.Ref o) 8 sound (omega arith) may filled (λ m holds. inr (room m holds i may.below (ap not null), refl, same_map _))
+    put_empty i may is same null = writes (op.Put k o) b _ k i (value.Ref o) 8 (λ is. is) sound (omega arith) may filled (λ m holds. inr (room m holds i may.below (ap not null), refl, same_map _))
       where
-        c : Body
+        c : MapBody
         c = set Size (more (b Size)) (set (Held i) (value.Ref o) b)
 
-        others : (f : Field) → IsApart i f → c f ≡ b f
+        others : (f : MapField) → IsApart i f → c f ≡ b f
         others f apart = set_apart i Size f (more (b Size)) (set (Held i) (value.Ref o) b) tt apart ∙ set_apart i (Held i) f (value.Ref o) b refl apart
 
         held_ : c (Held i) ≡ value.Ref o
@@ -233,7 +244,7 @@ module _ (b : Body) (k : ℤ) (sound : IsSound b) where
     -- the slot of the key has a value: it gets another
     put_over : (i : ℕ) → MayFill b k i → touched b i ≡ true → key b i ≡ k → is_null (b (Held i)) ≡ false
         → KeepsBy (op.Put k o) b (Gets (Held i) (λ v. Puts (Held i) (value.Ref o) (Ends (value.Bool true)))) 8
-    put_over i may is same null = writes (op.Put k o) b _ k i (value.Ref o) 8 sound (omega arith) may filled (λ m holds. inr (inl (there m holds), refl, same_map _))
+    put_over i may is same null = writes (op.Put k o) b _ k i (value.Ref o) 8 (λ is. is) sound (omega arith) may filled (λ m holds. inr (inl (there m holds), refl, same_map _))
       where
         there : (m : Content) → Holds b m → m k ≢ None
         there m holds none = by (b (Held i)) null (sym (ap m (sym same) ∙ holds.there i may.below is) ∙ none)
@@ -245,10 +256,10 @@ module _ (b : Body) (k : ℤ) (sound : IsSound b) where
             by (value.Text n) is none = cc none
             by (value.Ref n) is none = cc none
 
-        c : Body
+        c : MapBody
         c = set (Held i) (value.Ref o) b
 
-        others : (f : Field) → IsApart i f → c f ≡ b f
+        others : (f : MapField) → IsApart i f → c f ≡ b f
         others f apart = set_apart i (Held i) f (value.Ref o) b refl apart
 
         held_ : c (Held i) ≡ value.Ref o
@@ -266,12 +277,12 @@ module _ (b : Body) (k : ℤ) (sound : IsSound b) where
 
     -- a slot without a value, whose key nobody has, gets both
     put_hole : (i : ℕ) → MayFill b k i → touched b i ≡ true → is_null (b (Held i)) ≡ true → KeepsBy (op.Put k o) b (fills i k o) 8
-    put_hole i may is null = writes (op.Put k o) b _ k i (value.Ref o) 8 sound (omega arith) may filled (λ m holds. inr (room m holds i may.below (ap not null), refl, same_map _))
+    put_hole i may is null = writes (op.Put k o) b _ k i (value.Ref o) 8 (λ is. is) sound (omega arith) may filled (λ m holds. inr (room m holds i may.below (ap not null), refl, same_map _))
       where
-        c : Body
+        c : MapBody
         c = set Size (more (b Size)) (set (Held i) (value.Ref o) (set (Key i) (value.Long k) b))
 
-        others : (f : Field) → IsApart i f → c f ≡ b f
+        others : (f : MapField) → IsApart i f → c f ≡ b f
         others f apart = set_apart i Size f (more (b Size)) (set (Held i) (value.Ref o) (set (Key i) (value.Long k) b)) tt apart ∙ set_apart i (Held i) f (value.Ref o) (set (Key i) (value.Long k) b) refl apart ∙ set_apart i (Key i) f (value.Long k) b refl apart
 
         held_ : c (Held i) ≡ value.Ref o
@@ -289,12 +300,12 @@ module _ (b : Body) (k : ℤ) (sound : IsSound b) where
 
     -- an untouched slot is touched, and gets both
     put_fresh : (i : ℕ) → MayFill b k i → is_null (b (Held i)) ≡ true → KeepsBy (op.Put k o) b (Puts (Touched i) (value.Bool true) (fills i k o)) 8
-    put_fresh i may null = writes (op.Put k o) b _ k i (value.Ref o) 8 sound (omega arith) may filled (λ m holds. inr (room m holds i may.below (ap not null), refl, same_map _))
+    put_fresh i may null = writes (op.Put k o) b _ k i (value.Ref o) 8 (λ is. is) sound (omega arith) may filled (λ m holds. inr (room m holds i may.below (ap not null), refl, same_map _))
       where
-        c : Body
+        c : MapBody
         c = set Size (more (b Size)) (set (Held i) (value.Ref o) (set (Key i) (value.Long k) (set (Touched i) (value.Bool true) b)))
 
-        others : (f : Field) → IsApart i f → c f ≡ b f
+        others : (f : MapField) → IsApart i f → c f ≡ b f
         others f apart = set_apart i Size f (more (b Size)) (set (Held i) (value.Ref o) (set (Key i) (value.Long k) (set (Touched i) (value.Bool true) b))) tt apart
             ∙ set_apart i (Held i) f (value.Ref o) (set (Key i) (value.Long k) (set (Touched i) (value.Bool true) b)) refl apart ∙ set_apart i (Key i) f (value.Long k) (set (Touched i) (value.Bool true) b) refl apart
             ∙ set_apart i (Touched i) f (value.Bool true) b refl apart
@@ -386,7 +397,9 @@ module _ (b : Body) (k : ℤ) (sound : IsSound b) where
     sound = sound;
     meets = λ m holds. (with k None m, holds_without m holds, (ap value.Bool (sym (ap is_some (none m holds))), same_map _));
     slot = i;
+    within = less;
     only = λ f apart. refl;
+    asks = λ is. refl;
   }
     where
       none : (m : Content) → Holds b m → m k ≡ None
@@ -409,7 +422,9 @@ module _ (b : Body) (k : ℤ) (sound : IsSound b) where
     sound = sound;
     meets = λ m holds. (with k None m, holds_without m holds, (ap value.Bool (sym (ap is_some (holds.only k nobody))), same_map _));
     slot = 0;
+    within = omega (arith, slots_are);
     only = λ f apart. refl;
+    asks = λ is. refl;
   }
     where
       at : (m : Content) → m k ≡ None → (x : ℤ) (t : Bool) → int_eq k x ≡ t → cond t None (m x) ≡ m x
@@ -424,12 +439,12 @@ module _ (b : Body) (k : ℤ) (sound : IsSound b) where
 
   -- the slot of the key has a value: it is taken out
   remove_full : (i : ℕ) → MayFill b k i → touched b i ≡ true → key b i ≡ k → is_null (b (Held i)) ≡ false → KeepsBy (op.Remove k) b (Gets (Held i) (λ v. Puts (Held i) value.Null (resizes less))) 8
-  remove_full i may is same null = writes (op.Remove k) b _ k i value.Null 8 sound (omega arith) may filled (λ m holds. (ap value.Bool (sym (ap is_some (ap m (sym same) ∙ holds.there i may.below is) ∙ some_value (b (Held i)) ∙ ap not null)), same_map _))
+  remove_full i may is same null = writes (op.Remove k) b _ k i value.Null 8 (λ is. is) sound (omega arith) may filled (λ m holds. (ap value.Bool (sym (ap is_some (ap m (sym same) ∙ holds.there i may.below is) ∙ some_value (b (Held i)) ∙ ap not null)), same_map _))
     where
-      c : Body
+      c : MapBody
       c = set Size (less (b Size)) (set (Held i) value.Null b)
 
-      others : (f : Field) → IsApart i f → c f ≡ b f
+      others : (f : MapField) → IsApart i f → c f ≡ b f
       others f apart = set_apart i Size f (less (b Size)) (set (Held i) value.Null b) tt apart ∙ set_apart i (Held i) f value.Null b refl apart
 
       held_ : c (Held i) ≡ value.Null
@@ -472,31 +487,31 @@ bound_is zero = refl
 bound_is (suc n) = omega (arith, bound_is n)
 
 -- what is asked on the way and at the end of a path is few
-few_enough : (op : MapOp) (b : Body) (n : ℕ) → n ≤ 8 → KeepsBy op b (talk op) (bound slots + n) → Keeps op b
-few_enough op b n le keeps = record { few = let f : asked_by (talk op) b ≤ bound slots + n = keeps.few in omega (arith, f, le, bound_is slots, slots_are); sound = keeps.sound; meets = keeps.meets; slot = keeps.slot; only = keeps.only }
+few_enough : (op : MapOp) (b : MapBody) (n : ℕ) → n ≤ 8 → KeepsBy op b (talk op) (bound slots + n) → KeepsMap op b
+few_enough op b n le keeps = record { few = let f : asked_by (talk op) b ≤ bound slots + n = keeps.few in omega (arith, f, le, bound_is slots, slots_are); sound = keeps.sound; meets = keeps.meets; slot = keeps.slot; within = keeps.within; only = keeps.only; asks = keeps.asks }
 
-pub keeps : (op : MapOp) (b : Body) → PutsObject op → IsSound b → Keeps op b
-keeps (op.Get k) b real sound = by (whole_path b k sound (op.Get k) tt)
+pub keeps : (op : MapOp) (b : MapBody) → PutsObject op → IsSoundMap b → KeepsMap op b
+keeps (op.Get k) b real sound = by (whole_path b sound (op.Get k) tt)
   where
-    by : PathEnds (op.Get k) b k (talk (op.Get k)) (bound slots) → Keeps (op.Get k) b
+    by : PathEnds (op.Get k) b k (talk (op.Get k)) (bound slots) → KeepsMap (op.Get k) b
     by (PathEnds.at_key d less is own comes) = few_enough (op.Get k) b 5 (omega arith) (before (op.Get k) b (talk (op.Get k)) (found (op.Get k) (slot_of k d)) (bound slots) 5 comes (get_found b k sound d less is own))
     by (PathEnds.at_end d less is passed hole has comes) = few_enough (op.Get k) b 5 (omega arith) (before (op.Get k) b (talk (op.Get k)) (missing (op.Get k) (Some (slot_of k d)) hole) (bound slots) 5 comes (get_missing b k sound (Some (slot_of k d)) hole (absent b k sound d passed (inl is))))
     by (PathEnds.behind_all passed hole has comes) = few_enough (op.Get k) b 5 (omega arith) (before (op.Get k) b (talk (op.Get k)) (missing (op.Get k) None hole) (bound slots) 5 comes (get_missing b k sound None hole (absent b k sound slots passed (inr refl))))
-keeps (op.Has k) b real sound = by (whole_path b k sound (op.Has k) tt)
+keeps (op.Has k) b real sound = by (whole_path b sound (op.Has k) tt)
   where
-    by : PathEnds (op.Has k) b k (talk (op.Has k)) (bound slots) → Keeps (op.Has k) b
+    by : PathEnds (op.Has k) b k (talk (op.Has k)) (bound slots) → KeepsMap (op.Has k) b
     by (PathEnds.at_key d less is own comes) = few_enough (op.Has k) b 5 (omega arith) (before (op.Has k) b (talk (op.Has k)) (found (op.Has k) (slot_of k d)) (bound slots) 5 comes (has_found b k sound d less is own))
     by (PathEnds.at_end d less is passed hole has comes) = few_enough (op.Has k) b 5 (omega arith) (before (op.Has k) b (talk (op.Has k)) (missing (op.Has k) (Some (slot_of k d)) hole) (bound slots) 5 comes (has_missing b k sound (Some (slot_of k d)) hole (absent b k sound d passed (inl is))))
     by (PathEnds.behind_all passed hole has comes) = few_enough (op.Has k) b 5 (omega arith) (before (op.Has k) b (talk (op.Has k)) (missing (op.Has k) None hole) (bound slots) 5 comes (has_missing b k sound None hole (absent b k sound slots passed (inr refl))))
-keeps (op.Remove k) b real sound = by (whole_path b k sound (op.Remove k) tt)
+keeps (op.Remove k) b real sound = by (whole_path b sound (op.Remove k) tt)
   where
-    by : PathEnds (op.Remove k) b k (talk (op.Remove k)) (bound slots) → Keeps (op.Remove k) b
+    by : PathEnds (op.Remove k) b k (talk (op.Remove k)) (bound slots) → KeepsMap (op.Remove k) b
     by (PathEnds.at_key d less is own comes) = few_enough (op.Remove k) b 8 (omega arith) (before (op.Remove k) b (talk (op.Remove k)) (found (op.Remove k) (slot_of k d)) (bound slots) 8 comes (remove_found b k sound d less is own))
     by (PathEnds.at_end d less is passed hole has comes) = few_enough (op.Remove k) b 8 (omega arith) (before (op.Remove k) b (talk (op.Remove k)) (missing (op.Remove k) (Some (slot_of k d)) hole) (bound slots) 8 comes (remove_missing b k sound (Some (slot_of k d)) hole (absent b k sound d passed (inl is))))
     by (PathEnds.behind_all passed hole has comes) = few_enough (op.Remove k) b 8 (omega arith) (before (op.Remove k) b (talk (op.Remove k)) (missing (op.Remove k) None hole) (bound slots) 8 comes (remove_missing b k sound None hole (absent b k sound slots passed (inr refl))))
-keeps (op.Put k o) b real sound = by (whole_path b k sound (op.Put k o) (IsHole.none (λ e less. absurd (omega (arith, less)))))
+keeps (op.Put k o) b real sound = by (whole_path b sound (op.Put k o) (IsHole.none (λ e less. absurd (omega (arith, less)))))
   where
-    by : PathEnds (op.Put k o) b k (talk (op.Put k o)) (bound slots) → Keeps (op.Put k o) b
+    by : PathEnds (op.Put k o) b k (talk (op.Put k o)) (bound slots) → KeepsMap (op.Put k o) b
     by (PathEnds.at_key d less is own comes) = few_enough (op.Put k o) b 8 (omega arith) (before (op.Put k o) b (talk (op.Put k o)) (found (op.Put k o) (slot_of k d)) (bound slots) 8 comes (put_found b k sound o real d less is own))
     by (PathEnds.at_end d less is passed hole has comes) = few_enough (op.Put k o) b 8 (omega arith) (before (op.Put k o) b (talk (op.Put k o)) (missing (op.Put k o) (Some (slot_of k d)) hole) (bound slots) 8 comes (put_at_end b k sound o real d less is passed hole))
     by (PathEnds.behind_all passed hole has comes) = few_enough (op.Put k o) b 8 (omega arith) (before (op.Put k o) b (talk (op.Put k o)) (missing (op.Put k o) None hole) (bound slots) 8 comes (put_behind_all b k sound o real passed hole has))
@@ -505,5 +520,7 @@ keeps op.Size b real sound = record {
   sound = sound;
   meets = λ m holds. (m, holds, ((count b slots, has_keys b sound m holds, sound.size), same_map m));
   slot = 0;
+  within = omega (arith, slots_are);
   only = λ f apart. refl;
+  asks = λ is. refl;
 }

@@ -5,24 +5,27 @@ use Rattle.std.specs.Ordering.{int_eq}
 use Rattle.std.proofs.lemmas.Bool.Decides.{Decides-int_eq}
 use Rattle.dso_base.specs.declared.value.Value.{Value}
 use Rattle.dso_base.specs.declared.value.Value.TheVariants as value
-use Rattle.dso_map.specs.Bodies.{Body}
-use Rattle.dso_map.specs.Talk.{takes, Field, slots, slot_of, is_true, long_of}
-use Rattle.dso_map.specs.Talk.Field.{Touched, Key, Held, Size}
-use Rattle.dso_map.specs.Table.{IsThere, touched, key, count, IsReached, IsSound, IsApart, Content, value_in, Holds, with}
+use Rattle.dso_map.specs.Bodies.{MapBody}
+use Rattle.dso_map.specs.Fields.{MapField, IsMapField, slots, field_takes}
+use Rattle.dso_map.specs.Talk.{slot_of, is_true, long_of}
+use Rattle.dso_map.specs.Fields.MapField.{Touched, Key, Held, Size}
+use Rattle.dso_map.specs.SoundMap.{touched, key, count, IsReached, IsSoundMap}
+use Rattle.dso_map.specs.Contents.{Content, value_in, Holds, with}
+use Rattle.dso_map.specs.KeptMaps.{IsApart}
 use Rattle.dso_map.proofs.Counts.{FindsKey, find_key}
 
 -- the other body has this key and value in the slot, its count as its size, and all else as before
-pub record Fills (b c : Body) (k : ℤ) (i : ℕ) (v : Value) : Type 0 where
+pub record Fills (b c : MapBody) (k : ℤ) (i : ℕ) (v : Value) : Type 0 where
   pub touched_ : c (Touched i) ≡ value.Bool true
   pub key_ : c (Key i) ≡ value.Long k
   pub held : c (Held i) ≡ v
-  pub fits : takes (Held i) v ≡ true
-  pub others : (f : Field) → IsApart i f → c f ≡ b f
+  pub fits : field_takes (Held i) v ≡ true
+  pub others : (f : MapField) → IsApart i f → c f ≡ b f
   pub size : c Size ≡ value.Long (pos (count c slots))
 
 -- the slot stands on the path of the key behind touched slots, no other touched slot has the key, and what the slot had is
 -- the key's own, or nothing
-pub record MayFill (b : Body) (k : ℤ) (i : ℕ) : Type 0 where
+pub record MayFill (b : MapBody) (k : ℤ) (i : ℕ) : Type 0 where
   pub d : ℕ
   pub within : d < slots
   pub is : slot_of k d ≡ i
@@ -31,7 +34,7 @@ pub record MayFill (b : Body) (k : ℤ) (i : ℕ) : Type 0 where
   pub no_other : (j : ℕ) → j < slots → i ≢ j → touched b j ≡ true → key b j ≢ k
   pub old : touched b i ≡ true → (key b i ≡ k) ⊎ (b (Held i) ≡ value.Null)
 
-module _ (b c : Body) (k : ℤ) (i : ℕ) (v : Value) (sound : IsSound b) (may : MayFill b k i) (fills : Fills b c k i v) where
+module _ (b c : MapBody) (k : ℤ) (i : ℕ) (v : Value) (sound : IsSoundMap b) (may : MayFill b k i) (fills : Fills b c k i v) where
   own_touched : touched c i ≡ true
   own_touched = ap is_true fills.touched_
 
@@ -72,7 +75,7 @@ module _ (b c : Body) (k : ℤ) (i : ℕ) (v : Value) (sound : IsSound b) (may :
     up_to = λ e le. subst (λ x. touched c (slot_of x e) ≡ true) (sym (same_key j other)) (still_touched (slot_of (key b j) e) (path.up_to e le));
   }
 
-  pub filled_sound : IsSound c
+  pub filled_sound : IsSoundMap c
   filled_sound = record {
     kinds = kind;
     differ = λ j l j_less l_less j_touched l_touched same. differ j l j_less l_less j_touched l_touched same (cases_eq i j) (cases_eq i l);
@@ -81,26 +84,26 @@ module _ (b c : Body) (k : ℤ) (i : ℕ) (v : Value) (sound : IsSound b) (may :
     size = fills.size;
   }
     where
-      at : (f : Field) (v w : Value) → v ≡ w → takes f w ≡ true → takes f v ≡ true
-      at f v w same is = ap (takes f) same ∙ is
+      at : (f : MapField) (v w : Value) → v ≡ w → field_takes f w ≡ true → field_takes f v ≡ true
+      at f v w same is = ap (field_takes f) same ∙ is
 
-      kind : (f : Field) → IsThere f → takes f (c f) ≡ true
+      kind : (f : MapField) → IsMapField f → field_takes f (c f) ≡ true
       kind Size there = at Size (c Size) _ fills.size refl
       kind (Touched j) less = pick (cases_eq i j)
         where
-          pick : (i ≡ j) ⊎ (i ≡ j → ⊥) → takes (Touched j) (c (Touched j)) ≡ true
-          pick (inl same) = subst (λ x. takes (Touched x) (c (Touched x)) ≡ true) same (ap (takes (Touched i)) fills.touched_)
-          pick (inr other) = ap (takes (Touched j)) (fills.others (Touched j) other) ∙ sound.kinds (Touched j) less
+          pick : (i ≡ j) ⊎ (i ≡ j → ⊥) → field_takes (Touched j) (c (Touched j)) ≡ true
+          pick (inl same) = subst (λ x. field_takes (Touched x) (c (Touched x)) ≡ true) same (ap (field_takes (Touched i)) fills.touched_)
+          pick (inr other) = ap (field_takes (Touched j)) (fills.others (Touched j) other) ∙ sound.kinds (Touched j) less
       kind (Key j) less = pick (cases_eq i j)
         where
-          pick : (i ≡ j) ⊎ (i ≡ j → ⊥) → takes (Key j) (c (Key j)) ≡ true
-          pick (inl same) = subst (λ x. takes (Key x) (c (Key x)) ≡ true) same (ap (takes (Key i)) fills.key_)
-          pick (inr other) = ap (takes (Key j)) (fills.others (Key j) other) ∙ sound.kinds (Key j) less
+          pick : (i ≡ j) ⊎ (i ≡ j → ⊥) → field_takes (Key j) (c (Key j)) ≡ true
+          pick (inl same) = subst (λ x. field_takes (Key x) (c (Key x)) ≡ true) same (ap (field_takes (Key i)) fills.key_)
+          pick (inr other) = ap (field_takes (Key j)) (fills.others (Key j) other) ∙ sound.kinds (Key j) less
       kind (Held j) less = pick (cases_eq i j)
         where
-          pick : (i ≡ j) ⊎ (i ≡ j → ⊥) → takes (Held j) (c (Held j)) ≡ true
-          pick (inl same) = subst (λ x. takes (Held x) (c (Held x)) ≡ true) same (ap (takes (Held i)) fills.held ∙ fills.fits)
-          pick (inr other) = ap (takes (Held j)) (fills.others (Held j) other) ∙ sound.kinds (Held j) less
+          pick : (i ≡ j) ⊎ (i ≡ j → ⊥) → field_takes (Held j) (c (Held j)) ≡ true
+          pick (inl same) = subst (λ x. field_takes (Held x) (c (Held x)) ≡ true) same (ap (field_takes (Held i)) fills.held ∙ fills.fits)
+          pick (inr other) = ap (field_takes (Held j)) (fills.others (Held j) other) ∙ sound.kinds (Held j) less
 
       differ : (j l : ℕ) → j < slots → l < slots → touched c j ≡ true → touched c l ≡ true → key c j ≡ key c l → (i ≡ j) ⊎ (i ≡ j → ⊥) → (i ≡ l) ⊎ (i ≡ l → ⊥) → j ≡ l
       differ j l j_less l_less j_t l_t same (inl a) (inl b) = sym a ∙ b
