@@ -98,7 +98,7 @@ true_is (value.Text b) is = absurd (cc is)
 true_is (value.Ref b) is = absurd (cc is)
 
 -- a reference to an object fits
-ref_taken : (i o : ℕ) → o ≢ 0 → field_takes (Held i) (value.Ref o) ≡ true
+pub ref_taken : (i o : ℕ) → o ≢ 0 → field_takes (Held i) (value.Ref o) ≡ true
 ref_taken i zero real = absurd (real refl)
 ref_taken i (suc o) real = refl
 
