@@ -8,7 +8,7 @@ use crate::causes::blocked;
 use crate::driven::Driven;
 use crate::entries::{Made, entry_line};
 use case_words::shown;
-use dso_base::{Down, Input, NoMemory, Up};
+use dso_base::{Down, Input, NoMemory, Shared, Up};
 use dso_client::Acted;
 use dso_machine::Code;
 use std::alloc::Global;
@@ -38,7 +38,7 @@ impl Driven {
         match acted {
             Acted::Event(event) => self.line(
                 alloc,
-                Made::new(Input::Act(index), Some(event), sent),
+                Made::new(Input::Act(index), Some(Shared::new(alloc, event)?), sent),
             ),
             Acted::Asked => self.line(alloc, Made::new(Input::Act(index), None, sent)),
             Acted::Blocked(cause) => blocked(alloc, cause),

@@ -1,7 +1,7 @@
 //! The entries of a client, as lines in the text of a journal.
 
 use case_words::{shown, single};
-use dso_base::{Entry, Event, Input, Items, Journal, NoMemory, Node, Sent, Up};
+use dso_base::{Entry, Event, Input, Items, Journal, NoMemory, Node, Sent, Shared, Up};
 use dso_report::journal_text;
 use std::alloc::Global;
 
@@ -9,13 +9,13 @@ use std::alloc::Global;
 #[derive(Drop)]
 pub struct Made {
     input: Input,
-    event: Option<Event>,
+    event: Option<Shared<Event>>,
     sent: Vec<Up>,
 }
 
 impl Made {
     /// Of these parts.
-    pub fn new(input: Input, event: Option<Event>, sent: Vec<Up>) -> Made {
+    pub fn new(input: Input, event: Option<Shared<Event>>, sent: Vec<Up>) -> Made {
         Made { input, event, sent }
     }
 }

@@ -2,16 +2,24 @@
 //! sets.
 
 use case_words::{count, first_of, kind, level, lock, number, thread, value, value_list};
-use dso_base::{Body, ClassId, Down, Items, NoMemory, Set};
+use dso_base::{Body, ClassId, Down, Items, NoMemory, Set, Shared};
 use std::alloc::Global;
 
 /// The message of the words, None where they tell none.
 pub fn message(alloc: Global, text: &str) -> Result<Option<Down>, NoMemory> {
     let (word, rest) = first_of(text);
     match word {
-        "object" => Ok(body(alloc, rest)?.map(Down::Object)),
+        "object" => object(alloc, rest),
         "changes" => Ok(Some(Down::Changes(sets(alloc, rest)?))),
         _ => Ok(short_message(word, rest)),
+    }
+}
+
+/// An object that was asked for, None where the words tell none.
+fn object(alloc: Global, text: &str) -> Result<Option<Down>, NoMemory> {
+    match body(alloc, text)? {
+        Some(body) => Ok(Some(Down::Object(Shared::new(alloc, body)?))),
+        None => Ok(None),
     }
 }
 

@@ -1,7 +1,9 @@
 pub mod Value
 pub mod Shape
 pub mod Reach
+pub mod Reached
 pub mod Block
+pub mod Naming
 pub mod Following
 pub mod Weight
 pub mod formers

@@ -1,7 +1,7 @@
 ghost use Rattle.std.specs.Prelude.{◌≡◌, ◌<◌, ◌^◌};
 ghost use Rattle.dso_base.specs.Weight.{weight_of, entry_weight_of, sent_values_of, txn_values_of};
 
-use crate::{Data, Down, Event, Items, Same, Txn, Up};
+use crate::{Data, Down, Event, Items, Same, Shared, Txn, Up};
 
 /// A node of the cluster.
 #[derive(Clone, Copy, Debug, PartialEq, Eq, PartialOrd, Ord)]
@@ -43,7 +43,7 @@ pub struct Entry {
     pub node: Node,
     pub input: Input,
     pub sent: Items<Sent>,
-    pub event: Option<Event>,
+    pub event: Option<Shared<Event>>,
 }
 
 /// The steps of a run, the first of them first.
@@ -183,8 +183,8 @@ fn sent_values(sent: &Sent) -> u64
     ensures { result ≡ sent_values_of sent.now }
 {
     match sent {
-        Sent::ToServer(Up::Commit(txn)) => txn_values(txn),
-        Sent::ToClient(_, Down::Object(body)) => body.values.len() as u64,
+        Sent::ToServer(Up::Commit(txn)) => txn_values(txn.get()),
+        Sent::ToClient(_, Down::Object(body)) => body.get().values.len() as u64,
         Sent::ToClient(_, Down::Changes(sets)) => sets.len() as u64,
         _ => 0,
     }

@@ -1,6 +1,7 @@
 //! The words that every layer speaks: values, locks, requests, events, records, messages, the journal.
 #![tactic(auto)]
 
+mod both;
 mod boxed;
 mod data;
 mod items;
@@ -9,12 +10,15 @@ mod lock;
 mod message;
 mod no_memory;
 mod op;
+mod part;
 mod record;
 mod request;
 mod shape;
+mod shared;
 mod value;
 mod word;
 
+pub use both::Both;
 pub use boxed::Boxed;
 pub use data::{Data, Same};
 pub use items::Items;
@@ -23,8 +27,10 @@ pub use lock::{Grade, Level, LockName, ThreadId};
 pub use message::{Down, Up};
 pub use no_memory::NoMemory;
 pub use op::Op;
+pub use part::{Part, Span};
 pub use record::{Body, Choice, Ending, Note, Set, Txn};
 pub use request::{Event, Fault, Reply, Request};
 pub use shape::{ClassShape, FieldShape, Guard, Shape};
+pub use shared::Shared;
 pub use value::{ClassId, Kind, Value, fits};
 pub use word::Word;

@@ -1,4 +1,4 @@
-use crate::{Body, Data, Items, Level, LockName, Same, Set, ThreadId, Txn};
+use crate::{Body, Data, Items, Level, LockName, Same, Set, Shared, ThreadId, Txn};
 
 /// A message from a client to the server.
 #[derive(Clone, Debug, Drop)]
@@ -14,7 +14,7 @@ pub enum Up {
     /// Gives the lease back, with the threads that wait there unmarked.
     Return(LockName, Items<ThreadId>),
     /// A record to be applied.
-    Commit(Txn),
+    Commit(Shared<Txn>),
 }
 
 /// A message from the server to a client.
@@ -23,7 +23,7 @@ pub enum Down {
     /// A batch of 256 ids, of which this is the first.
     Ids(u64),
     /// An object that was asked for.
-    Object(Body),
+    Object(Shared<Body>),
     /// The lease of the lock.
     Grant(LockName, Level),
     /// Wants the lease back.

@@ -1,5 +1,5 @@
-ghost use Rattle.std.specs.Prelude.{◌≡◌};
-ghost use Rattle.dso_base.specs.Shape.{HasField, guard_of, kind_of};
+ghost use Rattle.std.specs.Prelude.{◌≡◌, slice_get};
+ghost use Rattle.dso_base.specs.Shape.{fields_at, guard_of, kind_of};
 
 use crate::{ClassId, Data, Items, Kind, LockName, Same};
 
@@ -35,36 +35,48 @@ pub struct Shape {
 }
 
 impl Shape {
-    /// The lock that guards a field of an object of this class. It takes no memory.
+    /// The field of the program's class of this number, None where there is no such class or no such field.
+    fn field(&self, number: u32, field: u32) -> Option<FieldShape>
+        ensures { result ≡ slice_get (fields_at self.now number) field }
+    {
+        match self.classes.get(number as usize) {
+            Some(class) => class.fields.get(field as usize).copied(),
+            None => None,
+        }
+    }
+
+    /// The lock that guards a field of an object of this class: for a class of the program what the field says, the
+    /// object's monitor where the class has no such field. It takes no memory.
     ///
     /// An element of an array is guarded by the array's monitor, a root by its own lock.
     pub fn guard(&self, class: ClassId, object: u64, field: u32) -> LockName
-        requires { HasField self.now class field }
         ensures { result ≡ guard_of self.now class object field }
     {
         match class {
-            ClassId::Plain(number) => {
-                let fields = &self.classes.as_slice()[number as usize].fields;
-                match fields.as_slice()[field as usize].guard {
+            ClassId::Plain(number) => match self.field(number, field) {
+                Some(field) => match field.guard {
                     Guard::Own => LockName::Mon(object),
                     Guard::Name(name) => LockName::Name(name),
-                }
-            }
+                },
+                None => LockName::Mon(object),
+            },
             ClassId::Array(_) => LockName::Mon(object),
             ClassId::Roots => LockName::Name(field),
         }
     }
 
-    /// The kind of a field of this class. It takes no memory.
+    /// The kind of a field of this class: for a class of the program what the field says, that of references where the
+    /// class has no such field. It takes no memory.
+    ///
+    /// The elements of an array are of the array's kind, roots are references.
     pub fn kind(&self, class: ClassId, field: u32) -> Kind
-        requires { HasField self.now class field }
         ensures { result ≡ kind_of self.now class field }
     {
         match class {
-            ClassId::Plain(number) => {
-                let fields = &self.classes.as_slice()[number as usize].fields;
-                fields.as_slice()[field as usize].kind
-            }
+            ClassId::Plain(number) => match self.field(number, field) {
+                Some(field) => field.kind,
+                None => Kind::Ref,
+            },
             ClassId::Array(kind) => kind,
             ClassId::Roots => Kind::Ref,
         }

@@ -1,4 +1,5 @@
-ghost use Rattle.std.specs.Prelude.{◌↔◌, IsTrue};
+ghost use Rattle.std.specs.Prelude.{◌≡◌, ◌↔◌, IsTrue};
+ghost use Rattle.dso_base.specs.Block.{opening_value};
 ghost use Rattle.dso_base.specs.Value.{Fits};
 
 use crate::{Data, Same};
@@ -22,6 +23,19 @@ pub enum Kind {
     Bool,
     Text,
     Ref,
+}
+
+impl Kind {
+    /// What a field of this kind begins as: 0, false, and null for texts and references. It takes no memory.
+    pub fn opening_value(self) -> Value
+        ensures { result ≡ opening_value self }
+    {
+        match self {
+            Kind::Long => Value::Long(0),
+            Kind::Bool => Value::Bool(false),
+            Kind::Text | Kind::Ref => Value::Null,
+        }
+    }
 }
 
 /// The class of an object: one of the program by its number, an array of a kind, or that of the roots' object.

@@ -1,38 +1,9 @@
 //! New objects, as they begin.
 ghost use Rattle.std.specs.Prelude.{◌≡◌, IfOk};
-ghost use Rattle.dso_base.specs.Shape.{kind_of};
-ghost use Rattle.dso_base.specs.Block.{opening_value, opening_from, opening_body};
+ghost use Rattle.dso_base.specs.Block.{opening_from, opening_body};
 
-use dso_base::{Body, ClassId, Items, Kind, NoMemory, Shape, Value};
+use dso_base::{Body, ClassId, Items, NoMemory, Shape, Value};
 use std::alloc::Global;
-
-/// The kind of a field of this class, that of references where the class has no such field.
-fn kind_of(shape: &Shape, class: ClassId, field: u32) -> Kind
-    ensures { result ≡ kind_of shape.now class field }
-{
-    match class {
-        ClassId::Plain(number) => match shape.classes.as_slice().get(number as usize) {
-            Some(class) => match class.fields.as_slice().get(field as usize) {
-                Some(field) => field.kind,
-                None => Kind::Ref,
-            },
-            None => Kind::Ref,
-        },
-        ClassId::Array(kind) => kind,
-        ClassId::Roots => Kind::Ref,
-    }
-}
-
-/// What a field of this kind begins as.
-fn opening_value(kind: Kind) -> Value
-    ensures { result ≡ opening_value kind }
-{
-    match kind {
-        Kind::Long => Value::Long(0),
-        Kind::Bool => Value::Bool(false),
-        Kind::Text | Kind::Ref => Value::Null,
-    }
-}
 
 /// The opening values of the first fields of the class.
 #[tactic(auto, using(crate::proofs::OpeningValues::opening_more))]
@@ -46,7 +17,7 @@ fn opening_values(
 {
     let mut values = Vec::new(alloc);
     for field in 0..size {
-        values.push(opening_value(kind_of(shape, class, field)))?;
+        values.push(shape.kind(class, field).opening_value())?;
     }
     Ok(values)
 }

@@ -1,6 +1,7 @@
 pub mod objects
 pub mod lock_standing
 pub mod seats
+pub mod standing
 pub mod replies
 pub mod flushed
 pub mod facts

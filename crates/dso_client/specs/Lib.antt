@@ -29,3 +29,4 @@ pub mod GoingOn
 pub mod Entering
 pub mod Returning
 pub mod Answering
+pub mod Laws

@@ -37,7 +37,7 @@ use crate::living_seat::live_seats;
 use crate::returning::{ask_again, is_closing, left_lock, settle_act};
 use crate::seat::{Waiting, seat_at};
 use crate::sending::send_record;
-use dso_base::{Level, NoMemory, Request, Shape, Txn, Up};
+use dso_base::{Level, NoMemory, Request, Shape, Shared, Txn, Up};
 use dso_machine::Code;
 use std::alloc::Global;
 
@@ -113,7 +113,7 @@ fn hand_over(alloc: Global, kept: &mut Kept, index: u8, txn: Txn) -> Result<Vec<
 {
     send_record(alloc, kept, index, &txn)?;
     let mut sent = Vec::new(alloc);
-    sent.push(Up::Commit(txn))?;
+    sent.push(Up::Commit(Shared::new(alloc, txn)?))?;
     Ok(sent)
 }
 

@@ -140,7 +140,7 @@ pub(crate) fn fits_down(kept: &Kept, shape: &Shape, message: &Down) -> bool
 {
     match message {
         Down::Ids(first) => fits_ids(&kept.ledger, *first),
-        Down::Object(body) => fits_object(&kept.table, shape, body),
+        Down::Object(body) => fits_object(&kept.table, shape, body.get()),
         Down::Grant(lock, _) => kept.locking.leases.is_asked(*lock),
         Down::Recall(_) => true,
         Down::Ack(seq) => fits_ack(&kept.ledger, *seq),

@@ -126,7 +126,7 @@ pub(crate) fn hear(alloc: Global, kept: &mut Kept, message: &Down) -> Result<(),
             hear_ids(&mut kept.ledger, *first);
             Ok(())
         }
-        Down::Object(body) => hear_object(&mut kept.table, body),
+        Down::Object(body) => hear_object(&mut kept.table, body.get()),
         Down::Grant(lock, level) => {
             hear_grant(&mut kept.locking, *lock, *level);
             Ok(())

@@ -18,6 +18,7 @@ mod hearing;
 mod kept;
 mod known_objects;
 mod lack;
+pub mod laws;
 mod ledger;
 mod living;
 mod living_hand;

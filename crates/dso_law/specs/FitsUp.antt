@@ -1,4 +1,5 @@
--- Which messages of a client fit, at the server that takes them. The entries are those that count.
+-- Which messages of a client fit, at the server that takes them. The entries are those that count. What looks at the
+-- graph is said by any graph (`..By`, with the body of each object that is in it), and then by that of the entries.
 use Rattle.std.specs.List.{list_any, AllByRecursion}
 use Rattle.std.specs.Prelude.{ℕ, suc, ◌<◌, ◌≤◌, ◌≡◌, ◌≢◌, ◌⊎◌, Bool, true, false, eqb, ltb, Option, Some, None, List}
 use Rattle.std.specs.Prelude.{[], ◌∷◌, ◌++◌, map, flat_map, length}
@@ -69,11 +70,14 @@ pub record FitsReturn (p : Settings) (c : ℕ) (l : LockName) (threads : List Th
 
 -- an object published: its id was given to the client and isn't in the graph; its class isn't that of the roots, and
 -- its class and values fit the shape
-pub record FitsNews (p : Settings) (c : ℕ) (es : List Entry) (body : Body) : Type 0 where
+pub record FitsNewsBy (graph : ℕ → Option Body) (p : Settings) (c : ℕ) (es : List Entry) (body : Body) : Type 0 where
   pub given : is_given_to c body.object es ≡ true
-  pub new : stored p.shape body.object es ≡ None
+  pub new : graph body.object ≡ None
   pub class : body.class ≢ class.Roots
   pub shaped : FitsShape p.shape body
+
+abbrev pub FitsNews : Settings → ℕ → List Entry → Body → Type 0
+FitsNews p c es = FitsNewsBy (λ o. stored p.shape o es) p c es
 
 -- the object is there and has the field, whose guard is leased to the client at Write, and the value fits it
 abbrev pub FitsStored : Settings → ℕ → Set → Option Body → List Entry → Type 0
@@ -83,13 +87,19 @@ FitsStored p c set (Some body) es = (set.field < length body.values)
     × Fits (kind_of p.shape body.class set.field) set.value
 
 -- a set: the client holds the object, and may change the field of it that is stored
+abbrev pub FitsSetBy : (ℕ → Option Body) → Settings → ℕ → List Entry → Set → Type 0
+FitsSetBy graph p c es set = (holds_object c set.object es ≡ true) × FitsStored p c set (graph set.object) es
+
 abbrev pub FitsSet : Settings → ℕ → List Entry → Set → Type 0
-FitsSet p c es set = (holds_object c set.object es ≡ true) × FitsStored p c set (stored p.shape set.object es) es
+FitsSet p c es = FitsSetBy (λ o. stored p.shape o es) p c es
 
 -- an object named: it is in the graph or among the news
+abbrev pub IsNamedBy : (ℕ → Option Body) → List Body → Value → Type 0
+IsNamedBy graph news (value.Ref o) = (graph o ≢ None) ⊎ (is_among o news ≡ true)
+IsNamedBy graph news v = Unit {0}
+
 abbrev pub IsNamed : Settings → List Body → List Entry → Value → Type 0
-IsNamed p news es (value.Ref o) = (stored p.shape o es ≢ None) ⊎ (is_among o news ≡ true)
-IsNamed p news es v = Unit {0}
+IsNamed p news es = IsNamedBy (λ o. stored p.shape o es) news
 
 -- an object printed: its id was given out
 abbrev pub IsPrinted : List Entry → Value → Type 0
@@ -124,26 +134,32 @@ stored_values txn = flat_map (λ body. body.values) txn.news ++ map (λ set. set
 
 -- a record: its number is the client's next; its thread is one of the client's and hasn't ended; and each part of it
 -- fits, the objects published by rising id, the sets by rising object and field
-pub record FitsRecord (p : Settings) (c : ℕ) (txn : Txn) (es : List Entry) : Type 0 where
+pub record FitsRecordBy (graph : ℕ → Option Body) (p : Settings) (c : ℕ) (txn : Txn) (es : List Entry) : Type 0 where
   pub number : txn.seq ≡ suc (last_number c es)
   pub thread : list_any (is_thread txn.thread) (threads_of p c) ≡ true
   pub going : is_ended txn.thread es ≡ false
-  pub news : AllByRecursion (FitsNews p c es) txn.news
+  pub news : AllByRecursion (FitsNewsBy graph p c es) txn.news
   pub news_rise : Rises (λ a b. ltb a.object b.object) txn.news
-  pub sets : AllByRecursion (FitsSet p c es) txn.sets
+  pub sets : AllByRecursion (FitsSetBy graph p c es) txn.sets
   pub sets_rise : Rises is_field_before txn.sets
-  pub named : AllByRecursion (IsNamed p txn.news es) (stored_values txn)
+  pub named : AllByRecursion (IsNamedBy graph txn.news) (stored_values txn)
   pub printed : AllByRecursion (IsPrinted es) txn.outs
   pub texts : AllByRecursion (IsLiteral p) (stored_values txn ++ txn.outs)
   pub notes : AllByRecursion (FitsNote p c es) txn.notes
   pub ending : FitsEnding c txn.thread txn.ending es
 
+abbrev pub FitsRecord : Settings → ℕ → Txn → List Entry → Type 0
+FitsRecord p c txn es = FitsRecordBy (λ o. stored p.shape o es) p c txn es
+
 -- Fits, at the server: the row of each message of client c. An ask for ids fits always; a fault of an object that is in
 -- the graph and that the client doesn't hold; a flush of one that it holds.
+abbrev pub FitsUpBy : (ℕ → Option Body) → Settings → ℕ → Up → List Entry → Type 0
+FitsUpBy graph p c up.IdAsk es = Unit {0}
+FitsUpBy graph p c (up.Fault o) es = (graph o ≢ None) × (holds_object c o es ≡ false)
+FitsUpBy graph p c (up.Flushed o) es = holds_object c o es ≡ true
+FitsUpBy graph p c (up.Request l level) es = FitsRequest p c l es
+FitsUpBy graph p c (up.Return l threads) es = FitsReturn p c l threads es
+FitsUpBy graph p c (up.Commit txn) es = FitsRecordBy graph p c txn es
+
 abbrev pub FitsUp : Settings → ℕ → Up → List Entry → Type 0
-FitsUp p c up.IdAsk es = Unit {0}
-FitsUp p c (up.Fault o) es = (stored p.shape o es ≢ None) × (holds_object c o es ≡ false)
-FitsUp p c (up.Flushed o) es = holds_object c o es ≡ true
-FitsUp p c (up.Request l level) es = FitsRequest p c l es
-FitsUp p c (up.Return l threads) es = FitsReturn p c l threads es
-FitsUp p c (up.Commit txn) es = FitsRecord p c txn es
+FitsUp p c m es = FitsUpBy (λ o. stored p.shape o es) p c m es

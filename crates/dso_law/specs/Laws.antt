@@ -5,7 +5,9 @@ use Rattle.dso_base.specs.declared.journal.Entry.{Entry}
 use Rattle.dso_base.specs.declared.journal.Input.TheVariants.{TookUp}
 use Rattle.dso_base.specs.declared.lock.LockName.{LockName}
 use Rattle.dso_base.specs.declared.lock.ThreadId.{ThreadId}
+use Rattle.dso_base.specs.declared.message.Up.{Up}
 use Rattle.dso_base.specs.declared.message.Up.TheVariants as up
+use Rattle.dso_base.specs.declared.record.Body.{Body}
 use Rattle.dso_base.specs.declared.record.Ending.TheVariants as ending
 use Rattle.dso_base.specs.declared.record.Txn.{Txn}
 use Rattle.dso_base.specs.declared.request.Event.{Event}
@@ -16,6 +18,7 @@ use Rattle.dso_base.specs.declared.request.Request.TheVariants.{Timeout}
 use Rattle.dso_base.specs.declared.shape.Shape.{Shape}
 use Rattle.dso_base.specs.Block.{start, work_after}
 use Rattle.dso_base.specs.Following.{is_thread}
+use Rattle.dso_base.specs.Naming.{up_names}
 use Rattle.dso_plain.specs.KeyTests.{is_lock}
 use Rattle.dso_plain.specs.State.{Hold}
 use Rattle.dso_plain.specs.History.{is_act_of}
@@ -23,8 +26,10 @@ use Rattle.dso_law.specs.Settings.{Settings}
 use Rattle.dso_law.specs.Threads.{Held, hold_in, with_hold, ending_of, locks_of, work_of}
 use Rattle.dso_law.specs.ClientWaiters.{is_listed, is_marked}
 use Rattle.dso_law.specs.ClientStep.{ActsOn, may_act}
+use Rattle.dso_law.specs.FitsUp.{FitsUp, FitsUpBy}
 use Rattle.dso_law.specs.ServerWaiters.{waiters_of}
 use Rattle.dso_law.specs.ServerStep.{HeardStep}
+use Rattle.dso_law.specs.Store.{stored}
 
 -- Holds: after a lock is held as said, or no longer, each lock is held so or as before.
 abbrev pub HoldsAfter : Type 0
@@ -76,3 +81,9 @@ pub record Timeouts : Type 0 where
   pub at_server : (p : Settings) (c : ℕ) (txn : Txn) (l : LockName) (e : Entry) (es : List Entry)
       → TakesRecord p c txn e es → txn.ending ≡ ending.Timeout l
       → list_any (is_thread txn.thread) (waiters_of l (e ∷ es)) ≡ false
+
+-- Graphs: where a graph has what is stored of each object that a message names, the message fits by that graph exactly
+-- where it fits.
+abbrev pub SameGraphFits : Type 0
+SameGraphFits = (graph : ℕ → Option Body) (p : Settings) (c : ℕ) (m : Up) (es : List Entry)
+    → ((o : ℕ) → up_names m o ≡ true → graph o ≡ stored p.shape o es) → FitsUpBy graph p c m es ↔ FitsUp p c m es

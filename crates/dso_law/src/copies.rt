@@ -70,7 +70,7 @@ fn resident_by_taken(input: &Input, object: u64, before: bool) -> bool
     ensures { result ≡ by_taken_down (resident_by_taken object) input.now before }
 {
     match input {
-        Input::TookDown(Down::Object(body)) => body.object == object || before,
+        Input::TookDown(Down::Object(body)) => body.get().object == object || before,
         _ => before,
     }
 }
@@ -80,7 +80,7 @@ fn resident_by_sent(sent: &Sent, object: u64, before: bool) -> bool
     ensures { result ≡ one_sent_up (resident_by_sent object) before sent.now }
 {
     match sent {
-        Sent::ToServer(Up::Commit(txn)) => is_among(txn.news.as_slice(), object) || before,
+        Sent::ToServer(Up::Commit(txn)) => is_among(txn.get().news.as_slice(), object) || before,
         _ => before,
     }
 }
@@ -111,7 +111,7 @@ fn value_by_taken(input: &Input, object: u64, field: u32, before: Option<Value>)
     ensures { result ≡ by_taken_down (value_by_taken object field) input.now before }
 {
     match input {
-        Input::TookDown(Down::Object(body)) => value_by_body(body, object, field, before),
+        Input::TookDown(Down::Object(body)) => value_by_body(body.get(), object, field, before),
         Input::TookDown(Down::Changes(sets)) => {
             value_by_sets(sets.as_slice(), object, field, before)
         }
@@ -125,6 +125,7 @@ fn value_by_sent(sent: &Sent, object: u64, field: u32, before: Option<Value>) ->
 {
     match sent {
         Sent::ToServer(Up::Commit(txn)) => {
+            let txn = txn.get();
             let published = value_by_bodies(txn.news.as_slice(), object, field, before);
             value_by_sets(txn.sets.as_slice(), object, field, published)
         }

@@ -1,5 +1,5 @@
 //! Laws of the readings of a journal. Each is the contract of a function that does nothing.
-ghost use Rattle.dso_law.specs.Laws.{HoldsAfter, WorkGoesOn, ActsAreOpen, Timeouts};
+ghost use Rattle.dso_law.specs.Laws.{HoldsAfter, WorkGoesOn, ActsAreOpen, Timeouts, SameGraphFits};
 ghost use Rattle.dso_law.specs.Prefixes.{Prefixes};
 
 /// Each message that is taken is the first on its way exactly where, at each entry and for each client, the messages
@@ -27,4 +27,9 @@ pub fn acts()
 /// it isn't in the server's list either.
 pub fn timeouts()
     ensures { Timeouts }
+{}
+
+/// A message fits by any graph that has what is stored of each object that the message names, exactly where it fits.
+pub fn same_graph_fits()
+    ensures { SameGraphFits }
 {}

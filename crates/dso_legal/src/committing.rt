@@ -83,7 +83,11 @@ impl PassState {
         ensures history { OnOk result (self.new.history.items ≡ self.old.history.items ++ given_events input.now (pass_state_in self.old)) }
     {
         match input {
-            Input::TookUp(client, Up::Commit(txn)) => self.give_block(alloc, *client, txn.seq),
+            Input::TookUp(client, Up::Commit(txn)) => self.give_block(
+                alloc,
+                *client,
+                txn.get().seq,
+            ),
             Input::Lose(client) => {
                 self.history.push(Event::Lost(*client))?;
                 Ok(())
@@ -109,7 +113,7 @@ impl PassState {
         match entry.node {
             Node::Server => self.serve(alloc, &entry.input, entry.sent.as_slice()),
             Node::Client(client) => match &entry.event {
-                Some(event) => self.act(alloc, client, event),
+                Some(event) => self.act(alloc, client, event.get()),
                 None => Ok(()),
             },
         }

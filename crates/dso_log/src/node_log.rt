@@ -2,7 +2,7 @@
 ghost use Rattle.std.specs.Prelude.{◌<◌, ◌^◌, ◌≡◌, [], OnErr, OnOk, true, false};
 ghost use Rattle.dso_log.specs.Logs.{LogKeeps, entry_of, last_clock, next_clock, with_entry};
 
-use dso_base::{Entry, Event, Input, Items, NoMemory, Node, Sent};
+use dso_base::{Entry, Event, Input, Items, NoMemory, Node, Sent, Shared};
 use std::alloc::Global;
 use std::marker::Model;
 
@@ -51,7 +51,13 @@ impl NodeLog {
 
     /// Adds an entry in the room that was made for it. Its clock, which is answered, is one more than the greater of the last entry's
     /// and the one that was heard. It takes no memory.
-    pub fn add(&mut self, heard: u64, input: Input, sent: Vec<Sent>, event: Option<Event>) -> u64
+    pub fn add(
+        &mut self,
+        heard: u64,
+        input: Input,
+        sent: Vec<Sent>,
+        event: Option<Shared<Event>>,
+    ) -> u64
         requires room { self.old.has_room ≡ true }
         requires clock { next_clock heard self.old < 2 ^ 64 }
         ensures clock { result ≡ next_clock heard self.old }

@@ -5,7 +5,7 @@ ghost use Rattle.std.specs.BTreeMap.{is_at};
 ghost use Rattle.dso_lookup.specs.Maps.{look, writes, written};
 ghost use Rattle.dso_lookup.specs.Rows.{in_row, look_in, is_at_pair};
 
-use crate::maps::{put, take};
+use crate::rows_in_place::insert_in;
 use dso_base::NoMemory;
 use std::alloc::Global;
 use std::collections::BTreeMap;
@@ -36,14 +36,11 @@ pub fn put_in<J: Ord + Drop, K: Ord + Drop, V: Drop>(
 ) -> Result<(), NoMemory>
     ensures { OnOk result (look_in J.cmp K.cmp rows.new ≡ written (writes (is_at_pair J.cmp K.cmp at key) (λ _. Some value)) (look_in J.cmp K.cmp rows.old)) }
 {
-    let mut row = take_row(alloc, rows, &at);
-    put(&mut row, key, value)?;
-    put(rows, at, row)?;
-    Ok(())
+    insert_in(alloc, rows, at, key, value)
 }
 
-/// Takes out what stands at a key of a row, None where nothing does. It answers `NoMemory` where an allocation was
-/// refused; what stands in the rows then is not told.
+/// Takes out what stands at a key of a row, None where nothing does. It takes no memory: `NoMemory` stands in its type
+/// alone.
 pub fn take_in<J: Ord + Drop, K: Ord + Drop, V: Drop>(
     alloc: Global,
     rows: &mut BTreeMap<J, BTreeMap<K, V>>,
@@ -53,14 +50,13 @@ pub fn take_in<J: Ord + Drop, K: Ord + Drop, V: Drop>(
     ensures was { IfOk result (λ value. value ≡ look_in J.cmp K.cmp rows.old (at, key.now)) }
     ensures gone { OnOk result (look_in J.cmp K.cmp rows.new ≡ written (writes (is_at_pair J.cmp K.cmp at key.now) (λ _. None)) (look_in J.cmp K.cmp rows.old)) }
 {
-    let mut row = take_row(alloc, rows, &at);
-    let value = take(&mut row, key);
-    put(rows, at, row)?;
-    Ok(value)
+    match rows.get_mut(&at) {
+        Some(row) => Ok(row.remove(key)),
+        None => Ok(None),
+    }
 }
 
-/// Drops what stands at a key of a row. It answers `NoMemory` where an allocation was refused; what stands in the rows
-/// then is not told.
+/// Drops what stands at a key of a row. It takes no memory: `NoMemory` stands in its type alone.
 pub fn discard_in<J: Ord + Drop, K: Ord + Drop, V: Drop>(
     alloc: Global,
     rows: &mut BTreeMap<J, BTreeMap<K, V>>,

@@ -3,3 +3,4 @@ pub mod Equations
 pub mod Beginnings
 pub mod Weights
 pub mod Knowing
+pub mod Seconds

@@ -10,8 +10,8 @@ use Rattle.dso_base.specs.declared.value.Value.{Value}
 use Rattle.dso_base.specs.declared.value.Value.TheVariants as value
 use Rattle.dso_machine.specs.declared.code.Code.{Code}
 use Rattle.dso_machine.specs.declared.code.Method.{Method}
-use Rattle.dso_machine.specs.Outcome.{Environment, Outcome, Gives, Leaves, Fails, Meaning, choose, on_value, look}
-use Rattle.dso_machine.specs.Outcome.{on_object, moving, under}
+use Rattle.dso_machine.specs.Outcome.{Environment, Outcome, Gives, Leaves, Fails, Meaning, choose, on_value, holding}
+use Rattle.dso_machine.specs.Outcome.{looking, on_object, moving_with, under_with}
 
 -- the number that the list has for the class, the first one
 abbrev pub lookup : List (ℕ × ℕ) → ℕ → Option ℕ
@@ -32,15 +32,25 @@ variables count values = values ++ replicate (count - length values) value.Null
 abbrev pub MethodMeanings : Type 0
 MethodMeanings = ℕ → Meaning
 
--- The environment of the caller is the thread's again. A body that did not return gives null.
+-- The environment of the caller is the thread's again, however the body ends. One that did not return gives null.
 abbrev pub back_in : Environment → Outcome → Outcome
 back_in caller (Gives v at) = Gives value.Null (record at { environment = caller })
 back_in caller (Leaves v at) = Gives v (record at { environment = caller })
+back_in caller (Fails fault at) = Fails fault (record at { environment = caller })
 back_in caller o = o
 
--- the environment of a method's body, in which one call less may nest than in its caller's
+-- what a body holds for what comes after a call in it
+abbrev pub held_by : Environment → List Value
+held_by caller = caller.this ∷ caller.vars ++ caller.outer
+
+-- the environment of a method's body, in which one call less may nest than in its caller's, which is held
 abbrev pub callee : Value → List Value → Environment → Environment
-callee this vars caller = record { this = this; vars = vars; depth_left = caller.depth_left - 1 }
+callee this vars caller = record {
+  this = this;
+  vars = vars;
+  depth_left = caller.depth_left - 1;
+  outer = held_by caller;
+}
 
 -- a method's body in an environment of its own
 abbrev pub begin : MethodMeanings → ℕ → Value → List Value → Meaning
@@ -49,23 +59,24 @@ begin bodies m this vars at =
 
 -- a method's body, begun as a move
 abbrev pub invoke : MethodMeanings → ℕ → Value → List Value → Meaning
-invoke bodies m this vars = moving (begin bodies m this vars)
+invoke bodies m this vars = moving_with (this ∷ vars) (begin bodies m this vars)
 
--- a part under a method's named lock, if it has one
-abbrev pub under_name : Option (ℕ × Grade) → Meaning → Meaning
-under_name None m = m
-under_name (Some lock) m = under (Name lock.0) lock.1 m
+-- a part under a method's named lock, if it has one, which is entered while these values are held
+abbrev pub under_name : List Value → Option (ℕ × Grade) → Meaning → Meaning
+under_name vs None m = m
+under_name vs (Some lock) m = under_with vs (Name lock.0) lock.1 m
 
--- a part under the object's monitor, if the method takes it
-abbrev pub under_monitor : Option Grade → ℕ → Meaning → Meaning
-under_monitor None object m = m
-under_monitor (Some grade) object m = under (Mon object) grade m
+-- a part under the object's monitor, if the method takes it, which is entered while these values are held
+abbrev pub under_monitor : List Value → Option Grade → ℕ → Meaning → Meaning
+under_monitor vs None object m = m
+under_monitor vs (Some grade) object m = under_with vs (Mon object) grade m
 
 -- a method of an object: its locks, the named one first, and then its body
 abbrev pub run_method : MethodMeanings → ℕ → Method → ℕ → List Value → Meaning
 run_method bodies m method object args =
-    under_name method.named (under_monitor method.synced object
-    (invoke bodies m (value.Ref object) (variables method.vars args)))
+    let vars = variables method.vars args in
+    let held = value.Ref object ∷ vars in
+    under_name held method.named (under_monitor held method.synced object (invoke bodies m (value.Ref object) vars))
 
 -- a method that was found, if one more call may nest
 abbrev pub call_method : MethodMeanings → ℕ → ℕ → List Value → Option Method → Meaning
@@ -84,9 +95,11 @@ call_in code bodies callees args object class size = call_number code bodies obj
 
 -- a call with its operands
 abbrev pub call_on : Code → MethodMeanings → List (ℕ × ℕ) → Value → List Value → Meaning
-call_on code bodies callees x args = on_object (λ object. look (call_in code bodies callees args object) object) x
+call_on code bodies callees x args =
+    on_object (λ object. looking args (call_in code bodies callees args object) object) x
 
--- the arguments that are left, from the left, behind those before them
-abbrev pub arguments : (List Value → Meaning) → List Meaning → List Value → Meaning
-arguments f [] before at = f before at
-arguments f (m ∷ rest) before at = on_value (λ v. arguments f rest (before ++ v ∷ [])) (m at)
+-- the arguments of a call on this value that are left, from the left, behind those before them
+abbrev pub arguments : (List Value → Meaning) → Value → List Meaning → List Value → Meaning
+arguments f x [] before at = f before at
+arguments f x (m ∷ rest) before at =
+    on_value (λ v. arguments f x rest (before ++ v ∷ [])) (holding (x ∷ before) m at)

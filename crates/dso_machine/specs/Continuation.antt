@@ -37,8 +37,9 @@ use Rattle.dso_machine.specs.Expressions.{field_of, field_in, element_of, elemen
 use Rattle.dso_machine.specs.Expressions.{expr}
 use Rattle.dso_machine.specs.Limits.{most_moves}
 use Rattle.dso_machine.specs.Outcome.{Environment, State, Outcome, Gives, Leaves, Fails, Over, Meaning, on_value}
-use Rattle.dso_machine.specs.Outcome.{on_reply, on_next, on_object, result_of, ask, done, made, got, seen, tell, get}
-use Rattle.dso_machine.specs.Outcome.{moved, moving, settling, leave, entered}
+use Rattle.dso_machine.specs.Outcome.{on_reply, on_next, on_next_beside, on_object, result_of, ask, asking, done, made}
+use Rattle.dso_machine.specs.Outcome.{got, seen, tell, get, getting, moved, moving, moving_with, settling, leave}
+use Rattle.dso_machine.specs.Outcome.{entered, with_outer, letting_go, monitor_of}
 use Rattle.dso_machine.specs.Statements.{assign, put_field, put_field_in, put_element, put_element_in, bind_null}
 use Rattle.dso_machine.specs.Statements.{put_root, sync, unless_woken, timed_out, ticks, waiting, wait, timed_wait}
 use Rattle.dso_machine.specs.Statements.{branch, turn, spun, stmt, block, methods}
@@ -53,15 +54,90 @@ alone a = record { now = a; then = None }
 abbrev pub used : Now → OnValue → Step
 used a t = record { now = a; then = Some (task.Then t) }
 
--- the environment that a frame of the code stands for
-abbrev pub environment_of : table_frame.Frame → Environment
-environment_of frame = record { this = frame.this; vars = frame.vars; depth_left = frame.room }
+-- the environment that a frame of the code stands for, where this is held for what comes after
+abbrev pub environment_of : table_frame.Frame → List Value → Environment
+environment_of frame outer = record { this = frame.this; vars = frame.vars; depth_left = frame.room; outer = outer }
 
 -- how a part has ended
 abbrev pub ended : End → Meaning
 ended (end.Gives v) at = Gives v at
 ended (end.Leaves v) at = Leaves v at
 ended (end.Fails fault) at = Fails fault at
+
+-- ---- what is held for what comes after a part, or after a request
+
+-- by how a part has ended
+abbrev pub end_values : End → List Value
+end_values (end.Gives v) = v ∷ []
+end_values (end.Leaves v) = v ∷ []
+end_values (end.Fails fault) = []
+
+-- by a call
+abbrev pub call_values : Call → List Value
+call_values call = value.Ref call.object ∷ call.vars
+
+-- by what a move starts
+abbrev pub move_values : Move → List Value
+move_values (move.Turn test body) = []
+move_values (move.Body call) = call_values call
+
+-- by what is done under a lock
+abbrev pub locked_values : Locked → List Value
+locked_values (locked.Bind r v) = v ∷ []
+locked_values (locked.Monitor call) = call_values call
+locked_values (locked.Body call) = call_values call
+locked_values other = []
+
+-- by what is done with a reply
+abbrev pub reply_values : OnReply → List Value
+reply_values (reply.Call object callees args) = args
+reply_values (reply.PutField object f v) = v ∷ []
+reply_values (reply.PutElement object i v) = v ∷ []
+reply_values (reply.Entered l grade part) = locked_values part
+reply_values (reply.Left grade end) = end_values end
+reply_values (reply.Settled end) = end_values end
+reply_values (reply.Bind r v) = v ∷ []
+reply_values (reply.Paused a) = move_values a
+reply_values other = []
+
+-- by what is written
+abbrev pub write_values : Writing → List Value
+write_values (write.Field x f) = x ∷ []
+write_values (write.ElementAt x c) = x ∷ []
+write_values (write.Element x i) = x ∷ i ∷ []
+write_values other = []
+
+-- by what is done with a monitor
+abbrev pub monitor_values : Monitor → List Value
+monitor_values (monitor.WaitFor x) = x ∷ []
+monitor_values other = []
+
+-- by what is done with a value
+abbrev pub use_values : OnValue → List Value
+use_values (then.Index x) = x ∷ []
+use_values (then.Argument callees x before rest) = x ∷ before
+use_values (then.Second o x) = x ∷ []
+use_values (then.Write w) = write_values w
+use_values (then.Monitor m) = monitor_values m
+use_values other = []
+
+-- by a task of the continuation
+abbrev pub task_values : Task → List Value
+task_values (task.Then t) = use_values t
+task_values (task.Back frame) = frame.this ∷ frame.vars
+task_values (task.Leave l grade) = monitor_of l
+task_values (task.Close l) = monitor_of l
+
+-- by a continuation, the next task first
+abbrev pub outer_of : List Task → List Value
+outer_of [] = []
+outer_of (t ∷ ts) = task_values t ++ outer_of ts
+
+-- by what the thread is about to do
+abbrev pub held_at : Now → List Value
+held_at (now.Ask q on) = reply_values on
+held_at (now.Pace a) = move_values a
+held_at other = []
 
 -- Of this code, with at most n moves one inside another, and k turns of the loop that is spoken of.
 module _ (code : Code) (n k : ℕ) where
@@ -89,21 +165,22 @@ module _ (code : Code) (n k : ℕ) where
   -- what is done under a lock
   abbrev pub locked_at : Locked → Meaning
   locked_at (locked.Read r) at = get 0 r at
-  locked_at (locked.Bind r v) at = on_value (bind_null r v) (get 0 r at)
+  locked_at (locked.Bind r v) at = on_value (bind_null r v) (getting (v ∷ []) 0 r at)
   locked_at (locked.Block ss) at = block_at ss at
-  locked_at (locked.Monitor call) at = under_monitor call.synced call.object (body_at call) at
+  locked_at (locked.Monitor call) at = under_monitor (call_values call) call.synced call.object (body_at call) at
   locked_at (locked.Body call) at = body_at call at
 
   -- the arguments that are left, and then the call
   abbrev pub arguments_at : List (ℕ × ℕ) → Value → List Value → List Expr → Meaning
-  arguments_at callees x before rest = arguments (call_on code (methods code n) callees x) (map expr_at rest) before
+  arguments_at callees x before rest = arguments (call_on code (methods code n) callees x) x (map expr_at rest) before
 
   -- what is written
   abbrev pub written : Writing → Value → Meaning
   written (write.FieldOf f b) v at = on_next (put_field code.shape f) (expr_at b) v at
   written (write.Field x f) v at = put_field code.shape f x v at
-  written (write.ElementOf b c) v at = on_next (λ x. on_next (put_element x) (expr_at c)) (expr_at b) v at
-  written (write.ElementAt x c) v at = on_next (put_element x) (expr_at c) v at
+  written (write.ElementOf b c) v at =
+      on_next (λ x. on_next_beside (x ∷ []) (put_element x) (expr_at c)) (expr_at b) v at
+  written (write.ElementAt x c) v at = on_next_beside (x ∷ []) (put_element x) (expr_at c) v at
   written (write.Element x i) v at = put_element x i v at
   written (write.Root r) v at = put_root r v at
 
@@ -149,7 +226,7 @@ module _ (code : Code) (n k : ℕ) where
   heard (reply.PutField object f v) r at = seen (put_field_in code.shape f v object) r at
   heard (reply.PutElement object i v) r at = seen (put_element_in i v object) r at
   heard (reply.Entered l grade part) r at = entered l grade (locked_at part) r at
-  heard (reply.Left grade end) r at = on_value (λ v. settling grade (ended end)) (done r at)
+  heard (reply.Left grade end) r at = on_value (λ v. settling (end_values end) grade (ended end)) (done r at)
   heard (reply.Settled end) r at = on_value (λ v. ended end) (done r at)
   heard (reply.Bind root v) r at = on_value (bind_null root v) (got r at)
   heard (reply.Waited l n) r at = on_value (λ v. waiting l n) (done r at)
@@ -157,11 +234,12 @@ module _ (code : Code) (n k : ℕ) where
   heard (reply.TimedOut l) r at = on_value (λ v. tell (request.Resume l)) (timed_out r at)
   heard (reply.Paused a) r at = on_value (λ v. moved (move_at a)) (done r at)
 
-  -- what a task of the continuation makes of a part's outcome
-  abbrev pub after_part : Task → Outcome → Outcome
-  after_part (task.Then t) o = on_value (used_value t) o
-  after_part (task.Back frame) o = back_in (environment_of frame) o
-  after_part (task.Leave l grade) o = leave l grade o
+  -- what a task of the continuation makes of a part's outcome, where this is held for what comes after the task
+  abbrev pub after_part : List Value → Task → Outcome → Outcome
+  after_part outer (task.Then t) o = on_value (used_value t) (letting_go (use_values t) outer o)
+  after_part outer (task.Back frame) o = back_in (environment_of frame outer) o
+  after_part outer (task.Leave l grade) o = leave l grade (letting_go (monitor_of l) outer o)
+  after_part outer (task.Close l) o = letting_go (monitor_of l) outer o
 
   -- what the thread is about to do
   abbrev pub meant : Now → Meaning
@@ -169,15 +247,16 @@ module _ (code : Code) (n k : ℕ) where
   meant (now.Arguments callees x before rest) at = arguments_at callees x before rest at
   meant (now.Execute s) at = stmt code (methods code n) n s at
   meant (now.Run ss) at = block_at ss at
-  meant (now.Pace a) at = moving (move_at a) at
+  meant (now.Pace a) at = moving_with (move_values a) (move_at a) at
   meant (now.Have end) at = ended end at
-  meant (now.Ask q on) at = on_reply (heard on) (ask q at)
+  meant (now.Ask q on) at = on_reply (heard on) (asking (reply_values on) q at)
   meant (now.End fault) at = on_reply (λ r at. Over) (ask (request.End fault) at)
 
   -- what the thread is about to do, with the task after it, if there is one
   abbrev pub meant_with : Option Task → Now → Meaning
   meant_with None a at = meant a at
-  meant_with (Some t) a at = after_part t (meant a at)
+  meant_with (Some t) a at =
+      after_part at.environment.outer t (meant a (with_outer (task_values t ++ at.environment.outer) at))
 
   -- what a step comes to
   abbrev pub stepped : Step → Meaning
@@ -185,30 +264,31 @@ module _ (code : Code) (n k : ℕ) where
 
 -- ---- one step
 
--- where the thread stands, in this frame
-abbrev pub in_frame : table_frame.Frame → ℕ → List Reply → State
-in_frame frame moves rs = record { environment = environment_of frame; moves = moves; replies = rs }
+-- where the thread stands, in this frame, where this is held for what comes after
+abbrev pub in_frame : table_frame.Frame → List Value → ℕ → List Reply → State
+in_frame frame outer moves rs = record { environment = environment_of frame outer; moves = moves; replies = rs }
 
 -- What the thread is about to do in this frame comes to what the step comes to.
 pub record Opens (code : Code) (a : Now) (frame : table_frame.Frame) (step : Step) : Type 0 where
-  pub opens : (n k moves : ℕ) (rs : List Reply) →
-      meant code n k a (in_frame frame moves rs) ≡ stepped code n k step (in_frame frame moves rs)
+  pub opens : (n k moves : ℕ) (outer : List Value) (rs : List Reply) →
+      meant code n k a (in_frame frame outer moves rs) ≡ stepped code n k step (in_frame frame outer moves rs)
 
 -- The execution of a statement comes to what the step comes to; its loop begins with all the moves that are counted.
 pub record Executes (code : Code) (s : Stmt) (frame : table_frame.Frame) (step : Step) : Type 0 where
-  pub executes : (n moves : ℕ) (rs : List Reply) →
-      meant code n n (now.Execute s) (in_frame frame moves rs) ≡ stepped code n n step (in_frame frame moves rs)
+  pub executes : (n moves : ℕ) (outer : List Value) (rs : List Reply) →
+      meant code n n (now.Execute s) (in_frame frame outer moves rs)
+      ≡ stepped code n n step (in_frame frame outer moves rs)
 
 -- What is done with a value comes to what the step comes to, in a frame that may be another.
 pub record Uses (code : Code) (t : OnValue) (v : Value) (frame : table_frame.Frame) (step : Step)
     (next : table_frame.Frame) : Type 0 where
-  pub uses : (n k moves : ℕ) (rs : List Reply) →
-      used_value code n k t v (in_frame frame moves rs) ≡ stepped code n k step (in_frame next moves rs)
+  pub uses : (n k moves : ℕ) (outer : List Value) (rs : List Reply) →
+      used_value code n k t v (in_frame frame outer moves rs) ≡ stepped code n k step (in_frame next outer moves rs)
 
 -- What is done with a reply comes to what the step comes to, where a move may be made.
 pub record Takes (code : Code) (on : OnReply) (r : Reply) (frame : table_frame.Frame) (step : Step) : Type 0 where
-  pub takes : (n k moves : ℕ) (rs : List Reply) → moves < most_moves →
-      heard code n k on r (in_frame frame moves rs) ≡ stepped code n k step (in_frame frame moves rs)
+  pub takes : (n k moves : ℕ) (outer : List Value) (rs : List Reply) → moves < most_moves →
+      heard code n k on r (in_frame frame outer moves rs) ≡ stepped code n k step (in_frame frame outer moves rs)
 
 -- ---- all that is left
 
@@ -222,11 +302,16 @@ pub record Fuel (N : ℕ) : Type 0 where
 -- o is what the whole comes to, where the part before this continuation comes to p
 abbrev pub Completes : Code → ℕ → List Task → Outcome → Outcome → Type 0
 Completes code N [] p o = o ≡ finish p
-Completes code N (t ∷ ts) p o = (fuel : Fuel N) × Completes code N ts (after_part code fuel.n fuel.k t p) o
+Completes code N (t ∷ ts) p o =
+    (fuel : Fuel N) × Completes code N ts (after_part code fuel.n fuel.k (outer_of ts) t p) o
 
 -- where the thread stands, with these replies left
 abbrev pub standing : Core → List Reply → State
-standing core rs = record { environment = environment_of core.frame; moves = core.moves; replies = rs }
+standing core rs = record {
+  environment = environment_of core.frame (outer_of core.tasks);
+  moves = core.moves;
+  replies = rs;
+}
 
 -- what the thread is about to do, and what is left after that, comes to o
 pub record Means (code : Code) (N : ℕ) (a : Now) (core : Core) (rs : List Reply) (o : Outcome) : Type 0 where

@@ -111,7 +111,7 @@ expr_step code bodies (e.Root r) at = root r at
 expr_step code bodies (e.Field a f) at = on_value (field_of f) (a at)
 expr_step code bodies (e.Elem a b) at = on_value (on_next element_of b) (a at)
 expr_step code bodies (e.Call a callees args) at =
-    on_value (λ x. arguments (call_on code bodies callees x) args []) (a at)
+    on_value (λ x. arguments (call_on code bodies callees x) x args []) (a at)
 expr_step code bodies (e.NewObject class) at = new_object code.shape class at
 expr_step code bodies (e.NewArray kind a) at = on_value (new_array kind) (a at)
 expr_step code bodies (e.Unary o a) at = on_value (λ v. result_of (unary o v)) (a at)

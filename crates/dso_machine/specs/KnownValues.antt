@@ -13,8 +13,8 @@ use Rattle.dso_machine.specs.Outcome.{result_of}
 
 -- The expression comes to this in the frame, whatever replies are left: it asks nothing and makes no move.
 pub record Knows (code : Code) (a : Expr) (frame : Frame) (outcome : Result Value Fault) : Type 0 where
-  pub knows : (n k moves : ℕ) (rs : List Reply) →
-      expr_at code n k a (in_frame frame moves rs) ≡ result_of outcome (in_frame frame moves rs)
+  pub knows : (n k moves : ℕ) (outer : List Value) (rs : List Reply) →
+      expr_at code n k a (in_frame frame outer moves rs) ≡ result_of outcome (in_frame frame outer moves rs)
 
 -- whether an operator may do without its second operand
 abbrev pub is_lazy : Op → Bool

@@ -24,7 +24,7 @@ finish (Gives v at) = on_reply (λ r at. Over) (ask (End None) at)
 finish (Leaves v at) = on_reply (λ r at. Over) (ask (End None) at)
 finish (Fails fault at) = on_reply (λ r at. Over) (ask (End (Some fault)) at)
 finish (Hears r at) = Over
-finish (Wants q) = Wants q
+finish (Wants q env) = Wants q env
 finish Over = Over
 finish Stopped = Stopped
 
@@ -32,7 +32,7 @@ finish Stopped = Stopped
 -- The body is one of the frames, and the rest are calls that may nest in it.
 abbrev pub opening : ℕ → List Reply → State
 opening vars replies = record {
-  environment = record { this = value.Null; vars = variables vars []; depth_left = most_frames - 1 };
+  environment = record { this = value.Null; vars = variables vars []; depth_left = most_frames - 1; outer = [] };
   moves = 0;
   replies = replies;
 }
@@ -50,7 +50,7 @@ enough_for replies = most_moves * length replies + suc most_moves
 
 -- what a part wants, if it wants something
 abbrev pub request_of : Outcome → Option Request
-request_of (Wants q) = Some q
+request_of (Wants q env) = Some q
 request_of other = None
 
 -- the replies of a thread's events

@@ -26,7 +26,8 @@ use Rattle.dso_machine.specs.declared.tree.Stmt.TheOpen as s
 use Rattle.dso_machine.specs.Calls.{lookup, MethodMeanings}
 use Rattle.dso_machine.specs.Expressions.{within, expr}
 use Rattle.dso_machine.specs.Outcome.{Gives, Leaves, Fails, Stopped, Meaning, choose, on_value, on_reply, on_next}
-use Rattle.dso_machine.specs.Outcome.{ask, unwanted, tell, get, put, look, on_object, moving, under}
+use Rattle.dso_machine.specs.Outcome.{on_next_beside, ask, unwanted, tell, getting, put, looking, on_object, moving}
+use Rattle.dso_machine.specs.Outcome.{under, under_with}
 use Rattle.dso_machine.specs.Values.{takes}
 
 -- ---- what is written
@@ -52,7 +53,7 @@ put_field_in shape f v object class size at = Fails NoSuchField at
 
 -- a field of a value
 abbrev pub put_field : Shape → FieldRef → Value → Value → Meaning
-put_field shape f x v = on_object (λ object. look (put_field_in shape f v object) object) x
+put_field shape f x v = on_object (λ object. looking (v ∷ []) (put_field_in shape f v object) object) x
 
 -- the element that was found
 abbrev pub put_element_at : Kind → ℕ → Value → Option ℕ → Meaning
@@ -66,7 +67,7 @@ put_element_in i v object class size at = Fails BadValue at
 
 -- an element of a value, at an index that is to be a long
 abbrev pub put_element : Value → Value → Value → Meaning
-put_element x (value.Long i) v = on_object (λ object. look (put_element_in i v object) object) x
+put_element x (value.Long i) v = on_object (λ object. looking (v ∷ []) (put_element_in i v object) object) x
 put_element x i v = on_object (λ object. Fails BadValue) x
 
 -- the first assignment binds a root: one that is bound stays
@@ -76,7 +77,7 @@ bind_null r v bound at = Gives value.Null at
 
 -- a root is bound, under its lock
 abbrev pub bind : ℕ → Value → Meaning
-bind r v = under (Name r) grade.Write (λ at. on_value (bind_null r v) (get 0 r at))
+bind r v = under_with (v ∷ []) (Name r) grade.Write (λ at. on_value (bind_null r v) (getting (v ∷ []) 0 r at))
 
 -- a root is given a value
 abbrev pub put_root : ℕ → Value → Meaning
@@ -162,7 +163,8 @@ stmt_step code bodies n (s.Assign i a) at = on_value (assign i) (expr code bodie
 stmt_step code bodies n (s.PutField a f b) at =
     on_value (on_next (put_field code.shape f) (expr code bodies b)) (expr code bodies a at)
 stmt_step code bodies n (s.PutElem a b c) at =
-    on_value (on_next (λ x. on_next (put_element x) (expr code bodies c)) (expr code bodies b)) (expr code bodies a at)
+    on_value (on_next (λ x. on_next_beside (x ∷ []) (put_element x) (expr code bodies c)) (expr code bodies b))
+    (expr code bodies a at)
 stmt_step code bodies n (s.PutRoot r a) at = on_value (put_root r) (expr code bodies a at)
 stmt_step code bodies n (s.Eval a) at = expr code bodies a at
 stmt_step code bodies n (s.If a yes_block no_block) at =

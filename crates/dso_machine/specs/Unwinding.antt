@@ -21,7 +21,8 @@ use Rattle.dso_machine.specs.declared.code.Code.{Code}
 use Rattle.dso_machine.specs.declared.code.ThreadBody.{ThreadBody}
 use Rattle.dso_machine.specs.Calls.{back_in}
 use Rattle.dso_machine.specs.Next.{body_of, enough_for, finish, next_request, replies_in, whole}
-use Rattle.dso_machine.specs.Outcome.{Environment, State, Outcome, Fails, Meaning, on_value, leave, under}
+use Rattle.dso_machine.specs.Outcome.{Environment, State, Outcome, Fails, Meaning, on_value, restored, leave}
+use Rattle.dso_machine.specs.Outcome.{under_with}
 
 -- ---- the locks of a thread
 
@@ -84,16 +85,18 @@ is_synchronous grade.Synchronous = true
 abbrev pub hold_at : LockName → Grade → Hold
 hold_at l grade = record { lock = l; synchronous = is_synchronous grade }
 
--- what may stand around a part of a program: its value is used, a caller's environment comes back, a lock is left that
--- was entered at this grade
+-- what may stand around a part of a program: its value is used, what was held before is held again, a caller's
+-- environment comes back, a lock is left that was entered at this grade
 pub data Layer : Type 0 where
   UsesValue : (Value → Meaning) → Layer
+  HoldsAgain : List Value → Layer
   ReturnsTo : Environment → Layer
   LeavesLock : LockName → Grade → Layer
 
 -- what the layer makes of a part's outcome
 abbrev pub in_layer : Layer → Outcome → Outcome
 in_layer (UsesValue f) o = on_value f o
+in_layer (HoldsAgain outer) o = restored outer o
 in_layer (ReturnsTo caller) o = back_in caller o
 in_layer (LeavesLock l grade) o = leave l grade o
 
@@ -106,6 +109,7 @@ in_context (layer ∷ context) o = in_context context (in_layer layer o)
 abbrev pub holds_around : List Layer → List Hold
 holds_around [] = []
 holds_around (UsesValue f ∷ context) = holds_around context
+holds_around (HoldsAgain outer ∷ context) = holds_around context
 holds_around (ReturnsTo caller ∷ context) = holds_around context
 holds_around (LeavesLock l grade ∷ context) = hold_at l grade ∷ holds_around context
 
@@ -140,12 +144,14 @@ unwinding fault (hold ∷ holds) =
     Exit hold.lock ∷ cond hold.synchronous (Settle ∷ unwinding fault holds) (unwinding fault holds)
 
 -- Whatever replies are still to come, a thread comes to what comes of a part under this lock, which is entered at this
--- grade, in a context.
+-- grade while some values are held, in a context.
 pub record IsAtEntry (l : LockName) (grade : Grade) (o : List Reply → Outcome) : Type 0 where
   pub context : List Layer
+  pub values : List Value
   pub part : Meaning
   pub at : State
-  pub comes : (rs : List Reply) → o rs ≡ finish (in_context context (under l grade part (with_replies rs at)))
+  pub comes : (rs : List Reply) →
+      o rs ≡ finish (in_context context (under_with values l grade part (with_replies rs at)))
 
 -- an entry that is answered Done is at this grade in the code, where o is what comes of its reply and those after it
 pub record IsAtGrade (o : List Reply → Outcome) (q : Request) (r : Reply) (grade : Grade) : Type 0 where

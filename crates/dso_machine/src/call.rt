@@ -5,7 +5,8 @@ ghost use Rattle.dso_machine.specs.declared.code.Code.{Code};
 ghost use Rattle.dso_machine.specs.declared.continuation.OnReply.{OnReply};
 ghost use Rattle.dso_machine.specs.Calls as calls;
 ghost use Rattle.dso_machine.specs.Outcome.{State};
-ghost use Rattle.dso_machine.specs.Continuation.{Takes, body_at, in_frame, meant, stepped};
+ghost use Rattle.dso_base.specs.declared.value.Value.{Value};
+ghost use Rattle.dso_machine.specs.Continuation.{Takes, body_at, call_values, in_frame, meant, stepped};
 ghost use Rattle.dso_machine.specs.Statements.{methods};
 
 use crate::Code;
@@ -29,7 +30,7 @@ pub(crate) fn variables(count: u32, values: Items<Value>) -> Result<Items<Value>
 /// A call of a method: its locks, the named one first, and then its body.
 fn enter_named(named: Option<(u32, Grade)>, call: Call) -> Now
     ensures is { (code : Code) (n k : ℕ) (at : State) → meant code n k result at
-        ≡ calls.under_name named (calls.under_monitor call.synced call.object (body_at code n k call)) at }
+        ≡ calls.under_name (call_values call) named (calls.under_monitor (call_values call) call.synced call.object (body_at code n k call)) at }
 {
     match named {
         Some((lock, grade)) => {
@@ -52,8 +53,8 @@ fn call_method(
     number: u32,
     args: Items<Value>,
 ) -> Result<Step, NoMemory>
-    ensures is { IfOk result (λ step. (n k moves : ℕ) (rs : List Reply) → stepped code.now n k step (in_frame frame.now moves rs)
-        ≡ calls.call_number code.now (methods code.now n) object args (Some number) (in_frame frame.now moves rs)) }
+    ensures is { IfOk result (λ step. (n k moves : ℕ) (outer : List Value) (rs : List Reply) → stepped code.now n k step (in_frame frame.now outer moves rs)
+        ≡ calls.call_number code.now (methods code.now n) object args (Some number) (in_frame frame.now outer moves rs)) }
 {
     let Some(method) = code.methods.get(number as usize) else {
         return Ok(Step::fail(Fault::NoSuchField));

@@ -168,6 +168,8 @@ pub(crate) enum Task {
     Back(Frame),
     /// The lock is left, which was entered at this grade.
     Leave(LockName, Grade),
+    /// The block of a private object ends: nothing is left.
+    Close(LockName),
 }
 
 /// What the thread is about to do.

@@ -63,7 +63,10 @@ impl Core {
                 self.frame = frame;
                 Now::Have(End::Gives(value))
             }
-            End::Fails(fault) => Now::Have(End::Fails(fault)),
+            End::Fails(fault) => {
+                self.frame = frame;
+                Now::Have(End::Fails(fault))
+            }
         }
     }
 
@@ -178,6 +181,7 @@ impl Core {
             Some(Task::Leave(lock, grade)) => {
                 Ok(Now::Ask(Request::Exit(lock), OnReply::Left(grade, end)))
             }
+            Some(Task::Close(_)) => Ok(Now::Have(end)),
         }
     }
 

@@ -228,7 +228,10 @@ fn entered(reply: Reply, lock: LockName, grade: Grade, locked: Locked) -> Step
             now: begin(locked),
             then: Some(Task::Leave(lock, grade)),
         },
-        Reply::Local => Step::alone(begin(locked)),
+        Reply::Local => Step {
+            now: begin(locked),
+            then: Some(Task::Close(lock)),
+        },
         _ => unwanted(reply),
     }
 }

@@ -15,10 +15,9 @@ use Rattle.dso_base.specs.declared.request.Request.TheVariants.{New, Look, Get, 
 use Rattle.dso_base.specs.declared.request.Request.TheVariants.{Resume, Notify, NotifyAll, Print, End, Pause, Settle}
 use Rattle.dso_base.specs.declared.shape.Shape.{Shape}
 use Rattle.dso_base.specs.declared.value.ClassId.{ClassId}
-use Rattle.dso_base.specs.declared.value.Kind.{Kind}
-use Rattle.dso_base.specs.declared.value.Kind.TheVariants as kind
 use Rattle.dso_base.specs.declared.value.Value.{Value}
 use Rattle.dso_base.specs.declared.value.Value.TheVariants as value
+use Rattle.dso_base.specs.Block.{opening_value}
 use Rattle.dso_base.specs.Shape.{kind_of}
 use Rattle.dso_base.specs.Reach.{reach}
 use Rattle.dso_base.specs.Following.{is_thread}
@@ -58,13 +57,6 @@ nothing = record {
   lost = nowhere;
   unguarded = false;
 }
-
--- what a field of this kind begins as: 0, false, null, null
-abbrev pub opening_value : Kind → Value
-opening_value kind.Long = value.Long (pos 0)
-opening_value kind.Bool = value.Bool false
-opening_value kind.Text = value.Null
-opening_value kind.Ref = value.Null
 
 -- the opening value of a field of a new object of this class and size, None where it has no such field
 abbrev pub opening_field : Shape → ClassId → ℕ → ℕ → Option Value

@@ -1,67 +1,16 @@
 //! The fields of an object in the tables: what they begin as, and their pasts.
-ghost use Rattle.std.specs.Prelude.{◌≡◌, slice_get, Some, OnOk, IfOk, [], ◌∷◌};
-ghost use Rattle.dso_base.specs.Shape.{kind_of, guard_of, fields_at};
+ghost use Rattle.std.specs.Prelude.{◌≡◌, Some, OnOk, IfOk, [], ◌∷◌};
+ghost use Rattle.dso_base.specs.Block.{opening_value};
+ghost use Rattle.dso_base.specs.Shape.{kind_of};
 ghost use Rattle.dso_plain.specs.KeyTests.{is_field};
 ghost use Rattle.dso_lookup.specs.Maps.{writes, written, look};
-ghost use Rattle.dso_plain.specs.After.{opening_value, present};
+ghost use Rattle.dso_plain.specs.After.{present};
 ghost use Rattle.dso_plain.specs.Tables.{field_order, pasts_of, is_below};
 
-use dso_base::{ClassId, FieldShape, Guard, Items, Kind, LockName, NoMemory, Shape, Value};
+use dso_base::{ClassId, Items, NoMemory, Shape, Value};
 use dso_lookup::{put, take};
 use std::alloc::Global;
 use std::collections::BTreeMap;
-
-/// The field of a class of the program, None where there is none.
-fn field_shape(shape: &Shape, number: u32, field: u32) -> Option<FieldShape>
-    ensures { result ≡ slice_get (fields_at shape.now number) field }
-{
-    match shape.classes.get(number as usize) {
-        Some(class) => class.fields.get(field as usize).copied(),
-        None => None,
-    }
-}
-
-/// The kind of a field of a class, be it in the shape or not.
-pub(crate) fn field_kind(shape: &Shape, class: ClassId, field: u32) -> Kind
-    ensures { result ≡ kind_of shape.now class field }
-{
-    match class {
-        ClassId::Plain(number) => match field_shape(shape, number, field) {
-            Some(field) => field.kind,
-            None => Kind::Ref,
-        },
-        ClassId::Array(kind) => kind,
-        ClassId::Roots => Kind::Ref,
-    }
-}
-
-/// The lock that guards a field of an object of a class, be it in the shape or not.
-pub(crate) fn field_guard(shape: &Shape, class: ClassId, object: u64, field: u32) -> LockName
-    ensures { result ≡ guard_of shape.now class object field }
-{
-    match class {
-        ClassId::Plain(number) => match field_shape(shape, number, field) {
-            Some(field) => match field.guard {
-                Guard::Own => LockName::Mon(object),
-                Guard::Name(name) => LockName::Name(name),
-            },
-            None => LockName::Mon(object),
-        },
-        ClassId::Array(_) => LockName::Mon(object),
-        ClassId::Roots => LockName::Name(field),
-    }
-}
-
-/// What a field of a kind begins as.
-fn opening(kind: Kind) -> Value
-    ensures { result ≡ opening_value kind }
-{
-    match kind {
-        Kind::Long => Value::Long(0),
-        Kind::Bool => Value::Bool(false),
-        Kind::Text | Kind::Ref => Value::Null,
-    }
-}
 
 /// Gives the fields of an object their opening values.
 pub(crate) fn make_fields(
@@ -74,11 +23,8 @@ pub(crate) fn make_fields(
     ensures { OnOk result (look field_order heap.new ≡ written (writes (is_below object size) (λ key. Some (opening_value (kind_of shape.now class key.1)))) (look field_order heap.old)) }
 {
     for field in 0..size {
-        put(
-            heap,
-            (object, field),
-            opening(field_kind(shape, class, field)),
-        )?;
+        let opening = shape.kind(class, field).opening_value();
+        put(heap, (object, field), opening)?;
     }
     Ok(())
 }

@@ -9,7 +9,6 @@ ghost use Rattle.dso_plain.specs.TableInvariants.{IndexesAgree};
 ghost use Rattle.dso_plain.specs.State.{level_of, hold_on_guard};
 ghost use Rattle.dso_plain.specs.Tables.{state_of};
 
-use crate::fields::field_guard;
 use crate::publish::is_owner;
 use crate::reads::{holds_nothing, holds_something, level, object, seen, stands_from, value};
 use crate::tables::{Object, Tables};
@@ -84,7 +83,7 @@ pub(crate) fn guard_level(
     requires { look nat_cmp tables.now.objects id ≡ Some object }
     ensures { result ≡ level_of (hold_on_guard shape.now thread id field (state_of tables.now)) }
 {
-    level(tables, field_guard(shape, object.class, id, field), thread)
+    level(tables, shape.guard(object.class, id, field), thread)
 }
 
 /// Whether the field of an object has the value.

@@ -3,7 +3,7 @@ ghost use Rattle.std.specs.Prelude.{◌≡◌, ◌++◌, IfOk, OnOk};
 ghost use Rattle.dso_report.specs.JournalText.{node_number, input_words, sent_words, event_part, entry_head, entry_line, journal_text};
 
 use crate::written::{Written, put_behind, put_each};
-use dso_base::{Entry, Event, Input, Journal, NoMemory, Node, Sent, ThreadId};
+use dso_base::{Entry, Event, Input, Journal, NoMemory, Node, Sent, Shared, ThreadId};
 use std::alloc::{AllocError, Global};
 
 /// The text of a journal: a line for each entry, the first one first, with its clock, its node, what the node took in, each message
@@ -101,11 +101,11 @@ impl Written for Sent {
 }
 
 /// Puts the part of an entry's event at the end, where it has one.
-fn put_event(text: &mut Vec<u8>, event: &Option<Event>) -> Result<(), AllocError>
+fn put_event(text: &mut Vec<u8>, event: &Option<Shared<Event>>) -> Result<(), AllocError>
     ensures { OnOk result (text.new.items ≡ text.old.items ++ event_part event.now) }
 {
     match event {
         None => Ok(()),
-        Some(event) => put_behind(text, b" ; event ", event),
+        Some(event) => put_behind(text, b" ; event ", event.get()),
     }
 }

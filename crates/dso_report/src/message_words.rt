@@ -90,7 +90,7 @@ impl Written for Up {
                 put_behind(text, b"return ", lock)?;
                 put_behind(text, b" ", waiters)
             }
-            Up::Commit(txn) => put_behind(text, b"commit ", txn),
+            Up::Commit(txn) => put_behind(text, b"commit ", txn.get()),
         }
     }
 }
@@ -101,7 +101,7 @@ impl Written for Down {
     fn put(&self, text: &mut Vec<u8>) -> Result<(), AllocError> {
         match self {
             Down::Ids(first) => put_behind(text, b"ids ", first),
-            Down::Object(body) => put_behind(text, b"object ", body),
+            Down::Object(body) => put_behind(text, b"object ", body.get()),
             Down::Grant(lock, level) => {
                 put_behind(text, b"grant ", lock)?;
                 put_behind(text, b" ", level)

@@ -7,7 +7,7 @@ ghost use Rattle.dso_base.specs.declared.journal.Node.TheVariants as node;
 ghost use Rattle.dso_run.specs.Failing.{fails, fails_kept, is_fault, is_loss, tells_fault};
 ghost use Rattle.dso_run.specs.RunEnds.{is_faulty};
 
-use dso_base::{Entry, Event, Input, Node, Request, ThreadId};
+use dso_base::{Entry, Event, Input, Node, Request, Shared, ThreadId};
 
 /// Whether a kept thread of these, one of a client that isn't lost, ended by a fault. It walks the journal once, and
 /// once more for each fault of one of these threads.
@@ -31,15 +31,16 @@ fn tells_fault(threads: &[ThreadId], entries: &[Entry], entry: &Entry) -> bool
 }
 
 /// Whether an event ends its thread by a fault.
-fn is_fault(event: &Option<Event>) -> bool
+fn is_fault(event: &Option<Shared<Event>>) -> bool
     ensures { result ≡ is_fault event.now }
 {
+    let Some(event) = event else { return false };
     matches!(
-        event,
-        Some(Event::Act {
+        event.get(),
+        Event::Act {
             request: Request::End(Some(_)),
             ..
-        })
+        }
     )
 }
 
@@ -66,16 +67,17 @@ fn fails_kept(entries: &[Entry], entry: &Entry, thread: ThreadId) -> bool
 fn fails(entry: &Entry, thread: ThreadId) -> bool
     ensures { result ≡ fails thread entry.now }
 {
-    match (&entry.node, &entry.event) {
+    let Some(event) = &entry.event else {
+        return false
+    };
+    match (&entry.node, event.get()) {
         (
             Node::Client(client),
-            Some(
-                Event::Act {
-                    thread: acting,
-                    request: Request::End(Some(_)),
-                    ..
-                },
-            ),
+            Event::Act {
+                thread: acting,
+                request: Request::End(Some(_)),
+                ..
+            },
         ) => *client == thread.client && is_thread(thread, *acting),
         _ => false,
     }

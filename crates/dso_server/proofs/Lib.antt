@@ -2,3 +2,4 @@ pub mod lists
 pub mod standing
 pub mod answered
 pub mod records
+pub mod due

@@ -5,6 +5,7 @@ pub mod WaitersTook
 pub mod ThreadsTook
 pub mod BatchesGiven
 pub mod Taking
+pub mod Lacking
 pub mod Opening
 pub mod NewWaiters
 pub mod ByRule

@@ -1,8 +1,9 @@
 -- That the server's answers hold of whatever entries it stands for.
-use Rattle.std.specs.Prelude.{ℕ, ◌≡◌, ◌↔◌, Bool, false, IsTrue, List}
+use Rattle.std.specs.Prelude.{ℕ, ◌≡◌, ◌↔◌, Bool, false, IsTrue, Option, List}
 use Rattle.dso_base.specs.declared.journal.Entry.{Entry}
 use Rattle.dso_base.specs.declared.message.Up.{Up}
 use Rattle.dso_base.specs.declared.message.Up.TheVariants as up
+use Rattle.dso_base.specs.declared.record.Body.{Body}
 use Rattle.dso_base.specs.declared.shape.Shape.{Shape}
 use Rattle.dso_law.specs.ServerReadings.{counted}
 use Rattle.dso_law.specs.Settings.{Settings}
@@ -10,6 +11,11 @@ use Rattle.dso_locks.specs.Locks.{waits}
 use Rattle.dso_locks.specs.Tables.{locks_in}
 use Rattle.dso_server.specs.declared.server.Server.{Server}
 use Rattle.dso_server.specs.ServerStands.{ServerStands}
+use Rattle.dso_store.specs.Graph.{body_in}
+
+-- the server's own graph: the body of each object that it has
+abbrev pub graph_in : Server → ℕ → Option Body
+graph_in server = body_in server.store
 
 -- The value is that of the reading, over the entries that count, for each list of entries that the server stands for.
 abbrev pub Knows : {V : Type 0} → Server → V → (Settings → List Entry → V) → Type 0

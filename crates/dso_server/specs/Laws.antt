@@ -1,5 +1,5 @@
--- That what the calls make are entries of the server rule, and which entries change nothing.
-use Rattle.std.specs.Prelude.{ℕ, ◌≡◌, ◌≢◌, true, false, List, ◌∷◌}
+-- That what the calls make are entries of the server rule, which entries change nothing, and which servers lack nothing.
+use Rattle.std.specs.Prelude.{ℕ, ◌≡◌, true, false, List, ◌∷◌}
 use Rattle.dso_base.specs.declared.journal.Entry.{Entry}
 use Rattle.dso_base.specs.declared.journal.Sent.{Sent}
 use Rattle.dso_base.specs.declared.message.Down.{Down}
@@ -10,8 +10,8 @@ use Rattle.dso_law.specs.Settings.{Settings}
 use Rattle.dso_locks.specs.Locks.{IsClient}
 use Rattle.dso_server.specs.declared.server.Server.{Server}
 use Rattle.dso_server.specs.declared.taken.Taken.{Taken}
-use Rattle.dso_server.specs.declared.taken.Taken.TheVariants.{Unfit}
-use Rattle.dso_server.specs.Answering.{IsLost, IsTaken}
+use Rattle.dso_server.specs.Answering.{IsLost, IsTaken, WasTaken}
+use Rattle.dso_server.specs.Lacking.{KnowsNamed, Lacks, LacksNothing}
 use Rattle.dso_server.specs.Sending.{broke, lost, rejoined, sent_of, took}
 use Rattle.dso_server.specs.ServerStands.{ServerStands}
 
@@ -19,13 +19,13 @@ use Rattle.dso_server.specs.ServerStands.{ServerStands}
 -- loss of its client nor a break of the connection is due.
 abbrev pub TakenByRule : Type 0
 TakenByRule = (p : Settings) (clock c : ℕ) (m : Up) (taken : Taken) (messages : List (ℕ × Down)) (old new : Server)
-    (es : List Entry) → taken ≢ Unfit → IsTaken p c m taken messages old new es → IsClient p c
+    (es : List Entry) → WasTaken taken → IsTaken p c m taken messages old new es → IsClient p c
     → is_loss_due p c es ≡ false → is_break_due p c es ≡ false → ServerStep p (took clock c m (sent_of messages)) es
 
 -- A loss makes an entry by the server rule, where it is due.
 abbrev pub LostByRule : Type 0
-LostByRule = (p : Settings) (clock c : ℕ) (messages : List (ℕ × Down)) (new : Server) (es : List Entry)
-    → IsLost p c messages new es → IsClient p c → is_loss_due p c es ≡ true
+LostByRule = (p : Settings) (clock c : ℕ) (messages : List (ℕ × Down)) (old new : Server) (es : List Entry)
+    → IsLost p c messages old new es → IsClient p c → is_loss_due p c es ≡ true
     → ServerStep p (lost clock c (sent_of messages)) es
 
 -- A break of a connection changes nothing.
@@ -42,3 +42,13 @@ RejoinsChangeNothing = (p : Settings) (server : Server) (clock c : ℕ) (es : Li
 abbrev pub LostChangeNothing : Type 0
 LostChangeNothing = (p : Settings) (server : Server) (clock c : ℕ) (m : Up) (sent : List Sent) (es : List Entry)
     → is_lost c es ≡ true → ServerStands p server es → ServerStands p server (took clock c m sent ∷ es)
+
+-- A server that lacks nothing has what any message names.
+abbrev pub NamedIsKnown : Type 0
+NamedIsKnown = (p : Settings) (server : Server) (c : ℕ) (m : Up) (es : List Entry) → LacksNothing p server es
+    → KnowsNamed p server c m es
+
+-- It lacks nothing of later entries either, where what it lacks of those it lacked before.
+abbrev pub NothingIsLackedLater : Type 0
+NothingIsLackedLater = (p : Settings) (old new : Server) (es later : List Entry) → ServerStands p new later
+    → ((o : ℕ) → Lacks p new later o → Lacks p old es o) → LacksNothing p old es → LacksNothing p new later

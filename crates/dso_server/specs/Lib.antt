@@ -1,9 +1,12 @@
 pub mod Batches
 pub mod Waiters
+pub mod Triggers
 pub mod Threads
 pub mod Sending
 pub mod ServerStands
 pub mod Fitting
 pub mod Records
+pub mod Lacking
 pub mod Answering
 pub mod Laws
+pub mod Tags

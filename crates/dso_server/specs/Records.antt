@@ -1,6 +1,6 @@
--- Parts of a record that fit a shape.
+-- Parts of a record that fit a shape, and a graph.
 use Rattle.std.specs.List.{AllByRecursion, AllWithin, list_any}
-use Rattle.std.specs.Prelude.{ℕ, suc, ◌<◌, ◌≤◌, ◌≡◌, true, false, ltb, List, length}
+use Rattle.std.specs.Prelude.{ℕ, suc, ◌<◌, ◌≤◌, ◌≡◌, true, false, ltb, Option, List, length}
 use Rattle.dso_base.specs.declared.journal.Entry.{Entry}
 use Rattle.dso_base.specs.declared.record.Body.{Body}
 use Rattle.dso_base.specs.declared.record.Set.{Set}
@@ -12,7 +12,7 @@ use Rattle.dso_base.specs.Block.{is_field_before}
 use Rattle.dso_base.specs.Following.{is_thread}
 use Rattle.dso_base.specs.Shape.{kind_of}
 use Rattle.dso_base.specs.Value.{Fits}
-use Rattle.dso_law.specs.FitsUp.{FitsEnding, FitsNews, FitsNote, FitsSet, IsNamed, IsPrinted, Rises}
+use Rattle.dso_law.specs.FitsUp.{FitsEnding, FitsNewsBy, FitsNote, FitsSetBy, IsNamedBy, IsPrinted, Rises}
 use Rattle.dso_law.specs.ServerReadings.{is_ended, last_number}
 use Rattle.dso_law.specs.Settings.{Settings, threads_of}
 
@@ -35,8 +35,8 @@ IsPlaceOf o news at = AllWithin (λ body. body.object < o) news 0 at
     × AllWithin (λ body. o ≤ body.object) news at (length news)
 
 -- an object named is there, and a text named is a literal
-abbrev pub FitsValue : Shape → Settings → List Body → List Entry → Value → Type 0
-FitsValue shape p news es v = IsNamed p news es v × IsLiteralOf shape v
+abbrev pub FitsValue : Shape → (ℕ → Option Body) → List Body → Value → Type 0
+FitsValue shape graph news v = IsNamedBy graph news v × IsLiteralOf shape v
 
 -- an object printed has an id that was given out, and a text printed is a literal
 abbrev pub FitsOut : Shape → List Entry → Value → Type 0
@@ -49,14 +49,14 @@ FitsMaker p c txn es = (txn.seq ≡ suc (last_number c es)) × (list_any (is_thr
     × (is_ended txn.thread es ≡ false)
 
 -- the objects published and the sets fit, and the sets rise by object and field
-abbrev pub FitsObjects : Settings → ℕ → Txn → List Entry → Type 0
-FitsObjects p c txn es = AllByRecursion (FitsNews p c es) txn.news × AllByRecursion (FitsSet p c es) txn.sets
-    × Rises is_field_before txn.sets
+abbrev pub FitsObjects : (ℕ → Option Body) → Settings → ℕ → Txn → List Entry → Type 0
+FitsObjects graph p c txn es = AllByRecursion (FitsNewsBy graph p c es) txn.news
+    × AllByRecursion (FitsSetBy graph p c es) txn.sets × Rises is_field_before txn.sets
 
 -- the values that the record would put in the graph, and those printed, fit
-abbrev pub FitsValues : Shape → Settings → Txn → List Entry → Type 0
-FitsValues shape p txn es = AllByRecursion (λ body. AllByRecursion (FitsValue shape p txn.news es) body.values) txn.news
-    × AllByRecursion (λ set. FitsValue shape p txn.news es set.value) txn.sets
+abbrev pub FitsValues : Shape → (ℕ → Option Body) → Txn → List Entry → Type 0
+FitsValues shape graph txn es = AllByRecursion (λ body. AllByRecursion (FitsValue shape graph txn.news) body.values) txn.news
+    × AllByRecursion (λ set. FitsValue shape graph txn.news set.value) txn.sets
     × AllByRecursion (FitsOut shape es) txn.outs
 
 -- the notifications and the ending fit

@@ -3,7 +3,7 @@ use Rattle.std.specs.BTreeMap.{BTreeMap}
 use Rattle.std.specs.BTreeSet.{contains}
 use Rattle.std.specs.List.{list_any}
 use Rattle.std.specs.Ordering.{nat_cmp}
-use Rattle.std.specs.Prelude.{◌≡◌, Option, List}
+use Rattle.std.specs.Prelude.{ℕ, ◌≡◌, ◌⊎◌, Option, None, List}
 use Rattle.dso_base.specs.declared.journal.Entry.{Entry}
 use Rattle.dso_base.specs.declared.lock.LockName.{LockName}
 use Rattle.dso_base.specs.declared.lock.ThreadId.{ThreadId}
@@ -27,10 +27,10 @@ use Rattle.dso_store.specs.declared.store.Store.{Store}
 use Rattle.dso_store.specs.Graph as graph
 use Rattle.dso_store.specs.Graph.{AreClients, body_in, holds_in}
 
--- The graph: the body of each object, who holds which, and the number of each client's last record. All holders are
--- clients of the cluster.
+-- The graph: of each object the stored body, or none; who holds which, and the number of each client's last record. All
+-- holders are clients of the cluster.
 pub record GraphStands (p : Settings) (store : Store) (es : List Entry) : Type 0 where
-  pub bodies : body_in store ≡ (λ o. stored p.shape o es)
+  pub bodies : (o : ℕ) → (body_in store o ≡ stored p.shape o es) ⊎ (body_in store o ≡ None)
   pub holds : holds_in store ≡ (λ c o. holds_object c o es)
   pub last : graph.last_in store ≡ (λ c. last_number c es)
   pub within : AreClients p (holds_in store)

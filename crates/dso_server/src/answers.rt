@@ -126,7 +126,7 @@ pub(crate) fn answer(
         Up::Flushed(object) => Ok(flush(alloc, server, client, *object)),
         Up::Request(lock, level) => request(alloc, server, client, *lock, *level),
         Up::Return(lock, threads) => take_back(alloc, server, client, *lock, threads.as_slice()),
-        Up::Commit(txn) => commit(alloc, server, client, txn),
+        Up::Commit(txn) => commit(alloc, server, client, txn.get()),
     }
 }
 
@@ -136,7 +136,7 @@ pub(crate) fn lost(
     server: &mut Server,
     client: u8,
 ) -> Result<Vec<(u8, Down)>, NoMemory>
-    ensures lost { IfOk result (λ messages. (p : Settings) (es : List Entry) → ServerStands p server.old es → IsLost p client messages.items server.new es) }
+    ensures lost { IfOk result (λ messages. (p : Settings) (es : List Entry) → ServerStands p server.old es → IsLost p client messages.items server.old server.new es) }
     ensures given { OnOk result (given_by server.new ≡ given_by server.old) }
 {
     server.lost.insert(client)?;

@@ -2,8 +2,8 @@
 ghost use Rattle.std.specs.Prelude.{◌≡◌, ◌↔◌, IsTrue};
 ghost use Rattle.std.specs.List.{AllByRecursion};
 ghost use Rattle.dso_base.specs.Block.{is_field_before};
-ghost use Rattle.dso_law.specs.FitsUp.{FitsNews, FitsNote, FitsSet, Rises};
-ghost use Rattle.dso_server.specs.Fitting.{Tells, TellsIn};
+ghost use Rattle.dso_law.specs.FitsUp.{FitsNewsBy, FitsNote, FitsSetBy, Rises};
+ghost use Rattle.dso_server.specs.Fitting.{Tells, TellsIn, graph_in};
 ghost use Rattle.dso_server.specs.Records.{FitsOut, FitsValue, IsRising};
 
 use crate::fits_parts::{fits_news, fits_note, fits_set, is_literal, is_named, is_printed};
@@ -51,7 +51,7 @@ pub(crate) fn are_rising_sets(sets: &[Set]) -> bool
 
 /// Whether each object published fits.
 pub(crate) fn all_news_fit(server: &Server, shape: &Shape, client: u8, news: &[Body]) -> bool
-    ensures { TellsIn shape.now server.now result (λ p es. AllByRecursion (FitsNews p client es) news.now) }
+    ensures { TellsIn shape.now server.now result (λ p es. AllByRecursion (FitsNewsBy (graph_in server.now) p client es) news.now) }
 {
     for body in news {
         if !fits_news(server, shape, client, body) {
@@ -63,7 +63,7 @@ pub(crate) fn all_news_fit(server: &Server, shape: &Shape, client: u8, news: &[B
 
 /// Whether each set fits.
 pub(crate) fn all_sets_fit(server: &Server, shape: &Shape, client: u8, sets: &[Set]) -> bool
-    ensures { TellsIn shape.now server.now result (λ p es. AllByRecursion (FitsSet p client es) sets.now) }
+    ensures { TellsIn shape.now server.now result (λ p es. AllByRecursion (FitsSetBy (graph_in server.now) p client es) sets.now) }
 {
     for set in sets {
         if !fits_set(server, shape, client, *set) {
@@ -76,7 +76,7 @@ pub(crate) fn all_sets_fit(server: &Server, shape: &Shape, client: u8, sets: &[S
 /// Whether a value that would be put in the graph names what is there.
 fn value_fits(server: &Server, shape: &Shape, news: &Items<Body>, value: Value) -> bool
     requires { IsRising news.now }
-    ensures { Tells server.now result (λ p es. FitsValue shape.now p news.now es value) }
+    ensures { IsTrue result ↔ FitsValue shape.now (graph_in server.now) news.now value }
 {
     if !is_named(server, news, value) {
         return false;
@@ -87,7 +87,7 @@ fn value_fits(server: &Server, shape: &Shape, news: &Items<Body>, value: Value) 
 /// Whether each of these does.
 fn values_fit(server: &Server, shape: &Shape, news: &Items<Body>, values: &[Value]) -> bool
     requires { IsRising news.now }
-    ensures { Tells server.now result (λ p es. AllByRecursion (FitsValue shape.now p news.now es) values.now) }
+    ensures { IsTrue result ↔ AllByRecursion (FitsValue shape.now (graph_in server.now) news.now) values.now }
 {
     for value in values {
         if !value_fits(server, shape, news, *value) {
@@ -105,7 +105,7 @@ pub(crate) fn body_values_fit(
     bodies: &[Body],
 ) -> bool
     requires { IsRising news.now }
-    ensures { Tells server.now result (λ p es. AllByRecursion (λ body. AllByRecursion (FitsValue shape.now p news.now es) body.values) bodies.now) }
+    ensures { IsTrue result ↔ AllByRecursion (λ body. AllByRecursion (FitsValue shape.now (graph_in server.now) news.now) body.values) bodies.now }
 {
     for body in bodies {
         if !values_fit(server, shape, news, body.values.as_slice()) {
@@ -123,7 +123,7 @@ pub(crate) fn set_values_fit(
     sets: &[Set],
 ) -> bool
     requires { IsRising news.now }
-    ensures { Tells server.now result (λ p es. AllByRecursion (λ set. FitsValue shape.now p news.now es set.value) sets.now) }
+    ensures { IsTrue result ↔ AllByRecursion (λ set. FitsValue shape.now (graph_in server.now) news.now set.value) sets.now }
 {
     for set in sets {
         if !value_fits(server, shape, news, set.value) {

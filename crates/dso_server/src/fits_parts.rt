@@ -4,10 +4,10 @@ ghost use Rattle.std.specs.List.{AllByRecursion};
 ghost use Rattle.dso_base.specs.declared.record.Ending.TheVariants as ending;
 ghost use Rattle.dso_base.specs.Block.{is_field_before};
 ghost use Rattle.dso_law.specs.Copies.{is_among};
-ghost use Rattle.dso_law.specs.FitsUp.{FitsEnding, FitsNews, FitsNote, FitsRecord, FitsSet, IsLiteral, IsNamed, IsPrinted, Rises, stored_values};
+ghost use Rattle.dso_law.specs.FitsUp.{FitsEnding, FitsNewsBy, FitsNote, FitsSetBy, IsLiteral, IsNamedBy, IsPrinted, Rises, stored_values};
 ghost use Rattle.dso_law.specs.Granting.{leased_to};
 ghost use Rattle.dso_law.specs.ServerReadings.{last_ending};
-ghost use Rattle.dso_server.specs.Fitting.{Tells, TellsIn};
+ghost use Rattle.dso_server.specs.Fitting.{Tells, TellsIn, graph_in};
 ghost use Rattle.dso_server.specs.Records.{FitsField, IsLiteralOf, IsPlaceOf, IsRising};
 
 use crate::reads::{
@@ -22,7 +22,7 @@ use dso_law::{fits_shape, guard_at, kind_at};
 /// Whether the published object fits: its id was given to the client and isn't in the graph, its class isn't that of the
 /// roots, and its class and values fit the shape.
 pub(crate) fn fits_news(server: &Server, shape: &Shape, client: u8, body: &Body) -> bool
-    ensures { TellsIn shape.now server.now result (λ p es. FitsNews p client es body.now) }
+    ensures { TellsIn shape.now server.now result (λ p es. FitsNewsBy (graph_in server.now) p client es body.now) }
 {
     if !is_given_to(server, client, body.object) {
         return false;
@@ -48,7 +48,7 @@ fn fits_field(shape: &Shape, set: Set, body: &Body) -> bool
 
 /// Whether a set fits: the client holds the object, and may change the field of it that is stored.
 pub(crate) fn fits_set(server: &Server, shape: &Shape, client: u8, set: Set) -> bool
-    ensures { TellsIn shape.now server.now result (λ p es. FitsSet p client es set) }
+    ensures { TellsIn shape.now server.now result (λ p es. FitsSetBy (graph_in server.now) p client es set) }
 {
     if !holds(server, client, set.object) {
         return false;
@@ -88,7 +88,7 @@ fn is_among(news: &Items<Body>, object: u64) -> bool
 /// Whether an object named is in the graph or among the news.
 pub(crate) fn is_named(server: &Server, news: &Items<Body>, value: Value) -> bool
     requires { IsRising news.now }
-    ensures { Tells server.now result (λ p es. IsNamed p news.now es value) }
+    ensures { IsTrue result ↔ IsNamedBy (graph_in server.now) news.now value }
 {
     match value {
         Value::Ref(object) => is_stored(server, object) || is_among(news, object),

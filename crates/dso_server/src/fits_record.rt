@@ -1,7 +1,7 @@
 //! Whether a record fits.
 ghost use Rattle.std.specs.Prelude.{◌≡◌, ◌↔◌, IsTrue, suc};
-ghost use Rattle.dso_law.specs.FitsUp.{FitsRecord};
-ghost use Rattle.dso_server.specs.Fitting.{Tells, TellsIn};
+ghost use Rattle.dso_law.specs.FitsUp.{FitsRecordBy};
+ghost use Rattle.dso_server.specs.Fitting.{Tells, TellsIn, graph_in};
 ghost use Rattle.dso_server.specs.Records.{FitsMaker, FitsObjects, FitsRest, FitsValues, IsRising};
 
 use crate::fits_lists::{
@@ -35,7 +35,7 @@ fn fits_maker(server: &Server, client: u8, txn: &Txn) -> bool
 
 /// Whether the objects published and the sets fit, and the sets rise.
 fn fits_objects(server: &Server, shape: &Shape, client: u8, txn: &Txn) -> bool
-    ensures { TellsIn shape.now server.now result (λ p es. FitsObjects p client txn.now es) }
+    ensures { TellsIn shape.now server.now result (λ p es. FitsObjects (graph_in server.now) p client txn.now es) }
 {
     if !all_news_fit(server, shape, client, txn.news.as_slice()) {
         return false;
@@ -49,7 +49,7 @@ fn fits_objects(server: &Server, shape: &Shape, client: u8, txn: &Txn) -> bool
 /// Whether all values fit that the record would put in the graph, and those printed.
 fn fits_values(server: &Server, shape: &Shape, txn: &Txn) -> bool
     requires { IsRising txn.now.news }
-    ensures { Tells server.now result (λ p es. FitsValues shape.now p txn.now es) }
+    ensures { Tells server.now result (λ p es. FitsValues shape.now (graph_in server.now) txn.now es) }
 {
     if !body_values_fit(server, shape, &txn.news, txn.news.as_slice()) {
         return false;
@@ -72,7 +72,7 @@ fn fits_rest(server: &Server, client: u8, txn: &Txn) -> bool
 
 /// Whether a record of the client fits.
 pub(crate) fn fits_record(server: &Server, shape: &Shape, client: u8, txn: &Txn) -> bool
-    ensures { TellsIn shape.now server.now result (λ p es. FitsRecord p client txn.now es) }
+    ensures { TellsIn shape.now server.now result (λ p es. FitsRecordBy (graph_in server.now) p client txn.now es) }
 {
     if !are_rising(txn.news.as_slice()) {
         return false;

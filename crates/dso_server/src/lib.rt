@@ -14,8 +14,10 @@ mod reads;
 mod server;
 mod taken;
 mod threads;
+mod triggers;
 mod waiters;
 mod wakes;
 
 pub use server::Server;
 pub use taken::Taken;
+pub use triggers::Triggers;

@@ -6,7 +6,7 @@ ghost use Rattle.dso_locks.specs.Locks as locks;
 ghost use Rattle.dso_server.specs.Sending.{sent_of};
 ghost use Rattle.dso_store.specs.Changes as changes;
 
-use dso_base::{Body, Down, Items, NoMemory, Set};
+use dso_base::{Body, Down, Items, NoMemory, Set, Shared};
 use dso_locks::Told;
 use std::alloc::Global;
 
@@ -28,7 +28,11 @@ pub(crate) fn object_to(
     ensures { IfOk result (λ messages. sent_of messages.items ≡ object_to client (option_copied body.entry)) }
 {
     match body {
-        Some(body) => alone(alloc, client, Down::Object(body.clone()?)),
+        Some(body) => alone(
+            alloc,
+            client,
+            Down::Object(Shared::new(alloc, body.clone()?)?),
+        ),
         None => Ok(Vec::new(alloc)),
     }
 }

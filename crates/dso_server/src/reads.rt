@@ -8,10 +8,10 @@ ghost use Rattle.dso_law.specs.Granting.{leased_to, queue_of};
 ghost use Rattle.dso_law.specs.ServerReadings.{is_given, is_given_to, is_ended, last_ending, last_number};
 ghost use Rattle.dso_law.specs.ServerWaiters.{waiters_of};
 ghost use Rattle.dso_law.specs.Settings.{threads_of};
-ghost use Rattle.dso_law.specs.Store.{holds_object, stored};
+ghost use Rattle.dso_law.specs.Store.{holds_object};
 ghost use Rattle.dso_locks.specs.Locks.{waits};
 ghost use Rattle.dso_locks.specs.Tables.{locks_in};
-ghost use Rattle.dso_server.specs.Fitting.{Knows, Tells};
+ghost use Rattle.dso_server.specs.Fitting.{Knows, Tells, graph_in};
 ghost use Rattle.dso_server.specs.Threads.{ends_there};
 
 use crate::server::Server;
@@ -71,16 +71,16 @@ pub(crate) fn is_given_to(server: &Server, client: u8, object: u64) -> bool
     server.ids.is_given_to(client, object)
 }
 
-/// The body of the object, None where it isn't in the graph.
+/// The body of the object, None where it isn't in the server's graph.
 pub(crate) fn stored(server: &Server, object: u64) -> Option<&Body>
-    ensures { Knows server.now (option_copied result) (λ p es. stored p.shape object es) }
+    ensures { option_copied result ≡ graph_in server.now object }
 {
     server.store.object(object)
 }
 
-/// Whether the object is in the graph.
+/// Whether the object is in the server's graph.
 pub(crate) fn is_stored(server: &Server, object: u64) -> bool
-    ensures { Knows server.now result (λ p es. is_some (stored p.shape object es)) }
+    ensures { result ≡ is_some (graph_in server.now object) }
 {
     match stored(server, object) {
         Some(_) => true,

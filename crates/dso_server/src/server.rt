@@ -5,13 +5,14 @@ ghost use Rattle.dso_law.specs.ServerReadings.{is_lost};
 ghost use Rattle.dso_law.specs.Settings.{Settings};
 ghost use Rattle.dso_locks.specs.Locks.{IsClient};
 ghost use Rattle.dso_server.specs.Answering.{IsLost, IsTaken, given_by};
+ghost use Rattle.dso_server.specs.Lacking.{KnowsNamed, LacksNothing};
 ghost use Rattle.dso_server.specs.ServerStands.{ServerStands};
 ghost use Rattle.dso_server.specs.Threads.{RunsThreadsOf};
 
 use crate::answers::{answer, lost};
 use crate::batches::Batches;
 use crate::fits::fits;
-use crate::taken::Taken;
+use crate::taken::{Taken, tag};
 use crate::threads::{Threads, opening, threads_of};
 use crate::waiters::Waiters;
 use dso_base::{Down, NoMemory, Up};
@@ -38,12 +39,13 @@ pub struct Server {
 }
 
 impl Server {
-    /// The server before its first entry, of a cluster of so many clients that runs this code. How many clients there are it
+    /// The server before its first entry, of a cluster of so many clients that runs this code: it lacks nothing. How many clients there are it
     /// doesn't keep: its answers hold of whatever cluster has the code's shape and threads.
     ///
     /// It answers `NoMemory` where an allocation was refused.
     pub fn new(alloc: Global, code: &Code, clients: u8) -> Result<Server, NoMemory>
         ensures stands { IfOk result (λ server. (p : Settings) → p.shape ≡ code.now.shape → RunsThreadsOf code.now p → p.clients ≡ clients → ServerStands p server []) }
+        ensures lacks { IfOk result (λ server. (p : Settings) → p.shape ≡ code.now.shape → LacksNothing p server []) }
         ensures given { IfOk result (λ server. given_by server ≡ 0) }
     {
         let _ = clients;
@@ -63,10 +65,14 @@ impl Server {
     /// Takes a message of a client of the cluster, whose code is that of [`Server::new`]. Fewer than 2^54 batches of ids were
     /// given before.
     ///
-    /// It is `Done` where the client isn't lost and the message fits: the messages are those of the server rule's row, in
-    /// its order, and the server stands for its entries with the one in which it took the message. It is `Gone` exactly
-    /// where the client was lost, and `Unfit` exactly where it isn't and the message doesn't fit: nothing is sent then and
-    /// nothing changed.
+    /// It is `Done` exactly where the client isn't lost and the message fits: the messages are those of the server rule's
+    /// row, in its order, and the server stands for its entries with the one in which it took the message. It is `Gone`
+    /// exactly where the client was lost before: nothing is sent and nothing changed. It is `BadMessage`, with the number of
+    /// the message's kind, exactly where the client isn't lost and the message doesn't fit: nothing of the message is done,
+    /// and its client is lost as by [`Server::lose`]. The messages are those of that loss, and the server stands for its
+    /// entries with the one in which it lost the client. What it lacks of the stored objects it lacked before.
+    ///
+    /// So it is where the server has the stored body of each object that the message names, if the client isn't lost.
     ///
     /// It answers `NoMemory` where an allocation was refused.
     pub fn take(
@@ -77,14 +83,15 @@ impl Server {
         message: &Up,
     ) -> Result<(Taken, Vec<(u8, Down)>), NoMemory>
         requires { given_by self.old < 2 ^ 54 }
-        ensures taken { IfOk result (λ answer. (p : Settings) (es : List Entry) → p.shape ≡ code.now.shape → ServerStands p self.old es → IsClient p client → IsTaken p client message.now answer.0 answer.1.items self.old self.new es) }
+        ensures taken { IfOk result (λ answer. (p : Settings) (es : List Entry) → p.shape ≡ code.now.shape → ServerStands p self.old es → IsClient p client → KnowsNamed p self.old client message.now es → IsTaken p client message.now answer.0 answer.1.items self.old self.new es) }
         ensures given { OnOk result (given_by self.new ≤ given_by self.old + 1) }
     {
         if self.lost.contains(&client) {
             return Ok((Taken::Gone, Vec::new(alloc)));
         }
         if !fits(self, &code.shape, client, message) {
-            return Ok((Taken::Unfit, Vec::new(alloc)));
+            let messages = lost(alloc, self, client)?;
+            return Ok((Taken::BadMessage(tag(message)), messages));
         }
         let messages = answer(alloc, self, client, message)?;
         Ok((Taken::Done, messages))
@@ -92,11 +99,11 @@ impl Server {
 
     /// Loses the client: its leases, its requests, its waiters and what it holds are gone, and the queues of all locks are
     /// served, by rising lock. The messages are those of the server rule, in its order, and the server stands for its
-    /// entries with the one in which it lost the client.
+    /// entries with the one in which it lost the client. What it lacks of the stored objects it lacked before.
     ///
     /// It answers `NoMemory` where an allocation was refused.
     pub fn lose(&mut self, alloc: Global, client: u8) -> Result<Vec<(u8, Down)>, NoMemory>
-        ensures lost { IfOk result (λ messages. (p : Settings) (es : List Entry) → ServerStands p self.old es → IsLost p client messages.items self.new es) }
+        ensures lost { IfOk result (λ messages. (p : Settings) (es : List Entry) → ServerStands p self.old es → IsLost p client messages.items self.old self.new es) }
         ensures given { OnOk result (given_by self.new ≡ given_by self.old) }
     {
         lost(alloc, self, client)

@@ -8,7 +8,7 @@ ghost use Rattle.dso_wire.specs.Reading.{Gives, up_at, down_at};
 use crate::fault::{ReadFault, Wrong};
 use crate::reading::u64_of;
 use crate::writing::{Wire, put_u64};
-use dso_base::{Body, Down, Items, Level, LockName, ThreadId, Txn, Up};
+use dso_base::{Body, Down, Items, Level, LockName, Shared, ThreadId, Txn, Up};
 use std::alloc::{AllocError, Global};
 
 impl Wire for Up {
@@ -24,7 +24,7 @@ impl Wire for Up {
         match self {
             Up::IdAsk | Up::Fault(_) | Up::Flushed(_) | Up::Request(_, _) => true,
             Up::Return(_, threads) => threads.is_encodable(),
-            Up::Commit(txn) => txn.is_encodable(),
+            Up::Commit(txn) => txn.get().is_encodable(),
         }
     }
 
@@ -34,7 +34,7 @@ impl Wire for Up {
             Up::Fault(_) | Up::Flushed(_) => 8,
             Up::Request(lock, _) => lock.room().saturating_add(1),
             Up::Return(lock, threads) => lock.room().saturating_add(threads.room()),
-            Up::Commit(txn) => txn.room(),
+            Up::Commit(txn) => txn.get().room(),
         };
         behind.saturating_add(1)
     }
@@ -65,7 +65,7 @@ impl Wire for Up {
             }
             Up::Commit(txn) => {
                 bytes.push(6)?;
-                txn.put(bytes)?;
+                txn.get().put(bytes)?;
                 Ok(())
             }
         }
@@ -96,7 +96,7 @@ impl Wire for Up {
             }
             [6, rest @ ..] => {
                 let (txn, rest) = Txn::take(alloc, rest)?;
-                Ok((Up::Commit(txn), rest))
+                Ok((Up::Commit(Shared::new(alloc, txn)?), rest))
             }
             [_, ..] => Err(ReadFault::Wrong(Wrong::Tag(bytes.len()))),
         }
@@ -115,7 +115,7 @@ impl Wire for Down {
     fn is_encodable(&self) -> bool {
         match self {
             Down::Ids(_) | Down::Grant(_, _) | Down::Recall(_) | Down::Ack(_) => true,
-            Down::Object(body) => body.is_encodable(),
+            Down::Object(body) => body.get().is_encodable(),
             Down::Changes(sets) => sets.is_encodable(),
             Down::Wake(_, thread) => thread.is_encodable(),
         }
@@ -124,7 +124,7 @@ impl Wire for Down {
     fn room(&self) -> usize {
         let behind = match self {
             Down::Ids(_) | Down::Ack(_) => 8,
-            Down::Object(body) => body.room(),
+            Down::Object(body) => body.get().room(),
             Down::Grant(lock, _) => lock.room().saturating_add(1),
             Down::Recall(lock) => lock.room(),
             Down::Changes(sets) => sets.room(),
@@ -141,7 +141,7 @@ impl Wire for Down {
             }
             Down::Object(body) => {
                 bytes.push(2)?;
-                body.put(bytes)
+                body.get().put(bytes)
             }
             Down::Grant(lock, level) => {
                 bytes.push(3)?;
@@ -178,7 +178,7 @@ impl Wire for Down {
             }
             [2, rest @ ..] => {
                 let (body, rest) = Body::take(alloc, rest)?;
-                Ok((Down::Object(body), rest))
+                Ok((Down::Object(Shared::new(alloc, body)?), rest))
             }
             [3, rest @ ..] => {
                 let (lock, rest) = LockName::take(alloc, rest)?;

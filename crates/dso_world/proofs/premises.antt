@@ -4,4 +4,3 @@ pub mod OwnRun
 pub mod SoundPrograms
 pub mod Sizes
 pub mod WhatComes
-pub mod ClientRejoined

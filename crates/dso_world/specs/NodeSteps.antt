@@ -12,8 +12,8 @@ use Rattle.dso_legal.specs.Lawful.{IsLawful}
 use Rattle.dso_legal.specs.Slots.{Slot, is_due}
 use Rattle.dso_machine.specs.Next.{next_request}
 use Rattle.dso_session.specs.declared.frame.Accepted.{Accepted}
-use Rattle.dso_world.specs.declared.both.Both.{Both}
-use Rattle.dso_world.specs.declared.both.Both.TheVariants as both
+use Rattle.dso_base.specs.declared.both.Both.{Both}
+use Rattle.dso_base.specs.declared.both.Both.TheVariants as both
 use Rattle.dso_world.specs.declared.made.Made.{Made}
 use Rattle.dso_world.specs.declared.member.Member.{Member}
 use Rattle.dso_world.specs.declared.nodes.Nodes.{Nodes}

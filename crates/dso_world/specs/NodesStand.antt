@@ -9,9 +9,10 @@ use Rattle.dso_client.specs.CodeRuns.{RunsCode}
 use Rattle.dso_law.specs.Channels.{last_clock}
 use Rattle.dso_law.specs.Entries.{entries_of}
 use Rattle.dso_server.specs.Answering.{given_by}
+use Rattle.dso_server.specs.Lacking.{LacksNothing}
 use Rattle.dso_server.specs.ServerStands.{ServerStands}
-use Rattle.dso_world.specs.declared.both.Both.{Both}
-use Rattle.dso_world.specs.declared.both.Both.TheVariants as both
+use Rattle.dso_base.specs.declared.both.Both.{Both}
+use Rattle.dso_base.specs.declared.both.Both.TheVariants as both
 use Rattle.dso_world.specs.declared.member.Member.{Member}
 use Rattle.dso_world.specs.declared.nodes.Nodes.{Nodes}
 use Rattle.dso_world.specs.LinkStands.{Course, LinkStands, Past}
@@ -37,13 +38,14 @@ module _ (program : Program) where
       MemberStandsBy c (course_of (settings_of program) c es) (past_of both.Up both.Down c es) member es
 
   -- The nodes after the entries: each client, by the course and the past of its connection; and the server's core
-  -- stands for the server's entries, its clock is that of its last entry, and it gave no more batches of ids than
-  -- there are entries.
+  -- stands for the server's entries and has each stored object, its clock is that of its last entry, and it gave no
+  -- more batches of ids than there are entries.
   pub record NodesStandBy (course : ℕ → Course) (past : ℕ → Past Both) (nodes : Nodes) (es : List Entry) : Type 0 where
     pub count : length nodes.members.items ≡ program.clients
     pub members : (place : ℕ) (member : Member) → slice_get nodes.members.items place ≡ Some member
         → MemberStandsBy (suc place) (course (suc place)) (past (suc place)) member es
     pub server : ServerStands (settings_of program) nodes.server (entries_of node.Server es)
+    pub lacks : LacksNothing (settings_of program) nodes.server (entries_of node.Server es)
     pub given : given_by nodes.server ≤ length es
     pub clock : nodes.clock ≡ last_clock node.Server es
 

@@ -11,7 +11,7 @@ use Rattle.dso_law.specs.Settings.{Settings}
 use Rattle.dso_law.specs.Entries.{is_node, entries_of}
 use Rattle.dso_law.specs.Channels.{Direction, Letter, breaks, count_inputs, in_flight, is_broken, posted, rejoins}
 use Rattle.dso_law.specs.Channels.{to_client, to_server}
-use Rattle.dso_legal.specs.Lawful.{IsLawful}
+use Rattle.dso_legal.specs.Lawful.{AllFollow, IsLawful}
 use Rattle.dso_legal.specs.Slots.{has_rejoined, is_due}
 use Rattle.dso_legal.specs.Slots as slots
 use Rattle.dso_session.specs.declared.session.Posted.{Posted}
@@ -59,12 +59,12 @@ pub record CanTake (p : Settings) (es : List Entry) {M : Type 0} (as_up : Up →
   pub up : slots.can_take_up p c es
       ≡ (not (is_due p c es) && can_take_up (course_of p c es) (past_of as_up as_down c es))
 
--- Letters: of a lawful journal those in flight are those posted that were not taken; and a client's messages can be
--- taken where its connection says so.
+-- Letters: where all entries follow, the letters in flight are those posted that were not taken; and in a lawful
+-- journal a client's messages can be taken where its connection says so.
 pub record LettersAreLeft (M : Type 0) : Type 0 where
-  pub up : (p : Settings) (next : ThreadId → List Event → Option Request) (es : List Entry) → IsLawful p next es
+  pub up : (p : Settings) (next : ThreadId → List Event → Option Request) (es : List Entry) → AllFollow p next es
       → (c : ℕ) → AreLeft (to_server c) es
-  pub down : (p : Settings) (next : ThreadId → List Event → Option Request) (es : List Entry) → IsLawful p next es
+  pub down : (p : Settings) (next : ThreadId → List Event → Option Request) (es : List Entry) → AllFollow p next es
       → (c : ℕ) → AreLeft (to_client c) es
   pub takes : (p : Settings) (next : ThreadId → List Event → Option Request) (es : List Entry) → IsLawful p next es
       → (as_up : Up → M) (as_down : Down → M) (c : ℕ)

@@ -5,24 +5,23 @@ ghost use Rattle.dso_class.specs.declared.program.Program.{Program};
 ghost use Rattle.dso_legal.specs.Slots as slot;
 ghost use Rattle.dso_world.specs.MemberSteps.{IsMoved, StandsOpen, Steps, event_of};
 
-use crate::Both;
 use crate::made::Made;
 use crate::member::Member;
 use crate::saying::say;
-use dso_base::{Entry, Event, Input, NoMemory, ThreadId, Up};
+use dso_base::{Both, Entry, Event, Input, NoMemory, Shared, ThreadId, Up};
 use dso_class::Program;
 use dso_client::Acted;
 use dso_session::Accepted;
 use std::alloc::Global;
 
 /// The event of an act; none where the thread only asks.
-fn event_of(acted: Acted) -> Option<Event>
+fn event_of(alloc: Global, acted: Acted) -> Result<Option<Shared<Event>>, NoMemory>
     requires { IsMoved acted }
-    ensures { result ≡ event_of acted }
+    ensures { IfOk result (λ event. event ≡ event_of acted) }
 {
     match acted {
-        Acted::Event(event) => Some(event),
-        Acted::Asked => None,
+        Acted::Event(event) => Ok(Some(Shared::new(alloc, event)?)),
+        Acted::Asked => Ok(None),
         _ => unreachable!(),
     }
 }
@@ -49,10 +48,11 @@ pub(crate) fn act(
     ensures { IfOk result (λ entry. Steps program.now thread.client (slot.Acts thread) entry member.old member.new) }
 {
     let (acted, messages) = member.client.act(alloc, &program.code, thread.index)?;
+    let event = event_of(alloc, acted)?;
     let made = Made {
         heard: 0,
         input: Input::Act(thread.index),
-        event: event_of(acted),
+        event,
     };
     say(alloc, thread.client, member, made, messages)
 }

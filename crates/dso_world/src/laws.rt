@@ -32,9 +32,10 @@ pub fn links_go_on<M>()
     ensures { LinksGoOn M }
 {}
 
-/// In a lawful journal the letters in flight between a client and the server are those posted that were not taken. So
-/// where a connection stands for what happened to it by the journal, a frame waits exactly where the journal has a
-/// message or a rejoin to take; the server takes it only where no loss and no break is due.
+/// Where each entry of a journal follows by the rules, the letters in flight between a client and the server are those
+/// posted that were not taken. So where the journal is lawful, and a connection stands for what happened to it by the
+/// journal, a frame waits exactly where the journal has a message or a rejoin to take; the server takes it only where
+/// no loss and no break is due.
 pub fn letters_are_left<M>()
     ensures { LettersAreLeft M }
 {}

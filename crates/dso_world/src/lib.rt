@@ -6,7 +6,6 @@ mod acting;
 mod applying;
 mod arrived;
 mod board;
-mod both;
 mod chooser;
 mod due;
 mod following;
@@ -26,7 +25,6 @@ mod telling;
 mod weighing;
 mod world;
 
-pub use both::Both;
 pub use chooser::Chooser;
 pub use link::Link;
 pub use step::Step;

@@ -13,7 +13,8 @@ use crate::applying::client_of;
 use crate::due::{is_break_due, is_loss_due};
 use crate::member::Member;
 use crate::nodes::Nodes;
-use crate::{Both, Link, Step};
+use crate::{Link, Step};
+use dso_base::Both;
 use dso_class::Program;
 use dso_server::Server;
 

@@ -1,14 +1,14 @@
 //! What a node makes an entry of.
 ghost use Rattle.std.specs.Prelude.{◌≡◌};
 
-use dso_base::{Event, Input};
+use dso_base::{Event, Input, Shared};
 
 /// The clock of the message that was heard, 0 where none was; what the node took in; and the event of a thread.
 #[derive(Drop)]
 pub struct Made {
     pub heard: u64,
     pub input: Input,
-    pub event: Option<Event>,
+    pub event: Option<Shared<Event>>,
 }
 
 impl Made {

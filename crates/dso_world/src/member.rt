@@ -1,5 +1,6 @@
 //! A client of the cluster with its connection.
-use crate::{Both, Link};
+use crate::Link;
+use dso_base::Both;
 use dso_client::Client;
 
 /// A client, both ends of its connection with what is in flight, and the clock of its last entry.

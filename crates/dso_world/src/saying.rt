@@ -3,10 +3,10 @@ ghost use Rattle.std.specs.Prelude.{◌≡◌, ◌<◌, ◌^◌, map, IfOk, OnOk
 ghost use Rattle.dso_base.specs.declared.journal.Sent.TheVariants as sent;
 ghost use Rattle.dso_world.specs.Sending.{after_saying, all_sent_up, client_entry, clock_after};
 
+use crate::Link;
 use crate::made::Made;
 use crate::member::Member;
-use crate::{Both, Link};
-use dso_base::{Entry, Items, NoMemory, Node, Sent, Up};
+use dso_base::{Both, Entry, Items, NoMemory, Node, Sent, Up};
 use std::alloc::Global;
 
 /// The client sends these messages over its connection.

@@ -6,13 +6,12 @@ ghost use Rattle.dso_legal.specs.Slots as slot;
 ghost use Rattle.dso_world.specs.Link.{cut, taken_up};
 ghost use Rattle.dso_world.specs.NodeSteps.{ChangesLine, FollowsAll, HasBreakLeft, Heard, IsHeard, StandOpen, StepsAll, first_up};
 
-use crate::Both;
 use crate::arrived::Arrived;
 use crate::made::Made;
 use crate::member::Member;
 use crate::nodes::Nodes;
 use crate::telling::tell_all;
-use dso_base::{Entry, Input, NoMemory};
+use dso_base::{Both, Entry, Input, NoMemory};
 use dso_class::Program;
 use dso_server::Taken;
 use dso_session::Accepted;
@@ -65,7 +64,7 @@ fn hear(
             let made = Made::of(clock, Input::TookUp(client, message));
             tell_all(alloc, nodes, made, messages)
         }
-        Taken::Unfit => unreachable!(),
+        Taken::BadMessage(_) => unreachable!(),
     }
 }
 

@@ -4,14 +4,13 @@ ghost use Rattle.dso_server.specs.Sending.{sent_of};
 ghost use Rattle.dso_world.specs.Link.{sent_down};
 ghost use Rattle.dso_world.specs.NodeSteps.{AreTold, ChangesLine, HasTold, HaveRoom};
 ghost use Rattle.dso_world.specs.Sending.{clock_after, server_entry};
-ghost use Rattle.dso_world.specs.declared.both.Both.TheVariants as both;
+ghost use Rattle.dso_base.specs.declared.both.Both.TheVariants as both;
 
-use crate::Both;
 use crate::made::Made;
 use crate::member::Member;
 use crate::nodes::Nodes;
 use crate::saying::clock_after;
-use dso_base::{Down, Entry, Items, NoMemory, Node, Sent};
+use dso_base::{Both, Down, Entry, Items, NoMemory, Node, Sent};
 use std::alloc::Global;
 
 /// The server sends a message to the client of this number.

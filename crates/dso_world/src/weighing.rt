@@ -20,8 +20,8 @@ fn values_of(sent: &Sent) -> u64
     ensures { result ≡ min (sent_values_of sent.now) (2 ^ 64 - 1) }
 {
     match sent {
-        Sent::ToServer(Up::Commit(txn)) => txn_values(txn),
-        Sent::ToClient(_, Down::Object(body)) => body.values.len() as u64,
+        Sent::ToServer(Up::Commit(txn)) => txn_values(txn.get()),
+        Sent::ToClient(_, Down::Object(body)) => body.get().values.len() as u64,
         Sent::ToClient(_, Down::Changes(sets)) => sets.len() as u64,
         _ => 0,
     }

@@ -13,7 +13,9 @@
 use case_words::{
     bare_record, class, first_of, level, lock, number, set, single, small, thread, value,
 };
-use dso_base::{Body, Down, Ending, Entry, Input, Items, NoMemory, Node, Sent, ThreadId, Up};
+use dso_base::{
+    Body, Down, Ending, Entry, Input, Items, NoMemory, Node, Sent, Shared, ThreadId, Up,
+};
 use std::alloc::Global;
 
 /// The entry of the text, if it is one.
@@ -120,11 +122,12 @@ fn object_of(alloc: Global, text: &str) -> Result<Option<Down>, NoMemory> {
     else {
         return Ok(None);
     };
-    Ok(Some(Down::Object(Body {
+    let body = Body {
         object,
         class,
         values: single(alloc, value)?,
-    })))
+    };
+    Ok(Some(Down::Object(Shared::new(alloc, body)?)))
 }
 
 /// A message of a client; a lock goes back without waiters.
@@ -146,5 +149,5 @@ fn record_of(alloc: Global, who: &str, text: &str) -> Result<Option<Up>, NoMemor
     };
     let mut txn = bare_record(alloc, 1, thread, Ending::End(None));
     txn.sets.push(set)?;
-    Ok(Some(Up::Commit(txn)))
+    Ok(Some(Up::Commit(Shared::new(alloc, txn)?)))
 }

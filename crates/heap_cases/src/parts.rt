@@ -1,9 +1,7 @@
-//! What the base types tell: kinds and guards of fields, lists and boxes.
-ghost use Rattle.std.specs.Prelude.{IsTrue};
-ghost use Rattle.dso_base.specs.Shape.{HasField};
+//! What the base types tell: kinds and guards of fields, lists and boxes, values that several hold, and spans.
 
 use case_words::{class, count, debugged, first_of, kind, number, number_list, shown, value};
-use dso_base::{Boxed, ClassId, NoMemory, Shape, fits};
+use dso_base::{Boxed, NoMemory, Part, Same, Shape, Shared, Span, fits};
 use std::alloc::Global;
 
 /// The answer to a question about the base types.
@@ -15,21 +13,10 @@ pub fn told(alloc: Global, shape: &Shape, text: &str) -> Result<String, NoMemory
         "fits" => whether_fits(alloc, rest),
         "list" => of_list(alloc, rest),
         "box" => of_box(alloc, rest),
+        "opens" => of_opening(alloc, rest),
+        "shared" => of_shared(alloc, rest),
+        "span" => of_span(alloc, rest),
         _ => shown(alloc, "no such question"),
-    }
-}
-
-/// Whether the class has the field.
-fn has_field(shape: &Shape, class: ClassId, field: u32) -> bool
-    ensures { IsTrue result → HasField shape.now class field }
-{
-    match class {
-        ClassId::Plain(number) => match shape.classes.get(number as usize) {
-            Some(class) => (field as usize) < class.fields.len(),
-            None => false,
-        },
-        ClassId::Array(_) => true,
-        ClassId::Roots => field < shape.roots,
     }
 }
 
@@ -41,11 +28,7 @@ fn of_guard(alloc: Global, shape: &Shape, rest: &str) -> Result<String, NoMemory
     else {
         return shown(alloc, "no such guard");
     };
-    if has_field(shape, class, field) {
-        debugged(alloc, shape.guard(class, object, field))
-    } else {
-        shown(alloc, "no such field")
-    }
+    debugged(alloc, shape.guard(class, object, field))
 }
 
 /// The kind of a field: `kind c0 1`.
@@ -54,11 +37,7 @@ fn of_kind(alloc: Global, shape: &Shape, rest: &str) -> Result<String, NoMemory>
     let (Some(class), Some(field)) = (class(first), count(second)) else {
         return shown(alloc, "no such kind");
     };
-    if has_field(shape, class, field) {
-        debugged(alloc, shape.kind(class, field))
-    } else {
-        shown(alloc, "no such field")
-    }
+    debugged(alloc, shape.kind(class, field))
 }
 
 /// Whether a field of the kind takes the value.
@@ -94,4 +73,40 @@ fn of_box(alloc: Global, rest: &str) -> Result<String, NoMemory> {
     let boxed = Boxed::new(alloc, number)?;
     let lent = *boxed.get();
     debugged(alloc, (lent, boxed.into_inner()))
+}
+
+/// What a field of the kind begins as.
+fn of_opening(alloc: Global, rest: &str) -> Result<String, NoMemory> {
+    match kind(rest) {
+        Some(kind) => debugged(alloc, kind.opening_value()),
+        None => shown(alloc, "no such kind"),
+    }
+}
+
+/// What the second holder of a value has when the first one is gone, and whether it is the other value: `shared l9 l8`.
+fn of_shared(alloc: Global, rest: &str) -> Result<String, NoMemory> {
+    let (first, second) = first_of(rest);
+    let (Some(held), Some(other)) = (value(first), value(second)) else {
+        return shown(alloc, "no such value");
+    };
+    let first = Shared::new(alloc, held)?;
+    let second = first.clone()?;
+    drop(first);
+    let other = Shared::new(alloc, other)?;
+    debugged(alloc, (*second.get(), second.same(&other)))
+}
+
+/// The first part of a span, the parts behind it, and how many parts stood there: `span 1 2 3`.
+fn of_span(alloc: Global, rest: &str) -> Result<String, NoMemory> {
+    let numbers = number_list(alloc, rest)?;
+    let part = Part::new(&numbers);
+    let whole = Span::new(part.again().get().as_slice());
+    let mut left = whole.again();
+    match left.pop() {
+        Some(first) => debugged(
+            alloc,
+            (*first.get(), left.as_slice(), whole.as_slice().len()),
+        ),
+        None => shown(alloc, "empty"),
+    }
 }

@@ -12,7 +12,7 @@
 use case_words::{bare_record, first_of, lock, number, request, small, thread, thread_list, value};
 use dso_base::{
     ClassId, Down, Ending, Entry, Event, Input, Items, LockName, NoMemory, Node, Reply, Request,
-    Sent, ThreadId, Up,
+    Sent, Shared, ThreadId, Up,
 };
 use std::alloc::Global;
 
@@ -22,9 +22,9 @@ pub fn entry_of(alloc: Global, clock: u64, line: &str) -> Result<Option<Entry>, 
         return Ok(None);
     };
     match word {
-        "act" => Ok(acting(alloc, clock, rest)),
+        "act" => acting(alloc, clock, rest),
         "take" => taking(alloc, clock, rest),
-        "lose" => Ok(losing(alloc, clock, rest)),
+        "lose" => losing(alloc, clock, rest),
         _ => Ok(None),
     }
 }
@@ -40,32 +40,39 @@ fn entry(alloc: Global, clock: u64, node: Node, input: Input) -> Entry {
     }
 }
 
-/// An act that wakes nobody at its client.
-fn acting(alloc: Global, clock: u64, words: &str) -> Option<Entry> {
+/// An act that wakes nobody at its client, as `1.2 enter n0 write`.
+fn act_of(words: &str) -> Option<(ThreadId, Event)> {
     let (who, verb) = words.split_once(' ')?;
     let thread = thread(who)?;
     let (request, reply) = request_and_reply(verb)?;
-    let mut entry = entry(
-        alloc,
-        clock,
-        Node::Client(thread.client),
-        Input::Act(thread.index),
-    );
-    entry.event = Some(Event::Act {
+    let event = Event::Act {
         thread,
         request,
         reply,
         woken: None,
-    });
-    Some(entry)
+    };
+    Some((thread, event))
+}
+
+/// The entry of an act.
+fn acting(alloc: Global, clock: u64, words: &str) -> Result<Option<Entry>, NoMemory> {
+    let Some((thread, event)) = act_of(words) else {
+        return Ok(None);
+    };
+    let node = Node::Client(thread.client);
+    let mut entry = entry(alloc, clock, node, Input::Act(thread.index));
+    entry.event = Some(Shared::new(alloc, event)?);
+    Ok(Some(entry))
 }
 
 /// The loss of a client.
-fn losing(alloc: Global, clock: u64, words: &str) -> Option<Entry> {
-    let client = small(words)?;
+fn losing(alloc: Global, clock: u64, words: &str) -> Result<Option<Entry>, NoMemory> {
+    let Some(client) = small(words) else {
+        return Ok(None);
+    };
     let mut entry = entry(alloc, clock, Node::Server, Input::Lose(client));
-    entry.event = Some(Event::Lost(client));
-    Some(entry)
+    entry.event = Some(Shared::new(alloc, Event::Lost(client))?);
+    Ok(Some(entry))
 }
 
 /// A message of a client that the server takes: a record, or a return.
@@ -97,7 +104,7 @@ fn recorded(
     };
     let thread = ThreadId { client, index: 1 };
     let txn = bare_record(alloc, seq, thread, Ending::Exit(LockName::Name(0)));
-    let input = Input::TookUp(client, Up::Commit(txn));
+    let input = Input::TookUp(client, Up::Commit(Shared::new(alloc, txn)?));
     let mut entry = entry(alloc, clock, Node::Server, input);
     for thread in woken.as_slice() {
         let wake = Down::Wake(LockName::Name(0), *thread);

@@ -70,14 +70,15 @@ fn is_settling(entry: &Entry) -> bool {
         client: 2,
         index: 1,
     };
-    match entry.event {
-        Some(
-            Event::Act {
-                thread,
-                request: Request::Settle,
-                ..
-            },
-        ) => thread == settling,
+    let Some(event) = &entry.event else {
+        return false;
+    };
+    match *event.get() {
+        Event::Act {
+            thread,
+            request: Request::Settle,
+            ..
+        } => thread == settling,
         _ => false,
     }
 }

@@ -14,7 +14,7 @@ fn with_body(alloc: Global, text: String, body: &Body) -> Result<String, NoMemor
 /// The text with the message behind it.
 fn with_message(alloc: Global, text: String, message: &Down) -> Result<String, NoMemory> {
     match message {
-        Down::Object(body) => with_body(alloc, text, body),
+        Down::Object(body) => with_body(alloc, text, body.get()),
         Down::Changes(sets) => {
             let text = format!(in alloc; "{text} Changes")?;
             with_sets(alloc, text, sets.as_slice())

@@ -1,4 +1,4 @@
-//! Rows of messages to a server and of losses, with what it answers.
+//! Rows of messages to a server and of losses, with what it answers; and of triggers, with which are due.
 //!
 //! A row of the input is a sentence, `: `, and a command; it is printed as the sentence, `: `, and the answer. Any
 //! other line is printed as it stands, and the server is new from there on. The commands are told in `rows.rt`.
@@ -7,6 +7,7 @@
 mod answers;
 mod records;
 mod rows;
+mod triggers;
 mod words;
 
 use rows::Rows;

@@ -5,17 +5,23 @@
 //! | `1 idask`, `1 fault 5`, `1 flushed 5` | the server takes that message of client 1 |
 //! | `1 request m5 write`, `1 return m5 1.1 1.2` | a request, and a return with the threads that wait |
 //! | `1 commit 1 1.1 5.0=7 exit:m5` | a record, its words told in `records.rt` |
+//! | `1 lasting fault 5` | the same, where the message is to stay |
 //! | `1 lose`, `1 lost` | the client is lost; whether it was |
+//! | `1 due 4 0 break 1@5` | which triggers of the client are due, its words told in `triggers.rt` |
+//!
+//! A message that doesn't fit loses its client. Where it isn't to stay the server is made anew by the commands before it,
+//! so that the next row finds what this one found.
 
 use crate::answers::with_messages;
 use crate::records::record;
+use crate::triggers::due_of;
 use case_words::{
     class_shape, field_shape, first_of, level, lock, number, row_answer, shown, single, small,
     thread_list,
 };
-use dso_base::{Guard, Items, Kind, NoMemory, Shape, ThreadId, Up};
+use dso_base::{Down, Guard, Items, Kind, NoMemory, Shape, Shared, ThreadId, Up};
 use dso_machine::{Code, ThreadBody};
-use dso_server::Server;
+use dso_server::{Server, Taken};
 use std::alloc::{AllocError, Global};
 
 /// How many batches a row may ask for.
@@ -27,6 +33,7 @@ const MOST_BATCHES: u64 = 1000;
 pub struct Rows {
     code: Code,
     server: Server,
+    done: Vec<String>,
 }
 
 /// The shape.
@@ -72,7 +79,8 @@ fn opened(alloc: Global) -> Result<Rows, NoMemory> {
         bodies,
     };
     let server = Server::new(alloc, &code, 3)?;
-    Ok(Rows { code, server })
+    let done = Vec::new(alloc);
+    Ok(Rows { code, server, done })
 }
 
 /// The return of the lock with the threads.
@@ -100,8 +108,55 @@ fn message(alloc: Global, text: &str) -> Result<Option<Up>, NoMemory> {
         "flushed" => Ok(number(rest).map(Up::Flushed)),
         "request" => Ok(requested(rest)),
         "return" => returned(alloc, rest),
-        "commit" => Ok(record(alloc, rest)?.map(Up::Commit)),
+        "commit" => committed(alloc, rest),
         _ => Ok(None),
+    }
+}
+
+/// A record to be applied, None where the words tell none.
+fn committed(alloc: Global, text: &str) -> Result<Option<Up>, NoMemory> {
+    match record(alloc, text)? {
+        Some(txn) => Ok(Some(Up::Commit(Shared::new(alloc, txn)?))),
+        None => Ok(None),
+    }
+}
+
+/// What the server tells of the message, None where too many batches were given.
+fn take(
+    alloc: Global,
+    code: &Code,
+    server: &mut Server,
+    client: u8,
+    message: &Up,
+) -> Result<Option<(Taken, Vec<(u8, Down)>)>, NoMemory> {
+    if server.batches_given() > MOST_BATCHES {
+        return Ok(None);
+    }
+    Ok(Some(server.take(alloc, code, client, message)?))
+}
+
+/// Does the command once more.
+fn redo(alloc: Global, code: &Code, server: &mut Server, command: &str) -> Result<(), NoMemory> {
+    let (first, rest) = first_of(command);
+    let Some(client) = small(first) else {
+        return Ok(());
+    };
+    if rest == "lose" {
+        server.lose(alloc, client)?;
+        return Ok(());
+    }
+    let (words, _) = lasting(rest);
+    if let Some(message) = message(alloc, words)? {
+        take(alloc, code, server, client, &message)?;
+    }
+    Ok(())
+}
+
+/// The words of a message, and whether it is to stay.
+fn lasting(words: &str) -> (&str, bool) {
+    match words.strip_prefix("lasting ") {
+        Some(message) => (message, true),
+        None => (words, false),
     }
 }
 
@@ -131,25 +186,58 @@ impl Rows {
             return shown(alloc, "no such client");
         };
         match rest {
-            "lose" => {
-                let messages = self.server.lose(alloc, client)?;
-                with_messages(alloc, shown(alloc, "Lost")?, messages.as_slice())
-            }
+            "lose" => self.lost(alloc, command, client),
             "lost" => shown(alloc, self.server.is_lost(client)),
-            _ => match message(alloc, rest)? {
-                Some(message) => self.taken(alloc, client, &message),
-                None => shown(alloc, "no such message"),
+            _ => match rest.strip_prefix("due ") {
+                Some(text) => due_of(alloc, client, text),
+                None => self.sent(alloc, command, client, rest),
             },
         }
     }
 
-    /// The answer to a message.
-    fn taken(&mut self, alloc: Global, client: u8, message: &Up) -> Result<String, NoMemory> {
-        if self.server.batches_given() > MOST_BATCHES {
+    /// The answer to a loss.
+    fn lost(&mut self, alloc: Global, command: &str, client: u8) -> Result<String, NoMemory> {
+        let messages = self.server.lose(alloc, client)?;
+        self.note(alloc, command)?;
+        with_messages(alloc, shown(alloc, "Lost")?, messages.as_slice())
+    }
+
+    /// The answer to the words of a message.
+    fn sent(
+        &mut self,
+        alloc: Global,
+        command: &str,
+        client: u8,
+        rest: &str,
+    ) -> Result<String, NoMemory> {
+        let (words, stays) = lasting(rest);
+        let Some(message) = message(alloc, words)? else {
+            return shown(alloc, "no such message");
+        };
+        let Some((taken, messages)) = take(alloc, &self.code, &mut self.server, client, &message)?
+        else {
             return shown(alloc, "too many batches");
+        };
+        match taken {
+            Taken::BadMessage(_) if !stays => self.make_anew(alloc)?,
+            _ => self.note(alloc, command)?,
         }
-        let (taken, messages) = self.server.take(alloc, &self.code, client, message)?;
         let text = format!(in alloc; "{taken:?}")?;
         with_messages(alloc, text, messages.as_slice())
+    }
+
+    /// Notes that the command was done.
+    fn note(&mut self, alloc: Global, command: &str) -> Result<(), NoMemory> {
+        self.done.push(format!(in alloc; "{command}")?)?;
+        Ok(())
+    }
+
+    /// Makes the server anew, by the commands that were done.
+    fn make_anew(&mut self, alloc: Global) -> Result<(), NoMemory> {
+        self.server = Server::new(alloc, &self.code, 3)?;
+        for command in &self.done {
+            redo(alloc, &self.code, &mut self.server, command.as_str())?;
+        }
+        Ok(())
     }
 }

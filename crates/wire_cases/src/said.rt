@@ -2,7 +2,7 @@
 
 use crate::digits::digits_of;
 use case_words::{bare_record, first_of, level, lock, note, shown, single, thread, thread_list};
-use dso_base::{Down, Ending, NoMemory, Up};
+use dso_base::{Down, Ending, NoMemory, Shared, Up};
 use dso_session::Frame;
 use dso_wire::{can_encode_down, can_encode_up, encode_down, encode_up};
 use std::alloc::Global;
@@ -66,7 +66,7 @@ fn commit_of(alloc: Global, who: &str, text: &str) -> Result<Option<Up>, NoMemor
     };
     let mut txn = bare_record(alloc, 1, thread, Ending::Exit(lock));
     txn.notes = single(alloc, note)?;
-    Ok(Some(Up::Commit(txn)))
+    Ok(Some(Up::Commit(Shared::new(alloc, txn)?)))
 }
 
 /// A message down, None where the words tell none.

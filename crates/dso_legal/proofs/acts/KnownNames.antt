@@ -20,7 +20,8 @@ use Rattle.dso_plain.specs.KeyTests.{is_field}
 use Rattle.dso_lookup.specs.Maps.{or_old}
 use Rattle.dso_plain.specs.State.{Object, Hold, PlainState, IsPrivate, IsShared, is_private_to, is_mine, is_shared, size_of, hold_on_guard}
 use Rattle.dso_plain.specs.Possible.{StandsFrom, Answers, AnswersGet, AnswersPut}
-use Rattle.dso_plain.specs.After.{apply, change_of, made_new, new_object, opening_field, opening_value, read, read_shared, put, published, shared, present, holds_reference, names_below, names, notifies}
+use Rattle.dso_base.specs.Block.{opening_value}
+use Rattle.dso_plain.specs.After.{apply, change_of, made_new, new_object, opening_field, read, read_shared, put, published, shared, present, holds_reference, names_below, names, notifies}
 use Rattle.dso_plain.specs.Past.{newest}
 use Rattle.dso_plain.specs.StepInvariants.{PastInvariant}
 use Rattle.dso_plain.proofs.keys.SameKeys.{same_number, number_self, same_thread, thread_self, same_field}

@@ -18,7 +18,7 @@ use Rattle.dso_base.specs.declared.value.Kind.{Kind}
 use Rattle.dso_base.specs.declared.value.Kind.TheVariants as kind
 use Rattle.dso_base.specs.declared.value.Value.{Value}
 use Rattle.dso_base.specs.declared.value.Value.TheVariants as value
-use Rattle.dso_plain.specs.After.{opening_value}
+use Rattle.dso_base.specs.Block.{opening_value}
 use Rattle.dso_plain.proofs.keys.SameKeys.{number_self, same_number}
 use Rattle.dso_lookup.proofs.Reaching.{reach_tells}
 use Rattle.dso_law.specs.Copies.{is_among}

@@ -8,12 +8,10 @@ use Rattle.dso_base.specs.declared.record.Body.{Body}
 use Rattle.dso_base.specs.declared.shape.Shape.{Shape}
 use Rattle.dso_base.specs.declared.value.ClassId.{ClassId}
 use Rattle.dso_base.specs.declared.value.Kind.{Kind}
-use Rattle.dso_base.specs.declared.value.Kind.TheVariants as kind
 use Rattle.dso_base.specs.declared.value.Value.{Value}
 use Rattle.dso_base.specs.Shape.{kind_of}
 use Rattle.dso_base.specs.Block as block
 use Rattle.dso_base.specs.Block.{body_in, with_value, opening_from, opening_body, insert_body, insert_bodies}
-use Rattle.dso_plain.specs.After as plain
 use Rattle.dso_plain.specs.After.{opening_field}
 use Rattle.dso_plain.proofs.keys.SameKeys.{same_number}
 use Rattle.dso_legal.specs.OwnObjects.{count_bodies}
@@ -241,13 +239,6 @@ pub opening_length : (shape : Shape) (class : ClassId) (k n : ℕ) → length (o
 opening_length shape class k zero = refl
 opening_length shape class k (suc n) = ap suc (opening_length shape class (suc k) n)
 
--- the two readings of opening values are one
-same_opening : (k : Kind) → plain.opening_value k ≡ block.opening_value k
-same_opening kind.Long = refl
-same_opening kind.Bool = refl
-same_opening kind.Text = refl
-same_opening kind.Ref = refl
-
 -- a place of a longer list
 one_longer : (f n : ℕ) → ltb (suc f) (suc n) ≡ ltb f n
 one_longer f n = grind (arith, nat_tests)
@@ -263,5 +254,4 @@ opening_at shape class k (suc n) (suc f) = opening_at shape class (suc k) n f
 
 -- a new body has the opening values
 pub opening_values : (shape : Shape) (class : ClassId) (n f : ℕ) → opening_field shape class n f ≡ slice_get (opening_from shape class 0 n) f
-opening_values shape class n f = ap (λ v. cond (ltb f n) (Some v) None) (same_opening (kind_of shape class f))
-    ∙ ap (λ m. cond (ltb f n) (Some (block.opening_value (kind_of shape class m))) None) (omega arith) ∙ sym (opening_at shape class 0 n f)
+opening_values shape class n f = ap (λ m. cond (ltb f n) (Some (block.opening_value (kind_of shape class m))) None) (omega arith) ∙ sym (opening_at shape class 0 n f)

@@ -28,10 +28,10 @@ use Rattle.dso_machine.specs.declared.tree.Stmt.TheFolds.{fold-roll-Stmt, ind-St
 use Rattle.dso_machine.specs.Calls.{lookup, MethodMeanings}
 use Rattle.dso_machine.specs.Expressions.{within, expr}
 use Rattle.dso_machine.specs.Next.{finish, opening, whole, enough_for}
-use Rattle.dso_machine.specs.Outcome.{State, Outcome, Wants, Gives, Leaves, Fails, Hears, Over, Stopped, Meaning, on_value, on_reply, on_next, asked, ask, tell, get, look, on_object, moving, under}
+use Rattle.dso_machine.specs.Outcome.{State, Outcome, Wants, Gives, Leaves, Fails, Hears, Over, Stopped, Meaning, on_value, on_reply, on_next, on_next_beside, holding, asked, ask, tell, getting, looking, on_object, moving, under}
 use Rattle.dso_machine.specs.Statements.{assign, put_fitting, put_field_at, put_field_in, put_field, put_element_at, put_element_in, put_element, bind_null, bind, put_root, sync, unless_woken, timed_out, ticks, waiting, wait, on_count, timed_wait, seq, branch, turn, spun, returned, stmt_step, stmt, block, statements_of, methods}
 use Rattle.dso_machine.specs.Values.{takes}
-use Rattle.dso_machine.proofs.moves.NotStopped.{budget, Good, GoodAt, good_value, good_reply, good_choose, good_ask, good_unwanted, good_tell, good_get, good_look, good_object, good_moving, good_under, FineWays}
+use Rattle.dso_machine.proofs.moves.NotStopped.{budget, Good, GoodAt, good_value, good_reply, good_choose, good_ask, good_unwanted, good_tell, good_getting, good_looking, good_holding, good_object, good_moving, good_under, good_under_with, FineWays}
 use Rattle.dso_machine.proofs.moves.ExpressionsNotStopped.{good_after, good_expr}
 
 -- ---- what is written
@@ -48,8 +48,8 @@ good_put_field_in shape f v o (Plain class) size at = good_put_field_at shape cl
 good_put_field_in shape f v o class size at = omega arith
 
 good_put_field : (shape : Shape) (f : FieldRef) (x v : Value) (at : State) → Good (budget at) (put_field shape f x v at)
-good_put_field shape f x v at = good_object (λ o. look (put_field_in shape f v o) o) x at
-    (λ o. good_look (put_field_in shape f v o) o at (λ class size u le. good_put_field_in shape f v o class size u))
+good_put_field shape f x v at = good_object (λ o. looking (v ∷ []) (put_field_in shape f v o) o) x at
+    (λ o. good_looking (v ∷ []) (put_field_in shape f v o) o at (λ class size u le. good_put_field_in shape f v o class size u))
 
 good_put_element_at : (kind : Kind) (o : ℕ) (v : Value) (place : Option ℕ) (at : State) → Good (budget at) (put_element_at kind o v place at)
 good_put_element_at kind o v None at = omega arith
@@ -60,8 +60,8 @@ good_put_element_in i v o (Array kind) size at = good_put_element_at kind o v (w
 good_put_element_in i v o class size at = omega arith
 
 good_put_element : (x i v : Value) (at : State) → Good (budget at) (put_element x i v at)
-good_put_element x (value.Long i) v at = good_object (λ o. look (put_element_in i v o) o) x at
-    (λ o. good_look (put_element_in i v o) o at (λ class size u le. good_put_element_in i v o class size u))
+good_put_element x (value.Long i) v at = good_object (λ o. looking (v ∷ []) (put_element_in i v o) o) x at
+    (λ o. good_looking (v ∷ []) (put_element_in i v o) o at (λ class size u le. good_put_element_in i v o class size u))
 good_put_element x i v at = good_object (λ o. Fails BadValue) x at (λ o. omega arith)
 
 good_bind_null : (r : ℕ) (v bound : Value) (at : State) → Good (budget at) (bind_null r v bound at)
@@ -69,7 +69,7 @@ good_bind_null r v value.Null at = good_tell (request.Put 0 r v) at
 good_bind_null r v bound at = omega arith
 
 good_bind : (N r : ℕ) (v : Value) → GoodAt N (bind r v)
-good_bind N r v = good_under N (Name r) grade.Write (λ at. on_value (bind_null r v) (get 0 r at)) (good_after N (bind_null r v) (get 0 r) (λ u h. good_get 0 r u) (λ x u h. good_bind_null r v x u))
+good_bind N r v = good_under_with N (v ∷ []) (Name r) grade.Write (λ at. on_value (bind_null r v) (getting (v ∷ []) 0 r at)) (good_after N (bind_null r v) (getting (v ∷ []) 0 r) (λ u h. good_getting (v ∷ []) 0 r u) (λ x u h. good_bind_null r v x u))
 
 good_put_root : (N r : ℕ) (v : Value) → GoodAt N (put_root r v)
 good_put_root N r v at h = good_choose (budget at) (takes kind.Ref v) _ _ at (good_bind N r v at h) (omega arith)
@@ -139,13 +139,17 @@ good_seq c w n (k ∷ ks) at h = good_value (budget at) (λ v. seq (map (stmt c 
 good_of : (c : Code) (w : MethodMeanings) (n : ℕ) → FineWays n w → (a : Expr) (f : Value → Meaning) → ((v : Value) → GoodAt n (f v)) → GoodAt n (λ at. on_value f (expr c w a at))
 good_of c w n fw a f g = good_after n f (expr c w a) (good_expr c w n fw a) g
 
+-- the same, while these values are held
+good_beside : (c : Code) (w : MethodMeanings) (n : ℕ) → FineWays n w → (vs : List Value) (a : Expr) (f : Value → Meaning) → ((v : Value) → GoodAt n (f v)) → GoodAt n (λ at. on_value f (holding vs (expr c w a) at))
+good_beside c w n fw vs a f g = good_after n f (holding vs (expr c w a)) (good_holding n vs (expr c w a) (good_expr c w n fw a)) g
+
 stmt_layer : (c : Code) (w : MethodMeanings) (n : ℕ) → FineWays n w → (y : Stmt-F (KidStmt c w n))
     → GoodAt n (stmt_step c w n (map-Stmt Stmt Meaning (stmt c w n) (map-Stmt (KidStmt c w n) Stmt (λ k. k.0) y)))
 stmt_layer c w n fw (sf.Assign i a) at h = good_of c w n fw a (assign i) (λ v u hu. omega arith) at h
 stmt_layer c w n fw (sf.PutField a f b) at h = good_of c w n fw a (on_next (put_field c.shape f) (expr c w b))
-    (λ x. good_of c w n fw b (put_field c.shape f x) (λ v u hu. good_put_field c.shape f x v u)) at h
-stmt_layer c w n fw (sf.PutElem a b d) at h = good_of c w n fw a (on_next (λ x. on_next (put_element x) (expr c w d)) (expr c w b))
-    (λ x. good_of c w n fw b (on_next (put_element x) (expr c w d)) (λ i. good_of c w n fw d (put_element x i) (λ v u hu. good_put_element x i v u))) at h
+    (λ x. good_beside c w n fw (x ∷ []) b (put_field c.shape f x) (λ v u hu. good_put_field c.shape f x v u)) at h
+stmt_layer c w n fw (sf.PutElem a b d) at h = good_of c w n fw a (on_next (λ x. on_next_beside (x ∷ []) (put_element x) (expr c w d)) (expr c w b))
+    (λ x. good_beside c w n fw (x ∷ []) b (on_next_beside (x ∷ []) (put_element x) (expr c w d)) (λ i. good_beside c w n fw (x ∷ i ∷ []) d (put_element x i) (λ v u hu. good_put_element x i v u))) at h
 stmt_layer c w n fw (sf.PutRoot r a) at h = good_of c w n fw a (put_root r) (good_put_root n r) at h
 stmt_layer c w n fw (sf.Eval a) at h = good_expr c w n fw a at h
 stmt_layer c w n fw (sf.If a x y) at h = good_of c w n fw a (branch (seq (map (stmt c w n) (map (λ k. k.0) x))) (seq (map (stmt c w n) (map (λ k. k.0) y))))
@@ -154,7 +158,7 @@ stmt_layer c w n fw (sf.While a x) at h = good_moving n (spun (expr c w a) (seq 
     (λ u hu. good_spun n _ _ (good_expr c w n fw a) (good_seq c w n x) n (omega arith) u (omega arith)) at h
 stmt_layer c w n fw (sf.Sync a grade x) at h = good_of c w n fw a (sync grade (seq (map (stmt c w n) (map (λ k. k.0) x)))) (good_sync n grade _ (good_seq c w n x)) at h
 stmt_layer c w n fw (sf.Wait a) at h = good_of c w n fw a (on_object (λ o. wait 0 (Mon o))) (λ x u hu. good_object (λ o. wait 0 (Mon o)) x u (λ o. good_wait 0 (Mon o) u)) at h
-stmt_layer c w n fw (sf.TimedWait a b) at h = good_of c w n fw a (on_next timed_wait (expr c w b)) (λ x. good_of c w n fw b (timed_wait x) (λ v u hu. good_timed_wait x v u)) at h
+stmt_layer c w n fw (sf.TimedWait a b) at h = good_of c w n fw a (on_next timed_wait (expr c w b)) (λ x. good_beside c w n fw (x ∷ []) b (timed_wait x) (λ v u hu. good_timed_wait x v u)) at h
 stmt_layer c w n fw (sf.Notify a) at h = good_of c w n fw a (on_object (λ o. tell (request.Notify (Mon o))))
     (λ x u hu. good_object (λ o. tell (request.Notify (Mon o))) x u (λ o. good_tell (request.Notify (Mon o)) u)) at h
 stmt_layer c w n fw (sf.NotifyAll a) at h = good_of c w n fw a (on_object (λ o. tell (request.NotifyAll (Mon o))))
@@ -177,12 +181,12 @@ fine_methods : (c : Code) (n : ℕ) → FineWays n (methods c n)
 fine_methods c zero m u h = absurd (omega arith)
 fine_methods c (suc n) m u h = good_block c (methods c n) n (fine_methods c n) (statements_of (slice_get c.methods m)) u (omega arith)
 
-ended_not : (q : Request) (at : State) (rs : List Reply) → on_reply (λ r at. Over) (asked q at rs) ≡ Stopped → ⊥
+ended_not : (q : Request) (at : State) (rs : List Reply) → on_reply (λ r at. Over) (asked [] q at rs) ≡ Stopped → ⊥
 ended_not q at [] e = cc
 ended_not q at (r ∷ rs) e = cc
 
 not_stopped : (b : ℕ) (o : Outcome) → Good b o → finish o ≡ Stopped → ⊥
-not_stopped b (Wants q) g e = cc
+not_stopped b (Wants q env) g e = cc
 not_stopped b (Gives v u) g e = ended_not (request.End None) u u.replies e
 not_stopped b (Leaves v u) g e = ended_not (request.End None) u u.replies e
 not_stopped b (Fails f u) g e = ended_not (request.End (Some f)) u u.replies e

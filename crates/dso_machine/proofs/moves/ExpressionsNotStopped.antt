@@ -20,19 +20,19 @@ use Rattle.dso_machine.specs.declared.tree.FieldRef.{FieldRef}
 use Rattle.dso_machine.specs.Calls.{lookup, call_on, arguments, MethodMeanings}
 use Rattle.dso_machine.specs.Expressions.{field_at, field_in, field_of, within, element_at, element_in, element_of, root, make, new_array, a_boolean, second, expr_step, expr}
 use Rattle.dso_machine.specs.Limits.{most_elements}
-use Rattle.dso_machine.specs.Outcome.{State, Fails, Meaning, on_value, on_next, result_of, ask, made, get, look}
+use Rattle.dso_machine.specs.Outcome.{State, Fails, Meaning, on_value, on_next, holding, result_of, ask, made, get, look}
 use Rattle.dso_machine.specs.Values.{binary, unary}
-use Rattle.dso_machine.proofs.moves.NotStopped.{budget, Good, GoodAt, good_value, good_reply, good_choose, good_result, good_ask, good_made, good_get, good_look, good_object, good_under, FineWays, good_call}
+use Rattle.dso_machine.proofs.moves.NotStopped.{budget, Good, GoodAt, good_value, good_reply, good_choose, good_result, good_ask, good_made, good_get, good_look, good_object, good_under, good_holding, FineWays, good_call}
 
 -- an expression that is good
 abbrev pub Kid : Code → MethodMeanings → ℕ → Type 0
 Kid c w N = (a : Expr) × GoodAt N (expr c w a)
 
-pub good_arguments : (c : Code) (w : MethodMeanings) (N : ℕ) (f : List Value → Meaning) → ((vs : List Value) → GoodAt N (f vs)) → (xs : List (Kid c w N)) (vs : List Value)
-    → GoodAt N (arguments f (map (expr c w) (map (λ k. k.0) xs)) vs)
-good_arguments c w N f fine [] vs at h = fine vs at h
-good_arguments c w N f fine (k ∷ ks) vs at h = good_value (budget at) (λ v. arguments f (map (expr c w) (map (λ k. k.0) ks)) (vs ++ v ∷ [])) (expr c w k.0 at) (k.1 at h)
-    (λ v u le. good_arguments c w N f fine ks (vs ++ v ∷ []) u (omega arith))
+pub good_arguments : (c : Code) (w : MethodMeanings) (N : ℕ) (f : List Value → Meaning) → ((vs : List Value) → GoodAt N (f vs)) → (y : Value) (xs : List (Kid c w N)) (vs : List Value)
+    → GoodAt N (arguments f y (map (expr c w) (map (λ k. k.0) xs)) vs)
+good_arguments c w N f fine y [] vs at h = fine vs at h
+good_arguments c w N f fine y (k ∷ ks) vs at h = good_value (budget at) (λ v. arguments f y (map (expr c w) (map (λ k. k.0) ks)) (vs ++ v ∷ [])) (holding (y ∷ vs) (expr c w k.0) at) (good_holding N (y ∷ vs) (expr c w k.0) k.1 at h)
+    (λ v u le. good_arguments c w N f fine y ks (vs ++ v ∷ []) u (omega arith))
 
 -- ---- expressions
 
@@ -86,7 +86,7 @@ good_second N op.And m fine v at h = omega arith
 good_second N op.Or m fine (value.Bool true) at h = omega arith
 good_second N op.Or m fine (value.Bool false) at h = good_after N a_boolean m fine (λ v u hu. good_boolean v u) at h
 good_second N op.Or m fine v at h = omega arith
-good_second N o m fine x at h = good_after N (λ y. result_of (binary o x y)) m fine (λ y u hu. good_result (binary o x y) u) at h
+good_second N o m fine x at h = good_after N (λ y. result_of (binary o x y)) (holding (x ∷ []) m) (good_holding N (x ∷ []) m fine) (λ y u hu. good_result (binary o x y) u) at h
 
 pub layer : (c : Code) (w : MethodMeanings) (N : ℕ) → FineWays N w → (y : Expr-F (Kid c w N)) → GoodAt N (expr_step c w (map-Expr Expr Meaning (expr c w) (map-Expr (Kid c w N) Expr (λ k. k.0) y)))
 layer c w N fw (ef.Const v) at h = omega arith
@@ -95,9 +95,9 @@ layer c w N fw ef.This at h = omega arith
 layer c w N fw (ef.Root r) at h = good_root N r at h
 layer c w N fw (ef.Field a f) at h = good_after N (field_of f) (expr c w a.0) a.1 (λ v u hu. good_field f v u) at h
 layer c w N fw (ef.Elem a b) at h = good_after N (on_next element_of (expr c w b.0)) (expr c w a.0) a.1
-    (λ x. good_after N (element_of x) (expr c w b.0) b.1 (λ i u hu. good_element x i u)) at h
-layer c w N fw (ef.Call a callees args) at h = good_after N (λ x. arguments (call_on c w callees x) (map (expr c w) (map (λ k. k.0) args)) []) (expr c w a.0) a.1
-    (λ x. good_arguments c w N (call_on c w callees x) (good_call c N w fw callees x) args []) at h
+    (λ x. good_after N (element_of x) (holding (x ∷ []) (expr c w b.0)) (good_holding N (x ∷ []) (expr c w b.0) b.1) (λ i u hu. good_element x i u)) at h
+layer c w N fw (ef.Call a callees args) at h = good_after N (λ x. arguments (call_on c w callees x) x (map (expr c w) (map (λ k. k.0) args)) []) (expr c w a.0) a.1
+    (λ x. good_arguments c w N (call_on c w callees x) (good_call c N w fw callees x) x args []) at h
 layer c w N fw (ef.NewObject class) at h = good_make (Plain class) _ at
 layer c w N fw (ef.NewArray kind a) at h = good_after N (new_array kind) (expr c w a.0) a.1 (λ v u hu. good_array kind v u) at h
 layer c w N fw (ef.Unary o a) at h = good_after N (λ v. result_of (unary o v)) (expr c w a.0) a.1 (λ v u hu. good_result (unary o v) u) at h

@@ -34,11 +34,11 @@ use Rattle.dso_machine.specs.Calls.{lookup, call_on, MethodMeanings}
 use Rattle.dso_machine.specs.Expressions.{field_at, field_in, field_of, within, element_at, element_in, element_of, make, new_array, a_boolean, second, expr_step, expr}
 use Rattle.dso_machine.specs.Limits.{most_elements}
 use Rattle.dso_machine.specs.Next.{finish, opening, whole, enough_for, request_of}
-use Rattle.dso_machine.specs.Outcome.{State, Outcome, Wants, Gives, Leaves, Fails, Hears, Over, Stopped, Meaning, on_value, on_reply, result_of, ask, tell, get, put}
+use Rattle.dso_machine.specs.Outcome.{State, Outcome, Wants, Gives, Leaves, Fails, Hears, Over, Stopped, Meaning, on_value, on_reply, result_of, holding, ask, tell, get, getting, put}
 use Rattle.dso_machine.specs.Statements.{assign, put_fitting, put_field_at, put_field_in, put_field, put_element_at, put_element_in, put_element, bind_null, bind, put_root, sync, unless_woken, timed_out, ticks, waiting, wait, on_count, timed_wait, seq, branch, turn, spun, returned, stmt_step, stmt, block, statements_of, methods}
 use Rattle.dso_machine.specs.Values.{binary, unary, takes}
 use Rattle.dso_machine.proofs.moves.Enough.{never_stopped}
-use Rattle.dso_machine.proofs.moves.MoreReplies.{later, Extends, Steady, ext_value, ext_reply, ext_choose, steady_result, steady_ask, steady_unwanted, steady_tell, steady_get, steady_make, steady_look, steady_object, steady_after, steady_moving, steady_under, SteadyWays, steady_call, Kid, steady_arguments}
+use Rattle.dso_machine.proofs.moves.MoreReplies.{later, Extends, Steady, ext_value, ext_reply, ext_choose, steady_result, steady_ask, steady_unwanted, steady_tell, steady_get, steady_make, steady_look, steady_looking, steady_getting, steady_holding, steady_object, steady_after, steady_moving, steady_under, steady_under_with, SteadyWays, steady_call, Kid, steady_arguments}
 
 -- ---- fields and elements
 
@@ -84,7 +84,7 @@ steady_second op.And m k s v more at = refl
 steady_second op.Or m k s (value.Bool true) more at = refl
 steady_second op.Or m k s (value.Bool false) more at = ext_value more a_boolean a_boolean (m at) _ (s more at) steady_boolean
 steady_second op.Or m k s v more at = refl
-steady_second o m k s x more at = ext_value more (λ y. result_of (binary o x y)) (λ y. result_of (binary o x y)) (m at) _ (s more at) (λ y. steady_result (binary o x y))
+steady_second o m k s x more at = ext_value more (λ y. result_of (binary o x y)) (λ y. result_of (binary o x y)) (holding (x ∷ []) m at) (holding (x ∷ []) k (later more at)) (steady_holding (x ∷ []) m k s more at) (λ y. steady_result (binary o x y))
 
 -- ---- what is written
 
@@ -100,7 +100,7 @@ steady_put_field_in shape f v o (Plain class) size more at = steady_put_field_at
 steady_put_field_in shape f v o class size more at = refl
 
 steady_put_field : (shape : Shape) (f : FieldRef) (x v : Value) → Steady (put_field shape f x v) (put_field shape f x v)
-steady_put_field shape f x v = steady_object _ _ (λ o. steady_look (put_field_in shape f v o) (put_field_in shape f v o) (steady_put_field_in shape f v o) o) x
+steady_put_field shape f x v = steady_object _ _ (λ o. steady_looking (v ∷ []) (put_field_in shape f v o) (put_field_in shape f v o) (steady_put_field_in shape f v o) o) x
 
 steady_put_element_at : (kind : Kind) (o : ℕ) (v : Value) (place : Option ℕ) → Steady (put_element_at kind o v place) (put_element_at kind o v place)
 steady_put_element_at kind o v None more at = refl
@@ -111,7 +111,7 @@ steady_put_element_in i v o (Array kind) size more at = steady_put_element_at ki
 steady_put_element_in i v o class size more at = refl
 
 steady_put_element : (x i v : Value) → Steady (put_element x i v) (put_element x i v)
-steady_put_element x (value.Long i) v = steady_object _ _ (λ o. steady_look (put_element_in i v o) (put_element_in i v o) (steady_put_element_in i v o) o) x
+steady_put_element x (value.Long i) v = steady_object _ _ (λ o. steady_looking (v ∷ []) (put_element_in i v o) (put_element_in i v o) (steady_put_element_in i v o) o) x
 steady_put_element x i v = steady_object (λ o. Fails BadValue) (λ o. Fails BadValue) (λ o more at. refl) x
 
 steady_bind_null : (r : ℕ) (v bound : Value) → Steady (bind_null r v bound) (bind_null r v bound)
@@ -119,7 +119,8 @@ steady_bind_null r v value.Null more at = steady_tell (request.Put 0 r v) more a
 steady_bind_null r v bound more at = refl
 
 steady_bind : (r : ℕ) (v : Value) → Steady (bind r v) (bind r v)
-steady_bind r v = steady_under (Name r) grade.Write _ _ (steady_after (bind_null r v) (bind_null r v) (get 0 r) (get 0 r) (steady_get 0 r) (steady_bind_null r v))
+steady_bind r v = steady_under_with (v ∷ []) (Name r) grade.Write (λ at. on_value (bind_null r v) (getting (v ∷ []) 0 r at)) (λ at. on_value (bind_null r v) (getting (v ∷ []) 0 r at))
+    (steady_after (bind_null r v) (bind_null r v) (getting (v ∷ []) 0 r) (getting (v ∷ []) 0 r) (steady_getting (v ∷ []) 0 r) (steady_bind_null r v))
 
 steady_put_root : (r : ℕ) (v : Value) → Steady (put_root r v) (put_root r v)
 steady_put_root r v more at = ext_choose more (takes kind.Ref v) (bind r v) (Fails BadValue) (bind r v) (Fails BadValue) at (steady_bind r v more at) refl
@@ -186,9 +187,9 @@ module _ (c : Code) (w x : MethodMeanings) (s : SteadyWays w x) where
   layer ef.This more at = refl
   layer (ef.Root r) more at = steady_under (Name r) grade.Read (get 0 r) (get 0 r) (steady_get 0 r) more at
   layer (ef.Field a f) more at = ext_value more (field_of f) (field_of f) (expr c w a.0 at) _ (a.1 more at) (steady_field f)
-  layer (ef.Elem a b) more at = ext_value more _ _ (expr c w a.0 at) _ (a.1 more at) (λ v. steady_after (element_of v) (element_of v) (expr c w b.0) (expr c x b.0) b.1 (steady_element v))
+  layer (ef.Elem a b) more at = ext_value more _ _ (expr c w a.0 at) _ (a.1 more at) (λ v. steady_after (element_of v) (element_of v) (holding (v ∷ []) (expr c w b.0)) (holding (v ∷ []) (expr c x b.0)) (steady_holding (v ∷ []) (expr c w b.0) (expr c x b.0) b.1) (steady_element v))
   layer (ef.Call a callees args) more at = ext_value more _ _ (expr c w a.0 at) _ (a.1 more at)
-      (λ v. steady_arguments c w x s (call_on c w callees v) (call_on c x callees v) (steady_call c w x s callees v) args [])
+      (λ v. steady_arguments c w x s (call_on c w callees v) (call_on c x callees v) (steady_call c w x s callees v) v args [])
   layer (ef.NewObject class) more at = steady_make (Plain class) _ more at
   layer (ef.NewArray kind a) more at = ext_value more (new_array kind) (new_array kind) (expr c w a.0 at) _ (a.1 more at) (steady_array kind)
   layer (ef.Unary o a) more at = ext_value more (λ v. result_of (unary o v)) (λ v. result_of (unary o v)) (expr c w a.0 at) _ (a.1 more at) (λ v. steady_result (unary o v))
@@ -203,6 +204,10 @@ module _ (c : Code) (w x : MethodMeanings) (s : SteadyWays w x) where
   -- an expression, and then what is made of its value
   steady_of : (a : Expr) (f g : Value → Meaning) → ((v : Value) → Steady (f v) (g v)) → Steady (λ at. on_value f (expr c w a at)) (λ at. on_value g (expr c x a at))
   steady_of a f g t = steady_after f g (expr c w a) (expr c x a) (steady_expr a) t
+
+  -- the same, while these values are held
+  steady_beside : (vs : List Value) (a : Expr) (f g : Value → Meaning) → ((v : Value) → Steady (f v) (g v)) → Steady (λ at. on_value f (holding vs (expr c w a) at)) (λ at. on_value g (holding vs (expr c x a) at))
+  steady_beside vs a f g t = steady_after f g (holding vs (expr c w a)) (holding vs (expr c x a)) (steady_holding vs (expr c w a) (expr c x a) (steady_expr a)) t
 
   steady_returned : (a : Option Expr) → Steady (returned c w a) (returned c x a)
   steady_returned None more at = refl
@@ -220,15 +225,15 @@ module _ (c : Code) (w x : MethodMeanings) (s : SteadyWays w x) where
     stmt_layer : (y : Stmt-F KidStmt) → Steady (stmt_step c w k (map-Stmt Stmt Meaning (stmt c w k) (map-Stmt KidStmt Stmt (λ k. k.0) y)))
         (stmt_step c x n (map-Stmt Stmt Meaning (stmt c x n) (map-Stmt KidStmt Stmt (λ k. k.0) y)))
     stmt_layer (sf.Assign i a) more at = steady_of a (assign i) (assign i) (λ v more at. refl) more at
-    stmt_layer (sf.PutField a f b) more at = steady_of a _ _ (λ v. steady_of b (put_field c.shape f v) (put_field c.shape f v) (steady_put_field c.shape f v)) more at
-    stmt_layer (sf.PutElem a b d) more at = steady_of a _ _ (λ v. steady_of b _ _ (λ i. steady_of d (put_element v i) (put_element v i) (steady_put_element v i))) more at
+    stmt_layer (sf.PutField a f b) more at = steady_of a _ _ (λ v. steady_beside (v ∷ []) b (put_field c.shape f v) (put_field c.shape f v) (steady_put_field c.shape f v)) more at
+    stmt_layer (sf.PutElem a b d) more at = steady_of a _ _ (λ v. steady_beside (v ∷ []) b _ _ (λ i. steady_beside (v ∷ i ∷ []) d (put_element v i) (put_element v i) (steady_put_element v i))) more at
     stmt_layer (sf.PutRoot r a) more at = steady_of a (put_root r) (put_root r) (steady_put_root r) more at
     stmt_layer (sf.Eval a) more at = steady_expr a more at
     stmt_layer (sf.If a y z) more at = steady_of a _ _ (steady_branch _ _ _ _ (steady_seq y) (steady_seq z)) more at
     stmt_layer (sf.While a y) more at = steady_moving _ _ (steady_spun (expr c w a) (seq (map (stmt c w k) (map (λ k. k.0) y))) (expr c x a) (seq (map (stmt c x n) (map (λ k. k.0) y))) (steady_expr a) (steady_seq y) k n le) more at
-    stmt_layer (sf.Sync a grade y) more at = steady_of a _ _ (steady_sync grade _ _ (steady_seq y)) more at
+    stmt_layer (sf.Sync a grade y) more at = steady_of a _ _ (steady_sync grade (seq (map (stmt c w k) (map (λ k. k.0) y))) (seq (map (stmt c x n) (map (λ k. k.0) y))) (steady_seq y)) more at
     stmt_layer (sf.Wait a) more at = steady_of a _ _ (steady_object _ _ (λ o. steady_wait 0 (Mon o))) more at
-    stmt_layer (sf.TimedWait a b) more at = steady_of a _ _ (λ x. steady_of b (timed_wait x) (timed_wait x) (steady_timed_wait x)) more at
+    stmt_layer (sf.TimedWait a b) more at = steady_of a _ _ (λ x. steady_beside (x ∷ []) b (timed_wait x) (timed_wait x) (steady_timed_wait x)) more at
     stmt_layer (sf.Notify a) more at = steady_of a _ _ (steady_object _ _ (λ o. steady_tell (request.Notify (Mon o)))) more at
     stmt_layer (sf.NotifyAll a) more at = steady_of a _ _ (steady_object _ _ (λ o. steady_tell (request.NotifyAll (Mon o)))) more at
     stmt_layer (sf.Print a) more at = steady_of a _ _ (λ v. steady_tell (request.Print v)) more at
@@ -255,7 +260,7 @@ ext_ended : (q : Request) (more : List Reply) (at : State) → Extends more (on_
 ext_ended q more at = ext_reply more (λ r at. Over) (λ r at. Over) (ask q at) _ (steady_ask q more at) (λ r more at. refl)
 
 ext_finish : (more : List Reply) (o n : Outcome) → Extends more o n → Extends more (finish o) (finish n)
-ext_finish more (Wants q) n e = λ none. ap finish (e none)
+ext_finish more (Wants q env) n e = λ none. ap finish (e none)
 ext_finish more (Gives v u) n e = subst (λ x. Extends more (finish (Gives v u)) (finish x)) (sym e) (ext_ended (request.End None) more u)
 ext_finish more (Leaves v u) n e = subst (λ x. Extends more (finish (Leaves v u)) (finish x)) (sym e) (ext_ended (request.End None) more u)
 ext_finish more (Fails f u) n e = subst (λ x. Extends more (finish (Fails f u)) (finish x)) (sym e) (ext_ended (request.End (Some f)) more u)
@@ -276,7 +281,7 @@ stays_over c body rs more over = subst (λ o. Extends more o (whole c body (enou
 
 -- an outcome that is not stopped wants what comes of more moves
 same_request : (o n : Outcome) → (o ≡ Stopped → ⊥) → Extends [] o n → request_of n ≡ request_of o
-same_request (Wants q) n going e = ap request_of (e refl)
+same_request (Wants q env) n going e = ap request_of (e refl)
 same_request (Gives v u) n going e = ap request_of e
 same_request (Leaves v u) n going e = ap request_of e
 same_request (Fails f u) n going e = ap request_of e

@@ -1,5 +1,5 @@
 -- Parts that are not stopped, while enough moves are left: requests, moves, locks, calls.
-use Rattle.std.proofs.Common.{◌≡◌, refl, ℕ, ◌+◌, ◌-◌, ◌*◌, ◌<◌, ◌≤◌, Bool, true, false, List, [], ◌∷◌, length, Option, None, Some, arith}
+use Rattle.std.proofs.Common.{◌≡◌, refl, ℕ, ◌+◌, ◌-◌, ◌*◌, ◌<◌, ◌≤◌, Bool, true, false, List, [], ◌∷◌, ◌++◌, length, Option, None, Some, arith}
 use Rattle.std.specs.Prelude.{nat_lt, slice_get, Result, Ok, Err}
 use Rattle.std.proofs.lemmas.Bool.{ltb-true}
 use Rattle.dso_base.specs.declared.lock.Grade.{Grade}
@@ -16,9 +16,9 @@ use Rattle.dso_base.specs.declared.value.Value.{Value}
 use Rattle.dso_base.specs.declared.value.Value.TheVariants as value
 use Rattle.dso_machine.specs.declared.code.Code.{Code}
 use Rattle.dso_machine.specs.declared.code.Method.{Method}
-use Rattle.dso_machine.specs.Calls.{lookup_class, back_in, begin, invoke, under_name, under_monitor, run_method, call_method, call_number, call_in, call_on, variables, MethodMeanings}
+use Rattle.dso_machine.specs.Calls.{lookup_class, back_in, callee, begin, invoke, under_name, under_monitor, run_method, call_method, call_number, call_in, call_on, variables, MethodMeanings}
 use Rattle.dso_machine.specs.Limits.{most_moves}
-use Rattle.dso_machine.specs.Outcome.{Environment, State, Outcome, Wants, Gives, Leaves, Fails, Hears, Over, Stopped, Meaning, choose, on_value, on_reply, result_of, asked, ask, unwanted, done, made, got, seen, tell, get, look, on_object, moved, paced, moving, level_of, settling, leaving, leave, entered, under}
+use Rattle.dso_machine.specs.Outcome.{Environment, State, Outcome, Wants, Gives, Leaves, Fails, Hears, Over, Stopped, Meaning, choose, on_value, on_reply, result_of, asked, ask, unwanted, done, made, got, seen, tell, get, look, on_object, moved, paced, moving, level_of, settling, leaving, leave, entered, under, under_with, restored, holding, with_outer, asking, telling, getting, looking, moving_with, monitor_of}
 
 -- how many moves there may be before the replies are used up
 abbrev pub budget : State → ℕ
@@ -26,7 +26,7 @@ budget at = most_moves * length at.replies + (most_moves - at.moves)
 
 -- the outcome is not stopped, and no more moves are left than were
 abbrev pub Good : ℕ → Outcome → Type 0
-Good b (Wants q) = Unit {0}
+Good b (Wants q env) = Unit {0}
 Good b (Gives v u) = budget u ≤ b
 Good b (Leaves v u) = budget u ≤ b
 Good b (Fails f u) = budget u ≤ b
@@ -39,7 +39,7 @@ abbrev pub GoodAt : ℕ → Meaning → Type 0
 GoodAt N m = (at : State) → budget at < N → Good (budget at) (m at)
 
 pub good_more : (a b : ℕ) (o : Outcome) → a ≤ b → Good a o → Good b o
-good_more a b (Wants q) h g = tt
+good_more a b (Wants q env) h g = tt
 good_more a b (Gives v u) h g = omega arith
 good_more a b (Leaves v u) h g = omega arith
 good_more a b (Fails f u) h g = omega arith
@@ -48,7 +48,7 @@ good_more a b Over h g = tt
 good_more a b Stopped h g = absurd g
 
 pub good_value : (b : ℕ) (f : Value → Meaning) (o : Outcome) → Good b o → ((v : Value) (u : State) → budget u ≤ b → Good (budget u) (f v u)) → Good b (on_value f o)
-good_value b f (Wants q) g h = tt
+good_value b f (Wants q env) g h = tt
 good_value b f (Gives v u) g h = good_more (budget u) b (f v u) g (h v u g)
 good_value b f (Leaves v u) g h = g
 good_value b f (Fails x u) g h = g
@@ -57,7 +57,7 @@ good_value b f Over g h = tt
 good_value b f Stopped g h = absurd g
 
 pub good_reply : (b : ℕ) (f : Reply → Meaning) (o : Outcome) → Good b o → ((r : Reply) (u : State) → budget u ≤ b → Good (budget u) (f r u)) → Good b (on_reply f o)
-good_reply b f (Wants q) g h = tt
+good_reply b f (Wants q env) g h = tt
 good_reply b f (Hears r u) g h = good_more (budget u) b (f r u) g (h r u g)
 good_reply b f (Leaves v u) g h = g
 good_reply b f (Fails x u) g h = g
@@ -73,14 +73,32 @@ pub good_result : (r : Result Value Fault) (at : State) → Good (budget at) (re
 good_result (Ok v) at = omega arith
 good_result (Err f) at = omega arith
 
+-- ---- what is held
+
+good_restored : (b : ℕ) (outer : List Value) (o : Outcome) → Good b o → Good b (restored outer o)
+good_restored b outer (Wants q env) g = tt
+good_restored b outer (Gives v u) g = g
+good_restored b outer (Leaves v u) g = g
+good_restored b outer (Fails f u) g = g
+good_restored b outer (Hears r u) g = g
+good_restored b outer Over g = tt
+good_restored b outer Stopped g = absurd g
+
+pub good_holding : (N : ℕ) (vs : List Value) (m : Meaning) → GoodAt N m → GoodAt N (holding vs m)
+good_holding N [] m fine at h = fine at h
+good_holding N (v ∷ vs) m fine at h = good_restored (budget at) at.environment.outer (m (with_outer (v ∷ vs ++ at.environment.outer) at)) (fine (with_outer (v ∷ vs ++ at.environment.outer) at) h)
+
 -- ---- requests
 
-pub good_asked : (q : Request) (at : State) (rs : List Reply) → Good (most_moves * length rs + (most_moves - at.moves)) (asked q at rs)
-good_asked q at [] = tt
-good_asked q at (r ∷ rs) = omega arith
+pub good_asked : (vs : List Value) (q : Request) (at : State) (rs : List Reply) → Good (most_moves * length rs + (most_moves - at.moves)) (asked vs q at rs)
+good_asked vs q at [] = tt
+good_asked vs q at (r ∷ rs) = omega arith
+
+pub good_asking : (vs : List Value) (q : Request) (at : State) → Good (budget at) (asking vs q at)
+good_asking vs q at = good_asked vs q at at.replies
 
 pub good_ask : (q : Request) (at : State) → Good (budget at) (ask q at)
-good_ask q at = good_asked q at at.replies
+good_ask q at = good_asking [] q at
 
 pub good_unwanted : (r : Reply) (at : State) → Good (budget at) (unwanted r at)
 good_unwanted (Refused f) at = omega arith
@@ -102,15 +120,25 @@ pub good_seen : (f : ClassId → ℕ → Meaning) (r : Reply) (at : State) → (
 good_seen f (Seen class size) at g = g class size
 good_seen f r at g = good_unwanted r at
 
+pub good_telling : (vs : List Value) (q : Request) (at : State) → Good (budget at) (telling vs q at)
+good_telling vs q at = good_reply (budget at) done (asking vs q at) (good_asking vs q at) (λ r u le. good_done r u)
+
 pub good_tell : (q : Request) (at : State) → Good (budget at) (tell q at)
-good_tell q at = good_reply (budget at) done (ask q at) (good_ask q at) (λ r u le. good_done r u)
+good_tell q at = good_telling [] q at
+
+pub good_getting : (vs : List Value) (o f : ℕ) (at : State) → Good (budget at) (getting vs o f at)
+good_getting vs o f at = good_reply (budget at) got (asking vs (request.Get o f) at) (good_asking vs (request.Get o f) at) (λ r u le. good_got r u)
 
 pub good_get : (o f : ℕ) (at : State) → Good (budget at) (get o f at)
-good_get o f at = good_reply (budget at) got (ask (request.Get o f) at) (good_ask (request.Get o f) at) (λ r u le. good_got r u)
+good_get o f at = good_getting [] o f at
+
+pub good_looking : (vs : List Value) (f : ClassId → ℕ → Meaning) (o : ℕ) (at : State) → ((class : ClassId) (size : ℕ) (u : State) → budget u ≤ budget at → Good (budget u) (f class size u))
+    → Good (budget at) (looking vs f o at)
+good_looking vs f o at g = good_reply (budget at) (seen f) (asking vs (request.Look o) at) (good_asking vs (request.Look o) at) (λ r u le. good_seen f r u (λ class size. g class size u le))
 
 pub good_look : (f : ClassId → ℕ → Meaning) (o : ℕ) (at : State) → ((class : ClassId) (size : ℕ) (u : State) → budget u ≤ budget at → Good (budget u) (f class size u))
     → Good (budget at) (look f o at)
-good_look f o at g = good_reply (budget at) (seen f) (ask (request.Look o) at) (good_ask (request.Look o) at) (λ r u le. good_seen f r u (λ class size. g class size u le))
+good_look f o at g = good_looking [] f o at g
 
 pub good_object : (f : ℕ → Meaning) (v : Value) (at : State) → ((o : ℕ) → Good (budget at) (f o at)) → Good (budget at) (on_object f v at)
 good_object f value.Null at g = omega arith
@@ -126,54 +154,60 @@ good_paused N m fine Done at u h less =
 good_paused N m fine (Refused f) at u h less = omega arith
 good_paused N m fine r at u h less = omega arith
 
-pub good_pause : (N : ℕ) (m : Meaning) → ((u : State) → budget u + 1 < N → Good (budget u) (m u)) → (at : State) (rs : List Reply)
+pub good_pause : (N : ℕ) (vs : List Value) (m : Meaning) → ((u : State) → budget u + 1 < N → Good (budget u) (m u)) → (at : State) (rs : List Reply)
     → most_moves * length rs + (most_moves - at.moves) < N
-    → Good (most_moves * length rs + (most_moves - at.moves)) (on_value (λ v. moved m) (on_reply done (asked request.Pause at rs)))
-good_pause N m fine at [] h = tt
-good_pause N m fine at (r ∷ rs) h =
+    → Good (most_moves * length rs + (most_moves - at.moves)) (on_value (λ v. moved m) (on_reply done (asked vs request.Pause at rs)))
+good_pause N vs m fine at [] h = tt
+good_pause N vs m fine at (r ∷ rs) h =
     let u : State = record { environment = at.environment; moves = 0; replies = rs } in
     good_more (budget u) (most_moves * length (r ∷ rs) + (most_moves - at.moves)) (on_value (λ v. moved m) (done r u)) (omega arith)
     (good_paused N m fine r at u (omega arith) (omega arith))
 
-pub good_paced : (N : ℕ) (m : Meaning) → ((u : State) → budget u + 1 < N → Good (budget u) (m u)) → (few : Bool) (at : State)
-    → nat_lt at.moves most_moves ≡ few → budget at < N → Good (budget at) (paced few m at)
-good_paced N m fine true at few h =
+pub good_paced : (N : ℕ) (vs : List Value) (m : Meaning) → ((u : State) → budget u + 1 < N → Good (budget u) (m u)) → (few : Bool) (at : State)
+    → nat_lt at.moves most_moves ≡ few → budget at < N → Good (budget at) (paced vs few m at)
+good_paced N vs m fine true at few h =
     let u : State = record { environment = at.environment; moves = at.moves + 1; replies = at.replies } in
     let less : at.moves < most_moves = ltb-true at.moves most_moves few in
     good_more (budget u) (budget at) (m u) (omega arith) (fine u (omega arith))
-good_paced N m fine false at few h = good_pause N m fine at at.replies h
+good_paced N vs m fine false at few h = good_pause N vs m fine at at.replies h
+
+pub good_moving_with : (N : ℕ) (vs : List Value) (m : Meaning) → ((u : State) → budget u + 1 < N → Good (budget u) (m u)) → GoodAt N (moving_with vs m)
+good_moving_with N vs m fine at h = good_paced N vs m fine (nat_lt at.moves most_moves) at refl h
 
 pub good_moving : (N : ℕ) (m : Meaning) → ((u : State) → budget u + 1 < N → Good (budget u) (m u)) → GoodAt N (moving m)
-good_moving N m fine at h = good_paced N m fine (nat_lt at.moves most_moves) at refl h
+good_moving N m fine = good_moving_with N [] m fine
 
 -- ---- locks
 
-good_settling : (grade : Grade) (m : Meaning) (at : State) → ((u : State) → budget u ≤ budget at → Good (budget u) (m u)) → Good (budget at) (settling grade m at)
-good_settling grade.Read m at g = g at (omega arith)
-good_settling grade.Write m at g = g at (omega arith)
-good_settling grade.Synchronous m at g = good_value (budget at) (λ v. m) (tell request.Settle at) (good_tell request.Settle at) (λ v u le. g u le)
+good_settling : (vs : List Value) (grade : Grade) (m : Meaning) (at : State) → ((u : State) → budget u ≤ budget at → Good (budget u) (m u)) → Good (budget at) (settling vs grade m at)
+good_settling vs grade.Read m at g = g at (omega arith)
+good_settling vs grade.Write m at g = g at (omega arith)
+good_settling vs grade.Synchronous m at g = good_value (budget at) (λ v. m) (telling vs request.Settle at) (good_telling vs request.Settle at) (λ v u le. g u le)
 
-pub good_leaving : (l : LockName) (grade : Grade) (m : Meaning) (at : State) → ((u : State) → budget u ≤ budget at → Good (budget u) (m u)) → Good (budget at) (leaving l grade m at)
-good_leaving l grade m at g = good_value (budget at) (λ v. settling grade m) (tell (request.Exit l) at) (good_tell (request.Exit l) at)
-    (λ v u le. good_settling grade m u (λ w less. g w (omega arith)))
+pub good_leaving : (vs : List Value) (l : LockName) (grade : Grade) (m : Meaning) (at : State) → ((u : State) → budget u ≤ budget at → Good (budget u) (m u)) → Good (budget at) (leaving vs l grade m at)
+good_leaving vs l grade m at g = good_value (budget at) (λ v. settling vs grade m) (telling vs (request.Exit l) at) (good_telling vs (request.Exit l) at)
+    (λ v u le. good_settling vs grade m u (λ w less. g w (omega arith)))
 
 pub good_leave : (b : ℕ) (l : LockName) (grade : Grade) (o : Outcome) → Good b o → Good b (leave l grade o)
-good_leave b l grade (Wants q) g = tt
-good_leave b l grade (Gives v u) g = good_more (budget u) b (leaving l grade (Gives v) u) g (good_leaving l grade (Gives v) u (λ w le. omega arith))
-good_leave b l grade (Leaves v u) g = good_more (budget u) b (leaving l grade (Leaves v) u) g (good_leaving l grade (Leaves v) u (λ w le. omega arith))
-good_leave b l grade (Fails f u) g = good_more (budget u) b (leaving l grade (Fails f) u) g (good_leaving l grade (Fails f) u (λ w le. omega arith))
+good_leave b l grade (Wants q env) g = tt
+good_leave b l grade (Gives v u) g = good_more (budget u) b (leaving (v ∷ []) l grade (Gives v) u) g (good_leaving (v ∷ []) l grade (Gives v) u (λ w le. omega arith))
+good_leave b l grade (Leaves v u) g = good_more (budget u) b (leaving (v ∷ []) l grade (Leaves v) u) g (good_leaving (v ∷ []) l grade (Leaves v) u (λ w le. omega arith))
+good_leave b l grade (Fails f u) g = good_more (budget u) b (leaving [] l grade (Fails f) u) g (good_leaving [] l grade (Fails f) u (λ w le. omega arith))
 good_leave b l grade (Hears r u) g = g
 good_leave b l grade Over g = tt
 good_leave b l grade Stopped g = absurd g
 
-pub good_entered : (l : LockName) (grade : Grade) (m : Meaning) (r : Reply) (at : State) → Good (budget at) (m at) → Good (budget at) (entered l grade m r at)
-good_entered l grade m Done at g = good_leave (budget at) l grade (m at) g
+pub good_entered : (l : LockName) (grade : Grade) (m : Meaning) (r : Reply) (at : State) → Good (budget at) (holding (monitor_of l) m at) → Good (budget at) (entered l grade m r at)
+good_entered l grade m Done at g = good_leave (budget at) l grade (holding (monitor_of l) m at) g
 good_entered l grade m Local at g = g
 good_entered l grade m r at g = good_unwanted r at
 
+pub good_under_with : (N : ℕ) (vs : List Value) (l : LockName) (grade : Grade) (m : Meaning) → GoodAt N m → GoodAt N (under_with vs l grade m)
+good_under_with N vs l grade m fine at h = good_reply (budget at) (entered l grade m) (asking vs (request.Enter l (level_of grade)) at) (good_asking vs (request.Enter l (level_of grade)) at)
+    (λ r u le. good_entered l grade m r u (good_holding N (monitor_of l) m fine u (omega arith)))
+
 pub good_under : (N : ℕ) (l : LockName) (grade : Grade) (m : Meaning) → GoodAt N m → GoodAt N (under l grade m)
-good_under N l grade m fine at h = good_reply (budget at) (entered l grade m) (ask (request.Enter l (level_of grade)) at) (good_ask (request.Enter l (level_of grade)) at)
-    (λ r u le. good_entered l grade m r u (fine u (omega arith)))
+good_under N l grade m fine = good_under_with N [] l grade m fine
 
 -- ---- calls
 
@@ -182,7 +216,7 @@ abbrev pub FineWays : ℕ → MethodMeanings → Type 0
 FineWays N w = (m : ℕ) (u : State) → budget u + 1 < N → Good (budget u) (w m u)
 
 pub good_back : (b : ℕ) (caller : Environment) (o : Outcome) → Good b o → Good b (back_in caller o)
-good_back b caller (Wants q) g = tt
+good_back b caller (Wants q env) g = tt
 good_back b caller (Gives v u) g = g
 good_back b caller (Leaves v u) g = g
 good_back b caller (Fails f u) g = g
@@ -191,19 +225,19 @@ good_back b caller Over g = tt
 good_back b caller Stopped g = absurd g
 
 pub good_invoke : (N : ℕ) (w : MethodMeanings) → FineWays N w → (m : ℕ) (this : Value) (vars : List Value) → GoodAt N (invoke w m this vars)
-good_invoke N w fw m this vars = good_moving N (begin w m this vars) (λ u le. good_back (budget u) u.environment _
-    (fw m (record { environment = record { this = this; vars = vars; depth_left = u.environment.depth_left - 1 }; moves = u.moves; replies = u.replies }) le))
+good_invoke N w fw m this vars = good_moving_with N (this ∷ vars) (begin w m this vars) (λ u le. good_back (budget u) u.environment _
+    (fw m (record { environment = callee this vars u.environment; moves = u.moves; replies = u.replies }) le))
 
-pub good_under_name : (N : ℕ) (named : Option (ℕ × Grade)) (m : Meaning) → GoodAt N m → GoodAt N (under_name named m)
-good_under_name N None m fine = fine
-good_under_name N (Some lock) m fine = good_under N (Name lock.0) lock.1 m fine
+pub good_under_name : (N : ℕ) (vs : List Value) (named : Option (ℕ × Grade)) (m : Meaning) → GoodAt N m → GoodAt N (under_name vs named m)
+good_under_name N vs None m fine = fine
+good_under_name N vs (Some lock) m fine = good_under_with N vs (Name lock.0) lock.1 m fine
 
-pub good_under_monitor : (N : ℕ) (synced : Option Grade) (o : ℕ) (m : Meaning) → GoodAt N m → GoodAt N (under_monitor synced o m)
-good_under_monitor N None o m fine = fine
-good_under_monitor N (Some grade) o m fine = good_under N (Mon o) grade m fine
+pub good_under_monitor : (N : ℕ) (vs : List Value) (synced : Option Grade) (o : ℕ) (m : Meaning) → GoodAt N m → GoodAt N (under_monitor vs synced o m)
+good_under_monitor N vs None o m fine = fine
+good_under_monitor N vs (Some grade) o m fine = good_under_with N vs (Mon o) grade m fine
 
 pub good_run : (N : ℕ) (w : MethodMeanings) → FineWays N w → (m : ℕ) (method : Method) (o : ℕ) (args : List Value) → GoodAt N (run_method w m method o args)
-good_run N w fw m method o args = good_under_name N method.named _ (good_under_monitor N method.synced o _ (good_invoke N w fw m (value.Ref o) (variables method.vars args)))
+good_run N w fw m method o args = good_under_name N (value.Ref o ∷ variables method.vars args) method.named _ (good_under_monitor N (value.Ref o ∷ variables method.vars args) method.synced o _ (good_invoke N w fw m (value.Ref o) (variables method.vars args)))
 
 pub good_method : (N : ℕ) (w : MethodMeanings) → FineWays N w → (m o : ℕ) (args : List Value) (method : Option Method) → GoodAt N (call_method w m o args method)
 good_method N w fw m o args None at h = omega arith
@@ -214,5 +248,5 @@ good_number c N w fw o args None at h = omega arith
 good_number c N w fw o args (Some m) at h = good_method N w fw m o args (slice_get c.methods m) at h
 
 pub good_call : (c : Code) (N : ℕ) (w : MethodMeanings) → FineWays N w → (callees : List (ℕ × ℕ)) (x : Value) (args : List Value) → GoodAt N (call_on c w callees x args)
-good_call c N w fw callees x args at h = good_object (λ o. look (call_in c w callees args o) o) x at
-    (λ o. good_look (call_in c w callees args o) o at (λ class size u le. good_number c N w fw o args (lookup_class callees class) u (omega arith)))
+good_call c N w fw callees x args at h = good_object (λ o. looking args (call_in c w callees args o) o) x at
+    (λ o. good_looking args (call_in c w callees args o) o at (λ class size u le. good_number c N w fw o args (lookup_class callees class) u (omega arith)))

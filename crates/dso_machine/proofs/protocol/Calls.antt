@@ -9,13 +9,13 @@ use Rattle.dso_base.specs.declared.value.Value.{Value}
 use Rattle.dso_base.specs.declared.value.Value.TheVariants as value
 use Rattle.dso_machine.specs.declared.code.Code.{Code}
 use Rattle.dso_machine.specs.declared.code.Method.{Method}
-use Rattle.dso_machine.specs.Calls.{lookup_class, variables, back_in, begin, invoke, under_name, under_monitor, run_method, call_method, call_number, call_in, call_on, arguments, MethodMeanings}
+use Rattle.dso_machine.specs.Calls.{lookup_class, variables, back_in, callee, begin, invoke, under_name, under_monitor, run_method, call_method, call_number, call_in, call_on, arguments, MethodMeanings}
 use Rattle.dso_machine.specs.Sound.{IsMethodLock}
-use Rattle.dso_machine.specs.Outcome.{Environment, Outcome, Wants, Gives, Leaves, Fails, Hears, Over, Stopped, Meaning, look}
+use Rattle.dso_machine.specs.Outcome.{Environment, Outcome, Wants, Gives, Leaves, Fails, Hears, Over, Stopped, Meaning, looking, holding}
 use Rattle.dso_machine.proofs.protocol.Protocol.{KnowsValue, Keeper}
-use Rattle.dso_machine.proofs.protocol.Parts.{refilled, Obeys, keeps_on, KnowsAll, KnowsEnvironment, Fine, More, Part, all_later, environment_later, more_then, more_itself, part_later, part_fails, part_value, part_choose}
-use Rattle.dso_machine.proofs.protocol.Requests.{part_look, part_object, part_moving}
-use Rattle.dso_machine.proofs.protocol.Locks.{part_under}
+use Rattle.dso_machine.proofs.protocol.Parts.{refilled, Obeys, keeps_on, KnowsAll, KnowsEnvironment, Fine, More, Part, all_later, environment_later, more_then, more_itself, part_later, part_fails, part_value, part_holding, part_choose}
+use Rattle.dso_machine.proofs.protocol.Requests.{part_looking, part_object, part_moving_with}
+use Rattle.dso_machine.proofs.protocol.Locks.{part_under_with}
 
 -- ---- lists of values
 
@@ -49,9 +49,9 @@ module _ {shape : Shape} (k : Keeper shape) where
       (record { same = fine.same; value = tt; environment = environment_later k g h (k.same_knows g h fine.same) caller environment })
   back_at_end g caller environment (Leaves v u) h fine = Obeys.ends (Gives v (record u { environment = caller })) (λ rs. refl)
       (record { same = fine.same; value = fine.value; environment = environment_later k g h (k.same_knows g h fine.same) caller environment })
-  back_at_end g caller environment (Fails fault u) h fine = Obeys.ends (Fails fault u) (λ rs. refl) fine
+  back_at_end g caller environment (Fails fault u) h fine = Obeys.ends (Fails fault (record u { environment = caller })) (λ rs. refl) fine
   back_at_end g caller environment Stopped h fine = Obeys.ends Stopped (λ rs. refl) tt
-  back_at_end g caller environment (Wants q) h fine = absurd fine
+  back_at_end g caller environment (Wants q env) h fine = absurd fine
   back_at_end g caller environment (Hears r u) h fine = absurd fine
   back_at_end g caller environment Over h fine = absurd fine
 
@@ -59,29 +59,29 @@ module _ {shape : Shape} (k : Keeper shape) where
     -- a body in an environment of its own
     part_begin : (g : k.Point) (m : ℕ) (this : Value) (vars : List Value) → KnowsValue k.HasText (k.Knows g) this → KnowsAll k.HasText (k.Knows g) vars → Part k g (begin ways m this vars)
     part_begin g m this vars this_known vars_known = record {
-      from = λ h u more environment. keeps_on k (Fine k h) (Fine k h) (back_in u.environment) (λ q. refl)
-          ((bodies.body m g).from h (record u { environment = record { this = this; vars = vars; depth_left = u.environment.depth_left - 1 } }) more
-          (environment_later k g h more.knows (record { this = this; vars = vars; depth_left = u.environment.depth_left - 1 }) (record { this = this_known; vars = vars_known })))
+      from = λ h u more environment. keeps_on k (Fine k h) (Fine k h) (back_in u.environment) (λ q env. refl)
+          ((bodies.body m g).from h (record u { environment = callee this vars u.environment }) more
+          (environment_later k g h more.knows (callee this vars u.environment) (record { this = this_known; vars = vars_known })))
           (back_at_end h u.environment environment);
     }
 
     -- so, as a move
     part_invoke : (g : k.Point) (m : ℕ) (this : Value) (vars : List Value) → KnowsValue k.HasText (k.Knows g) this → KnowsAll k.HasText (k.Knows g) vars → Part k g (invoke ways m this vars)
-    part_invoke g m this vars this_known vars_known = part_moving k g (begin ways m this vars) (part_begin g m this vars this_known vars_known)
+    part_invoke g m this vars this_known vars_known = part_moving_with k g (this ∷ vars) (begin ways m this vars) (part_begin g m this vars this_known vars_known)
 
     -- a part under a method's named lock, if it has one,
-    part_under_name : (g : k.Point) (named : Option (ℕ × Grade)) (m : Meaning) → IfSome named (IsMethodLock shape) → Part k g m → Part k g (under_name named m)
-    part_under_name g None m is part = part
-    part_under_name g (Some lock) m is part = part_under k g (Name lock.0) lock.1 m tt is.there part
+    part_under_name : (g : k.Point) (vs : List Value) (named : Option (ℕ × Grade)) (m : Meaning) → IfSome named (IsMethodLock shape) → Part k g m → Part k g (under_name vs named m)
+    part_under_name g vs None m is part = part
+    part_under_name g vs (Some lock) m is part = part_under_with k g vs (Name lock.0) lock.1 m tt is.there part
 
     -- and under its object's monitor, if it takes it
-    part_under_monitor : (g : k.Point) (synced : Option Grade) (object : ℕ) (m : Meaning) → k.Knows g object → Part k g m → Part k g (under_monitor synced object m)
-    part_under_monitor g None object m known part = part
-    part_under_monitor g (Some grade) object m known part = part_under k g (Mon object) grade m known tt part
+    part_under_monitor : (g : k.Point) (vs : List Value) (synced : Option Grade) (object : ℕ) (m : Meaning) → k.Knows g object → Part k g m → Part k g (under_monitor vs synced object m)
+    part_under_monitor g vs None object m known part = part
+    part_under_monitor g vs (Some grade) object m known part = part_under_with k g vs (Mon object) grade m known tt part
 
     -- a method of an object
     part_run : (g : k.Point) (m : ℕ) (method : Method) (object : ℕ) (args : List Value) → IfSome method.named (IsMethodLock shape) → k.Knows g object → KnowsAll k.HasText (k.Knows g) args → Part k g (run_method ways m method object args)
-    part_run g m method object args lock known args_known = part_under_name g method.named _ lock (part_under_monitor g method.synced object _ known
+    part_run g m method object args lock known args_known = part_under_name g (value.Ref object ∷ variables method.vars args) method.named _ lock (part_under_monitor g (value.Ref object ∷ variables method.vars args) method.synced object _ known
         (part_invoke g m (value.Ref object) (variables method.vars args) known (known_variables k.HasText (k.Knows g) method.vars args args_known)))
 
     -- a method that was found, if one more call may nest
@@ -99,8 +99,8 @@ module _ {shape : Shape} (k : Keeper shape) where
 
     -- a call with its operands
     pub part_call : (g : k.Point) (callees : List (ℕ × ℕ)) (x : Value) (args : List Value) → KnowsValue k.HasText (k.Knows g) x → KnowsAll k.HasText (k.Knows g) args → Part k g (call_on code ways callees x args)
-    part_call g callees x args known args_known = part_object k g (λ object. look (call_in code ways callees args object) object) x known
-        (λ object object_known. part_look k g (call_in code ways callees args object) object object_known
+    part_call g callees x args known args_known = part_object k g (λ object. looking args (call_in code ways callees args object) object) x known
+        (λ object object_known. part_looking k g args (call_in code ways callees args object) object object_known
         (λ h more class size looked. part_number h object args (lookup_class callees class) (more.knows object object_known) (all_later k g h more.knows args args_known)))
 
   -- ---- arguments
@@ -116,10 +116,10 @@ module _ {shape : Shape} (k : Keeper shape) where
   parts_later g h (m ∷ ms) more parts = (part_later k g h m more parts.0, parts_later g h ms more parts.1)
 
   -- the arguments, and then what is made of their values
-  pub part_arguments : (f : List Value → Meaning) (ms : List Meaning) (g : k.Point) (before : List Value) → Parts g ms → KnowsAll k.HasText (k.Knows g) before
-      → ((vs : List Value) (h : k.Point) → More k g h → KnowsAll k.HasText (k.Knows h) vs → Part k h (f vs)) → Part k g (arguments f ms before)
-  part_arguments f [] g before parts known then = record { from = λ h u more environment. (then before h more (all_later k g h more.knows before known)).from h u (more_itself k h more.awake) environment }
-  part_arguments f (m ∷ rest) g before parts known then = part_value k g (λ v. arguments f rest (before ++ v ∷ [])) m parts.0
-      (λ v h more v_known. part_arguments f rest h (before ++ v ∷ []) (parts_later g h rest more parts.1)
+  pub part_arguments : (f : List Value → Meaning) (x : Value) (ms : List Meaning) (g : k.Point) (before : List Value) → Parts g ms → KnowsAll k.HasText (k.Knows g) before
+      → ((vs : List Value) (h : k.Point) → More k g h → KnowsAll k.HasText (k.Knows h) vs → Part k h (f vs)) → Part k g (arguments f x ms before)
+  part_arguments f x [] g before parts known then = record { from = λ h u more environment. (then before h more (all_later k g h more.knows before known)).from h u (more_itself k h more.awake) environment }
+  part_arguments f x (m ∷ rest) g before parts known then = part_value k g (λ v. arguments f x rest (before ++ v ∷ [])) (holding (x ∷ before) m) (part_holding k g (x ∷ before) m parts.0)
+      (λ v h more v_known. part_arguments f x rest h (before ++ v ∷ []) (parts_later g h rest more parts.1)
       (known_append k.HasText (k.Knows h) before (v ∷ []) (all_later k g h more.knows before known) (v_known, tt))
       (λ vs i further all. then vs i (more_then k g h i more further) all))

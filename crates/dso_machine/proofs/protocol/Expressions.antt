@@ -22,12 +22,12 @@ use Rattle.dso_machine.specs.declared.tree.FieldRef.{FieldRef}
 use Rattle.dso_machine.specs.Calls.{lookup, call_on, MethodMeanings}
 use Rattle.dso_machine.specs.Expressions.{field_at, field_in, field_of, within, element_at, element_in, element_of, root, make, new_array, a_boolean, second, expr}
 use Rattle.dso_machine.specs.Limits.{most_elements}
-use Rattle.dso_machine.specs.Outcome.{Gives, Fails, Meaning, on_next, result_of, get, look}
+use Rattle.dso_machine.specs.Outcome.{Gives, Fails, Meaning, on_next, holding, result_of, get, look}
 use Rattle.dso_machine.specs.Sound.{Scope, IsLiteral, ArePlaces, SoundExpr, SoundExprs}
 use Rattle.dso_machine.specs.Values.{binary_longs, binary, unary}
 use Rattle.dso_machine.proofs.forms.Equations.{expr_Const, expr_Var, expr_This, expr_Root, expr_Field, expr_Elem, expr_Call, expr_NewObject, expr_NewArray, expr_Unary, expr_Binary}
 use Rattle.dso_machine.proofs.protocol.Protocol.{KnowsValue, Keeper}
-use Rattle.dso_machine.proofs.protocol.Parts.{Obeys, KnowsAll, Part, value_later, part_gives, part_fails, part_value, part_choose}
+use Rattle.dso_machine.proofs.protocol.Parts.{Obeys, KnowsAll, Part, value_later, part_gives, part_fails, part_value, part_holding, part_choose}
 use Rattle.dso_machine.proofs.protocol.Requests.{KnowsResult, part_result, part_get, part_make, part_look, part_object}
 use Rattle.dso_machine.proofs.protocol.Locks.{part_under}
 use Rattle.dso_machine.proofs.protocol.Calls.{Bodies, Parts, part_call, part_arguments}
@@ -172,7 +172,7 @@ module _ {shape : Shape} (k : Keeper shape) where
   part_second g op.Or m (value.Bool true) part = part_gives k g (value.Bool true) tt
   part_second g op.Or m (value.Bool false) part = part_value k g a_boolean m part (λ v h more known. part_boolean h v)
   part_second g op.Or m v part = part_fails k g BadValue
-  part_second g o m x part = part_value k g (λ y. result_of (binary o x y)) m part (λ y h more known. part_result k h (binary o x y) (known_binary k.HasText (k.Knows h) o x y))
+  part_second g o m x part = part_value k g (λ y. result_of (binary o x y)) (holding (x ∷ []) m) (part_holding k g (x ∷ []) m part) (λ y h more known. part_result k h (binary o x y) (known_binary k.HasText (k.Knows h) o x y))
 
 -- a part that is another one
 pub part_as : {shape : Shape} (k : Keeper shape) (g : k.Point) (m n : Meaning) → m ≡ n → Part k g n → Part k g m
@@ -207,10 +207,10 @@ module _ (c : Code) (k : Keeper c.shape) (ways : MethodMeanings) (bodies : Bodie
         (part_value k g (field_of f) (expr c ways a) (part_expr inner g) (λ x h more known. part_field k h f x places known))
     part_expr (SoundExpr.element {a = a} {b = b} inner index) g = part_as k g _ _ (expr_Elem c ways a b)
         (part_value k g (on_next element_of (expr c ways b)) (expr c ways a) (part_expr inner g)
-        (λ x h more known. part_value k h (element_of x) (expr c ways b) (part_expr index h) (λ i j further i_known. part_element k j x i (value_later k h j further.knows x known))))
+        (λ x h more known. part_value k h (element_of x) (holding (x ∷ []) (expr c ways b)) (part_holding k h (x ∷ []) (expr c ways b) (part_expr index h)) (λ i j further i_known. part_element k j x i (value_later k h j further.knows x known))))
     part_expr (SoundExpr.call {a = a} {callees = callees} {args = args} inner are rest) g = part_as k g _ _ (expr_Call c ways a callees args)
         (part_value k g _ (expr c ways a) (part_expr inner g)
-        (λ x h more known. part_arguments k (call_on c ways callees x) (map (expr c ways) args) h [] (part_exprs rest h) tt
+        (λ x h more known. part_arguments k (call_on c ways callees x) x (map (expr c ways) args) h [] (part_exprs rest h) tt
         (λ vs i further all. part_call k c ways bodies i callees x vs (value_later k h i further.knows x known) all)))
     part_expr (SoundExpr.object {c = class} there) g = part_as k g _ _ (expr_NewObject c ways class)
         (part_make k g (Plain class) (length (fields_at c.shape class)) (λ h more. k.class_asked h class more.awake there))

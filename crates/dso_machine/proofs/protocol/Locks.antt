@@ -1,5 +1,5 @@
 -- Parts under locks and waits keep to what may be asked.
-use Rattle.std.proofs.Common.{◌≡◌, refl, ℕ, zero, suc, true, false, []}
+use Rattle.std.proofs.Common.{◌≡◌, refl, ℕ, zero, suc, true, false, List, [], ◌∷◌}
 use Rattle.dso_base.specs.declared.lock.Grade.{Grade}
 use Rattle.dso_base.specs.declared.lock.Grade.TheVariants as grade
 use Rattle.dso_base.specs.declared.lock.LockName.{LockName}
@@ -10,11 +10,11 @@ use Rattle.dso_base.specs.declared.request.Request.TheVariants as request
 use Rattle.dso_base.specs.declared.shape.Shape.{Shape}
 use Rattle.dso_base.specs.declared.value.Value.{Value}
 use Rattle.dso_base.specs.declared.value.Value.TheVariants as value
-use Rattle.dso_machine.specs.Outcome.{State, Outcome, Wants, Gives, Leaves, Fails, Hears, Over, Stopped, Meaning, on_value, unwanted, done, tell, level_of, settling, leaving, leave, entered, under}
+use Rattle.dso_machine.specs.Outcome.{State, Outcome, Wants, Gives, Leaves, Fails, Hears, Over, Stopped, Meaning, on_value, unwanted, done, tell, level_of, settling, leaving, leave, entered, under, under_with, holding, monitor_of}
 use Rattle.dso_machine.specs.Statements.{unless_woken, timed_out, ticks, ticking, waiting, wait}
 use Rattle.dso_machine.proofs.protocol.Protocol.{KnowsLock, HasLock, Keeper}
 use Rattle.dso_machine.specs.Unwinding.{with_replies}
-use Rattle.dso_machine.proofs.protocol.Parts.{refilled, Obeys, keeps_on, KnowsEnvironment, Kept, Fine, More, Part, value_later, lock_later, environment_later, part_later, part_at}
+use Rattle.dso_machine.proofs.protocol.Parts.{refilled, Obeys, keeps_on, KnowsEnvironment, Kept, Fine, More, Part, value_later, lock_later, environment_later, part_later, part_at, part_holding}
 use Rattle.dso_machine.proofs.protocol.Requests.{part_unwanted}
 
 -- the state after a request
@@ -32,12 +32,12 @@ module _ {shape : Shape} (k : Keeper shape) where
   after_settling P g m u awake then r comes = absurd (k.listed g request.Settle r comes)
 
   -- what follows an exit, of a lock that was entered at this grade
-  settles : (P : Outcome → k.Point → Type 0) (g : k.Point) (grade : Grade) (m : Meaning) (u : State) → k.Awake g
+  settles : (P : Outcome → k.Point → Type 0) (vs : List Value) (g : k.Point) (grade : Grade) (m : Meaning) (u : State) → k.Awake g
       → ((h : k.Point) → k.Same g h → ((object : ℕ) → k.Knows g object → k.Knows h object) → Obeys k P h (λ rs. m (with_replies rs (asked_at u))))
-      → Obeys k P g (λ rs. settling grade m (with_replies rs (asked_at u)))
-  settles P g grade.Read m u awake then = then g (k.same_itself g) (λ object known. known)
-  settles P g grade.Write m u awake then = then g (k.same_itself g) (λ object known. known)
-  settles P g grade.Synchronous m u awake then = Obeys.asks request.Settle refl (k.settle_asked g awake) (after_settling P g m u awake then)
+      → Obeys k P g (λ rs. settling vs grade m (with_replies rs (asked_at u)))
+  settles P vs g grade.Read m u awake then = then g (k.same_itself g) (λ object known. known)
+  settles P vs g grade.Write m u awake then = then g (k.same_itself g) (λ object known. known)
+  settles P vs g grade.Synchronous m u awake then = Obeys.asks request.Settle refl (k.settle_asked g awake) (after_settling P g m u awake then)
 
   -- A part under a lock that was entered, from the point before.
   module _ (g : k.Point) (l : LockName) (grade : Grade) (awake : k.Awake g) (enters : k.IsReply g (request.Enter l (level_of grade)) Done) where
@@ -46,21 +46,21 @@ module _ {shape : Shape} (k : Keeper shape) where
     inside = k.after (request.Enter l (level_of grade)) Done g
 
     -- what follows an exit: it is answered Done
-    after_exit : (P : Outcome → k.Point → Type 0) (m : Meaning) (h : k.Point) (u : State) → k.Same inside h
+    after_exit : (P : Outcome → k.Point → Type 0) (vs : List Value) (m : Meaning) (h : k.Point) (u : State) → k.Same inside h
         → ((i : k.Point) → k.Same g i → ((object : ℕ) → k.Knows h object → k.Knows i object) → Obeys k P i (λ rs. m (with_replies rs (asked_at u))))
-        → (r : Reply) → k.IsReply h (request.Exit l) r → Obeys k P (k.after (request.Exit l) r h) (λ rs. on_value (λ v. settling grade m) (done r (with_replies rs (asked_at u))))
-    after_exit P m h u same then Done comes =
+        → (r : Reply) → k.IsReply h (request.Exit l) r → Obeys k P (k.after (request.Exit l) r h) (λ rs. on_value (λ v. settling vs grade m) (done r (with_replies rs (asked_at u))))
+    after_exit P vs m h u same then Done comes =
         let out : k.Point = k.after (request.Exit l) Done h in
         let before : k.Same g out = k.exit_same g h l (level_of grade) awake enters same in
-        settles P out grade m u (k.same_awake g out before awake)
+        settles P vs out grade m u (k.same_awake g out before awake)
         (λ i further knows. then i (k.same_then g out i before further) (λ object known. knows object (k.still_known h (request.Exit l) Done object known)))
-    after_exit P m h u same then r comes = absurd (k.listed h (request.Exit l) r comes)
+    after_exit P vs m h u same then r comes = absurd (k.listed h (request.Exit l) r comes)
 
     -- the lock is left at an end
-    leaves_lock : (P : Outcome → k.Point → Type 0) (m : Meaning) (h : k.Point) (u : State) → k.Same inside h
+    leaves_lock : (P : Outcome → k.Point → Type 0) (vs : List Value) (m : Meaning) (h : k.Point) (u : State) → k.Same inside h
         → ((i : k.Point) → k.Same g i → ((object : ℕ) → k.Knows h object → k.Knows i object) → Obeys k P i (λ rs. m (with_replies rs (asked_at u))))
-        → Obeys k P h (λ rs. leaving l grade m (with_replies rs u))
-    leaves_lock P m h u same then = Obeys.asks (request.Exit l) refl (k.exit_asked g h l (level_of grade) awake enters same) (after_exit P m h u same then)
+        → Obeys k P h (λ rs. leaving vs l grade m (with_replies rs u))
+    leaves_lock P vs m h u same then = Obeys.asks (request.Exit l) refl (k.exit_asked g h l (level_of grade) awake enters same) (after_exit P vs m h u same then)
 
     -- what is held and known after that
     kept_outside : (h : k.Point) (v : Value) (u : State) → Kept k inside h v u.environment → (i : k.Point) → k.Same g i → ((object : ℕ) → k.Knows h object → k.Knows i object) → Kept k g i v u.environment
@@ -68,11 +68,11 @@ module _ {shape : Shape} (k : Keeper shape) where
 
     -- at each end of the part its lock is left
     leaves_at_end : (e : Outcome) (h : k.Point) → Fine k inside e h → Obeys k (Fine k g) h (λ rs. leave l grade (refilled rs e))
-    leaves_at_end (Gives v u) h fine = leaves_lock (Fine k g) (Gives v) h u fine.same (λ i same knows. Obeys.ends (Gives v (asked_at u)) (λ rs. refl) (kept_outside h v u fine i same knows))
-    leaves_at_end (Leaves v u) h fine = leaves_lock (Fine k g) (Leaves v) h u fine.same (λ i same knows. Obeys.ends (Leaves v (asked_at u)) (λ rs. refl) (kept_outside h v u fine i same knows))
-    leaves_at_end (Fails fault u) h fine = leaves_lock (Fine k g) (Fails fault) h u fine (λ i same knows. Obeys.ends (Fails fault (asked_at u)) (λ rs. refl) same)
+    leaves_at_end (Gives v u) h fine = leaves_lock (Fine k g) (v ∷ []) (Gives v) h u fine.same (λ i same knows. Obeys.ends (Gives v (asked_at u)) (λ rs. refl) (kept_outside h v u fine i same knows))
+    leaves_at_end (Leaves v u) h fine = leaves_lock (Fine k g) (v ∷ []) (Leaves v) h u fine.same (λ i same knows. Obeys.ends (Leaves v (asked_at u)) (λ rs. refl) (kept_outside h v u fine i same knows))
+    leaves_at_end (Fails fault u) h fine = leaves_lock (Fine k g) [] (Fails fault) h u fine (λ i same knows. Obeys.ends (Fails fault (asked_at u)) (λ rs. refl) same)
     leaves_at_end Stopped h fine = Obeys.ends Stopped (λ rs. refl) tt
-    leaves_at_end (Wants q) h fine = absurd fine
+    leaves_at_end (Wants q env) h fine = absurd fine
     leaves_at_end (Hears r u) h fine = absurd fine
     leaves_at_end Over h fine = absurd fine
 
@@ -80,7 +80,7 @@ module _ {shape : Shape} (k : Keeper shape) where
     keeps_inside : (m : Meaning) (u : State) → Part k g m → KnowsEnvironment k g u.environment → Obeys k (Fine k g) inside (λ rs. leave l grade (m (with_replies rs (asked_at u))))
     keeps_inside m u part environment =
         let within : k.Awake inside = k.enter_awake g l (level_of grade) awake enters in
-        keeps_on k (Fine k inside) (Fine k g) (leave l grade) (λ q. refl)
+        keeps_on k (Fine k inside) (Fine k g) (leave l grade) (λ q env. refl)
         (part.from inside (asked_at u) (record { awake = within; knows = k.still_known g (request.Enter l (level_of grade)) Done; looked = k.still_looked g (request.Enter l (level_of grade)) Done })
         (environment_later k g inside (k.still_known g (request.Enter l (level_of grade)) Done) u.environment environment)) leaves_at_end
 
@@ -97,18 +97,22 @@ module _ {shape : Shape} (k : Keeper shape) where
   -- the part after each reply to the entry
   keeps_entered : (g : k.Point) (l : LockName) (grade : Grade) (m : Meaning) (u : State) → k.Awake g → Part k g m → KnowsEnvironment k g u.environment
       → (r : Reply) → k.IsReply g (request.Enter l (level_of grade)) r → Obeys k (Fine k g) (k.after (request.Enter l (level_of grade)) r g) (λ rs. entered l grade m r (with_replies rs (asked_at u)))
-  keeps_entered g l grade m u awake part environment Done comes = keeps_inside g l grade awake comes m u part environment
-  keeps_entered g l grade m u awake part environment Local comes = keeps_outside g l grade Local m u awake comes (λ e. cc e) (λ h more. part_later k g h m more part) environment
+  keeps_entered g l grade m u awake part environment Done comes = keeps_inside g l grade awake comes (holding (monitor_of l) m) u (part_holding k g (monitor_of l) m part) environment
+  keeps_entered g l grade m u awake part environment Local comes =
+      keeps_outside g l grade Local (holding (monitor_of l) m) u awake comes (λ e. cc e) (λ h more. part_holding k h (monitor_of l) m (part_later k g h m more part)) environment
   keeps_entered g l grade m u awake part environment (Refused fault) comes =
       keeps_outside g l grade (Refused fault) (unwanted (Refused fault)) u awake comes (λ e. cc e) (λ h more. part_unwanted k h (Refused fault)) environment
   keeps_entered g l grade m u awake part environment r comes = absurd (k.listed g (request.Enter l (level_of grade)) r comes)
 
   -- a part under a lock that is known and there
-  pub part_under : (g : k.Point) (l : LockName) (grade : Grade) (m : Meaning) → KnowsLock (k.Knows g) l → HasLock shape l → Part k g m → Part k g (under l grade m)
-  part_under g l grade m known there part = record {
+  pub part_under_with : (g : k.Point) (vs : List Value) (l : LockName) (grade : Grade) (m : Meaning) → KnowsLock (k.Knows g) l → HasLock shape l → Part k g m → Part k g (under_with vs l grade m)
+  part_under_with g vs l grade m known there part = record {
     from = λ h u more environment. Obeys.asks (request.Enter l (level_of grade)) refl (k.enter_asked h l (level_of grade) more.awake (lock_later k g h more.knows l known) there)
         (keeps_entered h l grade m u more.awake (part_later k g h m more part) environment);
   }
+
+  pub part_under : (g : k.Point) (l : LockName) (grade : Grade) (m : Meaning) → KnowsLock (k.Knows g) l → HasLock shape l → Part k g m → Part k g (under l grade m)
+  part_under g l grade m known there part = part_under_with g [] l grade m known there part
 
   -- ---- waits
 

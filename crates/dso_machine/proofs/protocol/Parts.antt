@@ -1,5 +1,5 @@
 -- Parts that keep to what may be asked: requests, values, moves, locks.
-use Rattle.std.proofs.Common.{◌≡◌, refl, ℕ, Bool, true, false, List, [], ◌∷◌, subst, sym, ap, ◌∙◌}
+use Rattle.std.proofs.Common.{◌≡◌, refl, ℕ, Bool, true, false, List, [], ◌∷◌, ◌++◌, subst, sym, ap, ◌∙◌}
 use Rattle.dso_base.specs.declared.lock.LockName.{LockName}
 use Rattle.dso_base.specs.declared.lock.LockName.TheVariants.{Mon, Name}
 use Rattle.dso_base.specs.declared.request.Fault.{Fault}
@@ -9,7 +9,7 @@ use Rattle.dso_base.specs.declared.shape.Shape.{Shape}
 use Rattle.dso_base.specs.declared.value.ClassId.{ClassId}
 use Rattle.dso_base.specs.declared.value.Value.{Value}
 use Rattle.dso_base.specs.declared.value.Value.TheVariants as value
-use Rattle.dso_machine.specs.Outcome.{Environment, State, Outcome, Wants, Gives, Leaves, Fails, Hears, Over, Stopped, Meaning, choose, on_value}
+use Rattle.dso_machine.specs.Outcome.{Environment, State, Outcome, Wants, Gives, Leaves, Fails, Hears, Over, Stopped, Meaning, choose, on_value, with_outer, restored, holding}
 use Rattle.dso_machine.specs.Unwinding.{with_replies}
 use Rattle.dso_machine.proofs.protocol.Protocol.{KnowsValue, KnowsLock, Keeper}
 
@@ -17,7 +17,7 @@ use Rattle.dso_machine.proofs.protocol.Protocol.{KnowsValue, KnowsLock, Keeper}
 
 -- the outcome with these replies left
 abbrev pub refilled : List Reply → Outcome → Outcome
-refilled rs (Wants q) = Wants q
+refilled rs (Wants q env) = Wants q env
 refilled rs (Gives v u) = Gives v (with_replies rs u)
 refilled rs (Leaves v u) = Leaves v (with_replies rs u)
 refilled rs (Fails f u) = Fails f (with_replies rs u)
@@ -28,7 +28,7 @@ refilled rs Stopped = Stopped
 -- What comes of the replies keeps to what may be asked: it wants a request that may be asked at the point, and goes on so after
 -- each reply that may come; or it ends there, hears no more replies, and its end is as said.
 pub data Obeys {shape : Shape} (k : Keeper shape) (P : Outcome → k.Point → Type 0) : k.Point → (List Reply → Outcome) → Type 0 where
-  asks : {g : k.Point} {o : List Reply → Outcome} (q : Request) → o [] ≡ Wants q → k.Asks g q
+  asks : {g : k.Point} {o : List Reply → Outcome} (q : Request) {env : Environment} → o [] ≡ Wants q env → k.Asks g q
       → ((r : Reply) → k.IsReply g q r → Obeys k P (k.after q r g) (λ rs. o (r ∷ rs))) → Obeys k P g o
   ends : {g : k.Point} {o : List Reply → Outcome} (e : Outcome) → ((rs : List Reply) → o rs ≡ refilled rs e) → P e g → Obeys k P g o
 
@@ -43,9 +43,9 @@ module _ {shape : Shape} (k : Keeper shape) where
   keeps_so P Q (Obeys.ends e is end) so = Obeys.ends e is (so e _ end)
 
   -- what is made of an outcome goes on from its end, if it makes nothing of a request
-  pub keeps_on : (P Q : Outcome → k.Point → Type 0) (f : Outcome → Outcome) → ((q : Request) → f (Wants q) ≡ Wants q) → {g : k.Point} {o : List Reply → Outcome} → Obeys k P g o
+  pub keeps_on : (P Q : Outcome → k.Point → Type 0) (f : Outcome → Outcome) → ((q : Request) (env : Environment) → f (Wants q env) ≡ Wants q env) → {g : k.Point} {o : List Reply → Outcome} → Obeys k P g o
       → ((e : Outcome) (h : k.Point) → P e h → Obeys k Q h (λ rs. f (refilled rs e))) → Obeys k Q g (λ rs. f (o rs))
-  keeps_on P Q f leaves (Obeys.asks q is may go) then = Obeys.asks q (ap f is ∙ leaves q) may (λ r comes. keeps_on P Q f leaves (go r comes) then)
+  keeps_on P Q f leaves (Obeys.asks q {env = env} is may go) then = Obeys.asks q (ap f is ∙ leaves q env) may (λ r comes. keeps_on P Q f leaves (go r comes) then)
   keeps_on P Q f leaves (Obeys.ends e is end) then = subst (Obeys k Q _) (one_function _ _ (λ rs. ap f (sym (is rs)))) (then e _ end)
 
 -- ---- what is known
@@ -130,7 +130,7 @@ module _ {shape : Shape} (k : Keeper shape) where
   fine_from g h same (Leaves v u) i fine = record { same = k.same_then g h i same fine.same; value = fine.value; environment = fine.environment }
   fine_from g h same (Fails fault u) i fine = k.same_then g h i same fine
   fine_from g h same Stopped i fine = tt
-  fine_from g h same (Wants q) i fine = absurd fine
+  fine_from g h same (Wants q env) i fine = absurd fine
   fine_from g h same (Hears r u) i fine = absurd fine
   fine_from g h same Over i fine = absurd fine
 
@@ -173,14 +173,32 @@ module _ {shape : Shape} (k : Keeper shape) where
   on_end g h f more then (Leaves v u) i fine = Obeys.ends (Leaves v u) (λ rs. refl) fine
   on_end g h f more then (Fails fault u) i fine = Obeys.ends (Fails fault u) (λ rs. refl) fine
   on_end g h f more then Stopped i fine = Obeys.ends Stopped (λ rs. refl) tt
-  on_end g h f more then (Wants q) i fine = absurd fine
+  on_end g h f more then (Wants q env) i fine = absurd fine
   on_end g h f more then (Hears r u) i fine = absurd fine
   on_end g h f more then Over i fine = absurd fine
 
   -- a part, and then what is made of its value
   pub part_value : (g : k.Point) (f : Value → Meaning) (m : Meaning) → Part k g m → ((v : Value) (h : k.Point) → More k g h → KnowsValue k.HasText (k.Knows h) v → Part k h (f v))
       → Part k g (λ at. on_value f (m at))
-  part_value g f m part then = record { from = λ h u more environment. keeps_on k (Fine k h) (Fine k h) (on_value f) (λ q. refl) (part.from h u more environment) (on_end g h f more then) }
+  part_value g f m part then = record { from = λ h u more environment. keeps_on k (Fine k h) (Fine k h) (on_value f) (λ q env. refl) (part.from h u more environment) (on_end g h f more then) }
+
+  -- with what was held before a part held again, its end is as fine
+  restored_end : (h : k.Point) (outer : List Value) (e : Outcome) (i : k.Point) → Fine k h e i → Obeys k (Fine k h) i (λ rs. restored outer (refilled rs e))
+  restored_end h outer (Gives v u) i fine = Obeys.ends (Gives v (with_outer outer u)) (λ rs. refl) (record { same = fine.same; value = fine.value; environment = record { this = fine.environment.this; vars = fine.environment.vars } })
+  restored_end h outer (Leaves v u) i fine = Obeys.ends (Leaves v (with_outer outer u)) (λ rs. refl) (record { same = fine.same; value = fine.value; environment = record { this = fine.environment.this; vars = fine.environment.vars } })
+  restored_end h outer (Fails fault u) i fine = Obeys.ends (Fails fault (with_outer outer u)) (λ rs. refl) fine
+  restored_end h outer Stopped i fine = Obeys.ends Stopped (λ rs. refl) tt
+  restored_end h outer (Wants q env) i fine = absurd fine
+  restored_end h outer (Hears r u) i fine = absurd fine
+  restored_end h outer Over i fine = absurd fine
+
+  -- a part, while these values are held
+  pub part_holding : (g : k.Point) (vs : List Value) (m : Meaning) → Part k g m → Part k g (holding vs m)
+  part_holding g [] m part = part
+  part_holding g (v ∷ vs) m part = record {
+    from = λ h u more environment. keeps_on k (Fine k h) (Fine k h) (restored u.environment.outer) (λ q env. refl)
+        (part.from h (with_outer (v ∷ vs ++ u.environment.outer) u) more (record { this = environment.this; vars = environment.vars })) (restored_end h u.environment.outer);
+  }
 
   -- one or the other
   pub part_choose : (g : k.Point) (b : Bool) (m other : Meaning) → (b ≡ true → Part k g m) → Part k g other → Part k g (choose b m other)

@@ -1,5 +1,5 @@
 -- Requests, moves, locks and waits keep to what may be asked.
-use Rattle.std.proofs.Common.{◌≡◌, refl, ℕ, ◌+◌, Bool, true, false, []}
+use Rattle.std.proofs.Common.{◌≡◌, refl, ℕ, ◌+◌, Bool, true, false, List, []}
 use Rattle.std.specs.Prelude.{nat_lt, Result, Ok, Err}
 use Rattle.dso_base.specs.declared.request.Fault.{Fault}
 use Rattle.dso_base.specs.declared.request.Fault.TheVariants.{BadValue, NullPointer}
@@ -13,7 +13,7 @@ use Rattle.dso_base.specs.declared.value.Value.{Value}
 use Rattle.dso_base.specs.declared.value.Value.TheVariants as value
 use Rattle.dso_machine.specs.Expressions.{make}
 use Rattle.dso_machine.specs.Limits.{most_moves}
-use Rattle.dso_machine.specs.Outcome.{Meaning, on_reply, result_of, ask, unwanted, done, made, got, seen, tell, get, look, on_object, moved, paced, moving}
+use Rattle.dso_machine.specs.Outcome.{Meaning, on_reply, result_of, asking, unwanted, done, made, got, seen, telling, tell, getting, get, looking, look, on_object, moved, paced, moving_with, moving}
 use Rattle.dso_machine.proofs.protocol.Protocol.{KnowsValue, is_plain, Keeper}
 use Rattle.dso_machine.proofs.protocol.Parts.{Obeys, More, Part, environment_later, more_then, part_later, part_at, part_gives, part_fails, part_value}
 
@@ -72,9 +72,9 @@ module _ {shape : Shape} (k : Keeper shape) where
   more_after g q r awake = record { awake = awake; knows = k.still_known g q r; looked = k.still_looked g q r }
 
   -- a plain request that may be asked, and what is made of its reply
-  part_plain : (g : k.Point) (q : Request) (f : Reply → Meaning) → is_plain q ≡ true → ((h : k.Point) → More k g h → k.Asks h q)
-      → ((h : k.Point) (r : Reply) → More k g h → More k g (k.after q r h) → k.IsReply h q r → Part k (k.after q r h) (f r)) → Part k g (λ at. on_reply f (ask q at))
-  part_plain g q f plain may then = record {
+  part_plain : (g : k.Point) (vs : List Value) (q : Request) (f : Reply → Meaning) → is_plain q ≡ true → ((h : k.Point) → More k g h → k.Asks h q)
+      → ((h : k.Point) (r : Reply) → More k g h → More k g (k.after q r h) → k.IsReply h q r → Part k (k.after q r h) (f r)) → Part k g (λ at. on_reply f (asking vs q at))
+  part_plain g vs q f plain may then = record {
     from = λ h u more environment. Obeys.asks q refl (may h more) (λ r comes.
         let same : k.Same h (k.after q r h) = k.plain_same h q r more.awake plain comes in
         let awake : k.Awake (k.after q r h) = k.same_awake h (k.after q r h) same more.awake in
@@ -83,22 +83,32 @@ module _ {shape : Shape} (k : Keeper shape) where
   }
 
   -- a plain request that is answered Done
+  pub part_telling : (g : k.Point) (vs : List Value) (q : Request) → is_plain q ≡ true → ((h : k.Point) → More k g h → k.Asks h q) → Part k g (telling vs q)
+  part_telling g vs q plain may = part_plain g vs q done plain may (λ h r more later comes. part_done (k.after q r h) r)
+
   pub part_tell : (g : k.Point) (q : Request) → is_plain q ≡ true → ((h : k.Point) → More k g h → k.Asks h q) → Part k g (tell q)
-  part_tell g q plain may = part_plain g q done plain may (λ h r more later comes. part_done (k.after q r h) r)
+  part_tell g q plain may = part_telling g [] q plain may
 
   -- a field or an element is read,
+  pub part_getting : (g : k.Point) (vs : List Value) (object place : ℕ) → ((h : k.Point) → More k g h → k.Asks h (request.Get object place)) → Part k g (getting vs object place)
+  part_getting g vs object place may = part_plain g vs (request.Get object place) got refl may (λ h r more later comes. part_got h (request.Get object place) r comes)
+
   pub part_get : (g : k.Point) (object place : ℕ) → ((h : k.Point) → More k g h → k.Asks h (request.Get object place)) → Part k g (get object place)
-  part_get g object place may = part_plain g (request.Get object place) got refl may (λ h r more later comes. part_got h (request.Get object place) r comes)
+  part_get g object place may = part_getting g [] object place may
 
   -- an object is made,
   pub part_make : (g : k.Point) (class : ClassId) (size : ℕ) → ((h : k.Point) → More k g h → k.Asks h (request.New class size)) → Part k g (make class size)
-  part_make g class size may = part_plain g (request.New class size) made refl may (λ h r more later comes. part_made h (request.New class size) r comes)
+  part_make g class size may = part_plain g [] (request.New class size) made refl may (λ h r more later comes. part_made h (request.New class size) r comes)
 
   -- an object that is known is looked at, and is then of the class and size that were seen
+  pub part_looking : (g : k.Point) (vs : List Value) (f : ClassId → ℕ → Meaning) (object : ℕ) → k.Knows g object
+      → ((h : k.Point) → More k g h → (class : ClassId) (size : ℕ) → k.Looked h object class size → Part k h (f class size)) → Part k g (looking vs f object)
+  part_looking g vs f object known part = part_plain g vs (request.Look object) (seen f) refl (λ h more. k.look_asked h object more.awake (more.knows object known))
+      (λ h r more later comes. part_seen h f object r comes (part (k.after (request.Look object) r h) later))
+
   pub part_look : (g : k.Point) (f : ClassId → ℕ → Meaning) (object : ℕ) → k.Knows g object
       → ((h : k.Point) → More k g h → (class : ClassId) (size : ℕ) → k.Looked h object class size → Part k h (f class size)) → Part k g (look f object)
-  part_look g f object known part = part_plain g (request.Look object) (seen f) refl (λ h more. k.look_asked h object more.awake (more.knows object known))
-      (λ h r more later comes. part_seen h f object r comes (part (k.after (request.Look object) r h) later))
+  part_look g f object known part = part_looking g [] f object known part
 
   -- the value is to be an object
   pub part_object : (g : k.Point) (f : ℕ → Meaning) (v : Value) → KnowsValue k.HasText (k.Knows g) v → ((object : ℕ) → k.Knows g object → Part k g (f object)) → Part k g (on_object f v)
@@ -113,13 +123,16 @@ module _ {shape : Shape} (k : Keeper shape) where
   part_moved g m part = record { from = λ h u more environment. part.from h (record { environment = u.environment; moves = u.moves + 1; replies = u.replies }) more environment }
 
   -- a move, after a pause where one is due
-  part_paced : (g : k.Point) (b : Bool) (m : Meaning) → Part k g m → Part k g (paced b m)
-  part_paced g true m part = record { from = λ h u more environment. (part_moved g m part).from h u more environment }
-  part_paced g false m part = record {
-    from = λ h u more environment. (part_value k g (λ v. moved m) (tell request.Pause) (part_tell g request.Pause refl (λ h more. k.pause_asked h more.awake))
+  part_paced : (g : k.Point) (vs : List Value) (b : Bool) (m : Meaning) → Part k g m → Part k g (paced vs b m)
+  part_paced g vs true m part = record { from = λ h u more environment. (part_moved g m part).from h u more environment }
+  part_paced g vs false m part = record {
+    from = λ h u more environment. (part_value k g (λ v. moved m) (telling vs request.Pause) (part_telling g vs request.Pause refl (λ h more. k.pause_asked h more.awake))
         (λ v h more known. part_moved h m (part_later k g h m more part))).from h u more environment;
   }
 
   -- so by how many moves were made
+  pub part_moving_with : (g : k.Point) (vs : List Value) (m : Meaning) → Part k g m → Part k g (moving_with vs m)
+  part_moving_with g vs m part = record { from = λ h u more environment. (part_paced g vs (nat_lt u.moves most_moves) m part).from h u more environment }
+
   pub part_moving : (g : k.Point) (m : Meaning) → Part k g m → Part k g (moving m)
-  part_moving g m part = record { from = λ h u more environment. (part_paced g (nat_lt u.moves most_moves) m part).from h u more environment }
+  part_moving g m part = part_moving_with g [] m part

@@ -1,5 +1,5 @@
 -- Sound statements keep to what may be asked.
-use Rattle.std.proofs.Common.{◌≡◌, refl, ℕ, zero, suc, ◌<◌, ◌≤◌, ◌≢◌, arith, Bool, true, false, not, eqb, List, map, Option, None, Some, sym, ap, ◌∙◌}
+use Rattle.std.proofs.Common.{◌≡◌, refl, ℕ, zero, suc, ◌<◌, ◌≤◌, ◌≢◌, arith, Bool, true, false, not, eqb, List, [], ◌∷◌, map, Option, None, Some, sym, ap, ◌∙◌}
 use Rattle.std.proofs.lemmas.Bool.{eq-eqb}
 use Rattle.std.specs.Prelude.{ℤ, pos}
 use Rattle.dso_base.specs.declared.lock.Grade.{Grade}
@@ -22,15 +22,15 @@ use Rattle.dso_machine.specs.declared.tree.FieldRef.{FieldRef}
 use Rattle.dso_machine.specs.declared.tree.Stmt.{Stmt}
 use Rattle.dso_machine.specs.Calls.{lookup, MethodMeanings}
 use Rattle.dso_machine.specs.Expressions.{within, expr}
-use Rattle.dso_machine.specs.Outcome.{Gives, Leaves, Fails, Meaning, on_value, on_next, tell, get, put, look, on_object, moving, under}
+use Rattle.dso_machine.specs.Outcome.{Gives, Leaves, Fails, Meaning, on_value, on_next, on_next_beside, holding, tell, getting, put, looking, on_object, moving, under}
 use Rattle.dso_machine.specs.Sound.{Scope, ArePlaces, SoundExpr, SoundStmt, SoundBlock}
 use Rattle.dso_machine.specs.Statements.{assign, put_fitting, put_field_at, put_field_in, put_field, put_element_at, put_element_in, put_element, bind_null, bind, put_root, sync, wait, on_count, timed_wait, seq, branch, turn, spun, stmt}
 use Rattle.dso_machine.specs.Values.{takes}
 use Rattle.dso_machine.proofs.forms.Equations.{stmt_Assign, stmt_PutField, stmt_PutElem, stmt_PutRoot, stmt_Eval, stmt_If, stmt_While, stmt_Sync, stmt_Wait, stmt_TimedWait, stmt_Notify, stmt_NotifyAll, stmt_Print, stmt_Return}
 use Rattle.dso_machine.proofs.protocol.Protocol.{KnowsValue, HasPlace, Keeper}
-use Rattle.dso_machine.proofs.protocol.Parts.{Obeys, More, Part, value_later, part_later, part_gives, part_leaves, part_fails, part_stopped, part_value, part_choose}
-use Rattle.dso_machine.proofs.protocol.Requests.{part_tell, part_get, part_look, part_object, part_moving}
-use Rattle.dso_machine.proofs.protocol.Locks.{part_under, part_wait}
+use Rattle.dso_machine.proofs.protocol.Parts.{Obeys, More, Part, value_later, part_later, part_gives, part_leaves, part_fails, part_stopped, part_value, part_holding, part_choose}
+use Rattle.dso_machine.proofs.protocol.Requests.{part_tell, part_getting, part_looking, part_object, part_moving}
+use Rattle.dso_machine.proofs.protocol.Locks.{part_under, part_under_with, part_wait}
 use Rattle.dso_machine.proofs.protocol.Calls.{Bodies}
 use Rattle.dso_machine.proofs.protocol.Expressions.{places_there, within_below, known_set, part_as, part_expr}
 
@@ -90,8 +90,8 @@ module _ {shape : Shape} (k : Keeper shape) where
 
   -- or of a value
   part_put_field : (g : k.Point) (f : FieldRef) (x v : Value) → ArePlaces shape f.places → KnowsValue k.HasText (k.Knows g) x → KnowsValue k.HasText (k.Knows g) v → Part k g (put_field shape f x v)
-  part_put_field g f x v places known v_known = part_object k g (λ object. look (put_field_in shape f v object) object) x known
-      (λ object object_known. part_look k g (put_field_in shape f v object) object object_known
+  part_put_field g f x v places known v_known = part_object k g (λ object. looking (v ∷ []) (put_field_in shape f v object) object) x known
+      (λ object object_known. part_looking k g (v ∷ []) (put_field_in shape f v object) object object_known
       (λ h more class size looked. part_put_field_in h f v object class size places (more.knows object object_known) (value_later k g h more.knows v v_known) looked))
 
   -- an element that was found is given a value,
@@ -108,8 +108,8 @@ module _ {shape : Shape} (k : Keeper shape) where
 
   -- or of a value
   part_put_element : (g : k.Point) (x i v : Value) → KnowsValue k.HasText (k.Knows g) x → KnowsValue k.HasText (k.Knows g) v → Part k g (put_element x i v)
-  part_put_element g x (value.Long i) v known v_known = part_object k g (λ object. look (put_element_in i v object) object) x known
-      (λ object object_known. part_look k g (put_element_in i v object) object object_known
+  part_put_element g x (value.Long i) v known v_known = part_object k g (λ object. looking (v ∷ []) (put_element_in i v object) object) x known
+      (λ object object_known. part_looking k g (v ∷ []) (put_element_in i v object) object object_known
       (λ h more class size looked. part_put_element_in h i v object class size (more.knows object object_known) (value_later k g h more.knows v v_known) looked))
   part_put_element g x i v known v_known = part_object k g (λ object. Fails BadValue) x known (λ object object_known. part_fails k g BadValue)
 
@@ -120,8 +120,8 @@ module _ {shape : Shape} (k : Keeper shape) where
 
   -- under its lock,
   part_bind : (g : k.Point) (r : ℕ) (v : Value) → r < shape.roots → shape.roots ≤ shape.names → Fits kind.Ref v → KnowsValue k.HasText (k.Knows g) v → Part k g (bind r v)
-  part_bind g r v there locks fits known = part_under k g (Name r) grade.Write (λ at. on_value (bind_null r v) (get 0 r at)) tt (omega (arith, there, locks))
-      (part_value k g (bind_null r v) (get 0 r) (part_get k g 0 r (λ h more. k.get_root_asked h r more.awake there)) (λ bound h more bound_known. part_bind_null h r v bound there fits (value_later k g h more.knows v known)))
+  part_bind g r v there locks fits known = part_under_with k g (v ∷ []) (Name r) grade.Write (λ at. on_value (bind_null r v) (getting (v ∷ []) 0 r at)) tt (omega (arith, there, locks))
+      (part_value k g (bind_null r v) (getting (v ∷ []) 0 r) (part_getting k g (v ∷ []) 0 r (λ h more. k.get_root_asked h r more.awake there)) (λ bound h more bound_known. part_bind_null h r v bound there fits (value_later k g h more.knows v known)))
 
   -- if it takes the value
   part_put_root : (g : k.Point) (r : ℕ) (v : Value) → r < shape.roots → shape.roots ≤ shape.names → KnowsValue k.HasText (k.Knows g) v → Part k g (put_root r v)
@@ -173,6 +173,10 @@ module _ (c : Code) (k : Keeper c.shape) (ways : MethodMeanings) (methods : Bodi
   part_of : {a : Expr} → SoundExpr scope a → (f : Value → Meaning) (g : k.Point) → ((v : Value) (h : k.Point) → More k g h → KnowsValue k.HasText (k.Knows h) v → Part k h (f v)) → Part k g (λ at. on_value f (expr c ways a at))
   part_of {a} sound f g then = part_value k g f (expr c ways a) (part_expr c k ways methods count in_method sound g) then
 
+  -- the same, while these values are held
+  part_beside : {a : Expr} → SoundExpr scope a → (vs : List Value) (f : Value → Meaning) (g : k.Point) → ((v : Value) (h : k.Point) → More k g h → KnowsValue k.HasText (k.Knows h) v → Part k h (f v)) → Part k g (λ at. on_value f (holding vs (expr c ways a) at))
+  part_beside {a} sound vs f g then = part_value k g f (holding vs (expr c ways a)) (part_holding k g vs (expr c ways a) (part_expr c k ways methods count in_method sound g)) then
+
   -- a part that asks for the monitor of an object keeps to what may be asked
   part_of_monitor : {a : Expr} → SoundExpr scope a → (f : ℕ → Meaning) → ((g : k.Point) (object : ℕ) → k.Knows g object → Part k g (f object)) → (g : k.Point) → Part k g (λ at. on_value (on_object f) (expr c ways a at))
   part_of_monitor sound f then g = part_of sound (on_object f) g (λ v h more known. part_object k h f v known (λ object object_known. then h object object_known))
@@ -183,11 +187,11 @@ module _ (c : Code) (k : Keeper c.shape) (ways : MethodMeanings) (methods : Bodi
     part_stmt (SoundStmt.assign {i = i} {a = a} there one) g = part_as k g _ _ (stmt_Assign c ways n i a) (part_of one (assign i) g (λ v h more known. part_assign k h i v known))
     part_stmt (SoundStmt.put_field {a = a} {b = b} {f = f} one places other) g = part_as k g _ _ (stmt_PutField c ways n a f b)
         (part_of one (on_next (put_field c.shape f) (expr c ways b)) g
-        (λ x h more known. part_of other (put_field c.shape f x) h (λ v i further v_known. part_put_field k i f x v places (value_later k h i further.knows x known) v_known)))
+        (λ x h more known. part_beside other (x ∷ []) (put_field c.shape f x) h (λ v i further v_known. part_put_field k i f x v places (value_later k h i further.knows x known) v_known)))
     part_stmt (SoundStmt.put_element {a = a} {b = b} {c = d} one index other) g = part_as k g _ _ (stmt_PutElem c ways n a b d)
-        (part_of one (on_next (λ x. on_next (put_element x) (expr c ways d)) (expr c ways b)) g
-        (λ x h more known. part_of index (on_next (put_element x) (expr c ways d)) h
-        (λ at i further at_known. part_of other (put_element x at) i
+        (part_of one (on_next (λ x. on_next_beside (x ∷ []) (put_element x) (expr c ways d)) (expr c ways b)) g
+        (λ x h more known. part_beside index (x ∷ []) (on_next_beside (x ∷ []) (put_element x) (expr c ways d)) h
+        (λ at i further at_known. part_beside other (x ∷ at ∷ []) (put_element x at) i
         (λ v j last v_known. part_put_element k j x at v (value_later k i j last.knows x (value_later k h i further.knows x known)) v_known))))
     part_stmt (SoundStmt.put_root {r = r} {a = a} there one) g = part_as k g _ _ (stmt_PutRoot c ways n r a) (part_of one (put_root r) g (λ v h more known. part_put_root k h r v there methods.roots known))
     part_stmt (SoundStmt.evaluate {a = a} one) g = part_as k g _ _ (stmt_Eval c ways n a) (part_expr c k ways methods count in_method one g)
@@ -200,7 +204,7 @@ module _ (c : Code) (k : Keeper c.shape) (ways : MethodMeanings) (methods : Bodi
         (part_of one (sync grade (seq (map (stmt c ways n) all))) g (λ x h more known. part_sync k h grade _ x known (part_block some h)))
     part_stmt (SoundStmt.wait {a = a} one) g = part_as k g _ _ (stmt_Wait c ways n a) (part_of_monitor one (λ object. wait 0 (Mon object)) (part_wait k 0) g)
     part_stmt (SoundStmt.timed_wait {a = a} {b = b} one other) g = part_as k g _ _ (stmt_TimedWait c ways n a b)
-        (part_of one (on_next timed_wait (expr c ways b)) g (λ x h more known. part_of other (timed_wait x) h (λ v i further v_known. part_timed_wait k i x v (value_later k h i further.knows x known))))
+        (part_of one (on_next timed_wait (expr c ways b)) g (λ x h more known. part_beside other (x ∷ []) (timed_wait x) h (λ v i further v_known. part_timed_wait k i x v (value_later k h i further.knows x known))))
     part_stmt (SoundStmt.notify {a = a} one) g = part_as k g _ _ (stmt_Notify c ways n a) (part_of_monitor one (λ object. tell (request.Notify (Mon object)))
         (λ h object known. part_tell k h (request.Notify (Mon object)) refl (λ i more. k.notify_asked i object more.awake (more.knows object known))) g)
     part_stmt (SoundStmt.notify_all {a = a} one) g = part_as k g _ _ (stmt_NotifyAll c ways n a) (part_of_monitor one (λ object. tell (request.NotifyAll (Mon object)))

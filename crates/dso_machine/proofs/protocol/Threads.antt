@@ -16,7 +16,7 @@ use Rattle.dso_machine.specs.declared.code.Code.{Code}
 use Rattle.dso_machine.specs.declared.code.Method.{Method}
 use Rattle.dso_machine.specs.declared.code.ThreadBody.{ThreadBody}
 use Rattle.dso_machine.specs.Next.{finish, opening, whole, enough_for, request_of, replies_in, body_of, next_of, next_request}
-use Rattle.dso_machine.specs.Outcome.{Outcome, Wants, Gives, Leaves, Fails, Hears, Over, Stopped}
+use Rattle.dso_machine.specs.Outcome.{Environment, Outcome, Wants, Gives, Leaves, Fails, Hears, Over, Stopped}
 use Rattle.dso_machine.specs.Sound.{IsMethodLock, IsSoundMethod, IsSoundBody, IsSound}
 use Rattle.dso_machine.specs.Statements.{block, statements_of, methods}
 use Rattle.dso_machine.proofs.protocol.Protocol.{Keeper, through, FollowsAt, KeepsTo}
@@ -76,13 +76,13 @@ module _ (c : Code) (k : Keeper c.shape) (sound : IsSound c) where
   ends_thread (Leaves v u) h fine = Obeys.asks (request.End None) refl (k.end_asked h None fine.same) (λ r comes. Obeys.ends Over (λ rs. refl) tt)
   ends_thread (Fails fault u) h fine = Obeys.asks (request.End (Some fault)) refl (k.end_asked h (Some fault) fine) (λ r comes. Obeys.ends Over (λ rs. refl) tt)
   ends_thread Stopped h fine = Obeys.ends Stopped (λ rs. refl) tt
-  ends_thread (Wants q) h fine = absurd fine
+  ends_thread (Wants q env) h fine = absurd fine
   ends_thread (Hears r u) h fine = absurd fine
   ends_thread Over h fine = absurd fine
 
   -- a thread with a sound body keeps to what may be asked
   keeps_whole : (body : ThreadBody) → IsSoundBody c body → (n : ℕ) → Obeys k Ended k.start (λ rs. whole c body n rs)
-  keeps_whole body fine n = keeps_on k (Fine k k.start) Ended finish (λ q. refl)
+  keeps_whole body fine n = keeps_on k (Fine k k.start) Ended finish (λ q env. refl)
       ((part_block c k (methods c n) (part_methods n) n body.vars false fine.statements k.start).from k.start (opening body.vars [])
       (record { awake = k.start_awake; knows = λ object known. known; looked = λ object class size looked. looked }) (record { this = tt; vars = known_variables k.HasText (k.Knows k.start) body.vars [] tt })) ends_thread
 
@@ -92,14 +92,14 @@ module _ (c : Code) (k : Keeper c.shape) (sound : IsSound c) where
   nothing_wanted : (e : Outcome) (g : k.Point) (q : Request) → Ended e g → request_of (refilled [] e) ≡ Some q → ⊥
   nothing_wanted Over g q end wanted = cc wanted
   nothing_wanted Stopped g q end wanted = cc wanted
-  nothing_wanted (Wants p) g q end wanted = end
+  nothing_wanted (Wants p env) g q end wanted = end
   nothing_wanted (Gives v u) g q end wanted = end
   nothing_wanted (Leaves v u) g q end wanted = end
   nothing_wanted (Fails fault u) g q end wanted = end
   nothing_wanted (Hears r u) g q end wanted = end
 
   -- what is wanted is the request
-  the_request : (o : Outcome) (p q : Request) → o ≡ Wants p → request_of o ≡ Some q → p ≡ q
+  the_request : (o : Outcome) (p q : Request) {env : Environment} → o ≡ Wants p env → request_of o ≡ Some q → p ≡ q
   the_request o p q is wanted =
       let same : Some p ≡ Some q = sym (ap request_of is) ∙ wanted in
       cc same

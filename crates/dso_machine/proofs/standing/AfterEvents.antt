@@ -27,8 +27,9 @@ use Rattle.dso_machine.specs.declared.thread.Thread.{Thread}
 use Rattle.dso_machine.specs.Calls.{variables}
 use Rattle.dso_machine.specs.Limits.{most_moves}
 use Rattle.dso_machine.specs.Next.{body_of, replies_in, whole, enough_for, next_of, next_request, request_of}
-use Rattle.dso_machine.specs.Outcome.{Outcome, Wants, Over}
-use Rattle.dso_machine.specs.Continuation.{Takes, Means, Completes, StandsAt, with_then}
+use Rattle.dso_base.specs.declared.value.Value.{Value}
+use Rattle.dso_machine.specs.Outcome.{Environment, Outcome, Wants, Over, on_value, leave, letting_go, monitor_of}
+use Rattle.dso_machine.specs.Continuation.{Takes, Means, Completes, StandsAt, with_then, outer_of, environment_of, held_at, after_part, used_value, use_values}
 use Rattle.dso_machine.specs.Standing.{ThreadStands, StandsFor, HearsAt, MeansHeard, IsEnded, IsAnswered, Resumes, asked_by, asked_at}
 use Rattle.dso_machine.proofs.steps.Steps.{along, goes_on}
 
@@ -66,30 +67,52 @@ hears code r on core step takes = record {
     means = λ N rs.
         let h : MeansHeard code N r on core rs (whole code body (st.made + N) (past ++ rs)) = st.means N rs in
         let few : core.moves < most_moves = let rested = st.rested in omega arith in
-        goes_on code N h.fuel step.now step.then core rs _ (along code N core.tasks _ _ _ (takes.takes h.fuel.n h.fuel.k core.moves rs few) h.rest);
+        goes_on code N h.fuel step.now step.then core rs _ (along code N core.tasks _ _ _ (takes.takes h.fuel.n h.fuel.k core.moves (outer_of core.tasks) rs few) h.rest);
   };
 }
 
--- a request is what the whole asks
-wants : (code : Code) (N : ℕ) (ts : List Task) (q : Request) (o : Outcome) → Completes code N ts (Wants q) o → o ≡ Wants q
-wants code N [] q o h = h
-wants code N (task.Then t ∷ ts) q o h = wants code N ts q o h.1
-wants code N (task.Back frame ∷ ts) q o h = wants code N ts q o h.1
-wants code N (task.Leave l grade ∷ ts) q o h = wants code N ts q o h.1
+-- a request that is wanted passes what was held
+let_wants : (vs outer : List Value) (q : Request) (env : Environment) → letting_go vs outer (Wants q env) ≡ Wants q env
+let_wants [] outer q env = refl
+let_wants (v ∷ vs) outer q env = refl
+
+let_over : (vs outer : List Value) → letting_go vs outer Over ≡ Over
+let_over [] outer = refl
+let_over (v ∷ vs) outer = refl
+
+-- it passes a task,
+wants_past : (code : Code) (n k : ℕ) (outer : List Value) (t : Task) (q : Request) (env : Environment) → after_part code n k outer t (Wants q env) ≡ Wants q env
+wants_past code n k outer (task.Then t) q env = ap (on_value (used_value code n k t)) (let_wants (use_values t) outer q env)
+wants_past code n k outer (task.Back frame) q env = refl
+wants_past code n k outer (task.Leave l grade) q env = ap (leave l grade) (let_wants (monitor_of l) outer q env)
+wants_past code n k outer (task.Close l) q env = let_wants (monitor_of l) outer q env
+
+over_past : (code : Code) (n k : ℕ) (outer : List Value) (t : Task) → after_part code n k outer t Over ≡ Over
+over_past code n k outer (task.Then t) = ap (on_value (used_value code n k t)) (let_over (use_values t) outer)
+over_past code n k outer (task.Back frame) = refl
+over_past code n k outer (task.Leave l grade) = ap (leave l grade) (let_over (monitor_of l) outer)
+over_past code n k outer (task.Close l) = let_over (monitor_of l) outer
+
+-- and is what the whole asks
+wants : (code : Code) (N : ℕ) (ts : List Task) (q : Request) (env : Environment) (o : Outcome) → Completes code N ts (Wants q env) o → o ≡ Wants q env
+wants code N [] q env o h = h
+wants code N (t ∷ ts) q env o h = wants code N ts q env o (subst (λ x. Completes code N ts x o) (wants_past code h.0.n h.0.k (outer_of ts) t q env) h.1)
 
 overs : (code : Code) (N : ℕ) (ts : List Task) (o : Outcome) → Completes code N ts Over o → o ≡ Over
 overs code N [] o h = h
-overs code N (task.Then t ∷ ts) o h = overs code N ts o h.1
-overs code N (task.Back frame ∷ ts) o h = overs code N ts o h.1
-overs code N (task.Leave l grade ∷ ts) o h = overs code N ts o h.1
+overs code N (t ∷ ts) o h = overs code N ts o (subst (λ x. Completes code N ts x o) (over_past code h.0.n h.0.k (outer_of ts) t) h.1)
+
+-- where a thread that is about to do this stands, by its core
+abbrev pub environment_at : Now → Core → Environment
+environment_at a core = environment_of core.frame (held_at a ++ outer_of core.tasks)
 
 -- what a request that is out comes to
-asks_out : (code : Code) (N : ℕ) (a : Now) (q : Request) (core : Core) (o : Outcome) → asked_by a ≡ Some q → Means code N a core [] o → o ≡ Wants q
-asks_out code N (now.Ask p on) q core o is h = wants code N core.tasks p o h.rest ∙ ap Wants (some_same p q is)
+pub asks_out : (code : Code) (N : ℕ) (a : Now) (q : Request) (core : Core) (o : Outcome) → asked_by a ≡ Some q → Means code N a core [] o → o ≡ Wants q (environment_at a core)
+asks_out code N (now.Ask p on) q core o is h = wants code N core.tasks p (environment_at (now.Ask p on) core) o h.rest ∙ ap (λ x. Wants x (environment_at (now.Ask p on) core)) (some_same p q is)
   where
     some_same : (p q : Request) → Some p ≡ Some q → p ≡ q
     some_same p q e = cc e
-asks_out code N (now.End fault) q core o is h = wants code N core.tasks (request.End fault) o h.rest ∙ ap Wants (some_same (request.End fault) q is)
+asks_out code N (now.End fault) q core o is h = wants code N core.tasks (request.End fault) (environment_at (now.End fault) core) o h.rest ∙ ap (λ x. Wants x (environment_at (now.End fault) core)) (some_same (request.End fault) q is)
   where
     some_same : (p q : Request) → Some p ≡ Some q → p ≡ q
     some_same p q e = cc e

@@ -35,15 +35,15 @@ use Rattle.dso_machine.specs.declared.tree.Stmt.{Stmt}
 use Rattle.dso_machine.specs.Calls.{call_on, call_in}
 use Rattle.dso_machine.specs.Expressions.{field_in, element_of, element_in, expr}
 use Rattle.dso_machine.specs.Next.{finish}
-use Rattle.dso_machine.specs.Outcome.{State, Outcome, Wants, Gives, Leaves, Fails, Hears, Over, Stopped, Meaning, on_value, on_reply, on_next, asked, unwanted, done, made, got, seen, tell, get, moved, moving, settling, entered}
-use Rattle.dso_machine.specs.Continuation.{Completes, standing, ended, block_at, loop_at, move_at, body_at, locked_at, arguments_at, written, used_monitor, used_value, heard, after_part, meant, environment_of}
+use Rattle.dso_machine.specs.Outcome.{State, Outcome, Wants, Gives, Leaves, Fails, Hears, Over, Stopped, Meaning, on_value, on_reply, on_next, on_next_beside, holding, letting_go, monitor_of, asked, unwanted, done, made, got, seen, tell, getting, moved, moving_with, settling, entered}
+use Rattle.dso_machine.specs.Continuation.{Completes, standing, ended, end_values, call_values, move_values, use_values, outer_of, block_at, loop_at, move_at, body_at, locked_at, arguments_at, written, used_monitor, used_value, heard, after_part, meant, environment_of}
 use Rattle.dso_machine.specs.Statements.{put_field, put_field_in, put_element, put_element_in, bind_null, unless_woken, timed_out, ticks, waiting, wait, timed_wait, stmt, block, methods}
 use Rattle.dso_machine.specs.Values.{binary, unary}
 use Rattle.dso_machine.specs.Unwinding.{with_replies}
-use Rattle.dso_machine.proofs.standing.NotOver.{Live, live_from, IsLive, live_tidy, live_value, live_back, live_leave, live_settling, live_ticks, live_waiting, live_unless_woken, live_timed_out}
-use Rattle.dso_machine.proofs.unwinding.Tidy.{IsTidy, tidy_after, tidy_fails, tidy_gives, tidy_leaves}
-use Rattle.dso_machine.proofs.unwinding.Parts.{tidy_array, tidy_assign, tidy_begin, tidy_bind_null, tidy_boolean, tidy_branch, tidy_call, tidy_call_in, tidy_done, tidy_element, tidy_element_in, tidy_field, tidy_field_in, tidy_get, tidy_got, tidy_invoke, tidy_made, tidy_monitor, tidy_moved, tidy_moving, tidy_object, tidy_put_element, tidy_put_element_in, tidy_put_field, tidy_put_field_in, tidy_put_root, tidy_result, tidy_second, tidy_seen, tidy_spun, tidy_sync, tidy_tell, tidy_turn, tidy_timed_wait, tidy_unwanted, tidy_wait}
-use Rattle.dso_machine.proofs.unwinding.Trees.{tidy_args_on, tidy_block, tidy_expr, tidy_methods, tidy_of, tidy_stmt}
+use Rattle.dso_machine.proofs.standing.NotOver.{Live, live_from, IsLive, live_tidy, live_value, live_letting_go, live_back, live_leave, live_settling, live_ticks, live_waiting, live_unless_woken, live_timed_out}
+use Rattle.dso_machine.proofs.unwinding.Tidy.{IsTidy, tidy_after, tidy_holding, tidy_fails, tidy_gives, tidy_leaves}
+use Rattle.dso_machine.proofs.unwinding.Parts.{tidy_array, tidy_assign, tidy_begin, tidy_bind_null, tidy_boolean, tidy_branch, tidy_call, tidy_call_in, tidy_done, tidy_element, tidy_element_in, tidy_field, tidy_field_in, tidy_get, tidy_getting, tidy_got, tidy_invoke, tidy_made, tidy_monitor, tidy_moved, tidy_moving, tidy_moving_with, tidy_object, tidy_put_element, tidy_put_element_in, tidy_put_field, tidy_put_field_in, tidy_put_root, tidy_result, tidy_second, tidy_seen, tidy_spun, tidy_sync, tidy_tell, tidy_turn, tidy_timed_wait, tidy_unwanted, tidy_wait}
+use Rattle.dso_machine.proofs.unwinding.Trees.{tidy_args_on, tidy_beside, tidy_block, tidy_expr, tidy_methods, tidy_of, tidy_stmt}
 
 module _ (code : Code) (n k : ℕ) where
   -- what a move starts
@@ -60,13 +60,13 @@ module _ (code : Code) (n k : ℕ) where
   -- what is done under a lock
   tidy_locked : (a : Locked) → IsTidy (locked_at code n k a)
   tidy_locked (locked.Read r) = tidy_get 0 r
-  tidy_locked (locked.Bind r v) = tidy_after (bind_null r v) (get 0 r) (tidy_get 0 r) (tidy_bind_null r v)
+  tidy_locked (locked.Bind r v) = tidy_after (bind_null r v) (getting (v ∷ []) 0 r) (tidy_getting (v ∷ []) 0 r) (tidy_bind_null r v)
   tidy_locked (locked.Block ss) = tidy_block code (methods code n) (tidy_methods code n) n ss
-  tidy_locked (locked.Monitor call) = tidy_monitor call.synced call.object (body_at code n k call) (tidy_body call)
+  tidy_locked (locked.Monitor call) = tidy_monitor (call_values call) call.synced call.object (body_at code n k call) (tidy_body call)
   tidy_locked (locked.Body call) = tidy_body call
 
   tidy_args : (callees : List (ℕ × ℕ)) (x : Value) (before : List Value) (rest : List Expr) → IsTidy (arguments_at code n k callees x before rest)
-  tidy_args callees x before rest = tidy_args_on code (methods code n) (tidy_methods code n) (call_on code (methods code n) callees x) (tidy_call code (methods code n) (tidy_methods code n) callees x) rest before
+  tidy_args callees x before rest = tidy_args_on code (methods code n) (tidy_methods code n) (call_on code (methods code n) callees x) (tidy_call code (methods code n) (tidy_methods code n) callees x) x rest before
 
   tidy_ended : (e : End) → IsTidy (ended e)
   tidy_ended (end.Gives v) = tidy_gives v
@@ -75,10 +75,10 @@ module _ (code : Code) (n k : ℕ) where
 
   -- what is written
   tidy_written : (t : Writing) (v : Value) → IsTidy (written code n k t v)
-  tidy_written (write.FieldOf f b) v = tidy_of code (methods code n) (tidy_methods code n) b (put_field code.shape f v) (tidy_put_field code.shape f v)
+  tidy_written (write.FieldOf f b) v = tidy_beside code (methods code n) (tidy_methods code n) (v ∷ []) b (put_field code.shape f v) (tidy_put_field code.shape f v)
   tidy_written (write.Field x f) v = tidy_put_field code.shape f x v
-  tidy_written (write.ElementOf b c) v = tidy_of code (methods code n) (tidy_methods code n) b (on_next (put_element v) (expr code (methods code n) c)) (λ i. tidy_of code (methods code n) (tidy_methods code n) c (put_element v i) (tidy_put_element v i))
-  tidy_written (write.ElementAt x c) v = tidy_of code (methods code n) (tidy_methods code n) c (put_element x v) (tidy_put_element x v)
+  tidy_written (write.ElementOf b c) v = tidy_beside code (methods code n) (tidy_methods code n) (v ∷ []) b (on_next_beside (v ∷ []) (put_element v) (expr code (methods code n) c)) (λ i. tidy_beside code (methods code n) (tidy_methods code n) (v ∷ i ∷ []) c (put_element v i) (tidy_put_element v i))
+  tidy_written (write.ElementAt x c) v = tidy_beside code (methods code n) (tidy_methods code n) (x ∷ v ∷ []) c (put_element x v) (tidy_put_element x v)
   tidy_written (write.Element x i) v = tidy_put_element x i v
   tidy_written (write.Root r) v = tidy_put_root r v
 
@@ -86,7 +86,7 @@ module _ (code : Code) (n k : ℕ) where
   tidy_used : (t : Monitor) (v : Value) → IsTidy (used_monitor code n k t v)
   tidy_used (monitor.Sync grade body) v = tidy_sync grade (block_at code n k body) (tidy_block code (methods code n) (tidy_methods code n) n body) v
   tidy_used monitor.Wait v = tidy_object (λ o. wait 0 (Mon o)) (λ o. tidy_wait 0 (Mon o)) v
-  tidy_used (monitor.TimedWait b) v = tidy_of code (methods code n) (tidy_methods code n) b (timed_wait v) (tidy_timed_wait v)
+  tidy_used (monitor.TimedWait b) v = tidy_beside code (methods code n) (tidy_methods code n) (v ∷ []) b (timed_wait v) (tidy_timed_wait v)
   tidy_used (monitor.WaitFor x) v = tidy_timed_wait x v
   tidy_used monitor.Notify v = tidy_object (λ o. tell (request.Notify (Mon o))) (λ o. tidy_tell (request.Notify (Mon o)) refl) v
   tidy_used monitor.NotifyAll v = tidy_object (λ o. tell (request.NotifyAll (Mon o))) (λ o. tidy_tell (request.NotifyAll (Mon o)) refl) v
@@ -94,7 +94,7 @@ module _ (code : Code) (n k : ℕ) where
   -- what is done with a value
   tidy_given : (t : OnValue) (v : Value) → IsTidy (used_value code n k t v)
   tidy_given (then.Field f) v = tidy_field f v
-  tidy_given (then.Array b) v = tidy_of code (methods code n) (tidy_methods code n) b (element_of v) (tidy_element v)
+  tidy_given (then.Array b) v = tidy_beside code (methods code n) (tidy_methods code n) (v ∷ []) b (element_of v) (tidy_element v)
   tidy_given (then.Index x) v = tidy_element x v
   tidy_given (then.Object callees args) v = tidy_args callees v [] args
   tidy_given (then.Argument callees x before rest) v = tidy_args callees x (before ++ v ∷ []) rest
@@ -115,8 +115,8 @@ module _ (code : Code) (n k : ℕ) where
 
   -- a part whose lock was asked for
   live_entered : (l : LockName) (grade : Grade) (m : Meaning) (u : State) → IsTidy m → (r : Reply) → Live (entered l grade m r (with_replies [] u))
-  live_entered l grade m u tidy Done = live_leave l grade (m (with_replies [] u)) (live_from m tidy u)
-  live_entered l grade m u tidy Local = live_from m tidy u
+  live_entered l grade m u tidy Done = live_leave l grade (holding (monitor_of l) m (with_replies [] u)) (live_from (holding (monitor_of l) m) (tidy_holding (monitor_of l) m tidy) u)
+  live_entered l grade m u tidy Local = live_from (holding (monitor_of l) m) (tidy_holding (monitor_of l) m tidy) u
   live_entered l grade m u tidy r = live_from (unwanted r) (tidy_unwanted r) u
 
   -- the lock again after a wait
@@ -135,8 +135,8 @@ module _ (code : Code) (n k : ℕ) where
   live_heard (reply.PutField o f v) r core = live_from (seen (put_field_in code.shape f v o) r) (tidy_seen (put_field_in code.shape f v o) (tidy_put_field_in code.shape f v o) r) (standing core [])
   live_heard (reply.PutElement o i v) r core = live_from (seen (put_element_in i v o) r) (tidy_seen (put_element_in i v o) (tidy_put_element_in i v o) r) (standing core [])
   live_heard (reply.Entered l grade a) r core = live_entered l grade (locked_at code n k a) (standing core []) (tidy_locked a) r
-  live_heard (reply.Left grade e) r core = live_value (λ v. settling grade (ended e)) (done r (standing core [])) (live_from (done r) (tidy_done r) (standing core []))
-      (λ v. live_settling grade (ended e) (live_tidy (ended e) (tidy_ended e)))
+  live_heard (reply.Left grade e) r core = live_value (λ v. settling (end_values e) grade (ended e)) (done r (standing core [])) (live_from (done r) (tidy_done r) (standing core []))
+      (λ v. live_settling (end_values e) grade (ended e) (live_tidy (ended e) (tidy_ended e)))
   live_heard (reply.Settled e) r core = live_from (λ at. on_value (λ v. ended e) (done r at)) (tidy_after (λ v. ended e) (done r) (tidy_done r) (λ v. tidy_ended e)) (standing core [])
   live_heard (reply.Bind root v) r core = live_from (λ at. on_value (bind_null root v) (got r at)) (tidy_after (bind_null root v) (got r) (tidy_got r) (tidy_bind_null root v)) (standing core [])
   live_heard (reply.Waited l left) r core = live_value (λ v. waiting l left) (done r (standing core [])) (live_from (done r) (tidy_done r) (standing core [])) (λ v. live_waiting l left)
@@ -152,24 +152,25 @@ module _ (code : Code) (n k : ℕ) where
   live_now (now.Arguments callees x before rest) core = live_from (arguments_at code n k callees x before rest) (tidy_args callees x before rest) (standing core [])
   live_now (now.Execute s) core = live_from (stmt code (methods code n) n s) (tidy_stmt code (methods code n) (tidy_methods code n) n s) (standing core [])
   live_now (now.Run ss) core = live_from (block code (methods code n) n ss) (tidy_block code (methods code n) (tidy_methods code n) n ss) (standing core [])
-  live_now (now.Pace a) core = live_from (moving (move_at code n k a)) (tidy_moving (move_at code n k a) (tidy_move a)) (standing core [])
+  live_now (now.Pace a) core = live_from (moving_with (move_values a) (move_at code n k a)) (tidy_moving_with (move_values a) (move_at code n k a) (tidy_move a)) (standing core [])
   live_now (now.Have e) core = live_from (ended e) (tidy_ended e) (standing core [])
   live_now (now.Ask q on) core = tt
   live_now (now.End fault) core = tt
 
   -- what is done after a part
-  live_part : (t : Task) (p : Outcome) → Live p → Live (after_part code n k t p)
-  live_part (task.Then t) p live = live_value (used_value code n k t) p live (λ v. live_tidy (used_value code n k t v) (tidy_given t v))
-  live_part (task.Back frame) p live = live_back (environment_of frame) p live
-  live_part (task.Leave l grade) p live = live_leave l grade p live
+  live_part : (outer : List Value) (t : Task) (p : Outcome) → Live p → Live (after_part code n k outer t p)
+  live_part outer (task.Then t) p live = live_value (used_value code n k t) (letting_go (use_values t) outer p) (live_letting_go (use_values t) outer p live) (λ v. live_tidy (used_value code n k t v) (tidy_given t v))
+  live_part outer (task.Back frame) p live = live_back (environment_of frame outer) p live
+  live_part outer (task.Leave l grade) p live = live_leave l grade (letting_go (monitor_of l) outer p) (live_letting_go (monitor_of l) outer p live)
+  live_part outer (task.Close l) p live = live_letting_go (monitor_of l) outer p live
 
 -- the end of a thread's code wants its reply where none is left
-end_wants : (q : Request) (at : State) (rs : List Reply) → rs ≡ [] → on_reply (λ r u. Over) (asked q at rs) ≡ Over → ⊥
+end_wants : (q : Request) (at : State) (rs : List Reply) → rs ≡ [] → on_reply (λ r u. Over) (asked [] q at rs) ≡ Over → ⊥
 end_wants q at [] none over = cc over
 end_wants q at (r ∷ rs) none over = cc none
 
 not_over : (p : Outcome) → Live p → finish p ≡ Over → ⊥
-not_over (Wants q) live over = cc over
+not_over (Wants q env) live over = cc over
 not_over (Gives v at) live over = end_wants (request.End None) at at.replies live over
 not_over (Leaves v at) live over = end_wants (request.End None) at at.replies live over
 not_over (Fails f at) live over = end_wants (request.End (Some f)) at at.replies live over
@@ -180,4 +181,4 @@ not_over Stopped live over = cc over
 -- Nothing that is left is over.
 pub live_rest : (code : Code) (N : ℕ) (ts : List Task) (p o : Outcome) → Live p → Completes code N ts p o → o ≡ Over → ⊥
 live_rest code N [] p o live h over = not_over p live (sym h ∙ over)
-live_rest code N (t ∷ ts) p o live h over = live_rest code N ts (after_part code h.0.n h.0.k t p) o (live_part code h.0.n h.0.k t p live) h.1 over
+live_rest code N (t ∷ ts) p o live h over = live_rest code N ts (after_part code h.0.n h.0.k (outer_of ts) t p) o (live_part code h.0.n h.0.k (outer_of ts) t p live) h.1 over

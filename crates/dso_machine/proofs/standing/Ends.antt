@@ -23,13 +23,13 @@ use Rattle.dso_machine.proofs.moves.Enough.{never_stopped}
 use Rattle.dso_machine.proofs.standing.ContinuationNotOver.{live_now, live_heard, live_rest}
 
 -- the end of a thread's code wants its reply, or is over
-ending : (q : Request) (at : State) (rs : List Reply) → request_of (on_reply (λ r u. Over) (asked q at rs)) ≡ None → on_reply (λ r u. Over) (asked q at rs) ≡ Over
+ending : (q : Request) (at : State) (rs : List Reply) → request_of (on_reply (λ r u. Over) (asked [] q at rs)) ≡ None → on_reply (λ r u. Over) (asked [] q at rs) ≡ Over
 ending q at [] e = absurd (cc e)
 ending q at (r ∷ rs) e = refl
 
 -- all of a thread's code wants something, or is over, or was stopped
 wants_or_ends : (p : Outcome) → request_of (finish p) ≡ None → (finish p ≡ Over) ⊎ (finish p ≡ Stopped)
-wants_or_ends (Wants q) e = absurd (cc e)
+wants_or_ends (Wants q env) e = absurd (cc e)
 wants_or_ends (Gives v at) e = inl (ending (request.End None) at at.replies e)
 wants_or_ends (Leaves v at) e = inl (ending (request.End None) at at.replies e)
 wants_or_ends (Fails fault at) e = inl (ending (request.End (Some fault)) at at.replies e)

@@ -8,7 +8,7 @@ use Rattle.dso_base.specs.declared.request.Reply.TheVariants.{Done, Val}
 use Rattle.dso_base.specs.declared.value.Value.{Value}
 use Rattle.dso_base.specs.declared.value.Value.TheVariants as value
 use Rattle.dso_machine.specs.Calls.{back_in}
-use Rattle.dso_machine.specs.Outcome.{Environment, State, Outcome, Wants, Gives, Leaves, Fails, Hears, Over, Stopped, Meaning, choose, on_value, unwanted, settling, leaving, leave}
+use Rattle.dso_machine.specs.Outcome.{Environment, State, Outcome, Wants, Gives, Leaves, Fails, Hears, Over, Stopped, Meaning, choose, on_value, restored, letting_go, unwanted, settling, leaving, leave}
 use Rattle.dso_machine.specs.Statements.{unless_woken, timed_out, ticks, waiting}
 use Rattle.dso_machine.specs.Unwinding.{with_replies, Hold}
 use Rattle.dso_machine.proofs.protocol.Parts.{refilled}
@@ -17,7 +17,7 @@ use Rattle.dso_machine.proofs.unwinding.Parts.{tidy_unwanted}
 
 -- An outcome that is not over, after which no replies are left.
 abbrev pub Live : Outcome → Type 0
-Live (Wants q) = Unit {0}
+Live (Wants q env) = Unit {0}
 Live (Gives v u) = u.replies ≡ []
 Live (Leaves v u) = u.replies ≡ []
 Live (Fails f u) = u.replies ≡ []
@@ -30,7 +30,7 @@ live_end : (e : Outcome) → IsEnd e → Live (refilled [] e)
 live_end (Gives v u) end = refl
 live_end (Leaves v u) end = refl
 live_end (Fails fault u) end = refl
-live_end (Wants q) end = tt
+live_end (Wants q env) end = tt
 live_end (Hears r u) end = end
 live_end Over end = end
 live_end Stopped end = tt
@@ -68,7 +68,7 @@ value_at f v u (r ∷ rs) none live = absurd (cc none)
 -- and keeps an outcome live
 pub live_value : (f : Value → Meaning) (o : Outcome) → Live o → ((v : Value) → IsLive (f v)) → Live (on_value f o)
 live_value f (Gives v u) h g = value_at f v u u.replies h (g v)
-live_value f (Wants q) h g = tt
+live_value f (Wants q env) h g = tt
 live_value f (Leaves v u) h g = h
 live_value f (Fails x u) h g = h
 live_value f (Hears r u) h g = absurd h
@@ -77,7 +77,7 @@ live_value f Stopped h g = tt
 
 -- the environment of the caller keeps it live
 pub live_back : (caller : Environment) (o : Outcome) → Live o → Live (back_in caller o)
-live_back caller (Wants q) h = tt
+live_back caller (Wants q env) h = tt
 live_back caller (Gives v u) h = h
 live_back caller (Leaves v u) h = h
 live_back caller (Fails f u) h = h
@@ -85,26 +85,40 @@ live_back caller (Hears r u) h = absurd h
 live_back caller Over h = absurd h
 live_back caller Stopped h = tt
 
+-- so does what was held before
+live_restored : (outer : List Value) (o : Outcome) → Live o → Live (restored outer o)
+live_restored outer (Wants q env) h = tt
+live_restored outer (Gives v u) h = h
+live_restored outer (Leaves v u) h = h
+live_restored outer (Fails f u) h = h
+live_restored outer (Hears r u) h = absurd h
+live_restored outer Over h = absurd h
+live_restored outer Stopped h = tt
+
+pub live_letting_go : (vs outer : List Value) (o : Outcome) → Live o → Live (letting_go vs outer o)
+live_letting_go [] outer o h = h
+live_letting_go (v ∷ vs) outer o h = live_restored outer o h
+
 -- where a lock is left without replies, its exit is wanted
-exit_live : (l : LockName) (grade : Grade) (m : Meaning) (u : State) (rs : List Reply) → rs ≡ [] → Live (leaving l grade m (with_replies rs u))
-exit_live l grade m u [] none = tt
-exit_live l grade m u (r ∷ rs) none = absurd (cc none)
+exit_live : (vs : List Value) (l : LockName) (grade : Grade) (m : Meaning) (u : State) (rs : List Reply) → rs ≡ [] → Live (leaving vs l grade m (with_replies rs u))
+exit_live vs l grade m u [] none = tt
+exit_live vs l grade m u (r ∷ rs) none = absurd (cc none)
 
 -- and that keeps an outcome live
 pub live_leave : (l : LockName) (grade : Grade) (o : Outcome) → Live o → Live (leave l grade o)
-live_leave l grade (Wants q) h = tt
-live_leave l grade (Gives v u) h = exit_live l grade (Gives v) u u.replies h
-live_leave l grade (Leaves v u) h = exit_live l grade (Leaves v) u u.replies h
-live_leave l grade (Fails f u) h = exit_live l grade (Fails f) u u.replies h
+live_leave l grade (Wants q env) h = tt
+live_leave l grade (Gives v u) h = exit_live (v ∷ []) l grade (Gives v) u u.replies h
+live_leave l grade (Leaves v u) h = exit_live (v ∷ []) l grade (Leaves v) u u.replies h
+live_leave l grade (Fails f u) h = exit_live [] l grade (Fails f) u u.replies h
 live_leave l grade (Hears r u) h = absurd h
 live_leave l grade Over h = absurd h
 live_leave l grade Stopped h = tt
 
 -- a thread that settles asks for that
-pub live_settling : (grade : Grade) (m : Meaning) → IsLive m → IsLive (settling grade m)
-live_settling grade.Read m live = record { at = λ u. live.at u }
-live_settling grade.Write m live = record { at = λ u. live.at u }
-live_settling grade.Synchronous m live = record { at = λ u. tt }
+pub live_settling : (vs : List Value) (grade : Grade) (m : Meaning) → IsLive m → IsLive (settling vs grade m)
+live_settling vs grade.Read m live = record { at = λ u. live.at u }
+live_settling vs grade.Write m live = record { at = λ u. live.at u }
+live_settling vs grade.Synchronous m live = record { at = λ u. tt }
 
 -- one that waits asks for a tick, its timeout or its lock
 pub live_ticks : (l : LockName) (n : ℕ) → IsLive (ticks l n)

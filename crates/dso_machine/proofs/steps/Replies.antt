@@ -16,7 +16,7 @@ use Rattle.dso_machine.specs.declared.code.Code.{Code}
 use Rattle.dso_machine.specs.declared.continuation.End.{End}
 use Rattle.dso_machine.specs.declared.continuation.OnReply.TheVariants as reply
 use Rattle.dso_machine.specs.Outcome.{State, tell, unwanted, settling, put, Gives}
-use Rattle.dso_machine.specs.Continuation.{heard, ended}
+use Rattle.dso_machine.specs.Continuation.{heard, ended, end_values}
 use Rattle.dso_machine.specs.Statements.{ticking}
 
 module _ (code : Code) (n k : ℕ) (at : State) where
@@ -56,7 +56,7 @@ module _ (code : Code) (n k : ℕ) (at : State) where
   tick_unwanted l left other is = refl
 
   -- a lock that was entered at synchronous write was left, another one, and no such reply
-  pub exit_settles : (g : Grade) (end : End) (r : Reply) → after_exit r g ≡ exit.Settles → heard code n k (reply.Left g end) r at ≡ settling grade.Synchronous (ended end) at
+  pub exit_settles : (g : Grade) (end : End) (r : Reply) → after_exit r g ≡ exit.Settles → heard code n k (reply.Left g end) r at ≡ settling (end_values end) grade.Synchronous (ended end) at
   exit_settles grade.Synchronous end Done is = refl
   exit_settles grade.Write end Done is = cc is
   exit_settles grade.Read end Done is = cc is

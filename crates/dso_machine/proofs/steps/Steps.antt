@@ -1,5 +1,5 @@
 -- Steps that keep what is left.
-use Rattle.std.proofs.Common.{◌≡◌, ℕ, suc, List, [], ◌∷◌, Option, Some, None, refl, sym, ap, ◌∙◌, subst, arith}
+use Rattle.std.proofs.Common.{◌≡◌, ℕ, suc, List, [], ◌∷◌, ◌++◌, Option, Some, None, refl, sym, ap, ◌∙◌, subst, arith}
 use Rattle.std.specs.Prelude.{Result, Ok, Err, IfOk}
 use Rattle.dso_base.specs.declared.no_memory.NoMemory.{NoMemory}
 use Rattle.dso_base.specs.declared.request.Reply.{Reply}
@@ -8,6 +8,7 @@ use Rattle.dso_base.specs.declared.request.Request.TheVariants as request
 use Rattle.dso_base.specs.declared.request.Fault.{Fault}
 use Rattle.dso_base.specs.declared.lock.Grade.{Grade}
 use Rattle.dso_base.specs.declared.lock.LockName.{LockName}
+use Rattle.dso_base.specs.declared.lock.LockName.TheVariants.{Mon, Name}
 use Rattle.dso_base.specs.declared.value.Value.{Value}
 use Rattle.dso_base.specs.declared.value.Value.TheVariants as value
 use Rattle.dso_machine.specs.declared.code.Code.{Code}
@@ -24,8 +25,8 @@ use Rattle.dso_machine.specs.declared.continuation.Task.{Task}
 use Rattle.dso_machine.specs.declared.continuation.Task.TheVariants as task
 use Rattle.dso_machine.specs.declared.tree.Stmt.{Stmt}
 use Rattle.dso_machine.specs.Next.{finish}
-use Rattle.dso_machine.specs.Outcome.{State, Outcome, Over, on_reply, asked, ask, done, settling}
-use Rattle.dso_machine.specs.Continuation.{Opens, Executes, Uses, Keeps, Means, Fuel, Completes, standing, meant, meant_with, after_part, ended, with_then}
+use Rattle.dso_machine.specs.Outcome.{State, Outcome, Over, on_value, on_reply, asked, ask, done, settling, letting_go, with_outer}
+use Rattle.dso_machine.specs.Continuation.{Opens, Executes, Uses, Keeps, Means, Fuel, Completes, standing, meant, meant_with, after_part, ended, with_then, outer_of, use_values, used_value}
 use Rattle.dso_machine.proofs.steps.Requests.{on_asked}
 
 module _ (code : Code) where
@@ -43,7 +44,7 @@ module _ (code : Code) where
   pub opens_keep : (a : Now) (core : Core) (step : Step) → Opens code a core.frame step → Keeps code a core step.now (with_then step.then core)
   opens_keep a core step is = record {
     keeps = λ N rs o h.
-        goes_on N h.fuel step.now step.then core rs o (along N core.tasks o _ _ (is.opens h.fuel.n h.fuel.k core.moves rs) h.rest);
+        goes_on N h.fuel step.now step.then core rs o (along N core.tasks o _ _ (is.opens h.fuel.n h.fuel.k core.moves (outer_of core.tasks) rs) h.rest);
   }
 
   -- a statement is begun
@@ -51,20 +52,12 @@ module _ (code : Code) where
   executes_keep s core step is = record {
     keeps = λ N rs o h.
         let fuel : Fuel N = record { n = h.fuel.n; k = h.fuel.n; n_enough = h.fuel.n_enough; k_enough = h.fuel.n_enough } in
-        goes_on N fuel step.now step.then core rs o (along N core.tasks o _ _ (is.executes h.fuel.n core.moves rs) h.rest);
-  }
-
-  -- a value is used by the task on top
-  pub uses_keep : (t : OnValue) (v : Value) (core : Core) (step : Step) (frame : Frame) → Uses code t v core.frame step frame
-      → Keeps code (now.Have (end.Gives v)) (record core { tasks = task.Then t ∷ core.tasks }) step.now (with_then step.then (record core { frame = frame }))
-  uses_keep t v core step frame is = record {
-    keeps = λ N rs o h.
-        goes_on N h.rest.0 step.now step.then (record core { frame = frame }) rs o (along N core.tasks o _ _ (is.uses h.rest.0.n h.rest.0.k core.moves rs) h.rest.1);
+        goes_on N fuel step.now step.then core rs o (along N core.tasks o _ _ (is.executes h.fuel.n core.moves (outer_of core.tasks) rs) h.rest);
   }
 
   -- the task on top is done
   pub pops : (a b : Now) (t : Task) (core next : Core) → next.tasks ≡ core.tasks
-      → ((n k p q : ℕ) (rs : List Reply) → after_part code n k t (meant code p q a (standing core rs)) ≡ meant code n k b (standing next rs))
+      → ((n k p q : ℕ) (rs : List Reply) → after_part code n k (outer_of core.tasks) t (meant code p q a (standing (record core { tasks = t ∷ core.tasks }) rs)) ≡ meant code n k b (standing next rs))
       → Keeps code a (record core { tasks = t ∷ core.tasks }) b next
   pops a b t core next same e = record {
     keeps = λ N rs o h. record {
@@ -75,11 +68,27 @@ module _ (code : Code) where
   }
 
   -- a return or a fault passes what waits for a value
+  left_go : (vs outer : List Value) (e : End) (at : State) → letting_go vs outer (ended e (with_outer (vs ++ outer) at)) ≡ ended e (with_outer outer at)
+  left_go [] outer e at = refl
+  left_go (v ∷ vs) outer (end.Gives x) at = refl
+  left_go (v ∷ vs) outer (end.Leaves x) at = refl
+  left_go (v ∷ vs) outer (end.Fails fault) at = refl
+
   pub passes_leave : (v : Value) (t : OnValue) (core : Core) → Keeps code (now.Have (end.Leaves v)) (record core { tasks = task.Then t ∷ core.tasks }) (now.Have (end.Leaves v)) core
-  passes_leave v t core = pops _ _ (task.Then t) core core refl (λ n k p q rs. refl)
+  passes_leave v t core = pops _ _ (task.Then t) core core refl (λ n k p q rs. ap (on_value (used_value code n k t)) (left_go (use_values t) (outer_of core.tasks) (end.Leaves v) (standing core rs)))
 
   pub passes_fail : (fault : Fault) (t : OnValue) (core : Core) → Keeps code (now.Have (end.Fails fault)) (record core { tasks = task.Then t ∷ core.tasks }) (now.Have (end.Fails fault)) core
-  passes_fail fault t core = pops _ _ (task.Then t) core core refl (λ n k p q rs. refl)
+  passes_fail fault t core = pops _ _ (task.Then t) core core refl (λ n k p q rs. ap (on_value (used_value code n k t)) (left_go (use_values t) (outer_of core.tasks) (end.Fails fault) (standing core rs)))
+
+  -- a value is used by the task on top
+  pub uses_keep : (t : OnValue) (v : Value) (core : Core) (step : Step) (frame : Frame) → Uses code t v core.frame step frame
+      → Keeps code (now.Have (end.Gives v)) (record core { tasks = task.Then t ∷ core.tasks }) step.now (with_then step.then (record core { frame = frame }))
+  uses_keep t v core step frame is = record {
+    keeps = λ N rs o h.
+        goes_on N h.rest.0 step.now step.then (record core { frame = frame }) rs o (along N core.tasks o _ _
+        (ap (on_value (used_value code h.rest.0.n h.rest.0.k t)) (left_go (use_values t) (outer_of core.tasks) (end.Gives v) (standing core rs))
+        ∙ is.uses h.rest.0.n h.rest.0.k core.moves (outer_of core.tasks) rs) h.rest.1);
+  }
 
   -- a frame ends
   pub back_gives : (v : Value) (frame : Frame) (core : Core)
@@ -91,19 +100,35 @@ module _ (code : Code) where
   back_leaves v frame core = pops _ _ (task.Back frame) core (record core { frame = frame }) refl (λ n k p q rs. refl)
 
   pub back_fails : (fault : Fault) (frame : Frame) (core : Core)
-      → Keeps code (now.Have (end.Fails fault)) (record core { tasks = task.Back frame ∷ core.tasks }) (now.Have (end.Fails fault)) core
-  back_fails fault frame core = pops _ _ (task.Back frame) core core refl (λ n k p q rs. refl)
+      → Keeps code (now.Have (end.Fails fault)) (record core { tasks = task.Back frame ∷ core.tasks }) (now.Have (end.Fails fault)) (record core { frame = frame })
+  back_fails fault frame core = pops _ _ (task.Back frame) core (record core { frame = frame }) refl (λ n k p q rs. refl)
+
+  -- the block of a private object ends
+  closed_after : (n k p q : ℕ) (l : LockName) (e : End) (core : Core) (rs : List Reply)
+      → after_part code n k (outer_of core.tasks) (task.Close l) (meant code p q (now.Have e) (standing (record core { tasks = task.Close l ∷ core.tasks }) rs)) ≡ meant code n k (now.Have e) (standing core rs)
+  closed_after n k p q (Mon o) (end.Gives v) core rs = refl
+  closed_after n k p q (Mon o) (end.Leaves v) core rs = refl
+  closed_after n k p q (Mon o) (end.Fails fault) core rs = refl
+  closed_after n k p q (Name i) e core rs = refl
+
+  pub closes_block : (e : End) (l : LockName) (core : Core)
+      → Keeps code (now.Have e) (record core { tasks = task.Close l ∷ core.tasks }) (now.Have e) core
+  closes_block e l core = pops _ _ (task.Close l) core core refl (λ n k p q rs. closed_after n k p q l e core rs)
 
   -- a lock is left at the end of a part
-  left_after : (n k p q : ℕ) (l : LockName) (grade : Grade) (e : End) (at : State)
-      → after_part code n k (task.Leave l grade) (meant code p q (now.Have e) at) ≡ meant code n k (now.Ask (request.Exit l) (reply.Left grade e)) at
-  left_after n k p q l grade (end.Gives v) at = sym (on_asked (λ x. settling grade (ended (end.Gives v))) done (request.Exit l) at at.replies)
-  left_after n k p q l grade (end.Leaves v) at = sym (on_asked (λ x. settling grade (ended (end.Leaves v))) done (request.Exit l) at at.replies)
-  left_after n k p q l grade (end.Fails fault) at = sym (on_asked (λ x. settling grade (ended (end.Fails fault))) done (request.Exit l) at at.replies)
+  left_after : (n k p q : ℕ) (l : LockName) (grade : Grade) (e : End) (core : Core) (rs : List Reply)
+      → after_part code n k (outer_of core.tasks) (task.Leave l grade) (meant code p q (now.Have e) (standing (record core { tasks = task.Leave l grade ∷ core.tasks }) rs))
+      ≡ meant code n k (now.Ask (request.Exit l) (reply.Left grade e)) (standing core rs)
+  left_after n k p q (Mon o) grade (end.Gives v) core rs = sym (on_asked (λ x. settling (v ∷ []) grade (ended (end.Gives v))) done (v ∷ []) (request.Exit (Mon o)) (standing core rs) rs)
+  left_after n k p q (Mon o) grade (end.Leaves v) core rs = sym (on_asked (λ x. settling (v ∷ []) grade (ended (end.Leaves v))) done (v ∷ []) (request.Exit (Mon o)) (standing core rs) rs)
+  left_after n k p q (Mon o) grade (end.Fails fault) core rs = sym (on_asked (λ x. settling [] grade (ended (end.Fails fault))) done [] (request.Exit (Mon o)) (standing core rs) rs)
+  left_after n k p q (Name i) grade (end.Gives v) core rs = sym (on_asked (λ x. settling (v ∷ []) grade (ended (end.Gives v))) done (v ∷ []) (request.Exit (Name i)) (standing core rs) rs)
+  left_after n k p q (Name i) grade (end.Leaves v) core rs = sym (on_asked (λ x. settling (v ∷ []) grade (ended (end.Leaves v))) done (v ∷ []) (request.Exit (Name i)) (standing core rs) rs)
+  left_after n k p q (Name i) grade (end.Fails fault) core rs = sym (on_asked (λ x. settling [] grade (ended (end.Fails fault))) done [] (request.Exit (Name i)) (standing core rs) rs)
 
   pub leaves_lock : (e : End) (l : LockName) (grade : Grade) (core : Core)
       → Keeps code (now.Have e) (record core { tasks = task.Leave l grade ∷ core.tasks }) (now.Ask (request.Exit l) (reply.Left grade e)) core
-  leaves_lock e l grade core = pops _ _ (task.Leave l grade) core core refl (λ n k p q rs. left_after n k p q l grade e (standing core rs))
+  leaves_lock e l grade core = pops _ _ (task.Leave l grade) core core refl (λ n k p q rs. left_after n k p q l grade e core rs)
 
   -- with no task left
   at_none : (N : ℕ) (ts : List Task) (o p q : Outcome) → ts ≡ [] → finish p ≡ finish q → Completes code N ts p o → Completes code N ts q o
@@ -112,7 +137,7 @@ module _ (code : Code) where
       let there : Completes code N [] q o = at ∙ same in
       subst (λ x. Completes code N x q o) (sym e) there
 
-  finish_ended : (q : Request) (at : State) (rs : List Reply) → on_reply (λ r u. Over) (asked q at rs) ≡ finish (on_reply (λ r u. Over) (asked q at rs))
+  finish_ended : (q : Request) (at : State) (rs : List Reply) → on_reply (λ r u. Over) (asked [] q at rs) ≡ finish (on_reply (λ r u. Over) (asked [] q at rs))
   finish_ended q at [] = refl
   finish_ended q at (r ∷ rs) = refl
 
@@ -147,9 +172,9 @@ module _ (code : Code) where
 
   pub weaken : (N : ℕ) (ts : List Task) (p o : Outcome) → Completes code (suc N) ts p o → Completes code N ts p o
   weaken N [] p o h = h
-  weaken N (t ∷ ts) p o h = (weaker N h.0, weaken N ts (after_part code h.0.n h.0.k t p) o h.1)
+  weaken N (t ∷ ts) p o h = (weaker N h.0, weaken N ts (after_part code h.0.n h.0.k (outer_of ts) t p) o h.1)
 
-pub ruleset steps = (opens_keep, executes_keep, uses_keep, passes_leave, passes_fail, back_gives, back_leaves, back_fails, leaves_lock, ends_gives, ends_leaves, ends_fails)
+pub ruleset steps = (opens_keep, executes_keep, uses_keep, passes_leave, passes_fail, back_gives, back_leaves, back_fails, leaves_lock, closes_block, ends_gives, ends_leaves, ends_fails)
 
 -- a part is begun, and what comes of the step is followed
 pub followed : (code : Code) (a : Now) (core : Core) (step : Step) (result : Result Now NoMemory) (next : Core) → Opens code a core.frame step

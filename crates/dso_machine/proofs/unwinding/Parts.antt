@@ -1,5 +1,5 @@
 -- Tidy parts: requests, moves, locks, calls, fields and elements, what is written.
-use Rattle.std.proofs.Common.{◌≡◌, refl, ℕ, zero, suc, ◌+◌, ◌-◌, Bool, true, false, List, [], Option, None, Some}
+use Rattle.std.proofs.Common.{◌≡◌, refl, ℕ, zero, suc, ◌+◌, ◌-◌, Bool, true, false, List, [], ◌∷◌, Option, None, Some}
 use Rattle.std.specs.Prelude.{ℤ, pos, negsuc, nat_lt, nat_le, slice_get, Result, Ok, Err}
 use Rattle.dso_base.specs.declared.lock.Grade.{Grade}
 use Rattle.dso_base.specs.declared.lock.Grade.TheVariants as grade
@@ -24,14 +24,14 @@ use Rattle.dso_base.specs.Shape.{kind_of}
 use Rattle.dso_machine.specs.declared.code.Code.{Code}
 use Rattle.dso_machine.specs.declared.code.Method.{Method}
 use Rattle.dso_machine.specs.declared.tree.FieldRef.{FieldRef}
-use Rattle.dso_machine.specs.Calls.{lookup, lookup_class, begin, invoke, under_name, under_monitor, run_method, call_method, call_number, call_in, call_on, variables, MethodMeanings}
+use Rattle.dso_machine.specs.Calls.{lookup, lookup_class, callee, begin, invoke, under_name, under_monitor, run_method, call_method, call_number, call_in, call_on, variables, MethodMeanings}
 use Rattle.dso_machine.specs.Expressions.{field_at, field_in, field_of, within, element_at, element_in, element_of, root, make, new_array, a_boolean, second}
 use Rattle.dso_machine.specs.Limits.{most_elements, most_moves}
-use Rattle.dso_machine.specs.Outcome.{State, Gives, Fails, Meaning, choose, on_value, on_reply, result_of, ask, unwanted, done, made, got, seen, tell, get, put, look, on_object, moved, paced, moving, entered, under}
+use Rattle.dso_machine.specs.Outcome.{State, Gives, Fails, Meaning, choose, on_value, on_reply, result_of, asking, unwanted, done, made, got, seen, telling, tell, getting, get, put, looking, look, on_object, moved, paced, moving_with, moving, holding, monitor_of, entered, under, under_with}
 use Rattle.dso_machine.specs.Statements.{assign, put_fitting, put_field_at, put_field_in, put_field, put_element_at, put_element_in, put_element, bind_null, bind, put_root, sync, unless_woken, ticks, ticking, waiting, wait, on_count, timed_wait, branch, turn, spun}
 use Rattle.dso_machine.specs.Unwinding.{with_replies}
 use Rattle.dso_machine.specs.Values.{binary, takes}
-use Rattle.dso_machine.proofs.unwinding.Tidy.{is_simple, Failing, Waits, ticked, Tidy, IsTidy, tidy_gives, tidy_fails, tidy_stopped, tidy_after, tidy_back, tidy_leave}
+use Rattle.dso_machine.proofs.unwinding.Tidy.{is_simple, Failing, Waits, ticked, Tidy, IsTidy, tidy_gives, tidy_fails, tidy_stopped, tidy_after, tidy_holding, tidy_back, tidy_leave}
 
 -- one of two parts
 tidy_choice : (b : Bool) (m k : Meaning) → IsTidy m → IsTidy k → IsTidy (choose b m k)
@@ -54,9 +54,9 @@ at_once : (fault : Fault) (u : State) → Failing fault [] (λ rs. Fails fault (
 at_once fault u = record { context = []; held = refl; at = after_request u; comes = λ rs. refl }
 
 -- a simple request, and what is done with its reply, where a refusal is its fault
-pub tidy_request : (f : Reply → Meaning) (q : Request) → is_simple q ≡ true → ((fault : Fault) (at : State) → f (Refused fault) at ≡ Fails fault at) → ((r : Reply) → IsTidy (f r))
-    → IsTidy (λ at. on_reply f (ask q at))
-tidy_request f q simple refuses then = record {
+pub tidy_request : (vs : List Value) (f : Reply → Meaning) (q : Request) → is_simple q ≡ true → ((fault : Fault) (at : State) → f (Refused fault) at ≡ Fails fault at) → ((r : Reply) → IsTidy (f r))
+    → IsTidy (λ at. on_reply f (asking vs q at))
+tidy_request vs f q simple refuses then = record {
   from = λ u. Tidy.asks q refl simple
       (λ fault. record { context = []; held = refl; at = after_request u; comes = λ rs. refuses fault (with_replies rs (after_request u)) })
       (λ r. (then r).from (after_request u));
@@ -88,20 +88,29 @@ tidy_seen f g (Seen class size) = g class size
 tidy_seen f g r = tidy_unwanted r
 
 -- a simple request that is answered Done
+pub tidy_telling : (vs : List Value) (q : Request) → is_simple q ≡ true → IsTidy (telling vs q)
+tidy_telling vs q simple = tidy_request vs done q simple (λ fault at. refl) tidy_done
+
 pub tidy_tell : (q : Request) → is_simple q ≡ true → IsTidy (tell q)
-tidy_tell q simple = tidy_request done q simple (λ fault at. refl) tidy_done
+tidy_tell q simple = tidy_telling [] q simple
 
 -- a field or an element is read
+pub tidy_getting : (vs : List Value) (object place : ℕ) → IsTidy (getting vs object place)
+tidy_getting vs object place = tidy_request vs got (request.Get object place) refl (λ fault at. refl) tidy_got
+
 pub tidy_get : (object place : ℕ) → IsTidy (get object place)
-tidy_get object place = tidy_request got (request.Get object place) refl (λ fault at. refl) tidy_got
+tidy_get object place = tidy_getting [] object place
 
 -- a new object
 pub tidy_make : (class : ClassId) (size : ℕ) → IsTidy (make class size)
-tidy_make class size = tidy_request made (request.New class size) refl (λ fault at. refl) tidy_made
+tidy_make class size = tidy_request [] made (request.New class size) refl (λ fault at. refl) tidy_made
 
 -- an object is looked at, and what follows
+pub tidy_looking : (vs : List Value) (f : ClassId → ℕ → Meaning) → ((class : ClassId) (size : ℕ) → IsTidy (f class size)) → (object : ℕ) → IsTidy (looking vs f object)
+tidy_looking vs f g object = tidy_request vs (seen f) (request.Look object) refl (λ fault at. refl) (tidy_seen f g)
+
 pub tidy_look : (f : ClassId → ℕ → Meaning) → ((class : ClassId) (size : ℕ) → IsTidy (f class size)) → (object : ℕ) → IsTidy (look f object)
-tidy_look f g object = tidy_request (seen f) (request.Look object) refl (λ fault at. refl) (tidy_seen f g)
+tidy_look f g object = tidy_looking [] f g object
 
 -- what is done with an object
 pub tidy_object : (f : ℕ → Meaning) → ((object : ℕ) → IsTidy (f object)) → (v : Value) → IsTidy (on_object f v)
@@ -116,28 +125,35 @@ pub tidy_moved : (m : Meaning) → IsTidy m → IsTidy (moved m)
 tidy_moved m s = record { from = λ u. s.from (record u { moves = u.moves + 1 }) }
 
 -- a move, after a pause where one is due
-tidy_paced : (few : Bool) (m : Meaning) → IsTidy m → IsTidy (paced few m)
-tidy_paced true m s = record { from = λ u. (tidy_moved m s).from u }
-tidy_paced false m s = record { from = λ u. (tidy_after (λ v. moved m) (tell request.Pause) (tidy_tell request.Pause refl) (λ v. tidy_moved m s)).from u }
+tidy_paced : (vs : List Value) (few : Bool) (m : Meaning) → IsTidy m → IsTidy (paced vs few m)
+tidy_paced vs true m s = record { from = λ u. (tidy_moved m s).from u }
+tidy_paced vs false m s = record { from = λ u. (tidy_after (λ v. moved m) (telling vs request.Pause) (tidy_telling vs request.Pause refl) (λ v. tidy_moved m s)).from u }
 
 -- a part is tidy behind a move
+pub tidy_moving_with : (vs : List Value) (m : Meaning) → IsTidy m → IsTidy (moving_with vs m)
+tidy_moving_with vs m s = record { from = λ u. (tidy_paced vs (nat_lt u.moves most_moves) m s).from u }
+
 pub tidy_moving : (m : Meaning) → IsTidy m → IsTidy (moving m)
-tidy_moving m s = record { from = λ u. (tidy_paced (nat_lt u.moves most_moves) m s).from u }
+tidy_moving m s = tidy_moving_with [] m s
 
 -- ---- locks
 
 -- a part whose lock was not entered
 tidy_outside : (l : LockName) (grade : Grade) (m : Meaning) → IsTidy m → (r : Reply) → (r ≡ Done → ⊥) → IsTidy (entered l grade m r)
 tidy_outside l grade m s Done unlike = absurd (unlike refl)
-tidy_outside l grade m s Local unlike = s
+tidy_outside l grade m s Local unlike = tidy_holding (monitor_of l) m s
 tidy_outside l grade m s r unlike = tidy_unwanted r
 
 -- a part under a lock
-pub tidy_under : (l : LockName) (grade : Grade) (m : Meaning) → IsTidy m → IsTidy (under l grade m)
-tidy_under l grade m s = record {
-  from = λ u. Tidy.enters l grade refl (record { context = []; part = m; at = u; comes = λ rs. refl }) (λ fault. at_once fault u) (tidy_leave l grade (s.from (after_request u)))
+pub tidy_under_with : (vs : List Value) (l : LockName) (grade : Grade) (m : Meaning) → IsTidy m → IsTidy (under_with vs l grade m)
+tidy_under_with vs l grade m s = record {
+  from = λ u. Tidy.enters l grade refl (record { context = []; values = vs; part = m; at = u; comes = λ rs. refl }) (λ fault. at_once fault u)
+      (tidy_leave l grade ((tidy_holding (monitor_of l) m s).from (after_request u)))
       (λ r unlike. (tidy_outside l grade m s r unlike).from (after_request u));
 }
+
+pub tidy_under : (l : LockName) (grade : Grade) (m : Meaning) → IsTidy m → IsTidy (under l grade m)
+tidy_under l grade m s = tidy_under_with [] l grade m s
 
 -- a thread that waits asks for the lock again,
 resumes : (l : LockName) (more : Bool) (u : State) → Tidy (Waits l more) [] (λ rs. tell (request.Resume l) (with_replies rs u))
@@ -179,26 +195,26 @@ TidyMethods w = (m : ℕ) → IsTidy (w m)
 
 -- a method's body in an environment of its own
 pub tidy_begin : (w : MethodMeanings) → TidyMethods w → (m : ℕ) (this : Value) (vars : List Value) → IsTidy (begin w m this vars)
-tidy_begin w s m this vars = record { from = λ u. tidy_back u.environment ((s m).from (record u { environment = record { this = this; vars = vars; depth_left = u.environment.depth_left - 1 } })) }
+tidy_begin w s m this vars = record { from = λ u. tidy_back u.environment ((s m).from (record u { environment = callee this vars u.environment })) }
 
 -- so, as a move
 pub tidy_invoke : (w : MethodMeanings) → TidyMethods w → (m : ℕ) (this : Value) (vars : List Value) → IsTidy (invoke w m this vars)
-tidy_invoke w s m this vars = tidy_moving (begin w m this vars) (tidy_begin w s m this vars)
+tidy_invoke w s m this vars = tidy_moving_with (this ∷ vars) (begin w m this vars) (tidy_begin w s m this vars)
 
 -- a part under a method's named lock, if it has one
-tidy_name : (named : Option (ℕ × Grade)) (m : Meaning) → IsTidy m → IsTidy (under_name named m)
-tidy_name None m s = s
-tidy_name (Some lock) m s = tidy_under (Name lock.0) lock.1 m s
+tidy_name : (vs : List Value) (named : Option (ℕ × Grade)) (m : Meaning) → IsTidy m → IsTidy (under_name vs named m)
+tidy_name vs None m s = s
+tidy_name vs (Some lock) m s = tidy_under_with vs (Name lock.0) lock.1 m s
 
 -- a part under the object's monitor, if the method takes it
-pub tidy_monitor : (synced : Option Grade) (object : ℕ) (m : Meaning) → IsTidy m → IsTidy (under_monitor synced object m)
-tidy_monitor None object m s = s
-tidy_monitor (Some grade) object m s = tidy_under (Mon object) grade m s
+pub tidy_monitor : (vs : List Value) (synced : Option Grade) (object : ℕ) (m : Meaning) → IsTidy m → IsTidy (under_monitor vs synced object m)
+tidy_monitor vs None object m s = s
+tidy_monitor vs (Some grade) object m s = tidy_under_with vs (Mon object) grade m s
 
 module _ (c : Code) (w : MethodMeanings) (s : TidyMethods w) where
   -- a method of an object
   tidy_run : (m : ℕ) (method : Method) (object : ℕ) (args : List Value) → IsTidy (run_method w m method object args)
-  tidy_run m method object args = tidy_name method.named _ (tidy_monitor method.synced object _ (tidy_invoke w s m (value.Ref object) (variables method.vars args)))
+  tidy_run m method object args = tidy_name (value.Ref object ∷ variables method.vars args) method.named _ (tidy_monitor (value.Ref object ∷ variables method.vars args) method.synced object _ (tidy_invoke w s m (value.Ref object) (variables method.vars args)))
 
   -- a method that was found
   tidy_method : (m object : ℕ) (args : List Value) (method : Option Method) → IsTidy (call_method w m object args method)
@@ -218,8 +234,8 @@ module _ (c : Code) (w : MethodMeanings) (s : TidyMethods w) where
 
   -- a call with its operands
   pub tidy_call : (callees : List (ℕ × ℕ)) (x : Value) (args : List Value) → IsTidy (call_on c w callees x args)
-  tidy_call callees x args = tidy_object (λ object. look (call_in c w callees args object) object)
-      (λ object. tidy_look (call_in c w callees args object) (tidy_call_in callees args object) object) x
+  tidy_call callees x args = tidy_object (λ object. looking args (call_in c w callees args object) object)
+      (λ object. tidy_looking args (call_in c w callees args object) (tidy_call_in callees args object) object) x
 
 -- ---- fields, elements, new arrays, operators
 
@@ -276,7 +292,7 @@ tidy_second op.And m s v = tidy_fails BadValue
 tidy_second op.Or m s (value.Bool true) = tidy_gives (value.Bool true)
 tidy_second op.Or m s (value.Bool false) = tidy_after a_boolean m s tidy_boolean
 tidy_second op.Or m s v = tidy_fails BadValue
-tidy_second o m s x = tidy_after (λ y. result_of (binary o x y)) m s (λ y. tidy_result (binary o x y))
+tidy_second o m s x = tidy_after (λ y. result_of (binary o x y)) (holding (x ∷ []) m) (tidy_holding (x ∷ []) m s) (λ y. tidy_result (binary o x y))
 
 -- ---- what is written
 
@@ -300,7 +316,7 @@ tidy_put_field_in shape f v object class size = tidy_fails NoSuchField
 
 -- a field of a value
 pub tidy_put_field : (shape : Shape) (f : FieldRef) (x v : Value) → IsTidy (put_field shape f x v)
-tidy_put_field shape f x v = tidy_object (λ object. look (put_field_in shape f v object) object) (λ object. tidy_look (put_field_in shape f v object) (tidy_put_field_in shape f v object) object) x
+tidy_put_field shape f x v = tidy_object (λ object. looking (v ∷ []) (put_field_in shape f v object) object) (λ object. tidy_looking (v ∷ []) (put_field_in shape f v object) (tidy_put_field_in shape f v object) object) x
 
 -- the element that was found
 tidy_put_element_at : (kind : Kind) (object : ℕ) (v : Value) (place : Option ℕ) → IsTidy (put_element_at kind object v place)
@@ -314,7 +330,7 @@ tidy_put_element_in i v object class size = tidy_fails BadValue
 
 -- an element of a value
 pub tidy_put_element : (x i v : Value) → IsTidy (put_element x i v)
-tidy_put_element x (value.Long i) v = tidy_object (λ object. look (put_element_in i v object) object) (λ object. tidy_look (put_element_in i v object) (tidy_put_element_in i v object) object) x
+tidy_put_element x (value.Long i) v = tidy_object (λ object. looking (v ∷ []) (put_element_in i v object) object) (λ object. tidy_looking (v ∷ []) (put_element_in i v object) (tidy_put_element_in i v object) object) x
 tidy_put_element x i v = tidy_object (λ object. Fails BadValue) (λ object. tidy_fails BadValue) x
 
 -- a root, unless it is bound
@@ -325,7 +341,7 @@ tidy_bind_null r v bound = tidy_gives value.Null
 -- a root, under its lock
 pub tidy_put_root : (r : ℕ) (v : Value) → IsTidy (put_root r v)
 tidy_put_root r v = tidy_choice (takes kind.Ref v) (bind r v) (Fails BadValue)
-    (tidy_under (Name r) grade.Write (λ at. on_value (bind_null r v) (get 0 r at)) (tidy_after (bind_null r v) (get 0 r) (tidy_get 0 r) (tidy_bind_null r v))) (tidy_fails BadValue)
+    (tidy_under_with (v ∷ []) (Name r) grade.Write (λ at. on_value (bind_null r v) (getting (v ∷ []) 0 r at)) (tidy_after (bind_null r v) (getting (v ∷ []) 0 r) (tidy_getting (v ∷ []) 0 r) (tidy_bind_null r v))) (tidy_fails BadValue)
 
 -- ---- monitors and what is run
 

@@ -12,7 +12,7 @@ use Rattle.dso_base.specs.declared.request.Request.TheVariants.{Enter, Exit, Wai
 use Rattle.dso_base.specs.declared.value.Value.TheVariants as value
 use Rattle.dso_base.specs.Following.{IsListed}
 use Rattle.dso_machine.specs.Next.{finish, request_of}
-use Rattle.dso_machine.specs.Outcome.{State, Outcome, Wants, Gives, Leaves, Fails, Hears, Over, Stopped, level_of}
+use Rattle.dso_machine.specs.Outcome.{Environment, State, Outcome, Wants, Gives, Leaves, Fails, Hears, Over, Stopped, level_of}
 use Rattle.dso_machine.specs.Unwinding.{outer, with_replies, Hold, hold_at, locks_of, IsAtFault, IsAtEntry, IsAtGrade, holds_after_reply}
 use Rattle.dso_machine.specs.WaitingThreads.{Waiting, Awake, Asleep, Roused, waiting_after_reply, waited_on, waited_on_by, AsksAsItWaits}
 use Rattle.dso_machine.proofs.protocol.Parts.{refilled}
@@ -64,7 +64,7 @@ pub record Facts (p : Phase) (hs : List Hold) (w : List Reply → Outcome) (q : 
   pub at_its_fault : (fault : Fault) → q ≡ End (Some fault) → IsAtFault fault (locks_of hs) w
 
 -- what is wanted is the request
-pub the_request : (o : Outcome) (p q : Request) → o ≡ Wants p → request_of o ≡ Some q → p ≡ q
+pub the_request : (o : Outcome) (p q : Request) {env : Environment} → o ≡ Wants p env → request_of o ≡ Some q → p ≡ q
 the_request o p q is wanted =
     let same : Some p ≡ Some q = sym (ap request_of is) ∙ wanted in
     cc same
@@ -132,7 +132,7 @@ module _ (hs : List Hold) (w o : List Reply → Outcome) (is : (rs : List Reply)
   at_this_grade l g e = record {
     entry = λ k level same answered.
         let one : l ≡ k = cc same in
-        subst (λ x. IsAtEntry x g w) one (record { context = e.context; part = e.part; at = e.at; comes = λ rs. is rs ∙ ap finish (e.comes rs) });
+        subst (λ x. IsAtEntry x g w) one (record { context = e.context; values = e.values; part = e.part; at = e.at; comes = λ rs. is rs ∙ ap finish (e.comes rs) });
   }
 
   -- what follows an entry
@@ -349,7 +349,7 @@ pub at_body_end : (w : List Reply → Outcome) (e : Outcome) → ((rs : List Rep
 at_body_end w (Gives v u) is end q wanted = subst (Facts Goes [] w) (the_request (w []) (End None) q (is []) wanted) (at_end w None (λ r rs. is (r ∷ rs)) (no_fault w))
 at_body_end w (Leaves v u) is end q wanted = subst (Facts Goes [] w) (the_request (w []) (End None) q (is []) wanted) (at_end w None (λ r rs. is (r ∷ rs)) (no_fault w))
 at_body_end w (Fails fault u) is end q wanted = subst (Facts Goes [] w) (the_request (w []) (End (Some fault)) q (is []) wanted) (at_end w (Some fault) (λ r rs. is (r ∷ rs)) (its_fault w fault u is))
-at_body_end w (Wants p) is end q wanted = absurd end
+at_body_end w (Wants p env) is end q wanted = absurd end
 at_body_end w (Hears r u) is end q wanted = absurd end
 at_body_end w Over is end q wanted = absurd end
 at_body_end w Stopped is end q wanted = absurd end
@@ -376,7 +376,7 @@ facts p hs w (Run.over is) q wanted = absurd (wants_none (w []) q (ap request_of
 -- ---- a thread that waits asks as it waits
 
 -- what is wanted, by what a part wants
-pub wanted_is : (w o : List Reply → Outcome) (q : Request) → ((rs : List Reply) → w rs ≡ finish (o rs)) → o [] ≡ Wants q → Some q ≡ request_of (w [])
+pub wanted_is : (w o : List Reply → Outcome) (q : Request) {env : Environment} → ((rs : List Reply) → w rs ≡ finish (o rs)) → o [] ≡ Wants q env → Some q ≡ request_of (w [])
 wanted_is w o q is wants = sym (ap request_of (is [] ∙ ap finish wants))
 
 -- an end asks as one that is awake
@@ -384,7 +384,7 @@ pub end_awake : (e : Outcome) → IsEnd e → waited_on_by (request_of (finish (
 end_awake (Gives v u) end = refl
 end_awake (Leaves v u) end = refl
 end_awake (Fails fault u) end = refl
-end_awake (Wants q) end = absurd end
+end_awake (Wants q env) end = absurd end
 end_awake (Hears r u) end = absurd end
 end_awake Over end = absurd end
 end_awake Stopped end = absurd end

@@ -13,8 +13,8 @@ use Rattle.dso_base.specs.declared.request.Request.{Request}
 use Rattle.dso_base.specs.declared.request.Request.TheVariants.{Exit, End, Settle}
 use Rattle.dso_base.specs.Following.{IsListed}
 use Rattle.dso_machine.specs.Next.{finish, replies_in, request_of}
-use Rattle.dso_machine.specs.Outcome.{State, Outcome, Wants, Gives, Leaves, Fails, Hears, Over, Stopped, Meaning, on_reply, asked, done, on_value, settling}
-use Rattle.dso_machine.specs.Unwinding.{outer, with_replies, Hold, is_synchronous, hold_at, Layer, UsesValue, ReturnsTo, LeavesLock, in_layer, in_context, holds_around, unwinding}
+use Rattle.dso_machine.specs.Outcome.{State, Outcome, Wants, Gives, Leaves, Fails, Hears, Over, Stopped, Meaning, on_reply, with_outer, asked, done, on_value, settling}
+use Rattle.dso_machine.specs.Unwinding.{outer, with_replies, Hold, is_synchronous, hold_at, Layer, UsesValue, HoldsAgain, ReturnsTo, LeavesLock, in_layer, in_context, holds_around, unwinding}
 use Rattle.dso_machine.proofs.unwinding.Tidy.{Phase, Goes, Settles, left_at, Tidy, wants_within}
 use Rattle.dso_machine.proofs.unwinding.Runs.{Run, Leaving, the_request, wants_none, facts}
 use Rattle.dso_machine.proofs.unwinding.RunsOn.{Follow}
@@ -27,7 +27,7 @@ ComesTo fault context at w = (rs : List Reply) → w rs ≡ finish (in_context c
 
 -- what it comes to behind an exit
 abbrev pub SettlesTo : Fault → Grade → List Layer → State → (List Reply → Outcome) → Type 0
-SettlesTo fault g context at w = (rs : List Reply) → w rs ≡ finish (in_context context (settling g (Fails fault) (with_replies rs at)))
+SettlesTo fault g context at w = (rs : List Reply) → w rs ≡ finish (in_context context (settling [] g (Fails fault) (with_replies rs at)))
 
 -- the innermost lock is left next
 pub leaves_next : (fault : Fault) (l : LockName) (g : Grade) (context : List Layer) (at : State) (w : List Reply → Outcome) → ComesTo fault (LeavesLock l g ∷ context) at w → request_of (w []) ≡ Some (Exit l)
@@ -41,7 +41,8 @@ settles_next fault context at w comes = ap request_of (comes [] ∙ ap finish (w
 pub not_settling : (fault : Fault) (context : List Layer) (at : State) (w : List Reply → Outcome) → ComesTo fault context at w → request_of (w []) ≡ Some Settle → ⊥
 not_settling fault [] at w comes wanted = cc (sym (ap request_of (comes [])) ∙ wanted)
 not_settling fault (UsesValue f ∷ context) at w comes wanted = not_settling fault context at w comes wanted
-not_settling fault (ReturnsTo caller ∷ context) at w comes wanted = not_settling fault context at w comes wanted
+not_settling fault (HoldsAgain outer ∷ context) at w comes wanted = not_settling fault context (with_outer outer at) w comes wanted
+not_settling fault (ReturnsTo caller ∷ context) at w comes wanted = not_settling fault context (record at { environment = caller }) w comes wanted
 not_settling fault (LeavesLock l g ∷ context) at w comes wanted = cc (sym (leaves_next fault l g context at w comes) ∙ wanted)
 
 -- a run that settles
@@ -96,7 +97,8 @@ module _ (fault : Fault) (context : List Layer) (agree : (at : State) (p : Phase
 pub holds_agree : (fault : Fault) (context : List Layer) (at : State) (p : Phase) (hs : List Hold) (w : List Reply → Outcome) → Run p hs w → ComesTo fault context at w → holds_around context ≡ hs
 holds_agree fault [] at p hs w run comes = sym ((facts p hs w run (End (Some fault)) (ap request_of (comes []))).ends (Some fault) refl)
 holds_agree fault (UsesValue f ∷ context) at p hs w run comes = holds_agree fault context at p hs w run comes
-holds_agree fault (ReturnsTo caller ∷ context) at p hs w run comes = holds_agree fault context at p hs w run comes
+holds_agree fault (HoldsAgain outer ∷ context) at p hs w run comes = holds_agree fault context (with_outer outer at) p hs w run comes
+holds_agree fault (ReturnsTo caller ∷ context) at p hs w run comes = holds_agree fault context (record at { environment = caller }) p hs w run comes
 holds_agree fault (LeavesLock l g ∷ context) at p hs w run comes =
     let here : Leaving l hs w = (facts p hs w run (Exit l) (leaves_next fault l g context at w comes)).exits l refl in
     let so : (here.front.synchronous ≡ is_synchronous g) × (holds_around context ≡ outer hs) =
@@ -137,7 +139,8 @@ unwound_settling fault context then grade.Synchronous at w comes (Lost client �
 pub unwound : (fault : Fault) (context : List Layer) (at : State) (w : List Reply → Outcome) → ComesTo fault context at w → (more : List Event) → Follow w more
     → request_of (w (replies_in more)) ≡ slice_get (unwinding fault (holds_around context)) (length more)
 unwound fault (UsesValue f ∷ context) at w comes more follows = unwound fault context at w comes more follows
-unwound fault (ReturnsTo caller ∷ context) at w comes more follows = unwound fault context at w comes more follows
+unwound fault (HoldsAgain outer ∷ context) at w comes more follows = unwound fault context (with_outer outer at) w comes more follows
+unwound fault (ReturnsTo caller ∷ context) at w comes more follows = unwound fault context (record at { environment = caller }) w comes more follows
 unwound fault (LeavesLock l g ∷ context) at w comes [] follows = leaves_next fault l g context at w comes
 unwound fault (LeavesLock l g ∷ context) at w comes (Act t q r woken ∷ more) follows =
     let same : Exit l ≡ q = the_request (w []) (Exit l) q (comes [] ∙ ap finish (wants_within context (Exit l))) follows.0 in
@@ -154,7 +157,7 @@ unwound fault [] at w comes (Lost client ∷ more) follows = absurd follows
 
 -- it wants something, or fails
 abbrev pub IsUnwound : Outcome → Type 0
-IsUnwound (Wants q) = Unit {0}
+IsUnwound (Wants q env) = Unit {0}
 IsUnwound (Fails fault u) = Unit {0}
 IsUnwound o = ⊥
 
@@ -164,24 +167,26 @@ done_unwound m then Done u = then u
 done_unwound m then (Refused fault) u = tt
 done_unwound m then r u = tt
 
-pub told_unwound : (m : Meaning) → ((u : State) → IsUnwound (m u)) → (q : Request) (u : State) (rs : List Reply) → IsUnwound (on_value (λ v. m) (on_reply done (asked q u rs)))
+pub told_unwound : (m : Meaning) → ((u : State) → IsUnwound (m u)) → (q : Request) (u : State) (rs : List Reply) → IsUnwound (on_value (λ v. m) (on_reply done (asked [] q u rs)))
 told_unwound m then q u [] = tt
 told_unwound m then q u (r ∷ rs) = done_unwound m then r (record u { moves = 0; replies = rs })
 
 -- after an exit,
-pub settling_unwound : (fault : Fault) (g : Grade) (u : State) → IsUnwound (settling g (Fails fault) u)
+pub settling_unwound : (fault : Fault) (g : Grade) (u : State) → IsUnwound (settling [] g (Fails fault) u)
 settling_unwound fault grade.Read u = tt
 settling_unwound fault grade.Write u = tt
 settling_unwound fault grade.Synchronous u = told_unwound (Fails fault) (λ u. tt) Settle u u.replies
 
 -- in a layer,
 pub layer_unwound : (layer : Layer) (o : Outcome) → IsUnwound o → IsUnwound (in_layer layer o)
-layer_unwound (UsesValue f) (Wants q) h = tt
+layer_unwound (UsesValue f) (Wants q env) h = tt
 layer_unwound (UsesValue f) (Fails fault u) h = tt
-layer_unwound (ReturnsTo caller) (Wants q) h = tt
+layer_unwound (HoldsAgain outer) (Wants q env) h = tt
+layer_unwound (HoldsAgain outer) (Fails fault u) h = tt
+layer_unwound (ReturnsTo caller) (Wants q env) h = tt
 layer_unwound (ReturnsTo caller) (Fails fault u) h = tt
-layer_unwound (LeavesLock l g) (Wants q) h = tt
-layer_unwound (LeavesLock l g) (Fails fault u) h = told_unwound (settling g (Fails fault)) (settling_unwound fault g) (Exit l) u u.replies
+layer_unwound (LeavesLock l g) (Wants q env) h = tt
+layer_unwound (LeavesLock l g) (Fails fault u) h = told_unwound (settling [] g (Fails fault)) (settling_unwound fault g) (Exit l) u u.replies
 layer_unwound layer (Gives v u) h = absurd h
 layer_unwound layer (Leaves v u) h = absurd h
 layer_unwound layer (Hears r u) h = absurd h
@@ -193,13 +198,13 @@ pub context_unwound : (context : List Layer) (o : Outcome) → IsUnwound o → I
 context_unwound [] o h = h
 context_unwound (layer ∷ context) o h = context_unwound context (in_layer layer o) (layer_unwound layer o h)
 
-pub end_goes : (q : Request) (u : State) (rs : List Reply) → on_reply (λ r at. Over) (asked q u rs) ≡ Stopped → ⊥
+pub end_goes : (q : Request) (u : State) (rs : List Reply) → on_reply (λ r at. Over) (asked [] q u rs) ≡ Stopped → ⊥
 end_goes q u [] e = cc e
 end_goes q u (r ∷ rs) e = cc e
 
 -- what is unwound is not stopped
 pub unwound_goes : (o : Outcome) → IsUnwound o → finish o ≡ Stopped → ⊥
-unwound_goes (Wants q) h e = cc e
+unwound_goes (Wants q env) h e = cc e
 unwound_goes (Fails fault u) h e = end_goes (End (Some fault)) u u.replies e
 unwound_goes (Gives v u) h e = absurd h
 unwound_goes (Leaves v u) h e = absurd h

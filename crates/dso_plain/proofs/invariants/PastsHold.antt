@@ -20,7 +20,8 @@ use Rattle.dso_plain.specs.KeyTests.{is_field, is_view}
 use Rattle.dso_lookup.specs.Maps.{or_old}
 use Rattle.dso_plain.specs.State.{Object, Hold, PlainState, opening, roots_object, is_private_to, is_shared, size_of, IsPrivate, IsShared, HasField, hold_on_guard}
 use Rattle.dso_plain.specs.Possible.{MayButMarks, Answers, AnswersPut}
-use Rattle.dso_plain.specs.After.{change_of, apply, after, read, read_shared, put, published, shared, present, opening_field, opening_value, new_object, made_new, notifies}
+use Rattle.dso_base.specs.Block.{opening_value}
+use Rattle.dso_plain.specs.After.{change_of, apply, after, read, read_shared, put, published, shared, present, opening_field, new_object, made_new, notifies}
 use Rattle.dso_plain.specs.History.{RunsButMarks, end_of, last_state}
 use Rattle.dso_plain.specs.StepInvariants.{PastInvariant}
 use Rattle.dso_plain.specs.Past.{newest, KeepsPast, PastsGrow}

@@ -16,7 +16,8 @@ use Rattle.dso_plain.specs.declared.tables.Tables.{Tables}
 use Rattle.dso_plain.specs.KeyTests.{is_field, is_view}
 use Rattle.dso_lookup.specs.Maps.{writes, or_old, written, look}
 use Rattle.dso_plain.specs.State.{PlainState, IsShared, is_shared, size_of}
-use Rattle.dso_plain.specs.After.{apply, made_new, put, published, present, opening_value, opening_field}
+use Rattle.dso_base.specs.Block.{opening_value}
+use Rattle.dso_plain.specs.After.{apply, made_new, put, published, present, opening_field}
 use Rattle.dso_plain.specs.StepInvariants.{PastInvariant}
 use Rattle.dso_plain.specs.Publishing.{with_shared}
 use Rattle.dso_lookup.specs.Orders.{thread_order}

@@ -18,7 +18,8 @@ use Rattle.dso_base.specs.declared.value.Value.{Value}
 use Rattle.dso_base.specs.declared.value.Value.TheVariants as value
 use Rattle.dso_base.specs.Following.{is_thread}
 use Rattle.dso_base.specs.Shape.{kind_of}
-use Rattle.dso_plain.specs.After.{apply, change_of, after, made_new, opening_field, opening_value, read, read_shared, put, published, present, notifies}
+use Rattle.dso_base.specs.Block.{opening_value}
+use Rattle.dso_plain.specs.After.{apply, change_of, after, made_new, opening_field, read, read_shared, put, published, present, notifies}
 use Rattle.dso_plain.specs.KeyTests.{is_field}
 use Rattle.dso_plain.specs.Possible.{StandsFrom, AnswersGet}
 use Rattle.dso_plain.specs.State.{Hold, PlainState, opening, is_root, is_shared, hold_on_guard}

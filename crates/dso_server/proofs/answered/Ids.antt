@@ -13,6 +13,7 @@ use Rattle.dso_server.specs.Sending.{sent_of, took}
 use Rattle.dso_server.specs.ServerStands.{ServerStands}
 use Rattle.dso_server.proofs.standing.BatchesGiven.{length_to}
 use Rattle.dso_server.proofs.standing.GraphTook.{graph_same}
+use Rattle.dso_server.proofs.standing.Lacking.{lacked_before}
 use Rattle.dso_server.proofs.standing.LocksTook.{locks_same}
 use Rattle.dso_server.proofs.standing.Taking.{stands_took}
 use Rattle.dso_server.proofs.standing.ThreadsTook.{threads_same}
@@ -20,7 +21,7 @@ use Rattle.dso_server.proofs.standing.WaitersTook.{waiters_same}
 
 pub answered_ids : (old : Server) (ids : List ℕ) (c first : ℕ) (messages : List (ℕ × Down)) → first ≡ first_of_batch (length old.ids) → ids ≡ c ∷ old.ids → messages ≡ (c, down.Ids first) ∷ []
     → Answers c up.IdAsk messages old (record old { ids = ids })
-answered_ids old ids c first messages is given alone p es s its here fits =
+answered_ids old ids c first messages is given alone p es s its here fits knows =
     let next : first ≡ next_batch (counted es) = is ∙ ap (λ n. 1 + 256 * n) (sym (ap length s.ids ∙ length_to old.ids)) in
     let batch : record { client = c; first = first } ∷ batches_given (counted es) ≡ batches_to ids = ap (λ n. record { client = c; first = n } ∷ batches_given (counted es)) is ∙ (ap (λ rest. record { client = c; first = first_of_batch (length old.ids) } ∷ rest) s.ids ∙ ap batches_to (sym given)) in
     record {
@@ -31,4 +32,5 @@ answered_ids old ids c first messages is given alone p es s its here fits =
           (locks_same p old.locks clock c up.IdAsk (ToClient c (down.Ids first) ∷ []) (counted es) (λ l x. refl) refl (λ l x. refl, tt) s.locks)
           (waiters_same old.waiters clock c up.IdAsk (ToClient c (down.Ids first) ∷ []) (counted es) (λ l list. refl) (λ l list. refl, tt) s.waiters)
           (threads_same p old.threads clock c up.IdAsk (ToClient c (down.Ids first) ∷ []) (counted es) (λ t last. refl) (λ t ended. refl) s.threads));
+      lacks = λ clock. lacked_before p old (record old { ids = ids }) clock c up.IdAsk (sent_of messages) es here refl s.store;
     }

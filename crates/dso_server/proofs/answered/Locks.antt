@@ -23,6 +23,7 @@ use Rattle.dso_server.specs.Sending.{sent_of}
 use Rattle.dso_server.specs.Waiters.{lists_in, lists_returned}
 use Rattle.dso_server.proofs.lists.Each.{each_weaker}
 use Rattle.dso_server.proofs.standing.GraphTook.{graph_same}
+use Rattle.dso_server.proofs.standing.Lacking.{lacked_before}
 use Rattle.dso_server.proofs.standing.LocksTook.{locks_told, requested_within, returned_within, served_now}
 use Rattle.dso_server.proofs.standing.Quiet.{OffIds, OffWaiters, ids_stay, told_off_ids, told_off_waiters}
 use Rattle.dso_server.proofs.standing.Taking.{stands_took}
@@ -33,7 +34,7 @@ pub answered_request : (old : Server) (table : Tables) (c : ℕ) (l : LockName) 
     → ((p : Settings) → IsWithin p (requested_by c level (locks_in old.locks l)) → messages_of told ≡ serves p l (requested_by c level (locks_in old.locks l)))
     → locks_in table ≡ after_told told (at_lock l (requested_by c level) (locks_in old.locks)) → requested_in table ≡ insert_lock l (requested_in old.locks) → sent_of messages ≡ messages_of told
     → Answers c (up.Request l level) messages old (record old { locks = table })
-answered_request old table c l level told messages sends stands asked is p es s its here fits =
+answered_request old table c l level told messages sends stands asked is p es s its here fits knows =
     let within = requested_within p c level (locks_in old.locks l) its (s.locks.within l) in
     record {
       sends = λ clock. is ∙ (sends p within ∙ ap (serves p l) (sym (served_now p old.locks table clock c (up.Request l level) l (requested_by c level) told (sent_of messages) (counted es) s.locks (λ k x. refl) within)));
@@ -42,6 +43,7 @@ answered_request old table c l level told messages sends stands asked is p es s 
           (locks_told p old.locks table clock c (up.Request l level) l (requested_by c level) told (sent_of messages) (counted es) s.locks (λ k x. refl) within sends stands asked is)
           (waiters_same old.waiters clock c (up.Request l level) (sent_of messages) (counted es) (λ k list. refl) (subst (AllByRecursion OffWaiters) (sym is) (told_off_waiters told)) s.waiters)
           (threads_same p old.threads clock c (up.Request l level) (sent_of messages) (counted es) (λ t e. refl) (λ t ended. refl) s.threads);
+      lacks = λ clock. lacked_before p old (record old { locks = table }) clock c (up.Request l level) (sent_of messages) es here refl s.store;
     }
 
 pub answered_return : (old : Server) (table : Tables) (waiters : BTreeMap LockName (List ThreadId)) (c : ℕ) (l : LockName) (threads : List ThreadId) (told : List Told) (messages : List (ℕ × Down))
@@ -49,7 +51,7 @@ pub answered_return : (old : Server) (table : Tables) (waiters : BTreeMap LockNa
     → ((p : Settings) → IsWithin p (returned_by c (locks_in old.locks l)) → messages_of told ≡ serves p l (returned_by c (locks_in old.locks l)))
     → locks_in table ≡ after_told told (at_lock l (returned_by c) (locks_in old.locks)) → requested_in table ≡ requested_in old.locks → sent_of messages ≡ messages_of told
     → Answers c (up.Return l threads) messages old (record old { waiters = waiters; locks = table })
-answered_return old table waiters c l threads told messages put sends stands asked is p es s its here fits =
+answered_return old table waiters c l threads told messages put sends stands asked is p es s its here fits knows =
     let within = returned_within p c (locks_in old.locks l) (s.locks.within l) in
     let new : AllByRecursion (λ t. list_any (is_thread t) (waiters_of l (counted es)) ≡ false) threads = each_weaker (IsNewWaiter p c l (counted es)) (λ t. list_any (is_thread t) (waiters_of l (counted es)) ≡ false) (λ t h. h.1) threads fits.new in
     record {
@@ -59,4 +61,5 @@ answered_return old table waiters c l threads told messages put sends stands ask
           (locks_told p old.locks table clock c (up.Return l threads) l (returned_by c) told (sent_of messages) (counted es) s.locks (λ k x. refl) within sends stands asked is)
           (waiters_returned old.waiters waiters clock c l threads (sent_of messages) (counted es) put (subst (AllByRecursion OffWaiters) (sym is) (told_off_waiters told)) fits.once new s.waiters)
           (threads_same p old.threads clock c (up.Return l threads) (sent_of messages) (counted es) (λ t e. refl) (λ t ended. refl) s.threads);
+      lacks = λ clock. lacked_before p old (record old { waiters = waiters; locks = table }) clock c (up.Return l threads) (sent_of messages) es here refl s.store;
     }

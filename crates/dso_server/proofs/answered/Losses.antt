@@ -46,7 +46,7 @@ pub answered_loss : (old : Server) (gone : BTreeSet ℕ) (store : Store) (table 
     → lists_in waiters ≡ lists_without c (lists_in old.waiters)
     → ((p : Settings) → ((l : LockName) → IsWithin p (lost_by c (locks_in old.locks l))) → messages_of told ≡ flat_map (λ l. serves p l (lost_by c (locks_in old.locks l))) (requested_in old.locks))
     → locks_in table ≡ after_told told (λ l. lost_by c (locks_in old.locks l)) → requested_in table ≡ requested_in old.locks → sent_of messages ≡ messages_of told
-    → (p : Settings) (es : List Entry) → ServerStands p old es → IsLost p c messages (record old { lost = gone; store = store; waiters = waiters; locks = table }) es
+    → (p : Settings) (es : List Entry) → ServerStands p old es → IsLost p c messages old (record old { lost = gone; store = store; waiters = waiters; locks = table }) es
 answered_loss old gone store table waiters c told messages those bodies holds last lists sends stands asked is p es s =
     let within = λ (l : LockName). lost_within p c (locks_in old.locks l) (s.locks.within l) in
     let now = λ (clock : ℕ). fun_ext (λ (l : LockName). ap (λ f. lost_by c (f l)) s.locks.locks ∙ sym (follows_entries l (lost clock c []) (counted es))) in
@@ -60,4 +60,5 @@ answered_loss old gone store table waiters c told messages those bodies holds la
         waiters = waiters_lost old.waiters waiters clock c (sent_of messages) (counted es) lists (subst (AllByRecursion OffWaiters) (sym is) (told_off_waiters told)) s.waiters;
         threads = record { known = s.threads.known; last = s.threads.last; ended = s.threads.ended };
       };
+      lacks = λ clock o lacks. (lacks.0, sym (ap (λ f. f o) bodies) ∙ lacks.1);
     }

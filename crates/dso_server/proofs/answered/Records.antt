@@ -26,6 +26,7 @@ use Rattle.dso_server.specs.Threads.{known_in, last_in}
 use Rattle.dso_server.specs.Waiters.{lists_in, lists_woken}
 use Rattle.dso_server.proofs.standing.GraphTook.{graph_took}
 use Rattle.dso_server.proofs.lists.Lists.{each_append}
+use Rattle.dso_server.proofs.standing.Lacking.{lacked_before}
 use Rattle.dso_server.proofs.standing.LocksTook.{locks_same}
 use Rattle.dso_server.proofs.standing.Quiet.{OffIds, OffLocks, changes_off_ids, changes_off_locks, changes_off_waiters, ids_stay, wakes_off_ids, wakes_off_locks}
 use Rattle.dso_server.proofs.standing.Taking.{stands_took}
@@ -58,7 +59,7 @@ module _ {Z : Type 0} (old : Server) (store : Store) (threads : BTreeMap ThreadI
   off_locks = subst (AllByRecursion OffLocks) (sym is) (each_append OffLocks first (wakes_of txn (lists_in old.waiters)) (λ l s. refl, changes_off_locks changes) (wakes_off_locks txn (lists_in old.waiters)))
 
   pub answered_record : Answers c (up.Commit txn) messages old (record old { store = store; threads = threads; waiters = waiters })
-  answered_record p es s its here fits =
+  answered_record p es s its here fits knows =
       let graph_now = λ (clock : ℕ) (sent : List Sent). graph_took p old.store store clock c (up.Commit txn) sent (counted es) its bodies holds last s.store in
       let there : known_in old.threads txn.thread ≡ true = ap (λ f. f txn.thread) s.threads.known ∙ (both (eqb txn.thread.client c) (list_any (is_thread txn.thread) p.threads) (sym (threads_of_client txn.thread c p.threads) ∙ fits.thread)).1 in
       record {
@@ -69,4 +70,5 @@ module _ {Z : Type 0} (old : Server) (store : Store) (threads : BTreeMap ThreadI
             (locks_same p old.locks clock c (up.Commit txn) (sent_of messages) (counted es) (λ l x. refl) refl off_locks s.locks)
             (waiters_woken_by old.waiters waiters clock c txn (ToClient c (down.Ack txn.seq) ∷ messages_of changes) (sent_of messages) (counted es) woken (λ l list. refl, changes_off_waiters changes) is s.waiters)
             (threads_ended p old.threads threads clock c txn (sent_of messages) (counted es) there fits.going known ended s.threads);
+        lacks = λ clock. lacked_before p old (record old { store = store; threads = threads; waiters = waiters }) clock c (up.Commit txn) (sent_of messages) es here bodies s.store;
       }

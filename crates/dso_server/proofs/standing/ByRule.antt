@@ -2,7 +2,7 @@
 use Rattle.std.proofs.Common.{◌≡◌, refl, sym, ap, subst, cond, ◌∷◌}
 use Rattle.dso_law.specs.ServerReadings.{batches_given, counted}
 use Rattle.dso_law.specs.ServerStep.{HeardOrLost}
-use Rattle.dso_server.specs.declared.taken.Taken.TheVariants.{Done, Gone, Unfit}
+use Rattle.dso_server.specs.declared.taken.Taken.TheVariants.{Done, Gone, BadMessage}
 use Rattle.dso_server.specs.Batches.{batches_to}
 use Rattle.dso_server.specs.Laws.{BreaksChangeNothing, LostByRule, LostChangeNothing, RejoinsChangeNothing, TakenByRule}
 use Rattle.dso_server.specs.Sending.{sent_of, took}
@@ -23,10 +23,10 @@ taken_by_rule p clock c m Gone messages old new es fits taken its no_loss no_bre
   event = refl;
   heard = subst (λ b. HeardOrLost p c m b (took clock c m (sent_of messages)) (counted es)) (sym taken.0) (ap sent_of taken.1.0);
 }
-taken_by_rule p clock c m Unfit messages old new es fits taken its no_loss no_break = absurd (fits refl)
+taken_by_rule p clock c m (BadMessage tag) messages old new es fits taken its no_loss no_break = absurd fits
 
 pub lost_by_rule : LostByRule
-lost_by_rule p clock c messages new es told its due = record { its = its; due = due; event = refl; sends = told.sends clock }
+lost_by_rule p clock c messages old new es told its due = record { its = its; due = due; event = refl; sends = told.sends clock }
 
 pub breaks_change_nothing : BreaksChangeNothing
 breaks_change_nothing p server clock c es s = record {

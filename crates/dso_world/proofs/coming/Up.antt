@@ -11,8 +11,8 @@ use Rattle.dso_legal.specs.Lawful.{IsLawful}
 use Rattle.dso_legal.specs.Slots as slots
 use Rattle.dso_lookup.proofs.Tests.{both as each}
 use Rattle.dso_session.specs.declared.frame.Accepted.TheVariants as accepted
-use Rattle.dso_world.specs.declared.both.Both.{Both}
-use Rattle.dso_world.specs.declared.both.Both.TheVariants as both
+use Rattle.dso_base.specs.declared.both.Both.{Both}
+use Rattle.dso_base.specs.declared.both.Both.TheVariants as both
 use Rattle.dso_world.specs.Link.{Line, first_answer, taken_up}
 use Rattle.dso_world.specs.LinkStands.{Course, Joined, Broken, Half, LinkStands, Past, can_take_up}
 use Rattle.dso_world.specs.PastOf.{course_of, letters_posted, letters_taken, past_of}
@@ -56,7 +56,7 @@ module _ (p : Settings) (next : ThreadId → List Event → Option Request) (es 
       where
         by : (course : Course) → course_of p c es ≡ course → LinkStands course past line → can_take_up course past ≡ true → MessageComes ⊎ RejoinComes
         by Joined is link can =
-            let found = next_letter both.Up (letters_posted (to_server c) es) (up_in_flight c es) (letters_taken (to_server c) es) ((letters_are_left {M = Both}).up p next es lawful c).left can in
+            let found = next_letter both.Up (letters_posted (to_server c) es) (up_in_flight c es) (letters_taken (to_server c) es) ((letters_are_left {M = Both}).up p next es lawful.follow c).left can in
             let takes = links_go_on.takes_up past line (record { message = both.Up found.0.message; clock = found.0.clock }) link found.1.place in
             inl (record { letter = found.0; rest = drop (suc (letters_taken (to_server c) es)) (letters_posted (to_server c) es); first = found.1.first; answer = takes.answer; stands = takes.stands; course = is })
         by Broken is link can = absurd (cc can)

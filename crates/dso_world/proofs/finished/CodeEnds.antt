@@ -16,7 +16,7 @@ use Rattle.dso_lookup.proofs.Tests.{left_holds, right_holds}
 use Rattle.dso_machine.specs.declared.code.Code.{Code}
 use Rattle.dso_machine.specs.declared.code.ThreadBody.{ThreadBody}
 use Rattle.dso_machine.specs.Next.{body_of, enough_for, finish, next_of, next_request, opening, replies_in, request_of, whole}
-use Rattle.dso_machine.specs.Outcome.{Outcome, Wants, Gives, Leaves, Fails, Hears, Over, Stopped}
+use Rattle.dso_machine.specs.Outcome.{Environment, Outcome, Wants, Gives, Leaves, Fails, Hears, Over, Stopped}
 use Rattle.dso_machine.specs.Statements.{block, methods}
 use Rattle.dso_machine.specs.Unwinding.{FollowsCode, Hold}
 use Rattle.dso_machine.proofs.moves.Enough.{never_stopped}
@@ -77,7 +77,7 @@ at_body_end : (w : List Reply → Outcome) (e : Outcome) → w [] ≡ finish (re
 at_body_end w (Gives v u) is end q wanted = ap is_end (sym (the_request (w []) (End None) q is wanted))
 at_body_end w (Leaves v u) is end q wanted = ap is_end (sym (the_request (w []) (End None) q is wanted))
 at_body_end w (Fails fault u) is end q wanted = ap is_end (sym (the_request (w []) (End (Some fault)) q is wanted))
-at_body_end w (Wants p) is end q wanted = absurd end
+at_body_end w (Wants p env) is end q wanted = absurd end
 at_body_end w (Hears r u) is end q wanted = absurd end
 at_body_end w Over is end q wanted = absurd end
 at_body_end w Stopped is end q wanted = absurd end
@@ -110,13 +110,13 @@ end_wants : (e : Outcome) → IsEnd e → request_of (finish (refilled [] e)) �
 end_wants (Gives v u) end none = cc none
 end_wants (Leaves v u) end none = cc none
 end_wants (Fails fault u) end none = cc none
-end_wants (Wants p) end none = end
+end_wants (Wants p env) end none = end
 end_wants (Hears r u) end none = end
 end_wants Over end none = end
 end_wants Stopped end none = end
 
 -- what wants a request asks something
-asks_one : (w o : List Reply → Outcome) (q : Request) → w [] ≡ finish (o []) → o [] ≡ Wants q → request_of (w []) ≡ None → ⊥
+asks_one : (w o : List Reply → Outcome) (q : Request) {env : Environment} → w [] ≡ finish (o []) → o [] ≡ Wants q env → request_of (w []) ≡ None → ⊥
 asks_one w o q is wants none = wants_none (w []) q none (ap request_of (is ∙ ap finish wants))
 
 -- a thread within its body asks something, where it isn't stopped

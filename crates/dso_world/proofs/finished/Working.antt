@@ -15,8 +15,8 @@ use Rattle.dso_machine.specs.Next.{body_of, next_request}
 use Rattle.dso_machine.specs.Sound.{IsSound}
 use Rattle.dso_legal.specs.Lawful.{IsLawful}
 use Rattle.dso_legal.specs.Slots.{is_any, is_due}
-use Rattle.dso_world.specs.declared.both.Both.{Both}
-use Rattle.dso_world.specs.declared.both.Both.TheVariants as both
+use Rattle.dso_base.specs.declared.both.Both.{Both}
+use Rattle.dso_base.specs.declared.both.Both.TheVariants as both
 use Rattle.dso_world.specs.Busy.{is_busy, is_working}
 use Rattle.dso_world.specs.LinkStands.{Past}
 use Rattle.dso_world.specs.PastOf.{letters_posted, letters_taken, past_of}
@@ -51,11 +51,11 @@ module _ (code : Code) (sound : IsSound code) (p : Settings) (shaped : p.shape �
       (down_all : down_sent ≡ length past.down) (down_heard : down_taken ≡ past.down_taken) (down_few : past.down_taken ≤ length past.down)
       (on : alive ≡ count_by (λ t. is_some (next_in (next_request code) (entries_of (Client c) es) t)) (threads_of p c)) where
     up_left : is_any (up_in_flight c es) ≡ not (eqb up_sent up_taken)
-    up_left = any_left both.Up (letters_taken (to_server c) es) (letters_posted (to_server c) es) (up_in_flight c es) ((letters_are_left {M = Both}).up p (next_request code) es lawful c).left
+    up_left = any_left both.Up (letters_taken (to_server c) es) (letters_posted (to_server c) es) (up_in_flight c es) ((letters_are_left {M = Both}).up p (next_request code) es lawful.follow c).left
         ∙ left_is past.up_taken (length past.up) up_few ∙ ap (λ n. not (eqb n past.up_taken)) (sym up_all) ∙ ap (λ n. not (eqb up_sent n)) (sym up_heard)
 
     down_left : is_any (down_in_flight c es) ≡ not (eqb down_sent down_taken)
-    down_left = any_left both.Down (letters_taken (to_client c) es) (letters_posted (to_client c) es) (down_in_flight c es) ((letters_are_left {M = Both}).down p (next_request code) es lawful c).left
+    down_left = any_left both.Down (letters_taken (to_client c) es) (letters_posted (to_client c) es) (down_in_flight c es) ((letters_are_left {M = Both}).down p (next_request code) es lawful.follow c).left
         ∙ left_is past.down_taken (length past.down) down_few ∙ ap (λ n. not (eqb n past.down_taken)) (sym down_all) ∙ ap (λ n. not (eqb down_sent n)) (sym down_heard)
 
     -- A client is working exactly where it isn't lost, and not all that was sent was taken or one of its threads goes on.

@@ -170,7 +170,7 @@ module _ {M : Type 0} (p : Settings) (next : ThreadId → List Event → Option 
 
 pub letters_are_left : {M : Type 0} → LettersAreLeft M
 letters_are_left = record {
-  up = λ p next es lawful c. let are = up_left p next c es lawful.follow in record { few = are.few; left = are.left };
-  down = λ p next es lawful c. let are = down_left p next c es lawful.follow in record { few = are.few; left = are.left };
+  up = λ p next es follow c. let are = up_left p next c es follow in record { few = are.few; left = are.left };
+  down = λ p next es follow c. let are = down_left p next c es follow in record { few = are.few; left = are.left };
   takes = λ p next es lawful as_up as_down c. takes_so p next es lawful as_up as_down c;
 }

@@ -5,8 +5,6 @@ use Rattle.dso_base.specs.declared.journal.Input.{Input}
 use Rattle.dso_base.specs.declared.journal.Node.{Node}
 use Rattle.dso_base.specs.declared.journal.Node.TheVariants as node
 use Rattle.dso_class.specs.declared.program.Program.{Program}
-use Rattle.dso_client.specs.declared.kept.Kept.{Kept}
-use Rattle.dso_client.specs.Acting.{HoldsAtMost}
 use Rattle.dso_law.specs.Channels.{count_inputs, last_clock, takes_down, takes_up}
 use Rattle.dso_law.specs.Entries.{is_node, entries_of}
 use Rattle.dso_machine.specs.Next.{next_request}
@@ -60,10 +58,3 @@ small program c member es journal stands =
       down_seen = omega (arith, down, down_few);
       epoch = subst (λ n. n ≤ length es) (sym stands.link.server.epoch) (node_count_few _ node.Server es);
     }
-
--- holds that are no more than some are no more than more
-pub holds_more : (few more : ℕ) (kept : Kept) → few ≤ more → HoldsAtMost few kept → HoldsAtMost more kept
-holds_more few more kept less holds = record {
-  held = λ t l. let h = holds.held t l in omega (arith, less, h);
-  waiting = λ index. let h = holds.waiting index in omega (arith, less, h);
-}

@@ -20,8 +20,8 @@ use Rattle.dso_law.specs.Settings.{clients_of}
 use Rattle.dso_legal.specs.Lawful.{MayFollow}
 use Rattle.dso_legal.specs.Slots.{Slot, TakesDown}
 use Rattle.dso_machine.specs.Next.{next_request}
-use Rattle.dso_world.specs.declared.both.Both.{Both}
-use Rattle.dso_world.specs.declared.both.Both.TheVariants as both
+use Rattle.dso_base.specs.declared.both.Both.{Both}
+use Rattle.dso_base.specs.declared.both.Both.TheVariants as both
 use Rattle.dso_world.specs.declared.made.Made.{Made}
 use Rattle.dso_world.specs.declared.member.Member.{Member}
 use Rattle.dso_world.specs.ChosenSlot.{slot_at}

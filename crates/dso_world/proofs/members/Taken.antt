@@ -23,8 +23,8 @@ use Rattle.dso_machine.specs.declared.code.Code.{Code}
 use Rattle.dso_machine.specs.Next.{next_request}
 use Rattle.dso_session.specs.declared.frame.Accepted.{Accepted}
 use Rattle.dso_session.specs.declared.frame.Accepted.TheVariants as accepted
-use Rattle.dso_world.specs.declared.both.Both.{Both}
-use Rattle.dso_world.specs.declared.both.Both.TheVariants as both
+use Rattle.dso_base.specs.declared.both.Both.{Both}
+use Rattle.dso_base.specs.declared.both.Both.TheVariants as both
 use Rattle.dso_world.specs.declared.member.Member.{Member}
 use Rattle.dso_world.specs.Link.{first_answer, taken_down}
 use Rattle.dso_world.specs.LinkStands.{Half}
@@ -37,12 +37,13 @@ use Rattle.dso_world.proofs.journals.Clocks.{Below, clocks_are_few}
 use Rattle.dso_world.proofs.coming.Down.{MessageComes, RejoinComes, comes_down}
 use Rattle.dso_world.proofs.follows.Clients.{client_rejoin_follows}
 use Rattle.dso_world.proofs.follows.Lawful.{lawful_with_client_rejoin}
-use Rattle.dso_world.proofs.members.Fits.{holds_more, node_count_few}
+use Rattle.dso_client.proofs.standing.Bounds.{holds_more}
+use Rattle.dso_client.proofs.standing.Rejoined.{stands_rejoined}
+use Rattle.dso_world.proofs.members.Fits.{node_count_few}
 use Rattle.dso_world.proofs.members.Kept.{holds_kept, records_kept}
 use Rattle.dso_world.proofs.members.Said.{flushed_follows, own_clock, taken_follows}
 use Rattle.dso_world.proofs.members.With.{member_with}
 use Rattle.dso_world.proofs.pasts.OwnEntry.{own_half, own_rejoins}
-use Rattle.dso_world.proofs.premises.ClientRejoined.{stands_rejoined}
 use Rattle.dso_world.proofs.premises.WhatComes.{comes_down as fits_down}
 
 -- the letter is the one that was given up

@@ -9,7 +9,7 @@ use Rattle.dso_law.specs.Entries.{entries_of}
 use Rattle.dso_law.specs.Settings.{clients_of}
 use Rattle.dso_legal.specs.Slots.{Breaks}
 use Rattle.dso_machine.specs.Next.{next_request}
-use Rattle.dso_world.specs.declared.both.Both.TheVariants as both
+use Rattle.dso_base.specs.declared.both.Both.TheVariants as both
 use Rattle.dso_world.specs.declared.member.Member.{Member}
 use Rattle.dso_world.specs.declared.nodes.Nodes.{Nodes}
 use Rattle.dso_world.specs.Link.{cut}

@@ -9,10 +9,10 @@ use Rattle.dso_law.specs.Channels.{Letter, last_clock, takes_down}
 use Rattle.dso_law.specs.Entries.{entries_of}
 use Rattle.dso_machine.specs.Next.{next_request}
 use Rattle.dso_server.specs.declared.server.Server.{Server}
-use Rattle.dso_server.specs.declared.taken.Taken.TheVariants.{Unfit}
+use Rattle.dso_server.specs.declared.taken.Taken.TheVariants.{BadMessage}
 use Rattle.dso_server.specs.Answering.{IsTaken}
-use Rattle.dso_world.specs.declared.both.Both.{Both}
-use Rattle.dso_world.specs.declared.both.Both.TheVariants as both
+use Rattle.dso_base.specs.declared.both.Both.{Both}
+use Rattle.dso_base.specs.declared.both.Both.TheVariants as both
 use Rattle.dso_world.specs.declared.member.Member.{Member}
 use Rattle.dso_world.specs.declared.nodes.Nodes.{Nodes}
 use Rattle.dso_world.specs.LinkStands.{Course, Past}
@@ -87,8 +87,8 @@ module _ (program : Program) (c : ℕ) (letter : Letter Up) (nodes : Nodes) (es 
       let short : length es ≤ 2 ^ 28 = heard.journal.few in
       omega (arith, heard.stands.clock, last, of_letter, short)
 
-  -- and it fits
-  pub no_unfit : (messages : List (ℕ × Down)) (server : Server) → IsTaken (settings_of program) c letter.message Unfit messages nodes.server server (entries_of node.Server es) → ⊥
-  no_unfit messages server taken =
+  -- and it fits, so it is no bad message
+  pub no_bad_message : (tag : ℕ) (messages : List (ℕ × Down)) (server : Server) → IsTaken (settings_of program) c letter.message (BadMessage tag) messages nodes.server server (entries_of node.Server es) → ⊥
+  no_bad_message tag messages server taken =
       let short : length es ≤ 2 ^ 28 = heard.journal.few in
       taken.1 (comes_up program.code heard.journal.sound.code (settings_of program) refl es heard.journal.lawful.follow (omega (arith, short)) c taken.0 letter heard.rest heard.first)

@@ -17,13 +17,15 @@ use Rattle.dso_legal.specs.Slots.{Breaks, Loses, TakesUp}
 use Rattle.dso_machine.specs.Next.{next_request}
 use Rattle.dso_server.specs.declared.server.Server.{Server}
 use Rattle.dso_server.specs.declared.taken.Taken.{Taken}
-use Rattle.dso_server.specs.declared.taken.Taken.TheVariants.{Done, Gone, Unfit}
-use Rattle.dso_server.specs.Answering.{IsLost, IsTaken, given_by}
-use Rattle.dso_server.specs.Sending.{broke, rejoined, sent_of, took}
+use Rattle.dso_server.specs.declared.taken.Taken.TheVariants.{Done, Gone, BadMessage}
+use Rattle.dso_server.specs.Answering.{IsLost, IsTaken, WasTaken, given_by}
+use Rattle.dso_server.specs.Lacking.{LacksNothing}
+use Rattle.dso_server.specs.Sending.{broke, lost, rejoined, sent_of, took}
 use Rattle.dso_server.specs.ServerStands.{ServerStands}
 use Rattle.dso_server.proofs.standing.ByRule.{breaks_change_nothing, lost_by_rule, lost_change_nothing, rejoins_change_nothing, taken_by_rule}
-use Rattle.dso_world.specs.declared.both.Both.{Both}
-use Rattle.dso_world.specs.declared.both.Both.TheVariants as both
+use Rattle.dso_base.specs.declared.both.Both.{Both}
+use Rattle.dso_base.specs.declared.both.Both.TheVariants as both
+use Rattle.dso_server.proofs.standing.Lacking.{nothing_is_lacked_later, taken_lacks_nothing}
 use Rattle.dso_world.specs.declared.made.Made.{Made}
 use Rattle.dso_world.specs.declared.member.Member.{Member}
 use Rattle.dso_world.specs.declared.nodes.Nodes.{Nodes}
@@ -49,16 +51,16 @@ neither false b e = (refl, e)
 -- ---- a message
 
 -- what the server then stands for
-after_taken : (program : Program) (c : ℕ) (letter : Letter Up) (clock : ℕ) (taken : Taken) (messages : List (ℕ × Down)) (old new : Server) (own : List Entry) → taken ≢ Unfit
+after_taken : (program : Program) (c : ℕ) (letter : Letter Up) (clock : ℕ) (taken : Taken) (messages : List (ℕ × Down)) (old new : Server) (own : List Entry) → WasTaken taken
     → IsTaken (settings_of program) c letter.message taken messages old new own → ServerStands (settings_of program) old own
     → ServerStands (settings_of program) new (took clock c letter.message (sent_of messages) ∷ own)
-after_taken program c letter clock Done messages old new own fits taken stands = taken.2.stands clock
-after_taken program c letter clock Gone messages old new own fits taken stands =
+after_taken program c letter clock Done messages old new own was taken stands = taken.2.stands clock
+after_taken program c letter clock Gone messages old new own was taken stands =
     subst (λ server. ServerStands (settings_of program) server (took clock c letter.message (sent_of messages) ∷ own)) (sym taken.1.1) (lost_change_nothing (settings_of program) old clock c letter.message (sent_of messages) own taken.0 stands)
-after_taken program c letter clock Unfit messages old new own fits taken stands = absurd (fits refl)
+after_taken program c letter clock (BadMessage tag) messages old new own was taken stands = absurd was
 
 module _ (program : Program) (c : ℕ) (letter : Letter Up) (nodes : Nodes) (es : List Entry) (heard : Heard program c letter nodes es)
-    (taken : Taken) (messages : List (ℕ × Down)) (server : Server) (fits : taken ≢ Unfit)
+    (taken : Taken) (messages : List (ℕ × Down)) (server : Server) (was : WasTaken taken)
     (is : IsTaken (settings_of program) c letter.message taken messages nodes.server server (entries_of node.Server es)) (given : given_by server ≤ given_by nodes.server + 1) where
   abbrev hearing : Made
   hearing = record { heard = letter.clock; input = input.TookUp c letter.message; event = None }
@@ -90,10 +92,11 @@ module _ (program : Program) (c : ℕ) (letter : Letter Up) (nodes : Nodes) (es 
         lawful = lawful_with_took (settings_of program) (next_request program.code) es heard.journal.lawful clock c letter.message (sent_of messages)
             (took_follows (settings_of program) (next_request program.code) c es clock letter heard.rest (sent_of messages) heard.first (whole_where_joined (settings_of program) c es heard.joined)
             (ap (λ n. suc (max n letter.clock)) heard.stands.clock)
-            (taken_by_rule (settings_of program) clock c letter.message taken messages nodes.server server (entries_of node.Server es) fits is heard.its no_triggers.0 no_triggers.1));
+            (taken_by_rule (settings_of program) clock c letter.message taken messages nodes.server server (entries_of node.Server es) was is heard.its no_triggers.0 no_triggers.1));
         at = refl;
         stands = told_stand program (course_heard program c es) (past_heard program c es) hearing messages (record nodes { server = server }) new es heard.stands.count heard.stands.members told
-            (after_taken program c letter clock taken messages nodes.server server (entries_of node.Server es) fits is heard.stands.server) (omega (arith, few, given)) heard_course heard_past;
+            (after_taken program c letter clock taken messages nodes.server server (entries_of node.Server es) was is heard.stands.server)
+            (taken_lacks_nothing (settings_of program) clock c letter.message taken messages nodes.server server (entries_of node.Server es) was is heard.stands.lacks) (omega (arith, few, given)) heard_course heard_past;
       }
 
 -- ---- a loss
@@ -107,7 +110,7 @@ module _ (program : Program) (c : ℕ) (nodes : Nodes) (es : List Entry) (journa
   now : quiet_clock ≡ suc (max (last_clock node.Server es) 0)
   now = ap (λ n. suc (max n 0)) stands.clock
 
-  module _ (messages : List (ℕ × Down)) (server : Server) (is : IsLost (settings_of program) c messages server (entries_of node.Server es)) (given : given_by server ≡ given_by nodes.server)
+  module _ (messages : List (ℕ × Down)) (server : Server) (is : IsLost (settings_of program) c messages nodes.server server (entries_of node.Server es)) (given : given_by server ≡ given_by nodes.server)
       (due : is_loss_due (settings_of program) c (entries_of node.Server es) ≡ true) where
     abbrev losing : Made
     losing = record { heard = 0; input = input.Lose c; event = None }
@@ -118,10 +121,11 @@ module _ (program : Program) (c : ℕ) (nodes : Nodes) (es : List Entry) (journa
         record {
           lawful = lawful_with_lost (settings_of program) (next_request program.code) es journal.lawful quiet_clock c (sent_of messages)
               (lost_follows (settings_of program) (next_request program.code) c es quiet_clock (sent_of messages) now
-              (lost_by_rule (settings_of program) quiet_clock c messages server (entries_of node.Server es) is its due));
+              (lost_by_rule (settings_of program) quiet_clock c messages nodes.server server (entries_of node.Server es) is its due));
           at = refl;
           stands = told_stand program (λ d. course_of (settings_of program) d es) (λ d. past_of both.Up both.Down d es) losing messages (record nodes { server = server }) new es stands.count stands.members told
-              (is.stands quiet_clock) (omega (arith, few, given)) (λ d. refl) (λ d. server_loses d es quiet_clock c messages);
+              (is.stands quiet_clock) (nothing_is_lacked_later (settings_of program) nodes.server server (entries_of node.Server es) (lost quiet_clock c (sent_of messages) ∷ entries_of node.Server es) (is.stands quiet_clock) (is.lacks quiet_clock) stands.lacks)
+              (omega (arith, few, given)) (λ d. refl) (λ d. server_loses d es quiet_clock c messages);
         }
 
   -- ---- a rejoin
@@ -161,6 +165,7 @@ module _ (program : Program) (c : ℕ) (nodes : Nodes) (es : List Entry) (journa
         stands = told_stand program (course_heard program c es) (λ d. cond (eqb d c) (past_of both.Up both.Down c es) (past_of both.Up both.Down d es)) rejoining [] (record between { clock = nodes.clock }) new es count members
             (subst (λ last. HasTold rejoining [] (record between { clock = last }) new) same_clock told)
             (subst (λ server. ServerStands (settings_of program) server (rejoined quiet_clock c ∷ entries_of node.Server es)) (sym same_server) (rejoins_change_nothing (settings_of program) nodes.server quiet_clock c (entries_of node.Server es) stands.server))
+            (subst (λ server. LacksNothing (settings_of program) server (rejoined quiet_clock c ∷ entries_of node.Server es)) (sym same_server) stands.lacks)
             (subst (λ server. given_by server ≤ suc (length es)) (sym same_server) (omega (arith, few))) rejoined_course rejoined_past;
       })
 
@@ -204,5 +209,6 @@ module _ (program : Program) (c : ℕ) (nodes : Nodes) (es : List Entry) (journa
           stands = told_stand program course_cut past_cut breaking [] (record between { clock = nodes.clock }) new es count members
               (subst (λ last. HasTold breaking [] (record between { clock = last }) new) same_clock told)
               (subst (λ server. ServerStands (settings_of program) server (broke quiet_clock c ∷ entries_of node.Server es)) (sym same_server) (breaks_change_nothing (settings_of program) nodes.server quiet_clock c (entries_of node.Server es) stands.server))
+              (subst (λ server. LacksNothing (settings_of program) server (broke quiet_clock c ∷ entries_of node.Server es)) (sym same_server) stands.lacks)
               (subst (λ server. given_by server ≤ suc (length es)) (sym same_server) (omega (arith, few))) cut_course cut_past;
         })

@@ -10,8 +10,9 @@ use Rattle.dso_client.specs.ClientStands.{ClientStands}
 use Rattle.dso_law.specs.Channels.{last_clock}
 use Rattle.dso_law.specs.Entries.{entries_of}
 use Rattle.dso_legal.specs.Slots.{Slot}
+use Rattle.dso_server.specs.Lacking.{LacksNothing}
 use Rattle.dso_server.specs.ServerStands.{ServerStands}
-use Rattle.dso_world.specs.declared.both.Both.TheVariants as both
+use Rattle.dso_base.specs.declared.both.Both.TheVariants as both
 use Rattle.dso_world.specs.declared.member.Member.{Member}
 use Rattle.dso_world.specs.declared.nodes.Nodes.{Nodes}
 use Rattle.dso_world.specs.LinkStands.{LinkStands}
@@ -20,7 +21,7 @@ use Rattle.dso_world.specs.NodeSteps.{StepsAll}
 use Rattle.dso_world.specs.NodesStand.{MemberStands}
 use Rattle.dso_world.specs.PastOf.{course_of, past_of}
 use Rattle.dso_world.specs.WorldSteps.{settings_of}
-use Rattle.dso_world.proofs.members.Fits.{holds_more}
+use Rattle.dso_client.proofs.standing.Bounds.{holds_more}
 use Rattle.dso_world.proofs.pasts.OwnEntry.{other_course, other_past}
 use Rattle.dso_world.proofs.places.Clients.{numbered_so}
 
@@ -89,6 +90,7 @@ module _ (program : Program) (c : ℕ) (slot : Slot) (nodes : Nodes) (old new : 
             | inr h ↦ other_member program c entry follows.its es (suc at) member (ne_eqb (suc at) c (λ same. h.0 (omega (arith, same)))) (stands.members at member h.1)
           ];
           server = subst (ServerStands (settings_of program) nodes.server) (server_same program c entry follows.its es) stands.server;
+          lacks = subst (LacksNothing (settings_of program) nodes.server) (server_same program c entry follows.its es) stands.lacks;
           given = omega (arith, given);
           clock = stands.clock ∙ server_clock program c entry follows.its es;
         };

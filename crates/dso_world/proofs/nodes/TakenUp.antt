@@ -12,11 +12,12 @@ use Rattle.dso_law.specs.Settings.{clients_of}
 use Rattle.dso_legal.specs.Slots.{TakesUp, is_due}
 use Rattle.dso_machine.specs.Next.{next_request}
 use Rattle.dso_server.specs.Answering.{given_by}
+use Rattle.dso_server.specs.Lacking.{LacksNothing}
 use Rattle.dso_server.specs.ServerStands.{ServerStands}
 use Rattle.dso_session.specs.declared.frame.Accepted.{Accepted}
 use Rattle.dso_session.specs.declared.frame.Accepted.TheVariants as accepted
-use Rattle.dso_world.specs.declared.both.Both.{Both}
-use Rattle.dso_world.specs.declared.both.Both.TheVariants as both
+use Rattle.dso_base.specs.declared.both.Both.{Both}
+use Rattle.dso_base.specs.declared.both.Both.TheVariants as both
 use Rattle.dso_world.specs.declared.member.Member.{Member}
 use Rattle.dso_world.specs.declared.nodes.Nodes.{Nodes}
 use Rattle.dso_world.specs.Link.{first_answer, taken_up}
@@ -110,6 +111,7 @@ module _ (program : Program) (c : ℕ) (nodes : Nodes) (es : List Entry) (journa
                       stands.members changes (at_place (λ before. LinkStands Joined (record (past_of both.Up both.Down c es) { up_taken = (past_of both.Up both.Down c es).up_taken + 1 }) (taken_up before.link)) come.stands)
                       place member (sym (ap (λ list. slice_get list place) is_members) ∙ is);
                   server = subst (λ server. ServerStands (settings_of program) server (entries_of node.Server es)) (sym same_server) stands.server;
+                  lacks = subst (λ server. LacksNothing (settings_of program) server (entries_of node.Server es)) (sym same_server) stands.lacks;
                   given = subst (λ server. given_by server ≤ length es) (sym same_server) stands.given;
                   clock = same_clock ∙ stands.clock;
                 };

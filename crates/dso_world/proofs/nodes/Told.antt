@@ -7,9 +7,10 @@ use Rattle.dso_base.specs.declared.message.Down.{Down}
 use Rattle.dso_class.specs.declared.program.Program.{Program}
 use Rattle.dso_law.specs.Entries.{entries_of}
 use Rattle.dso_server.specs.Answering.{given_by}
+use Rattle.dso_server.specs.Lacking.{LacksNothing}
 use Rattle.dso_server.specs.ServerStands.{ServerStands}
-use Rattle.dso_world.specs.declared.both.Both.{Both}
-use Rattle.dso_world.specs.declared.both.Both.TheVariants as both
+use Rattle.dso_base.specs.declared.both.Both.{Both}
+use Rattle.dso_base.specs.declared.both.Both.TheVariants as both
 use Rattle.dso_world.specs.declared.made.Made.{Made}
 use Rattle.dso_world.specs.declared.member.Member.{Member}
 use Rattle.dso_world.specs.declared.nodes.Nodes.{Nodes}
@@ -20,7 +21,7 @@ use Rattle.dso_world.specs.NodesStand.{MemberStandsBy, NodesStand}
 use Rattle.dso_world.specs.PastOf.{course_of, past_of}
 use Rattle.dso_world.specs.Sending.{after_hearing, server_entry}
 use Rattle.dso_world.specs.WorldSteps.{settings_of}
-use Rattle.dso_world.proofs.members.Fits.{holds_more}
+use Rattle.dso_client.proofs.standing.Bounds.{holds_more}
 use Rattle.dso_world.proofs.sending.Posts.{all_down_stand, down_posts, with_down}
 
 -- lists that are alike place by place are as long
@@ -99,16 +100,18 @@ module _ (program : Program) (course : ℕ → Course) (past : ℕ → Past Both
   pub told_stand : length old.members.items ≡ program.clients
       → ((place : ℕ) (member : Member) → slice_get old.members.items place ≡ Some member → MemberStandsBy program (suc place) (course (suc place)) (past (suc place)) member es)
       → HasTold made messages old new
-      → ServerStands (settings_of program) old.server (entry ∷ entries_of node.Server es) → given_by old.server ≤ suc (length es)
+      → ServerStands (settings_of program) old.server (entry ∷ entries_of node.Server es) → LacksNothing (settings_of program) old.server (entry ∷ entries_of node.Server es)
+      → given_by old.server ≤ suc (length es)
       → ((d : ℕ) → course_of (settings_of program) d (entry ∷ es) ≡ course d)
       → ((d : ℕ) → past_of both.Up both.Down d (entry ∷ es) ≡ with_down (down_posts d entry.clock messages) (past d))
       → NodesStand program new (entry ∷ es)
-  told_stand count members told server given same_course same_past = record {
+  told_stand count members told server lacks given same_course same_past = record {
     count = same_length (λ place. after_hearing (suc place) entry.clock messages) old.members.items new.members.items told.members ∙ count;
     members = λ place member is.
         let from = came_of (after_hearing (suc place) entry.clock messages) (slice_get old.members.items place) member (sym is ∙ told.members place) in
         told_member place from.0 member from.2 (members place from.0 from.1) (same_course (suc place)) (same_past (suc place));
     server = subst (λ server. ServerStands (settings_of program) server (entry ∷ entries_of node.Server es)) (sym told.server) server;
+    lacks = subst (λ server. LacksNothing (settings_of program) server (entry ∷ entries_of node.Server es)) (sym told.server) lacks;
     given = subst (λ server. given_by server ≤ suc (length es)) (sym told.server) given;
     clock = told.clock;
   }

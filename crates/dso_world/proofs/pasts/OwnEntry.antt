@@ -16,8 +16,8 @@ use Rattle.dso_law.specs.Channels.{count_inputs, is_broken, posted, rejoins, tak
 use Rattle.dso_law.specs.Entries.{by_sent_up, entries_of}
 use Rattle.dso_world.specs.LinkStands.{Broken, Half, Past}
 use Rattle.dso_world.specs.PastOf.{course_of, letters_posted, past_of, post_of}
-use Rattle.dso_world.specs.declared.both.Both.{Both}
-use Rattle.dso_world.specs.declared.both.Both.TheVariants as both
+use Rattle.dso_base.specs.declared.both.Both.{Both}
+use Rattle.dso_base.specs.declared.both.Both.TheVariants as both
 use Rattle.dso_world.proofs.pasts.Courses.{course_by, is_broken_by}
 use Rattle.dso_world.proofs.pasts.Posting.{posts_up}
 use Rattle.dso_world.proofs.sending.Posts.{up_post, with_up}

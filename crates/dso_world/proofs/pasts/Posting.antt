@@ -7,7 +7,7 @@ use Rattle.dso_base.specs.declared.message.Up.{Up}
 use Rattle.dso_law.specs.Channels.{Letter, posted}
 use Rattle.dso_law.specs.Entries.{by_sent_down, by_sent_up, if_to}
 use Rattle.dso_server.specs.Sending.{sent_of}
-use Rattle.dso_world.specs.declared.both.Both.TheVariants as both
+use Rattle.dso_base.specs.declared.both.Both.TheVariants as both
 use Rattle.dso_world.specs.PastOf.{post_of}
 use Rattle.dso_world.proofs.sending.Posts.{down_post, down_posts, up_post}
 

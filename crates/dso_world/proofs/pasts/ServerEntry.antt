@@ -10,8 +10,8 @@ use Rattle.dso_law.specs.Entries.{entries_of}
 use Rattle.dso_server.specs.Sending.{broke, lost, rejoined, sent_of, took}
 use Rattle.dso_world.specs.LinkStands.{Joined, Broken, Half, Past}
 use Rattle.dso_world.specs.PastOf.{course_of, letters_posted, past_of}
-use Rattle.dso_world.specs.declared.both.Both.{Both}
-use Rattle.dso_world.specs.declared.both.Both.TheVariants as both
+use Rattle.dso_base.specs.declared.both.Both.{Both}
+use Rattle.dso_base.specs.declared.both.Both.TheVariants as both
 use Rattle.dso_world.proofs.links.Ends.{below}
 use Rattle.dso_world.proofs.pasts.Courses.{course_by}
 use Rattle.dso_world.proofs.pasts.Posting.{posts_down}

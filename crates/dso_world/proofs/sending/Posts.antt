@@ -4,8 +4,8 @@ use Rattle.std.proofs.lemmas.List.{append-nil, append_assoc}
 use Rattle.dso_base.specs.declared.message.Down.{Down}
 use Rattle.dso_base.specs.declared.message.Up.{Up}
 use Rattle.dso_session.specs.declared.session.Posted.{Posted}
-use Rattle.dso_world.specs.declared.both.Both.{Both}
-use Rattle.dso_world.specs.declared.both.Both.TheVariants as both
+use Rattle.dso_base.specs.declared.both.Both.{Both}
+use Rattle.dso_base.specs.declared.both.Both.TheVariants as both
 use Rattle.dso_world.specs.Link.{Line, sent_down, sent_up}
 use Rattle.dso_world.specs.LinkStands.{Course, LinkStands, Past}
 use Rattle.dso_world.specs.Sending.{all_sent_down, all_sent_up}

@@ -20,8 +20,8 @@ use Rattle.dso_machine.specs.Next.{next_request}
 use Rattle.dso_server.specs.ServerStands.{ServerStands}
 use Rattle.dso_server.specs.declared.server.Server.{Server}
 use Rattle.dso_session.specs.Ends.{sent_count}
-use Rattle.dso_world.specs.declared.both.Both.{Both}
-use Rattle.dso_world.specs.declared.both.Both.TheVariants as both
+use Rattle.dso_base.specs.declared.both.Both.{Both}
+use Rattle.dso_base.specs.declared.both.Both.TheVariants as both
 use Rattle.dso_world.specs.declared.member.Member.{Member}
 use Rattle.dso_world.specs.declared.nodes.Nodes.{Nodes}
 use Rattle.dso_world.specs.declared.step.Step.{Step}

@@ -24,9 +24,10 @@ use Rattle.dso_legal.specs.Lawful.{IsLawful}
 use Rattle.dso_legal.specs.Slots.{is_open, slots}
 use Rattle.dso_machine.specs.Next.{next_request}
 use Rattle.dso_server.specs.Answering.{given_by}
+use Rattle.dso_server.specs.Lacking.{LacksNothing}
 use Rattle.dso_server.specs.ServerStands.{ServerStands}
 use Rattle.dso_server.specs.Threads.{RunsThreadsOf}
-use Rattle.dso_world.specs.declared.both.Both.{Both}
+use Rattle.dso_base.specs.declared.both.Both.{Both}
 use Rattle.dso_world.specs.declared.member.Member.{Member}
 use Rattle.dso_world.specs.declared.nodes.Nodes.{Nodes}
 use Rattle.dso_world.specs.declared.step.Step.{Step}
@@ -140,11 +141,12 @@ module _ (program : Program) (sound : IsSound program) where
 
   pub nodes_stand : (nodes : Nodes) → AreMembers program program.clients nodes.members.items
       → ((p : Settings) → p.shape ≡ program.code.shape → RunsThreadsOf program.code p → p.clients ≡ program.clients → ServerStands p nodes.server [])
-      → given_by nodes.server ≡ 0 → nodes.clock ≡ 0 → NodesStand program nodes []
-  nodes_stand nodes are serves given clock = record {
+      → ((p : Settings) → p.shape ≡ program.code.shape → LacksNothing p nodes.server []) → given_by nodes.server ≡ 0 → nodes.clock ≡ 0 → NodesStand program nodes []
+  nodes_stand nodes are serves lacks given clock = record {
     count = are.many;
     members = are.each;
     server = serves (settings_of program) refl (runs_threads program.code sound.code program.threads sound.threads) refl;
+    lacks = lacks (settings_of program) refl;
     given = omega (arith, given);
     clock = clock;
   }

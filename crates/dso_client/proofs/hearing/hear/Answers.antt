@@ -30,12 +30,12 @@ returns-in-Ids-clause-parts c = λ clock at h fits taken.
 pub returns-in-Object-clause-parts : goal.returns-in-Object-clause-parts
 returns-in-Object-clause-parts c =
     let old = c.args.kept.now in
-    let m = down.Object c.in-Object.body in
+    let m = down.Object c.get.result.now in
     let table = c.hear_object.new.table in
     on_ok c.hear_object.result ((clock : ℕ) (at : Point) → TableStands at old.table → TableStands (heard clock m at) table)
     ((clock : ℕ) (at : Point) → KeptStands at old → FitsDown at.settings at.client c.args.message.now at.entries → IdsAreTaken at.entries
     → PartsStand (heard clock c.args.message.now at) (record old { table = table }))
-    (λ is. λ clock at h fits taken. subst (λ m. PartsStand (heard clock m at) (record old { table = table })) (sym c.in-Object.is)
+    (λ is. λ clock at h fits taken. subst (λ m. PartsStand (heard clock m at) (record old { table = table })) (ap (λ body. down.Object body) c.get.ensures ∙ sym c.in-Object.is)
     (parts_heard clock at old h m tt table old.locking old.ledger (is clock at h.table) (locking_kept clock m at old.locking tt h.locking) (ledger_kept clock m at old.ledger tt h.ledger)))
     c.hear_object.ensures
 

@@ -1,6 +1,5 @@
 use Rattle.std.proofs.Common.{sym, ◌∙◌}
-use Rattle.dso_law.specs.ServerReadings.{counted}
-use Rattle.dso_law.specs.Store.{stored}
+use Rattle.dso_server.specs.Fitting.{graph_in}
 use Rattle.dso_server.proofs.lists.Telling.{no, some_there, there_some}
 use Rattle.dso_server.proofs.fits.fits_fault.Goals as goal
 
@@ -9,6 +8,6 @@ returns-then-holds c = λ p es s. no (λ fits. cc (sym c.if-holds.true ∙ (c.ho
 
 pub returns : goal.returns
 returns c = λ p es s. (
-  λ e. (some_there (stored p.shape c.args.object (counted es)) (sym (c.is_stored.ensures p es s) ∙ e), sym (c.holds.ensures p es s) ∙ c.if-holds.false),
-  λ fits. c.is_stored.ensures p es s ∙ there_some (stored p.shape c.args.object (counted es)) fits.0,
+  λ e. (some_there (graph_in c.args.server.now c.args.object) (sym c.is_stored.ensures ∙ e), sym (c.holds.ensures p es s) ∙ c.if-holds.false),
+  λ fits. c.is_stored.ensures ∙ there_some (graph_in c.args.server.now c.args.object) fits.0,
 )

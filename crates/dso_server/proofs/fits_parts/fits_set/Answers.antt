@@ -18,8 +18,8 @@ returns c = λ p es ps s.
     let leased : leased_to c.args.client c.guard_at.result (counted es) ≡ leased_to c.args.client (guard_of p.shape body.class set.object set.field) (counted es) = ap (λ l. leased_to c.args.client l (counted es)) (c.guard_at.ensures ∙ ap (λ shape. guard_of shape body.class set.object set.field) (sym ps)) in (
       λ e. (
         sym (c.holds.ensures p es s) ∙ c.if-not-holds.false,
-        subst (λ found. FitsStored p c.args.client set found (counted es)) (c.in-Some.ensures p es s)
+        subst (λ found. FitsStored p c.args.client set found (counted es)) c.in-Some.ensures
             ((c.fits_field.ensures.0 c.if-not-fits_field.false).0, sym leased ∙ (c.may_write.ensures p es s).0 e, subst (λ shape. Fits (kind_of shape body.class set.field) set.value) (sym ps) (c.fits_field.ensures.0 c.if-not-fits_field.false).1),
       ),
-      λ fits. (c.may_write.ensures p es s).1 (leased ∙ (subst (λ found. FitsStored p c.args.client set found (counted es)) (sym (c.in-Some.ensures p es s)) fits.1).1),
+      λ fits. (c.may_write.ensures p es s).1 (leased ∙ (subst (λ found. FitsStored p c.args.client set found (counted es)) (sym c.in-Some.ensures) fits.1).1),
     )

@@ -42,6 +42,6 @@ returns c =
     record { acts = c.in_ok-acted.ensures.acts; runs = c.in_ok-acted.ensures.runs; records = c.in_ok-acted.ensures.records; holds = c.in_ok-acted.ensures.holds } in
     made_ok c.say.result _ c.say.new.member _ (λ entry member. Steps program t.client (slot.Acts t) entry old member) c.say.ensures.entry c.say.ensures.after
     (subst (λ event. Steps program t.client (slot.Acts t) (client_entry t.client old.clock (record { heard = 0; input = input.Act t.index; event = event }) messages) old
-    (after_saying (record { heard = 0; input = input.Act t.index; event = event }) messages (record old { client = kept }))) (sym c.event_of.ensures)
+    (after_saying (record { heard = 0; input = input.Act t.index; event = event }) messages (record old { client = kept }))) (sym c.in_ok-event.ensures)
     (acted_steps program t old kept messages c.in_ok-acted.acted
     (moves program t old kept messages c.requires.es c.requires.journal c.requires.stands c.requires.opened c.in_ok-acted.acted says) says))

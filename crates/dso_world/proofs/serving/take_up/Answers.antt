@@ -5,7 +5,7 @@ use Rattle.dso_base.specs.declared.message.Up.{Up}
 use Rattle.dso_law.specs.Channels.{Letter}
 use Rattle.dso_legal.specs.Slots as slot
 use Rattle.dso_session.specs.declared.frame.Accepted.TheVariants as accepted
-use Rattle.dso_world.specs.declared.both.Both.TheVariants as both
+use Rattle.dso_base.specs.declared.both.Both.TheVariants as both
 use Rattle.dso_world.specs.declared.made.Made.{Made}
 use Rattle.dso_world.specs.declared.nodes.Nodes.{Nodes}
 use Rattle.dso_world.specs.NodeSteps.{FollowsAll, HasTold, Heard, StepsAll, course_heard, with_line}

@@ -1,26 +1,22 @@
 -- A client stands for its entries also with a rejoin of its connection, which changes nothing that it keeps.
-use Rattle.std.proofs.Common.{ℕ, refl, None, List, [], ◌∷◌}
+use Rattle.std.proofs.Common.{ℕ, refl, List, ◌∷◌}
 use Rattle.dso_base.specs.declared.journal.Entry.{Entry}
-use Rattle.dso_base.specs.declared.journal.Input.TheVariants.{Rejoin}
-use Rattle.dso_base.specs.declared.journal.Node.TheVariants.{Client}
 use Rattle.dso_law.specs.Settings.{Settings}
 use Rattle.dso_law.specs.ClientRun.{ClientRun}
 use Rattle.dso_machine.specs.declared.code.Code.{Code}
 use Rattle.dso_machine.specs.Next.{next_request}
 use Rattle.dso_client.specs.declared.kept.Kept.{Kept}
 use Rattle.dso_client.specs.ClientStands.{ClientStands, point}
+use Rattle.dso_client.specs.Entries.{rejoined_entry}
 use Rattle.dso_client.specs.KeptStands.{KeptStands}
 use Rattle.dso_client.specs.SeatStands.{SeatStands}
 use Rattle.dso_client.proofs.seats.AtStart.{all_as}
 use Rattle.dso_client.proofs.facts.All.{run_facts}
 
--- the client's entry in which it takes its connection up again
-abbrev pub client_rejoined : ℕ → ℕ → Entry
-client_rejoined clock c = record { clock = clock; node = Client c; input = Rejoin c; sent = []; event = None }
-
-module _ (code : Code) (p : Settings) (c clock : ℕ) (es : List Entry) (kept : Kept) (h : ClientStands code p c kept es) where
+module _ (code : Code) (p : Settings) (c clock : ℕ) (es : List Entry) (kept : Kept)
+    (h : ClientStands code p c kept es) where
   abbrev now : List Entry
-  now = client_rejoined clock c ∷ es
+  now = rejoined_entry clock c ∷ es
 
   goes_on : ClientRun p c (next_request code) now
   goes_on = (h.run, record { its = refl; event = refl; sends = refl })

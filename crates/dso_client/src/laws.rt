@@ -1,0 +1,7 @@
+//! Which entries of a client change nothing that it keeps. This is the contract of a function that does nothing.
+ghost use Rattle.dso_client.specs.Laws.{RejoinsChangeNothing};
+
+/// A client stands for its entries also with a rejoin of its connection.
+pub fn rejoins_change_nothing()
+    ensures { RejoinsChangeNothing }
+{}
