@@ -1,5 +1,33 @@
 //! The report of what a program did: its threads with what they printed, the count of unguarded reads, and the graph; and the text of
 //! a journal.
+//!
+//! A caller:
+//!
+//! ```rust
+//! ghost use Rattle.dso_base.specs.Following.{Listed};
+//! ghost use Rattle.dso_class.specs.Sound.{IsSound};
+//! ghost use Rattle.dso_machine.specs.Next.{next_request};
+//! ghost use Rattle.dso_plain.specs.History.{IsLegal};
+//!
+//! use dso_base::{Event, NoMemory};
+//! use dso_class::Program;
+//! use dso_plain::Plain;
+//! use dso_report::report;
+//! use std::alloc::Global;
+//!
+//! /// The report of the heap that a legal history of the program leads to.
+//! fn report_after(alloc: Global, program: &Program, history: &[Event]) -> Result<Vec<u8>, NoMemory>
+//!     requires sound { IsSound program.now }
+//!     requires legal { IsLegal (next_request program.now.code) (Listed (next_request program.now.code))
+//!         program.now.code.shape history.now }
+//! {
+//!     let mut plain = Plain::new(alloc, &program.code.shape)?;
+//!     for event in history {
+//!         plain.apply(alloc, &program.code.shape, event)?;
+//!     }
+//!     report(alloc, program, &plain)
+//! }
+//! ```
 #![tactic(auto)]
 
 mod counters;

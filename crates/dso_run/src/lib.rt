@@ -1,4 +1,27 @@
 //! The top call: from the words and the files to what is printed.
+//!
+//! A caller, over files and a sink in memory:
+//!
+//! ```rust
+//! use dso_base::NoMemory;
+//! use dso_io::{MemFiles, MemSink};
+//! use dso_run::{Done, dso_main};
+//! use std::alloc::Global;
+//!
+//! /// Runs a program under an empty configuration: how it ended, with its journal, and the sink that took the report.
+//! fn run(alloc: Global, program: &str) -> Result<(Done, MemSink), NoMemory> {
+//!     let mut files = MemFiles::new(alloc, &[])?;
+//!     files.add(alloc, "c", b"")?;
+//!     files.add(alloc, "p", program.as_bytes())?;
+//!     let mut words = Vec::new(alloc);
+//!     for word in "sim c p".split(' ') {
+//!         words.push(String::from_str(alloc, word)?)?;
+//!     }
+//!     let mut out = MemSink::new(alloc, 4096, 4096, &[])?;
+//!     let done = dso_main(alloc, words.as_slice(), &mut files, &mut out);
+//!     Ok((done, out))
+//! }
+//! ```
 #![tactic(auto)]
 
 mod exit;
