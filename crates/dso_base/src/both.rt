@@ -1,3 +1,4 @@
+//! A message of either direction.
 use crate::{Data, Down, Up};
 
 /// A message of either way: up to the server, or down to a client.

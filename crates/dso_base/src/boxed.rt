@@ -1,3 +1,4 @@
+//! A value in a box, which contracts see as the value.
 ghost use Rattle.std.specs.Prelude.{◌≡◌, IfErr, IfOk};
 
 use crate::{Data, Same};

@@ -1,3 +1,4 @@
+//! Copies that equal their sources, and exact tests of equality.
 ghost use Rattle.std.specs.Prelude.{◌≡◌, ◌↔◌, IsTrue};
 
 /// A type whose clones equal their sources.

@@ -1,3 +1,4 @@
+//! A list over one vector, which contracts see as the list.
 ghost use Rattle.std.specs.Prelude.{◌≡◌, ◌↔◌, [], ◌∷◌, ◌++◌, length, IsNone, IsTrue, OnOk, OnErr, IfErr, IfOk, slice_get};
 ghost use Rattle.std.specs.Option.{option_copied, option_to_list};
 

@@ -1,3 +1,4 @@
+//! Nodes, inputs, entries and the journal; what it weighs, by `specs/Weight.antt`.
 ghost use Rattle.std.specs.Prelude.{◌≡◌, ◌<◌, ◌^◌};
 ghost use Rattle.dso_base.specs.Weight.{weight_of, entry_weight_of, sent_values_of, txn_values_of};
 

@@ -1,3 +1,4 @@
+//! Threads, locks, levels and grades.
 use crate::{Data, Same};
 
 /// A lock of the cluster: the monitor of a shared object by its id, or a named lock by its number.

@@ -1,3 +1,4 @@
+//! Messages up and down, between a client and the server.
 use crate::{Body, Data, Items, Level, LockName, Same, Set, Shared, ThreadId, Txn};
 
 /// A message from a client to the server.

@@ -1,3 +1,4 @@
+//! The allocator's refusal, handed on.
 use std::alloc::{AllocError, AllocFailed};
 
 /// An allocation was refused.

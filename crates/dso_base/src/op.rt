@@ -1,3 +1,4 @@
+//! The operators of the method language.
 use crate::{Data, Same};
 
 /// An operator of the language. `Not` and `Neg` stand before their one operand, the others between two.

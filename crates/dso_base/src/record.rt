@@ -1,3 +1,4 @@
+//! Records of blocks: bodies, sets, notifications, endings.
 use crate::{ClassId, Data, Fault, Items, LockName, Same, ThreadId, Value};
 
 /// An object with its class and the values of all its fields or elements.

@@ -1,3 +1,4 @@
+//! Requests and replies, faults and events.
 use crate::{ClassId, Data, Level, LockName, Same, ThreadId, Value};
 
 /// The fault of a thread.

@@ -1,3 +1,4 @@
+//! The shape of a program's classes; the guard and the kind of a field, by `specs/Shape.antt`.
 ghost use Rattle.std.specs.Prelude.{◌≡◌, slice_get};
 ghost use Rattle.dso_base.specs.Shape.{fields_at, guard_of, kind_of};
 

@@ -1,3 +1,4 @@
+//! Values and kinds: which values a kind takes, by `specs/Value.antt`, and the opening ones, by `specs/Block.antt`.
 ghost use Rattle.std.specs.Prelude.{◌≡◌, ◌↔◌, IsTrue};
 ghost use Rattle.dso_base.specs.Block.{opening_value};
 ghost use Rattle.dso_base.specs.Value.{Fits};

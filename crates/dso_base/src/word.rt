@@ -1,3 +1,4 @@
+//! Words: names as their bytes.
 use crate::{Data, Items, Same};
 
 /// A word of a text as its bytes: a name, or the content of a text literal. Contracts see a list of bytes.

@@ -1,4 +1,4 @@
-//! What one event makes of the private objects and of the open block.
+//! What one event makes of the private objects and of the open block (`dso_base/specs/Block.antt`).
 ghost use Rattle.std.specs.Prelude.{◌≡◌, ◌∷◌, OnOk};
 ghost use Rattle.dso_base.specs.Block.{Work, put, noted, choice_of, opening_body, work_by, work_after};
 ghost use Rattle.dso_change.specs.Hands.{hand_in, hand_of, IsOnce};

@@ -1,4 +1,4 @@
-//! Bodies in place, and in tables by object.
+//! Bodies in place, and in tables by object (`specs/Hands.antt`).
 ghost use Rattle.std.specs.Prelude.{◌≡◌, ltb, length, slice_set};
 ghost use Rattle.std.specs.Ordering.{nat_cmp};
 ghost use Rattle.dso_lookup.specs.Maps.{look};

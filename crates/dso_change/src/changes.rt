@@ -1,4 +1,4 @@
-//! The changes of a record that are for one client.
+//! The changes of a record that are for one client (`specs/Hands.antt`).
 ghost use Rattle.std.specs.Prelude.{◌≡◌, [], ◌∷◌, ◌++◌, filter, IfOk, OnOk};
 ghost use Rattle.std.specs.Ordering.{nat_cmp};
 ghost use Rattle.std.specs.BTreeSet.{contains};

@@ -1,4 +1,4 @@
-//! The open block of a thread, as it is gathered.
+//! The open block of a thread, as it is gathered (`specs/Hands.antt`).
 ghost use Rattle.std.specs.Prelude.{◌≡◌, [], OnOk, IfOk};
 ghost use Rattle.std.specs.BTreeMap.{IsOrdered};
 ghost use Rattle.std.specs.Ordering.{nat_cmp};

@@ -1,4 +1,4 @@
-//! The record of a block, folded from its events.
+//! The record of a block, folded from its events (`dso_base/specs/Block.antt`).
 ghost use Rattle.std.specs.Prelude.{◌≡◌, IfOk};
 ghost use Rattle.std.specs.Ordering.{nat_cmp};
 ghost use Rattle.dso_base.specs.Block.{body_in, start, txn_of};

@@ -1,4 +1,4 @@
-//! A law of records. It is the contract of a function that does nothing.
+//! A law of records (`specs/Laws.antt`). It is the contract of a function that does nothing.
 ghost use Rattle.dso_change.specs.Laws.{RecordsAgree};
 
 /// The record that [`crate::fold`] makes of a block's events is the one that [`crate::Draft::close`] makes of the work that

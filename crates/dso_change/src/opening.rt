@@ -1,4 +1,4 @@
-//! New objects, as they begin.
+//! New objects, as they begin (`dso_base/specs/Block.antt`).
 ghost use Rattle.std.specs.Prelude.{◌≡◌, IfOk};
 ghost use Rattle.dso_base.specs.Block.{opening_from, opening_body};
 

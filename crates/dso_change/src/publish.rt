@@ -1,4 +1,5 @@
-//! Publishing: the private objects of a thread that are found from a value go to those published.
+//! Publishing: the private objects of a thread that are found from a value go to those published
+//! (`dso_base/specs/Block.antt`).
 ghost use Rattle.std.specs.Prelude.{ℕ, ◌≡◌, ◌↔◌, is_some, [], IsTrue, OnOk, IfOk};
 ghost use Rattle.std.specs.Ordering.{nat_cmp};
 ghost use Rattle.std.specs.BTreeMap.{keys, is_at};

@@ -1,4 +1,4 @@
-//! Tables of sets, by object and field.
+//! Tables of sets, by object and field (`dso_base/specs/Block.antt`).
 ghost use Rattle.std.specs.Prelude.{◌≡◌, OnOk, OnErr};
 ghost use Rattle.dso_base.specs.Block.{insert_set};
 ghost use Rattle.dso_change.specs.Hands.{sets_of};

@@ -1,4 +1,4 @@
-//! Bodies in numbers.
+//! Bodies in numbers (`specs/BodyWalk.antt`).
 
 ghost use Rattle.std.specs.Prelude.{◌≡◌, ◌≤◌, [], List, length, map, ◌++◌, OnOk};
 ghost use Rattle.std.specs.Borrow.{Bor};

@@ -1,4 +1,5 @@
-//! Classes and threads in numbers, in the order of the text. What they mention is judged on the way.
+//! Classes and threads in numbers, in the order of the text (`specs/TextWalk.antt`). What they mention is judged on
+//! the way.
 
 ghost use Rattle.std.specs.Prelude.{◌≡◌, ◌<◌, ◌≤◌, ℕ, [], ◌∷◌, ◌++◌, flat_map, length, IfErr, IfOk, OnOk};
 ghost use Rattle.dso_class.specs.Assignable.{ItemsAssign, MembersAssign};

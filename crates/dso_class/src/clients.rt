@@ -1,4 +1,4 @@
-//! The clients that threads are for.
+//! The clients that threads are for (`specs/NameFaults.antt`).
 
 ghost use Rattle.std.specs.Prelude.{◌≡◌, ◌↔◌, pos, IfSome, IsNone};
 ghost use Rattle.dso_class.specs.NameFaults.{IsClient};

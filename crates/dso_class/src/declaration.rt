@@ -1,4 +1,4 @@
-//! Names that are declared: each once, and not too many of a sort.
+//! Names that are declared: each once, and not too many of a sort (`specs/Heads.antt`).
 
 ghost use Rattle.std.specs.Prelude.{◌≡◌, ◌<◌, ◌≤◌, ◌∷◌, ◌++◌, [], Contains, IfErr, OnOk};
 ghost use Rattle.dso_entries.specs.BorrowedWords.{words_of};

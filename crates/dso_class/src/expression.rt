@@ -1,4 +1,4 @@
-//! Expressions in numbers.
+//! Expressions in numbers (`specs/Numbers.antt`).
 
 ghost use Rattle.std.specs.Prelude.{◌≡◌, List, map, length, None, IfSome, IfNone, ℕ, [], ◌∷◌, if◌then◌else◌};
 ghost use Rattle.std.specs.Borrow.{Bor};

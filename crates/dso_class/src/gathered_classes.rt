@@ -1,4 +1,4 @@
-//! What a program text declares.
+//! What a program text declares (`specs/Declarations.antt`).
 
 ghost use Rattle.std.specs.Prelude.{IfOk};
 ghost use Rattle.dso_class.specs.Declarations.{class_names};

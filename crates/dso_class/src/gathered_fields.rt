@@ -1,4 +1,4 @@
-//! The fields that a program text declares, in rows of equal names.
+//! The fields that a program text declares, in rows of equal names (`specs/Gathered.antt`).
 
 ghost use Rattle.std.specs.Prelude.{◌≡◌, ◌∷◌, ◌++◌, [], List, IfOk, OnOk, length};
 ghost use Rattle.dso_class.specs.Gathered.{all_fields, named_fields, AreFieldRows};

@@ -1,4 +1,4 @@
-//! The methods that a program text declares, in rows of equal names.
+//! The methods that a program text declares, in rows of equal names (`specs/Gathered.antt`).
 
 ghost use Rattle.std.specs.Prelude.{ℕ, ◌≡◌, ◌++◌, List, IfOk, OnOk, length};
 ghost use Rattle.dso_class.specs.Declarations.{MethodTree, all_methods, methods_of};

@@ -1,4 +1,4 @@
-//! The static fields that a program text declares, each with its number.
+//! The static fields that a program text declares, each with its number (`specs/Gathered.antt`).
 
 ghost use Rattle.std.specs.Prelude.{◌≡◌, ◌↔◌, ◌∷◌, ◌++◌, [], List, Contains, IfOk, IfSome, IsNone, OnOk};
 ghost use Rattle.dso_config.specs.declared.config.RootEntry.{RootEntry};

@@ -1,4 +1,4 @@
-//! What the definitions of the names say together: a text is one program or has one fault.
+//! What the definitions of the names say together: a text is one program or has one fault (`specs/OneProgram.antt`).
 
 ghost use Rattle.std.specs.Prelude.{◌≡◌, ℕ};
 ghost use Rattle.dso_config.specs.declared.config.Config.{Config};

@@ -1,4 +1,4 @@
-//! The named lock of a method and the guard of a field.
+//! The named lock of a method and the guard of a field (`specs/TextProgram.antt`).
 
 ghost use Rattle.std.specs.Prelude.{◌≡◌, ◌+◌, ◌<◌, ◌^◌, length};
 ghost use Rattle.dso_config.specs.InRange.{entries};

@@ -1,4 +1,5 @@
-//! The members of a class in numbers, in the order of the text. What they mention is judged on the way.
+//! The members of a class in numbers, in the order of the text (`specs/TextWalk.antt`). What they mention is judged on
+//! the way.
 
 ghost use Rattle.std.specs.Prelude.{◌≡◌, ◌≤◌, ℕ, List, [], ◌∷◌, flat_map, length, OnOk};
 ghost use Rattle.dso_class.specs.Assignable.{AreAssignable, MemberAssigns, MembersAssign};

@@ -1,4 +1,4 @@
-//! Rows of values, each at a key.
+//! Rows of values, each at a key (`specs/Multimap.antt`).
 
 ghost use Rattle.std.specs.Prelude.{◌≡◌, OnOk, if◌then◌else◌};
 ghost use Rattle.std.specs.BTreeMap.{is_at};

@@ -1,4 +1,4 @@
-//! The words behind the numbers of a program.
+//! The words behind the numbers of a program (`specs/Symbols.antt`).
 
 ghost use Rattle.std.specs.Prelude.{◌≡◌, ◌++◌, IfOk, OnOk, map};
 ghost use Rattle.dso_class.specs.Declarations.{all_statics, class_names, fields_of, statics_of};

@@ -1,4 +1,4 @@
-//! Numbers as far as 32 bits have them.
+//! Numbers as far as 32 bits have them (`specs/Gathered.antt`).
 
 ghost use Rattle.std.specs.Prelude.{◌≡◌, ◌+◌};
 ghost use Rattle.dso_class.specs.Gathered.{capped};

@@ -1,3 +1,4 @@
+//! A program that can run, and the words behind its numbers.
 use dso_base::{Items, ThreadId, Trigger, Word};
 use dso_config::RootEntry;
 use dso_machine::Code;

@@ -1,4 +1,4 @@
-//! The names of a whole program text resolved.
+//! The names of a whole program text resolved (`specs/TextProgram.antt`).
 
 ghost use Rattle.std.specs.Prelude.{◌≡◌, ◌+◌, ◌<◌, ◌≤◌, ◌^◌, ℕ, Err, IfOk, length};
 ghost use Rattle.dso_class.specs.Assignable.{ItemsAssign};

@@ -1,4 +1,4 @@
-//! The variables of a body.
+//! The variables of a body (`specs/BodyWalk.antt`).
 
 ghost use Rattle.std.specs.Prelude.{◌↔◌, Contains, IfSome, IsNone, IsTrue};
 ghost use Rattle.dso_entries.specs.BorrowedWords.{words_of};

@@ -1,4 +1,4 @@
-//! Statements in numbers.
+//! Statements in numbers (`specs/Numbers.antt`).
 
 ghost use Rattle.std.specs.Prelude.{◌≡◌, ℕ, List, map, [], ◌∷◌, ◌++◌, length, take, OnOk, ◌≤◌, Some};
 ghost use Rattle.std.specs.Borrow.{Bor};

@@ -1,4 +1,5 @@
-//! What a program text declares, in tables in which a name is found in the logarithm of their size.
+//! What a program text declares, in tables in which a name is found in the logarithm of their size
+//! (`specs/Tables.antt`).
 
 ghost use Rattle.std.specs.Prelude.{◌≡◌, ◌↔◌, [], Contains, IfOk, IfSome, IsNone, IsTrue, map};
 ghost use Rattle.dso_class.specs.Declarations.{all_methods, all_statics, class_names};

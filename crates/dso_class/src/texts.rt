@@ -1,4 +1,4 @@
-//! Text literals in numbers.
+//! Text literals in numbers (`specs/Numbers.antt`).
 
 ghost use Rattle.std.specs.Prelude.{◌≡◌, List, [], ◌∷◌};
 ghost use Rattle.dso_class.specs.declared.place.Place.{Place};

@@ -1,4 +1,4 @@
-//! Threads in numbers. What they mention is judged on the way.
+//! Threads in numbers (`specs/Heads.antt`). What they mention is judged on the way.
 
 ghost use Rattle.std.specs.Prelude.{◌≡◌, ◌∷◌, [], List, count_by, reverse};
 ghost use Rattle.dso_class.specs.Assignable.{AreAssignable};

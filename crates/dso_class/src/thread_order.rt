@@ -1,4 +1,4 @@
-//! The threads of a program in the order of their clients.
+//! The threads of a program in the order of their clients (`specs/TextProgram.antt`).
 
 ghost use Rattle.std.specs.Prelude.{◌≡◌, AllPairs, IfOk, IsPermutation, map};
 ghost use Rattle.dso_class.specs.TextProgram.{AreCounted, IsThreadBefore};

@@ -1,4 +1,4 @@
-//! Names where they are used, and text literals: each is a number, or breaks a rule.
+//! Names where they are used, and text literals: each is a number, or breaks a rule (`specs/Numbers.antt`).
 
 ghost use Rattle.std.specs.Prelude.{◌≡◌, List, [], ◌∷◌, if◌then◌else◌};
 ghost use Rattle.std.specs.Borrow.{Bor};

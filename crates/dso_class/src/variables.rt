@@ -1,4 +1,5 @@
-//! What the statements of a body declare: its parameters and variables, and the level at which it locks.
+//! What the statements of a body declare: its parameters and variables, and the level at which it locks
+//! (`specs/BodyWalk.antt`).
 
 ghost use Rattle.std.specs.Prelude.{◌≡◌, ◌↔◌, ◌<◌, ◌∷◌, [], length, Contains, IsTrue, List, OnOk, Some};
 ghost use Rattle.std.specs.Borrow.{Bor};

@@ -1,4 +1,4 @@
-//! An act of a thread whose request is answered.
+//! An act of a thread whose request is answered (`dso_law/specs/ClientStep.antt`).
 ghost use Rattle.std.specs.Prelude.{ℕ, ◌≡◌, ◌≢◌, ◌≤◌, ◌<◌, ◌+◌, ◌-◌, ◌^◌, suc, IfOk, None, OnOk, Option, Some, map, true};
 ghost use Rattle.std.specs.List.{list_any};
 ghost use Rattle.std.specs.Option.{option_and_then};

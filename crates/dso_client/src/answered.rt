@@ -1,4 +1,4 @@
-//! A request that is answered.
+//! A request that is answered (`dso_law/specs/Threads.antt`).
 ghost use Rattle.std.specs.Prelude.{◌≡◌};
 ghost use Rattle.dso_law.specs.Threads.{ending_by, exit_ending, hold_of, locks_of};
 ghost use Rattle.dso_plain.specs.After.{exited};

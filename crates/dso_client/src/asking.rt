@@ -1,4 +1,4 @@
-//! What a client asks for.
+//! What a client asks for (`dso_law/specs/RequestNeeds.antt`).
 ghost use Rattle.std.specs.Prelude.{ℕ, ◌≡◌, [], ◌∷◌, IfOk, OnOk, Some, true};
 ghost use Rattle.dso_lease.specs.Leases.{after_want, standing_in, with_standing};
 ghost use Rattle.dso_law.specs.RequestNeeds.{ask_for, unless_asked};

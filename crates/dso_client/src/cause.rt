@@ -1,4 +1,4 @@
-//! Why a thread can't go on.
+//! Why a thread can't go on (`specs/Turns.antt`).
 ghost use Rattle.std.specs.Prelude.{◌≡◌};
 ghost use Rattle.dso_client.specs.Turns.{cause_of};
 

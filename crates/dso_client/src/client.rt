@@ -1,4 +1,4 @@
-//! A client.
+//! A client (`specs/ClientStands.antt`).
 ghost use Rattle.std.specs.Prelude.{ℕ, ◌≡◌, ◌≤◌, ◌<◌, ◌+◌, ◌-◌, ◌^◌, suc, true, false, List, [], IfNone, IfOk, IfSome, OnErr, OnOk};
 ghost use Rattle.std.specs.Result.{is_err};
 ghost use Rattle.dso_base.specs.declared.journal.Entry.{Entry};

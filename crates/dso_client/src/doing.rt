@@ -1,4 +1,4 @@
-//! What a thread does next.
+//! What a thread does next (`specs/Acting.antt`).
 ghost use Rattle.std.specs.Prelude.{ℕ, ◌≡◌, ◌≤◌, ◌<◌, ◌+◌, ◌-◌, ◌^◌, suc, IfOk, OnOk, Some, None};
 ghost use Rattle.dso_machine.specs.Sound.{IsSound};
 ghost use Rattle.dso_client.specs.Acting.{Acts, HoldsAtMost, LeavesAlone, TakesTurn};

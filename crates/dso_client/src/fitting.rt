@@ -1,4 +1,4 @@
-//! Which messages of the server fit.
+//! Which messages of the server fit (`dso_law/specs/FitsDown.antt`).
 ghost use Rattle.std.specs.Prelude.{◌≡◌, ◌↔◌, IsTrue, Some};
 ghost use Rattle.std.specs.List.{AllByRecursion, list_any};
 ghost use Rattle.dso_base.specs.declared.value.ClassId.TheVariants.{Roots};

@@ -1,4 +1,4 @@
-//! The flush of an object.
+//! The flush of an object (`dso_table/specs/Victims.antt`).
 ghost use Rattle.std.specs.Prelude.{◌≡◌, IfNone, IfSome};
 ghost use Rattle.dso_table.specs.States.{flushed};
 ghost use Rattle.dso_table.specs.Tables.{state_in};

@@ -1,4 +1,4 @@
-//! A thread hears a reply and goes on to its next request.
+//! A thread hears a reply and goes on to its next request (`specs/GoingOn.antt`).
 ghost use Rattle.std.specs.List.{AllByRecursion};
 ghost use Rattle.std.specs.Prelude.{◌≡◌, IfOk};
 ghost use Rattle.dso_base.specs.Following.{IsListedFor};

@@ -1,4 +1,4 @@
-//! What a message that fits makes of what a client keeps.
+//! What a message that fits makes of what a client keeps (`specs/Hearing.antt`).
 ghost use Rattle.std.specs.Prelude.{ℕ, ◌≡◌, ◌≤◌, [], ◌∷◌, OnOk, map, true};
 ghost use Rattle.dso_base.specs.declared.message.Down.TheVariants as down;
 ghost use Rattle.dso_law.specs.FitsDown.{FitsAck, FitsDown, FitsIds};

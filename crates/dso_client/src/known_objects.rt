@@ -1,4 +1,5 @@
-//! What a thread knows of objects: of its own what it did, of others what its client's copies hold.
+//! What a thread knows of objects: of its own what it did, of others what its client's copies hold
+//! (`specs/KnownObjects.antt`).
 ghost use Rattle.std.specs.Prelude.{◌≡◌, ◌||◌, is_some, true};
 ghost use Rattle.dso_law.specs.Threads.{own};
 ghost use Rattle.dso_law.specs.Copies.{is_resident, class_held, copy_of};

@@ -1,4 +1,4 @@
-//! What a thread's next request lacks.
+//! What a thread's next request lacks (`dso_law/specs/RequestNeeds.antt`).
 ghost use Rattle.std.specs.Prelude.{◌≡◌, ◌||◌, eqb, is_some};
 ghost use Rattle.dso_base.specs.declared.lock.ThreadId.{ThreadId};
 ghost use Rattle.dso_base.specs.declared.request.Request.TheVariants as request;

@@ -1,4 +1,5 @@
-//! Which entries of a client change nothing that it keeps. This is the contract of a function that does nothing.
+//! Which entries of a client change nothing that it keeps (`specs/Laws.antt`). This is the contract of a function that
+//! does nothing.
 ghost use Rattle.dso_client.specs.Laws.{RejoinsChangeNothing};
 
 /// A client stands for its entries also with a rejoin of its connection.

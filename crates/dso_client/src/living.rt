@@ -1,4 +1,4 @@
-//! What an answered request makes of what a client keeps, before anything is sent.
+//! What an answered request makes of what a client keeps, before anything is sent (`specs/Living.antt`).
 ghost use Rattle.std.specs.Prelude.{ℕ, ◌≡◌, List, None, OnOk, is_some, [], ◌∷◌, ◌++◌};
 ghost use Rattle.std.specs.BTreeMap.{is_at};
 ghost use Rattle.dso_lookup.specs.Maps.{look, writes, written};

@@ -1,4 +1,4 @@
-//! What an answered request makes of the work that a thread has in hand.
+//! What an answered request makes of the work that a thread has in hand (`dso_base/specs/Block.antt`).
 ghost use Rattle.std.specs.Prelude.{◌≡◌, IfOk, OnOk};
 ghost use Rattle.dso_base.specs.Block.{Work, choice_of, put, start, work_by};
 ghost use Rattle.dso_change.specs.Hands.{IsOnce, hand_of, record_from};

@@ -1,4 +1,4 @@
-//! What an answered request makes of the holds, before anything is sent.
+//! What an answered request makes of the holds, before anything is sent (`specs/Living.antt`).
 ghost use Rattle.std.specs.Prelude.{ℕ, ◌≡◌, ◌≤◌, ◌<◌, ◌+◌, ◌-◌, ◌^◌, suc, None, Some, OnOk};
 ghost use Rattle.std.specs.Option.{option_map_or};
 ghost use Rattle.dso_base.specs.declared.lock.Level.TheVariants.{Write};

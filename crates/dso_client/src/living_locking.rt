@@ -1,4 +1,4 @@
-//! What an answered request makes of the locks, before anything is sent.
+//! What an answered request makes of the locks, before anything is sent (`specs/Living.antt`).
 ghost use Rattle.std.specs.Prelude.{ℕ, ◌≡◌, ◌≤◌, ◌-◌, ◌^◌, suc, OnOk};
 ghost use Rattle.dso_law.specs.Threads.{locks_of};
 ghost use Rattle.dso_client.specs.Entering.{count_owed};

@@ -1,4 +1,5 @@
-//! What an answered request makes of the objects, the ids and the work that its thread has in hand.
+//! What an answered request makes of the objects, the ids and the work that its thread has in hand
+//! (`specs/Committing.antt`, `dso_law/specs/UseOrder.antt`).
 ghost use Rattle.std.specs.Prelude.{ℕ, ◌≡◌, ◌≢◌, ◌||◌, ◌<◌, ◌^◌, suc, None, IfOk, OnOk};
 ghost use Rattle.dso_law.specs.ClientStep.{commits};
 ghost use Rattle.dso_law.specs.Records.{records};

@@ -1,4 +1,4 @@
-//! What an answered request makes of what is kept of a thread, before anything is sent.
+//! What an answered request makes of what is kept of a thread, before anything is sent (`specs/LivingSeats.antt`).
 ghost use Rattle.std.specs.Prelude.{ℕ, ◌≡◌, ◌≤◌};
 ghost use Rattle.dso_law.specs.ClientWaiters.{is_marked};
 ghost use Rattle.dso_law.specs.Threads.{last_seen, locks_by, locks_of, seen_by};

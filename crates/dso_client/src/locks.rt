@@ -1,4 +1,4 @@
-//! What a client's locks allow a thread that wants to enter one.
+//! What a client's locks allow a thread that wants to enter one (`dso_law/specs/Closing.antt`).
 ghost use Rattle.std.specs.Prelude.{◌≡◌, ◌&&◌, Some, find, map};
 ghost use Rattle.std.specs.List.{AllByRecursion, list_any};
 ghost use Rattle.dso_law.specs.Closing.{admits, is_read, awaits_write, wants_write};

@@ -1,4 +1,4 @@
-//! A client before its first entry.
+//! A client before its first entry (`specs/Openings.antt`).
 ghost use Rattle.std.specs.List.{AllByRecursion};
 ghost use Rattle.std.specs.Prelude.{◌≡◌, ◌≢◌, None, map, length, IfOk};
 ghost use Rattle.dso_machine.specs.declared.code.Code.{Code};

@@ -1,4 +1,4 @@
-//! How a client answers a request whose needs are met.
+//! How a client answers a request whose needs are met (`dso_law/specs/Replies.antt`).
 ghost use Rattle.std.specs.Prelude.{ℕ, ◌≡◌, ◌≢◌, ◌<◌, ◌^◌, ◌||◌, true, false, Some, None, IfSome, List, [], option_map, cond, is_some};
 ghost use Rattle.dso_base.specs.declared.request.Reply.TheVariants as reply;
 ghost use Rattle.dso_base.specs.declared.request.Request.TheVariants as request;

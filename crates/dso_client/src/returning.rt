@@ -1,4 +1,4 @@
-//! The leases that an act gives back, and the lock that it asks for again.
+//! The leases that an act gives back, and the lock that it asks for again (`dso_law/specs/Closing.antt`).
 ghost use Rattle.std.specs.Prelude.{ℕ, ◌≡◌, ◌≤◌, ◌&&◌, [], ◌∷◌, ◌++◌, IfOk, None, OnOk, Option, Some, false, insert, is_some, length, map, true};
 ghost use Rattle.std.specs.List.{AllByRecursion, list_any};
 ghost use Rattle.dso_base.specs.declared.lock.Level.TheVariants.{Write};

@@ -1,4 +1,4 @@
-//! A thread at its client.
+//! A thread at its client (`dso_law/specs/Threads.antt`).
 ghost use Rattle.std.specs.Prelude.{◌≡◌, ◌≤◌, ◌↔◌, IsTrue, count_by, is_some, length};
 ghost use Rattle.std.specs.Option.{option_copied};
 ghost use Rattle.dso_law.specs.Threads.{own, is_private, is_local, locks_of};

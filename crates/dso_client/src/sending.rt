@@ -1,4 +1,4 @@
-//! A record that is sent.
+//! A record that is sent (`specs/Committing.antt`).
 ghost use Rattle.std.specs.Prelude.{ℕ, ◌≡◌, ◌+◌, ◌<◌, ◌^◌, [], ◌∷◌, IfOk, OnOk, Option, Some, false, true};
 ghost use Rattle.dso_base.specs.declared.lock.ThreadId.{ThreadId};
 ghost use Rattle.dso_base.specs.declared.message.Up.TheVariants.{Commit};

@@ -1,4 +1,4 @@
-//! Which leases are to be given back.
+//! Which leases are to be given back (`dso_law/specs/Closing.antt`).
 ghost use Rattle.std.specs.Prelude.{ℕ, ◌≡◌, ◌&&◌, ◌||◌, [], ◌∷◌, IfOk, None, OnOk, Some, is_none, is_some, map, not, true};
 ghost use Rattle.std.specs.List.{list_any};
 ghost use Rattle.std.specs.BTreeMap.{is_at};

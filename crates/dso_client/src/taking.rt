@@ -1,4 +1,4 @@
-//! A message of the server, taken.
+//! A message of the server, taken (`specs/Taking.antt`).
 ghost use Rattle.std.specs.Prelude.{◌≡◌, IfOk, map};
 ghost use Rattle.dso_machine.specs.declared.code.Code.{Code};
 ghost use Rattle.dso_client.specs.Acting.{KeepsCounts};

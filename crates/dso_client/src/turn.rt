@@ -1,4 +1,4 @@
-//! What a thread's turn comes to.
+//! What a thread's turn comes to (`specs/Turns.antt`).
 ghost use Rattle.std.specs.List.{list_any};
 ghost use Rattle.std.specs.Prelude.{ℕ, ◌≡◌, Some, None, true, false};
 ghost use Rattle.dso_law.specs.ClientStep.{can_act, may_act};

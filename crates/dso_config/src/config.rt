@@ -1,3 +1,4 @@
+//! The configuration as a value; the empty one is that of `specs/Config.antt`.
 ghost use Rattle.std.specs.Prelude.{◌≡◌};
 ghost use Rattle.dso_config.specs.Config.{empty};
 ghost use Rattle.dso_config.specs.InRange.{IsInRange};

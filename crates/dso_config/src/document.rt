@@ -1,4 +1,4 @@
-//! A whole configuration.
+//! A whole configuration (`specs/Configuration.antt`).
 
 ghost use Rattle.std.specs.Prelude.{◌≤◌, IfOk, IfErr};
 ghost use Rattle.toml.specs.Data.{get_member};

@@ -1,4 +1,4 @@
-//! The values of an entry's keys, each of its kind and form.
+//! The values of an entry's keys, each of its kind and form (`specs/Keys.antt`).
 
 ghost use Rattle.std.specs.Prelude.{◌≡◌, IfOk, IfErr, codes};
 ghost use Rattle.toml.specs.View.{table_view};

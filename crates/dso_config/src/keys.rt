@@ -1,4 +1,4 @@
-//! What stands at the keys of a table.
+//! What stands at the keys of a table (`specs/Keys.antt`).
 
 ghost use Rattle.std.specs.Prelude.{◌≡◌, ◌≤◌, IfOk, IfErr, option_copied, option_map, option_and_then};
 ghost use Rattle.toml.specs.View.{table_view, view};

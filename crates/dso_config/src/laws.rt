@@ -1,4 +1,5 @@
-//! What the definitions of a configuration say together: a text has one configuration or one fault.
+//! What the definitions of a configuration say together: a text has one configuration or one fault
+//! (`specs/Configuration.antt`).
 
 ghost use Rattle.std.specs.Prelude.{◌≡◌, ◌↔◌, ◌<◌, ℕ, List, length, Some};
 ghost use Rattle.toml.specs.Data.{Members};

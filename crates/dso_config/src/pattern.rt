@@ -1,3 +1,4 @@
+//! Patterns of methods.
 use dso_base::Word;
 
 /// Which methods an entry is for: all, those of a class, or the one of this class and name.

@@ -1,4 +1,4 @@
-//! The rules of each section, as its reader has them.
+//! The rules of each section, as its reader has them (`specs/Entries.antt`).
 
 ghost use Rattle.std.specs.Prelude.{◌≡◌, IfOk, IfErr};
 ghost use Rattle.toml.specs.View.{table_view};

@@ -1,4 +1,4 @@
-//! A section of a configuration: its entries by number.
+//! A section of a configuration: its entries by number (`specs/Sections.antt`).
 
 ghost use Rattle.std.specs.Prelude.{◌≡◌, ◌≤◌, ◌<◌, [], map, length, Some, None, option_map, IsTrue, IfOk, IfErr};
 ghost use Rattle.toml.specs.View.{table_view, view};

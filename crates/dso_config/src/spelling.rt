@@ -1,4 +1,4 @@
-//! How names, patterns and levels are read.
+//! How names, patterns and levels are read (`specs/Spelling.antt`).
 
 ghost use Rattle.std.specs.Prelude.{◌≡◌, ◌≤◌, length, IfOk};
 ghost use Rattle.std.specs.List.{list_all, position_or_len, before_first, after_first};

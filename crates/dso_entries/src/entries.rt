@@ -1,4 +1,5 @@
-//! Which entries of a configuration are for a method or a field. Where several are, the last one counts.
+//! Which entries of a configuration are for a method or a field (`specs/ConfigEntries.antt`). Where several are, the
+//! last one counts.
 
 ghost use Rattle.std.specs.Prelude.{◌↔◌, Contains, IsTrue};
 ghost use Rattle.std.specs.Option.{option_copied};

@@ -1,4 +1,4 @@
-//! Things in a row, each with its number.
+//! Things in a row, each with its number (`specs/FirstPlace.antt`).
 
 ghost use Rattle.std.specs.Prelude.{◌≡◌, ◌↔◌, [], ◌∷◌, ◌++◌, None, IfOk, OnErr, IsTrue, if◌then◌else◌};
 ghost use Rattle.dso_entries.specs.FirstPlace.{place_of};

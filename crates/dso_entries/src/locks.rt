@@ -1,4 +1,4 @@
-//! The names of named locks.
+//! The names of named locks (`specs/ConfigEntries.antt`).
 
 ghost use Rattle.std.specs.Prelude.{◌+◌, ◌<◌, ◌^◌, ◌++◌, List, Contains, length, map, IfOk, OnOk};
 ghost use Rattle.dso_entries.specs.ConfigEntries.{lock_mentions};

@@ -1,4 +1,4 @@
-//! Words in a row, each with its number.
+//! Words in a row, each with its number (`specs/LockNumbers.antt`).
 
 ghost use Rattle.std.specs.Prelude.{◌≡◌, ◌↔◌, ◌∷◌, ◌++◌, [], List, Contains, IfOk, IfSome, IsNone, IsTrue, OnErr, OnOk};
 ghost use Rattle.dso_entries.specs.LastAndFirst.{AreFirsts};

@@ -1,4 +1,4 @@
-//! The two texts of the generated load.
+//! The two texts of the generated load (`specs/GeneratedLoad.antt`).
 ghost use Rattle.std.specs.Prelude.{◌≡◌, ◌++◌, IfOk, OnOk};
 ghost use Rattle.std.specs.String.{string_bytes};
 ghost use Rattle.dso_gen.specs.GeneratedLoad.{client_of, clients_of, load_config, load_program, thread_line, threads_of};

@@ -1,4 +1,4 @@
-//! The line that a run of the generated load writes.
+//! The line that a run of the generated load writes (`specs/LoadLine.antt`).
 ghost use Rattle.std.specs.Prelude.{◌≡◌, IfOk};
 ghost use Rattle.dso_gen.specs.LoadLine.{load_line};
 

@@ -1,4 +1,4 @@
-//! Entries and exits in the tables of holds.
+//! Entries and exits in the tables of holds (`specs/Holds.antt`).
 ghost use Rattle.std.specs.Prelude.{◌≡◌, ◌+◌, ◌^◌, ◌<◌, false, None, IfOk, OnErr, Some};
 ghost use Rattle.dso_hold.specs.declared.held.Enter.TheVariants.{Entered};
 ghost use Rattle.dso_hold.specs.Holds.{hold_in, with_hold, count_at, exited, is_lower, HoldsEnough, IsAnswer};

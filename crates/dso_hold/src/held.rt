@@ -1,4 +1,4 @@
-//! How a thread holds a lock, and what it is answered that enters one.
+//! How a thread holds a lock, and what it is answered that enters one (`specs/Holds.antt`).
 ghost use Rattle.std.specs.Prelude.{◌≡◌, ◌+◌, ◌^◌, ◌<◌, ◌≤◌, true};
 ghost use Rattle.dso_hold.specs.Holds.{is_lower, excludes, entered_again};
 

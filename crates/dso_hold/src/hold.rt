@@ -1,4 +1,4 @@
-//! The list of holds of one client.
+//! The list of holds of one client (`specs/Holds.antt`).
 ghost use Rattle.std.specs.Prelude.{◌≡◌, ◌↔◌, ◌+◌, ◌^◌, ◌<◌, ◌≤◌, None, Some, IsTrue, IfNone, IfSome, IfOk, OnErr};
 ghost use Rattle.dso_hold.specs.declared.held.Enter.TheVariants.{Entered};
 ghost use Rattle.dso_hold.specs.Holds.{hold_in, with_hold, level_at, count_at, exited, HoldsEnough, HoldsSome, IsFree, NoConflict, IsFirstInConflict, IsAnswer};

@@ -1,4 +1,4 @@
-//! The tables of holds: by lock, and by thread.
+//! The tables of holds: by lock, and by thread (`specs/Tables.antt`).
 ghost use Rattle.std.specs.Prelude.{◌≡◌, ◌↔◌, true, false, None, Some, is_some, IsTrue, IfNone, IfSome, OnOk, OnErr};
 ghost use Rattle.dso_base.specs.declared.lock.ThreadId.{ThreadId};
 ghost use Rattle.dso_base.specs.declared.lock.LockName.{LockName};

@@ -1,4 +1,4 @@
-//! That each id is handed out once. It is the contract of a function that does nothing.
+//! That each id is handed out once (`specs/Laws.antt`). It is the contract of a function that does nothing.
 ghost use Rattle.dso_ids.specs.Laws.{BatchesDiffer, TakenInTurn};
 
 /// An id stands in one batch alone, at one place of it; and a pool that was filled with a batch hands out its 256 ids in

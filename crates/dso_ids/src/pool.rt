@@ -1,4 +1,4 @@
-//! A client's ids for new objects.
+//! A client's ids for new objects (`specs/Ids.antt`).
 ghost use Rattle.std.specs.Prelude.{◌≡◌, ◌+◌, ◌^◌, ◌<◌};
 ghost use Rattle.dso_ids.specs.Ids.{IsEmpty, first_left, without_first, filled};
 

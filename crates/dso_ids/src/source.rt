@@ -1,4 +1,4 @@
-//! The server's batches of ids.
+//! The server's batches of ids (`specs/Ids.antt`).
 ghost use Rattle.std.specs.Prelude.{◌≡◌, ◌+◌, ◌^◌, ◌<◌};
 ghost use Rattle.dso_ids.specs.Ids.{first_of_batch};
 

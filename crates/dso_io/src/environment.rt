@@ -1,3 +1,4 @@
+//! The outside as traits: files and a sink, by `specs/Environment.antt`.
 ghost use Rattle.std.specs.Prelude.{◌≡◌, ◌≢◌, ℕ, ◌<◌, ◌≤◌, List, length, take, Option, OnOk, OnErr, IfOk, IsErrOf, Result};
 ghost use Rattle.dso_io.specs.Environment.{counted, Told, Holds, MayGive, replaced, Rose, taken_after};
 

@@ -1,3 +1,4 @@
+//! How often reads failed, by the file's name: the counts of `specs/Environment.antt`.
 ghost use Rattle.std.specs.Prelude.{◌≡◌, ◌≢◌, ℕ, ◌≤◌, List, [], ◌∷◌, Err, OnOk, OnErr};
 ghost use Rattle.dso_io.specs.Environment.{Rose, faults_of, noted_after};
 

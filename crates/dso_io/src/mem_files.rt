@@ -1,3 +1,4 @@
+//! Files in memory, by `specs/Memory.antt`.
 ghost use Rattle.std.specs.Prelude.{◌≡◌, ◌≢◌, ◌↔◌, ℕ, ◌≤◌, List, [], ◌∷◌, IfOk, IfErr, IsErrOf, OnOk, OnErr, MatchOption, Some, None, Err, nat_eq, take, true};
 ghost use Rattle.std.specs.List.{list_any};
 ghost use Rattle.dso_io.specs.Environment.{Missing, Holds, MayGive, Rose, faults_of, noted_after, replaced};

@@ -1,3 +1,4 @@
+//! A sink in memory, by `specs/Memory.antt`.
 ghost use Rattle.std.specs.Prelude.{◌≡◌, ◌<◌, ◌≤◌, [], length, take, Some, IfOk, OnOk, OnErr};
 ghost use Rattle.dso_io.specs.Environment.{Rose, taken_after};
 ghost use Rattle.dso_io.specs.Memory.{IsPut};

@@ -1,3 +1,4 @@
+//! The files of the system, as far as they tell their bytes: `specs/SystemFile.antt`.
 ghost use Rattle.std.specs.Prelude.{◌≡◌, ◌≢◌, ◌≤◌, ℕ, List, length, take, vec_len, [], IfOk, IfErr, IfSome, IsErrOf, OnOk, OnErr};
 ghost use Rattle.std.specs.Io.KnownBytes.{Appends};
 ghost use Rattle.dso_io.specs.Environment.{Rose, Untold, faults_after, faults_of, noted_after};

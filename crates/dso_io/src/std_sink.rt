@@ -1,3 +1,4 @@
+//! The standard output of the system, by `specs/Environment.antt`.
 ghost use Rattle.std.specs.Prelude.{◌≡◌, ◌<◌, ◌≤◌, length, take, ⊤, IfOk, OnOk, OnErr, MatchResult};
 ghost use Rattle.dso_io.specs.Environment.{Rose, counted, nothing_told, taken_after};
 

@@ -1,4 +1,4 @@
-//! A whole text, written to a sink.
+//! A whole text, written to a sink (`specs/Giving.antt`).
 
 ghost use Rattle.std.specs.Prelude.{◌≡◌, length, OnOk, OnErr};
 ghost use Rattle.dso_io.specs.Environment.{Rose, TookPrefix, taken_after};

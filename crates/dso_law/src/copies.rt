@@ -1,4 +1,4 @@
-//! A client's copy of a field, read off a journal.
+//! A client's copy of a field, read off a journal (`specs/Copies.antt`).
 ghost use Rattle.std.specs.Prelude.{◌≡◌};
 ghost use Rattle.dso_base.specs.declared.journal.Node.TheVariants.{Client};
 ghost use Rattle.dso_law.specs.Entries.{newest_first, entries_of, by_taken_down, one_sent_up};

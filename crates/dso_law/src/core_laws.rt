@@ -1,4 +1,5 @@
-//! Laws of what a client's core keeps of its entries. Each is the contract of a function that does nothing.
+//! Laws of what a client's core keeps of its entries (`specs/CoreLaws.antt`). Each is the contract of a function that
+//! does nothing.
 ghost use Rattle.dso_law.specs.CoreLaws.{BodiesAreHeld, MarksTell, LeasesTell, ClosingIsKept, IdsAreAhead, ResidentsAreCounted};
 
 /// Whatever the entries are: the body held of an object is there exactly while the object is resident, and tells its class

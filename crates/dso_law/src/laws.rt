@@ -1,4 +1,4 @@
-//! Laws of the readings of a journal. Each is the contract of a function that does nothing.
+//! Laws of the readings of a journal (`specs/Laws.antt`). Each is the contract of a function that does nothing.
 ghost use Rattle.dso_law.specs.Laws.{HoldsAfter, WorkGoesOn, ActsAreOpen, Timeouts, SameGraphFits};
 ghost use Rattle.dso_law.specs.Prefixes.{Prefixes};
 

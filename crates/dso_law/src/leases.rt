@@ -1,4 +1,4 @@
-//! A client's lease of a lock, read off a journal.
+//! A client's lease of a lock, read off a journal (`specs/Leases.antt`).
 ghost use Rattle.std.specs.Prelude.{◌≡◌};
 ghost use Rattle.dso_base.specs.declared.journal.Node.TheVariants.{Client};
 ghost use Rattle.dso_plain.specs.KeyTests.{is_lock};

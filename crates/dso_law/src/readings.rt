@@ -1,3 +1,4 @@
+//! How a lock stands with a client, and whose an entry is, by `specs/Entries.antt`.
 ghost use Rattle.std.specs.Prelude.{◌≡◌};
 ghost use Rattle.dso_base.specs.declared.journal.Node.TheVariants.{Client};
 ghost use Rattle.dso_law.specs.Entries.{is_node};

@@ -1,5 +1,5 @@
-//! Laws of runs of one client, whose entries each follow those before it by the client rule. Each is the contract of a
-//! function that does nothing.
+//! Laws of runs of one client, whose entries each follow those before it by the client rule (`specs/RunLaws.antt`).
+//! Each is the contract of a function that does nothing.
 ghost use Rattle.dso_law.specs.RunLaws.{OwnRequestsCount, NothingIsDue, WhoAwaitsStays, WhoAwaitsGoesOn, LeasesAreKept};
 ghost use Rattle.dso_law.specs.RunLaws.{RecordsAreNumbered, RecordsAreAckedInOrder, AskedIsAbsent, IdsRunOut, IdsAheadGoOn};
 

@@ -1,4 +1,4 @@
-//! What a shape says of the fields of any class, and whether a body fits it.
+//! What a shape says of the fields of any class, and whether a body fits it (`specs/FitsDown.antt`).
 ghost use Rattle.std.specs.Prelude.{◌≡◌, ◌↔◌, IsTrue, slice_get};
 ghost use Rattle.std.specs.Option.{option_copied};
 ghost use Rattle.dso_base.specs.Shape.{fields_at, guard_of, kind_of};

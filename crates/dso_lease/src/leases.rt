@@ -1,4 +1,4 @@
-//! The leases of one client.
+//! The leases of one client (`specs/Leases.antt`).
 ghost use Rattle.std.specs.Prelude.{◌≡◌, None, Some, is_some, true, OnOk, OnErr, IfOk};
 ghost use Rattle.std.specs.Bool.{OnTrue, OnFalse};
 ghost use Rattle.std.specs.Option.{option_map};

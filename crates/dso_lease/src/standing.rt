@@ -1,4 +1,4 @@
-//! How one lock stands with a client.
+//! How one lock stands with a client (`specs/Leases.antt`).
 ghost use Rattle.std.specs.Prelude.{◌≡◌};
 ghost use Rattle.dso_lease.specs.Leases.{suffices, admits, answer_of, wanted, entered, recalled, is_due};
 

@@ -1,4 +1,4 @@
-//! The history that a journal commits, by one pass over its entries.
+//! The history that a journal commits, by one pass over its entries (`specs/Committed.antt`).
 ghost use Rattle.std.specs.Prelude.{◌≡◌, ◌++◌, None, Some, OnOk, IfOk};
 ghost use Rattle.std.specs.BTreeMap.{is_at};
 ghost use Rattle.std.specs.Ordering.{nat_cmp};

@@ -1,5 +1,5 @@
-//! Laws of lawful journals, of any number of clients and threads and for every program. Each is the contract of a function
-//! that does nothing.
+//! Laws of lawful journals, of any number of clients and threads and for every program. Each is the contract of a
+//! function that does nothing.
 ghost use Rattle.dso_legal.specs.Tokens.{LeasesAreTokens, LeasesFit, LeasesAreCompatible};
 ghost use Rattle.dso_legal.specs.Numbered.{RecordsStayInOrder, RecordsFit};
 ghost use Rattle.dso_legal.specs.GivenOnce.{IdsAreGivenOnce, IdsAreOfBatches};

@@ -1,7 +1,8 @@
 //! Which journals are lawful, and the history that a journal commits.
 //!
-//! The definitions stand in `specs/`; [`examples`] shows them at journals of finished runs, and [`laws`]
-//! has what holds of every lawful journal, [`run_laws`] of one client's entries. [`committed`] computes the history that a journal commits.
+//! The definitions stand in `specs/`; [`examples`] shows them at journals of finished runs, and [`laws`] has what
+//! holds of every lawful journal, [`run_laws`] of one client's entries. [`committed`] computes the history that a
+//! journal commits.
 #![tactic(auto)]
 
 mod committing;

@@ -1,4 +1,4 @@
-//! Whom the server woke for the notifications of a block.
+//! Whom the server woke for the notifications of a block (`specs/Committed.antt`).
 ghost use Rattle.std.specs.Prelude.{◌≡◌, ◌++◌, OnOk, IfOk};
 ghost use Rattle.dso_base.specs.declared.record.Choice.TheVariants.{There, All};
 ghost use Rattle.dso_law.specs.Replies.{first_of_list};

@@ -1,4 +1,5 @@
-//! Laws of runs of one client beside those of dso_law. Each is the contract of a function that does nothing.
+//! Laws of runs of one client beside those of dso_law (`specs/Runs.antt`). Each is the contract of a function that
+//! does nothing.
 ghost use Rattle.dso_legal.specs.Runs.{ClientsRun, ChangesStayResident, IdsRiseInRuns, HandsAreOnce};
 ghost use Rattle.dso_legal.specs.FlushWords.{InHandIsAbsent, FlushWordsAgree};
 

@@ -1,5 +1,5 @@
 //! What the entries of a client tell of its threads, kept from entry to entry: how often each lock is held, the open
-//! block, and the blocks that were ended.
+//! block, and the blocks that were ended (`specs/JournalPassTables.antt`).
 ghost use Rattle.std.specs.Prelude.{◌≡◌, ◌<◌, ◌-◌, ◌^◌, ◌++◌, Some, None, OnOk, IfOk};
 ghost use Rattle.std.specs.Option.{unwrap_or, option_to_list};
 ghost use Rattle.std.specs.BTreeMap.{is_at};

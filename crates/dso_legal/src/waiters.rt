@@ -1,4 +1,5 @@
-//! What the entries of the server tell of its clients and its lists of waiters, kept from entry to entry.
+//! What the entries of the server tell of its clients and its lists of waiters, kept from entry to entry
+//! (`specs/JournalPassTables.antt`).
 ghost use Rattle.std.specs.Prelude.{◌≡◌, ◌++◌, cond, not, eqb, filter, true, None, OnOk, IfOk};
 ghost use Rattle.std.specs.BTreeMap.{is_at};
 ghost use Rattle.dso_lookup.specs.Maps.{written, writes, look};

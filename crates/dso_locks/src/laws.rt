@@ -1,4 +1,5 @@
-//! That the table's states are those of the server rule. It is the contract of a function that does nothing.
+//! That the table's states are those of the server rule (`specs/Laws.antt`). It is the contract of a function that
+//! does nothing.
 ghost use Rattle.dso_locks.specs.Laws.{BeginsUnused, FollowsEntries};
 
 /// The readings of the server rule begin as a new table does; and with one more entry, they change as a lock of the table

@@ -1,4 +1,4 @@
-//! One lock: its leases, its recalls and its requests.
+//! One lock: its leases, its recalls and its requests (`dso_law/specs/Granting.antt`).
 ghost use Rattle.std.specs.Prelude.{◌≡◌, ◌++◌, [], ◌∷◌, not, filter, Some, OnOk, IfOk};
 ghost use Rattle.std.specs.BTreeMap.{IsOrdered};
 ghost use Rattle.std.specs.BTreeSet.{contains};

@@ -1,4 +1,4 @@
-//! The server's table of locks.
+//! The server's table of locks (`specs/Locks.antt`).
 ghost use Rattle.std.specs.Prelude.{◌≡◌, false, [], flat_map, OnOk, IfOk};
 ghost use Rattle.dso_law.specs.Leases.{insert_lock};
 ghost use Rattle.dso_law.specs.Settings.{Settings};

@@ -1,4 +1,4 @@
-//! The requests of one lock.
+//! The requests of one lock (`specs/Requests.antt`).
 ghost use Rattle.std.specs.Prelude.{◌≡◌, eqb, false, None, Some, IfNone, IfSome, [], ◌∷◌, ◌++◌, OnOk, OnErr};
 ghost use Rattle.std.specs.List.{list_any};
 ghost use Rattle.dso_law.specs.Granting.{without_client};

@@ -1,4 +1,4 @@
-//! The locks by place, and the place of each lock.
+//! The locks by place, and the place of each lock (`specs/Tables.antt`).
 ghost use Rattle.slab.specs.Slab as slab;
 ghost use Rattle.std.specs.Prelude.{◌≡◌, false, [], Some, OnOk, IfOk};
 ghost use Rattle.std.specs.BTreeMap.{keys};

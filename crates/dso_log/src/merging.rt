@@ -1,4 +1,4 @@
-//! The journal that the nodes' entries make together.
+//! The journal that the nodes' entries make together (`specs/Merged.antt`).
 ghost use Rattle.std.specs.Prelude.{◌≡◌, ◌++◌, IfOk};
 ghost use Rattle.std.specs.List.Sorted.{IsPermutation};
 ghost use Rattle.dso_log.specs.Merged.{AllKeep, AreInOrder, AreOfDifferentNodes, IsTheMerged, entries_of_all, node_number};

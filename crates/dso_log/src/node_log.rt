@@ -1,4 +1,4 @@
-//! The entries of one node.
+//! The entries of one node (`specs/Logs.antt`).
 ghost use Rattle.std.specs.Prelude.{◌<◌, ◌^◌, ◌≡◌, [], OnErr, OnOk, true, false};
 ghost use Rattle.dso_log.specs.Logs.{LogKeeps, entry_of, last_clock, next_clock, with_entry};
 

@@ -1,4 +1,4 @@
-//! Changes of maps of lists, which keep the newest value last.
+//! Changes of maps of lists, which keep the newest value last (`specs/Lists.antt`).
 ghost use Rattle.std.specs.Prelude.{◌≡◌, None, Some, OnOk, reverse, ◌∷◌};
 ghost use Rattle.std.specs.BTreeMap.{is_at};
 ghost use Rattle.dso_lookup.specs.Maps.{look, writes, written};

@@ -1,4 +1,4 @@
-//! Changes of ordered maps, seen as functions from keys.
+//! Changes of ordered maps, seen as functions from keys (`specs/Maps.antt`).
 ghost use Rattle.std.specs.Prelude.{◌≡◌, None, Some, OnOk};
 ghost use Rattle.std.specs.BTreeMap.{is_at};
 ghost use Rattle.dso_lookup.specs.Maps.{look, writes, written};

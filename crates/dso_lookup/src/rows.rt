@@ -1,4 +1,4 @@
-//! Changes and look-ups of maps of rows, seen as functions from pairs of keys.
+//! Changes and look-ups of maps of rows, seen as functions from pairs of keys (`specs/Rows.antt`).
 ghost use Rattle.std.specs.Prelude.{◌≡◌, ◌≢◌, ◌↔◌, None, Some, OnOk, IfOk, IsTrue, MatchOption};
 ghost use Rattle.std.specs.Option.{option_copied};
 ghost use Rattle.std.specs.BTreeMap.{is_at};

@@ -1,4 +1,4 @@
-//! Changes of maps of rows in place, seen as functions from pairs of keys. No row is left empty.
+//! Changes of maps of rows in place, seen as functions from pairs of keys (`specs/Rows.antt`). No row is left empty.
 ghost use Rattle.std.specs.Prelude.{◌≡◌, true, is_some, None, Some, OnOk, OnErr};
 ghost use Rattle.dso_lookup.specs.Maps.{writes, written};
 ghost use Rattle.dso_lookup.specs.Rows.{look_in, is_at_pair};

@@ -1,4 +1,4 @@
-//! The search for what is found from a value through the private objects of a thread.
+//! The search for what is found from a value through the private objects of a thread (`specs/Search.antt`).
 ghost use Rattle.std.specs.Prelude.{ℕ, ◌≡◌, ◌↔◌, Bool, List, true, IfOk, OnOk, IsTrue};
 ghost use Rattle.std.specs.BTreeSet.{contains};
 ghost use Rattle.std.specs.Ordering.{nat_cmp};

@@ -1,4 +1,4 @@
-//! A call of a map that is under way.
+//! A call of a map that is under way (`specs/Calls.antt`).
 ghost use Rattle.std.specs.Prelude.{◌≡◌, IsTrue};
 ghost use Rattle.dso_map.specs.Calls.{accepts, after_reply, ended_with, request_of, rest_of};
 ghost use Rattle.dso_map.specs.Talk as talk;

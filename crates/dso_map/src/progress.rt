@@ -1,4 +1,4 @@
-//! Which stage follows a reply.
+//! Which stage follows a reply (`specs/Talk.antt`).
 ghost use Rattle.std.specs.Prelude.{◌≡◌, IsTrue};
 ghost use Rattle.dso_base.specs.declared.request.Reply.TheVariants.{Done, Val};
 ghost use Rattle.dso_base.specs.declared.value.Value.TheVariants as value;

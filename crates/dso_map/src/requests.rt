@@ -1,4 +1,4 @@
-//! What a call asks at a stage, and which replies it takes there.
+//! What a call asks at a stage, and which replies it takes there (`specs/Calls.antt`).
 ghost use Rattle.std.specs.Prelude.{◌≡◌};
 ghost use Rattle.dso_base.specs.declared.request.Reply.TheVariants.{Done, Val};
 ghost use Rattle.dso_map.specs.Calls.{accepts, ended_with, request_of};

@@ -1,4 +1,4 @@
-//! The stage that a call of a map has come to, and how a path goes on and ends.
+//! The stage that a call of a map has come to, and how a path goes on and ends (`specs/Talk.antt`).
 ghost use Rattle.std.specs.Prelude.{◌≡◌};
 ghost use Rattle.dso_map.specs.Stages.{left_behind, talk_at};
 ghost use Rattle.dso_map.specs.Talk as talk;

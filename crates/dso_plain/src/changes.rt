@@ -1,4 +1,4 @@
-//! What a request changes in the tables, of monitors and waits.
+//! What a request changes in the tables, of monitors and waits (`specs/After.antt`).
 ghost use Rattle.std.specs.Prelude.{◌≡◌, ◌≢◌, true, false, None, Some, OnOk, IfOk};
 ghost use Rattle.std.specs.Option.{option_map};
 ghost use Rattle.dso_plain.specs.After as After;

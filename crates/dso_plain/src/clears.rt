@@ -1,4 +1,4 @@
-//! The loss of a client in the tables: its threads leave the monitors and the waits.
+//! The loss of a client in the tables: its threads leave the monitors and the waits (`specs/After.antt`).
 ghost use Rattle.std.specs.Prelude.{◌≡◌, ◌&&◌, eqb, OnOk};
 ghost use Rattle.dso_base.specs.Following.{is_thread};
 ghost use Rattle.dso_plain.specs.After as After;

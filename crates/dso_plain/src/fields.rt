@@ -1,4 +1,4 @@
-//! The fields of an object in the tables: what they begin as, and their pasts.
+//! The fields of an object in the tables: what they begin as, and their pasts (`specs/Tables.antt`).
 ghost use Rattle.std.specs.Prelude.{◌≡◌, Some, OnOk, IfOk, [], ◌∷◌};
 ghost use Rattle.dso_base.specs.Block.{opening_value};
 ghost use Rattle.dso_base.specs.Shape.{kind_of};

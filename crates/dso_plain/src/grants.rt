@@ -1,4 +1,5 @@
-//! When a reply is possible for a request, of monitors and waits, and when an event is possible.
+//! When a reply is possible for a request, of monitors and waits, and when an event is possible
+//! (`specs/Possible.antt`).
 ghost use Rattle.std.specs.Prelude.{◌≡◌, ◌≢◌, ◌↔◌, ◌⊎◌, IsTrue, None};
 ghost use Rattle.dso_plain.specs.Possible.{IsPrivateMonitor, IsClusterLock, IsUpgrade, NoConflict, AnswersEnter, AnswersExit, AnswersMonitor, AnswersTick, AnswersTimeout, AnswersResume, AnswersDone, AnswersEnd, Answers, FindsMark, Wakes, IsAwakeFor, IsPossible, May};
 ghost use Rattle.dso_plain.specs.TableInvariants.{IndexesAgree, TablesInvariant};

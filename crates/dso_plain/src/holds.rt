@@ -1,4 +1,4 @@
-//! Changes of holds and waits in the tables, which stand by lock and are listed by thread.
+//! Changes of holds and waits in the tables, which stand by lock and are listed by thread (`specs/Changes.antt`).
 ghost use Rattle.std.specs.Prelude.{◌≡◌, ◌≢◌, true, false, None, Some, OnOk, IfOk};
 ghost use Rattle.dso_plain.specs.TableInvariants.{IndexesAgree};
 ghost use Rattle.dso_lookup.specs.Rows.{look_in};

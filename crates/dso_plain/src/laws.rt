@@ -1,4 +1,4 @@
-//! The laws of one heap with plain monitors. Each is the contract of a function that does nothing.
+//! The laws of one heap with plain monitors (`specs/Laws.antt`). Each is the contract of a function that does nothing.
 ghost use Rattle.dso_plain.specs.Loss.{Loss, MarksAfterLoss, WaitersLeft, ChoiceAfterLoss};
 ghost use Rattle.dso_lookup.specs.Reaching.{ReachTells};
 ghost use Rattle.dso_plain.specs.Publishing.{PublishedIsReached};

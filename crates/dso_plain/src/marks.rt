@@ -1,4 +1,4 @@
-//! Marks of waiting threads in the tables.
+//! Marks of waiting threads in the tables (`specs/After.antt`).
 ghost use Rattle.std.specs.Prelude.{◌≡◌, ◌≢◌, None, OnOk};
 ghost use Rattle.dso_plain.specs.After as After;
 ghost use Rattle.dso_plain.specs.TableInvariants.{IndexesAgree};

@@ -1,4 +1,4 @@
-//! The plain state, as a value that a program computes.
+//! The plain state, as a value that a program computes (`specs/State.antt`).
 ghost use Rattle.std.specs.Prelude.{◌≡◌, ◌↔◌, true, false, None, IfOk, IsTrue, length, reverse, slice_get};
 ghost use Rattle.dso_plain.specs.After.{after};
 ghost use Rattle.dso_plain.specs.Possible.{May};

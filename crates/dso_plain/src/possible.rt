@@ -1,4 +1,4 @@
-//! When a reply is possible for a request, of objects and fields.
+//! When a reply is possible for a request, of objects and fields (`specs/Possible.antt`).
 ghost use Rattle.std.specs.Prelude.{◌≡◌, ◌↔◌, ◌⊎◌, true, is_none, Some, IsTrue};
 ghost use Rattle.dso_base.specs.declared.request.Reply.TheVariants as Reply;
 ghost use Rattle.std.specs.Ordering.{nat_cmp};

@@ -1,4 +1,4 @@
-//! Publishing: what is found from a value through a thread's private objects becomes shared.
+//! Publishing: what is found from a value through a thread's private objects becomes shared (`specs/After.antt`).
 ghost use Rattle.std.specs.Prelude.{ℕ, ◌≡◌, ◌||◌, OnOk, IfOk, eqb};
 ghost use Rattle.std.specs.BTreeMap.{keys};
 ghost use Rattle.std.specs.Ordering.{nat_cmp};

@@ -1,4 +1,4 @@
-//! What the tables tell of threads, locks and objects. Nothing here takes memory.
+//! What the tables tell of threads, locks and objects (`specs/Tables.antt`). Nothing here takes memory.
 ghost use Rattle.std.specs.Prelude.{◌≡◌, ◌≢◌, ◌↔◌, true, false, None, Some, IsTrue, MatchOption, length, reverse, slice_get};
 ghost use Rattle.std.specs.Option.{option_map, option_copied};
 ghost use Rattle.std.specs.Ordering.{nat_cmp};

@@ -1,4 +1,4 @@
-//! One step in the tables.
+//! One step in the tables (`specs/After.antt`).
 ghost use Rattle.std.specs.Prelude.{◌≡◌, true, false, Some, OnOk, IfOk};
 ghost use Rattle.dso_base.specs.declared.lock.ThreadId.{ThreadId};
 ghost use Rattle.dso_base.specs.declared.request.Reply.TheVariants as Reply;

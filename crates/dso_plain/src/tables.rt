@@ -1,4 +1,4 @@
-//! The tables that keep one heap with plain monitors.
+//! The tables that keep one heap with plain monitors (`specs/Tables.antt`).
 ghost use Rattle.dso_plain.specs.Tables.{IsBlank};
 
 use crate::count::Count;

@@ -1,4 +1,4 @@
-//! What a request changes in the tables, of objects, threads and output.
+//! What a request changes in the tables, of objects, threads and output (`specs/After.antt`).
 ghost use Rattle.std.specs.Prelude.{suc, ◌-◌, ◌≡◌, length, ◌∷◌, Some, None, true, false, OnOk};
 ghost use Rattle.dso_base.specs.Following.{is_thread};
 ghost use Rattle.dso_plain.specs.After as After;

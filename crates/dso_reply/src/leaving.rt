@@ -1,4 +1,4 @@
-//! What a thread does that left a lock.
+//! What a thread does that left a lock (`specs/Replies.antt`).
 
 ghost use Rattle.std.specs.Prelude.{◌≡◌};
 ghost use Rattle.dso_reply.specs.Replies as replies;

@@ -1,4 +1,4 @@
-//! Whether an assignment binds a root.
+//! Whether an assignment binds a root (`specs/Replies.antt`).
 
 ghost use Rattle.std.specs.Prelude.{◌≡◌};
 ghost use Rattle.dso_reply.specs.Replies as replies;

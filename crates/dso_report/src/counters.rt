@@ -1,4 +1,4 @@
-//! What the counters of the graph come to.
+//! What the counters of the graph come to (`specs/CounterTotal.antt`).
 ghost use Rattle.std.specs.Prelude.{◌≡◌, IfOk, bytes_eq, codes};
 ghost use Rattle.std.specs.List.{position};
 ghost use Rattle.dso_plain.specs.Tables.{state_of};

@@ -1,4 +1,4 @@
-//! How a journal's text writes events: requests and replies.
+//! How a journal's text writes events: requests and replies (`specs/JournalText.antt`).
 ghost use Rattle.std.specs.Prelude.{◌≡◌, ◌++◌, OnOk};
 ghost use Rattle.dso_report.specs.JournalText.{request_words, reply_words, woken_words, event_words};
 

@@ -1,4 +1,4 @@
-//! The report's lines of roots and objects.
+//! The report's lines of roots and objects (`specs/Report.antt`).
 ghost use Rattle.std.specs.Prelude.{◌≡◌, Some, None, slice_get, OnOk, IsErrOf};
 ghost use Rattle.std.specs.Fmt.{◌++?◌};
 ghost use Rattle.std.specs.Option.{option_map};

@@ -1,4 +1,4 @@
-//! The text of a journal.
+//! The text of a journal (`specs/JournalText.antt`).
 ghost use Rattle.std.specs.Prelude.{◌≡◌, ◌++◌, IfOk, OnOk};
 ghost use Rattle.dso_report.specs.JournalText.{node_number, input_words, sent_words, event_part, entry_head, entry_line, journal_text};
 

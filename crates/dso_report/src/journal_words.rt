@@ -1,4 +1,5 @@
-//! The words of a journal's text: nodes, threads, locks, levels, classes, values and faults.
+//! The words of a journal's text: nodes, threads, locks, levels, classes, values and faults
+//! (`specs/JournalWords.antt`).
 ghost use Rattle.std.specs.Prelude.{◌≡◌};
 ghost use Rattle.dso_report.specs.JournalWords.{node_word, thread_word, lock_word, level_word, class_word, value_word, fault_number, end_number};
 

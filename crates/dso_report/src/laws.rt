@@ -1,4 +1,4 @@
-//! The laws of reports. Each is the contract of a function that does nothing.
+//! The laws of reports (`specs/Laws.antt`). Each is the contract of a function that does nothing.
 ghost use Rattle.dso_report.specs.Laws.{OneReport, StatesAreWhole, OrdersAreClosed};
 ghost use Rattle.dso_report.specs.LeftOut.{ReportsLeaveNothingOut};
 ghost use Rattle.dso_report.specs.Told.{ThreadsNameWhatTheyWereTold};

@@ -1,5 +1,5 @@
-//! The report of what a program did: its threads with what they printed, the count of unguarded reads, and the graph; and the text of
-//! a journal.
+//! The report of what a program did: its threads with what they printed, the count of unguarded reads, and the graph;
+//! and the text of a journal.
 //!
 //! A caller:
 //!

@@ -1,4 +1,4 @@
-//! How a journal's text writes messages: bodies, sets, notifications, endings, records.
+//! How a journal's text writes messages: bodies, sets, notifications, endings, records (`specs/JournalText.antt`).
 ghost use Rattle.dso_report.specs.JournalText.{body_words, set_words, choice_words, note_words, ending_words, record_words, up_words, down_words};
 
 use crate::journal_words::end_number;

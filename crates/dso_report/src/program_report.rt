@@ -1,4 +1,4 @@
-//! The report of a program's run.
+//! The report of a program's run (`specs/Report.antt`).
 ghost use Rattle.std.specs.Prelude.{IfOk};
 ghost use Rattle.dso_class.specs.Sound.{IsSound};
 ghost use Rattle.dso_plain.specs.Tables.{state_of};

@@ -1,4 +1,4 @@
-//! The report's lines of threads and of what they printed.
+//! The report's lines of threads and of what they printed (`specs/Report.antt`).
 ghost use Rattle.std.specs.Prelude.{◌≡◌, ◌++◌, Some, None, reverse, IfOk, OnOk, IsErrOf};
 ghost use Rattle.std.specs.Fmt.{◌++?◌};
 ghost use Rattle.dso_plain.specs.Tables.{state_of};

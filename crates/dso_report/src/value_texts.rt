@@ -1,4 +1,4 @@
-//! How a report writes values.
+//! How a report writes values (`specs/Texts.antt`).
 ghost use Rattle.std.specs.Prelude.{◌≡◌, ◌++◌, Some, None, slice_get, IfOk, OnOk, IsErrOf};
 ghost use Rattle.std.specs.Fmt.{decimal, signed_decimal, ◌++?◌};
 ghost use Rattle.dso_report.specs.declared.unwritten.Unwritten.TheVariants as unwritten;

@@ -1,4 +1,4 @@
-//! How a journal's text is put together: words, one behind the other.
+//! How a journal's text is put together: words, one behind the other (`specs/JournalWords.antt`).
 ghost use Rattle.std.specs.Prelude.{◌≡◌, ◌++◌, ℕ, List, OnOk, flat_map};
 ghost use Rattle.std.specs.Fmt.{decimal};
 ghost use Rattle.dso_report.specs.JournalWords.{list_words};

@@ -1,4 +1,4 @@
-//! The status that the process ends with.
+//! The status that the process ends with (`specs/Exit.antt`).
 ghost use Rattle.std.specs.Prelude.{◌≢◌, IfErr, map};
 ghost use Rattle.std.specs.String.{string_bytes};
 ghost use Rattle.std.specs.IoError.{error_kind};

@@ -1,4 +1,4 @@
-//! Whether a run that finished has a kept thread that ended by a fault.
+//! Whether a run that finished has a kept thread that ended by a fault (`specs/RunEnds.antt`).
 ghost use Rattle.std.specs.Prelude.{◌≡◌, reverse};
 ghost use Rattle.dso_base.specs.Following.{is_thread};
 ghost use Rattle.dso_law.specs.Entries.{entries_of};

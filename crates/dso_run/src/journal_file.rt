@@ -1,4 +1,4 @@
-//! The file of a run's journal.
+//! The file of a run's journal (`specs/Files.antt`).
 ghost use Rattle.std.specs.Prelude.{◌≡◌, ℕ, List, Some, OnOk, OnErr, IsErrOf};
 ghost use Rattle.dso_io.specs.Environment.{Rose};
 ghost use Rattle.dso_report.specs.JournalText.{journal_text};

@@ -1,4 +1,4 @@
-//! What a command's run goes by: the files or the generated load, and the judgement of them.
+//! What a command's run goes by: the files or the generated load, and the judgement of them (`specs/Headline.antt`).
 ghost use Rattle.std.specs.Prelude.{◌≡◌, ◌⊎◌, IfOk};
 ghost use Rattle.dso_run.specs.Files.{AreAsBefore};
 ghost use Rattle.dso_run.specs.Headline.{FilesGive, LoadGives, RoseOf};

@@ -1,3 +1,4 @@
+//! The top call, and what each status means: `specs/Headline.antt`.
 ghost use Rattle.std.specs.Prelude.{◌≡◌, ◌≢◌, ℕ, List, [], Some, map, IfOk};
 ghost use Rattle.std.specs.String.{string_bytes};
 ghost use Rattle.dso_class.specs.Sound.{IsSound};

@@ -1,4 +1,4 @@
-//! The lines that refusals write.
+//! The lines that refusals write (`specs/Status.antt`).
 ghost use Rattle.std.specs.Prelude.{◌≡◌, ◌≤◌, ◌++◌, length, codes};
 ghost use Rattle.std.specs.Fmt.{decimal};
 ghost use Rattle.dso_config.specs.Keys.{key_of};

@@ -1,4 +1,4 @@
-//! One heap, after the history that a journal commits.
+//! One heap, after the history that a journal commits (`dso_legal/specs/Committed.antt`).
 ghost use Rattle.std.specs.Prelude.{◌≡◌, IfOk, OnOk};
 ghost use Rattle.dso_plain.specs.After.{after};
 ghost use Rattle.dso_plain.specs.History.{Runs, last_state};

@@ -1,4 +1,4 @@
-//! What is told of a run: its report, or the line of a load.
+//! What is told of a run: its report, or the line of a load (`specs/Headline.antt`).
 ghost use Rattle.std.specs.Prelude.{IfOk, reverse};
 ghost use Rattle.dso_class.specs.Sound.{IsSound};
 ghost use Rattle.dso_legal.specs.Central.{CommitsLegally};

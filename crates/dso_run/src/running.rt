@@ -1,4 +1,4 @@
-//! The run of a program over the simulated cluster, step by step.
+//! The run of a program over the simulated cluster, step by step (`specs/RunEnds.antt`).
 ghost use Rattle.std.specs.Prelude.{◌≡◌, ◌≤◌, ◌<◌, false, reverse, IfOk, OnOk};
 ghost use Rattle.dso_class.specs.Sound.{IsSound};
 ghost use Rattle.dso_legal.specs.Slots.{weight};

@@ -1,3 +1,4 @@
+//! How a call ended, with its exit number: `specs/Status.antt`.
 ghost use Rattle.std.specs.Prelude.{◌≡◌};
 ghost use Rattle.dso_run.specs.Status.{exit_number_of, status_of};
 

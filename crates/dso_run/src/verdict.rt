@@ -1,4 +1,4 @@
-//! The judgement of a configuration's text and of a program's.
+//! The judgement of a configuration's text and of a program's (`specs/Verdict.antt`).
 ghost use Rattle.std.specs.Prelude.{◌≡◌, IfOk};
 ghost use Rattle.dso_config.specs.InRange.{IsInRange};
 ghost use Rattle.dso_syntax.specs.Grammar.{Tokens};

@@ -1,4 +1,5 @@
-//! The answers to messages that fit. After `NoMemory` the server is spent.
+//! The answers to messages that fit (`dso_law/specs/ServerStep.antt`, `specs/Answering.antt`). After `NoMemory` the
+//! server is spent.
 ghost use Rattle.std.specs.Prelude.{ℕ, ◌≡◌, ◌≤◌, ◌<◌, ◌+◌, ◌^◌, List, false, length, IfOk, OnOk};
 ghost use Rattle.dso_base.specs.declared.message.Up.TheVariants as up;
 ghost use Rattle.dso_ids.specs.Ids.{first_of_batch};

@@ -1,4 +1,4 @@
-//! The batches of ids that the server gave.
+//! The batches of ids that the server gave (`dso_law/specs/ServerReadings.antt`).
 ghost use Rattle.std.specs.Prelude.{◌≡◌, ◌<◌, ◌^◌, [], ◌∷◌, length, eqb, ◌&&◌, IfOk, OnOk, OnErr};
 ghost use Rattle.std.specs.List.{list_any};
 ghost use Rattle.dso_ids.specs.Ids.{first_of_batch};

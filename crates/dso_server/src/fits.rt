@@ -1,4 +1,4 @@
-//! Whether a message fits.
+//! Whether a message fits (`dso_law/specs/FitsUp.antt`).
 ghost use Rattle.std.specs.Bool.{OnTrue};
 ghost use Rattle.dso_base.specs.declared.message.Up.TheVariants as up;
 ghost use Rattle.dso_law.specs.FitsUp.{FitsUpBy};

@@ -1,4 +1,4 @@
-//! Whether the lists of a record fit, item by item.
+//! Whether the lists of a record fit, item by item (`dso_law/specs/FitsUp.antt`).
 ghost use Rattle.std.specs.Prelude.{◌≡◌, ◌↔◌, IsTrue};
 ghost use Rattle.std.specs.List.{AllByRecursion};
 ghost use Rattle.dso_base.specs.Block.{is_field_before};

@@ -1,4 +1,4 @@
-//! Whether a request or a return fits.
+//! Whether a request or a return fits (`dso_law/specs/FitsUp.antt`).
 ghost use Rattle.std.specs.Prelude.{◌≡◌, ◌≤◌, ◌↔◌, IsTrue, true, false, [], length, take};
 ghost use Rattle.std.specs.Bool.{OnTrue};
 ghost use Rattle.std.specs.List.{AllByRecursion, list_any};

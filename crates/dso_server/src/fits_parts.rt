@@ -1,4 +1,4 @@
-//! Whether the parts of a record fit, one by one.
+//! Whether the parts of a record fit, one by one (`dso_law/specs/FitsUp.antt`).
 ghost use Rattle.std.specs.Prelude.{◌≡◌, ◌≢◌, ◌↔◌, IsTrue, None, Some};
 ghost use Rattle.std.specs.List.{AllByRecursion};
 ghost use Rattle.dso_base.specs.declared.record.Ending.TheVariants as ending;

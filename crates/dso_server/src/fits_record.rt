@@ -1,4 +1,4 @@
-//! Whether a record fits.
+//! Whether a record fits (`dso_law/specs/FitsUp.antt`).
 ghost use Rattle.std.specs.Prelude.{◌≡◌, ◌↔◌, IsTrue, suc};
 ghost use Rattle.dso_law.specs.FitsUp.{FitsRecordBy};
 ghost use Rattle.dso_server.specs.Fitting.{Tells, TellsIn, graph_in};

@@ -1,5 +1,5 @@
-//! That the server's calls make entries of the server rule, which entries change nothing, and which servers lack nothing.
-//! These are the contracts of functions that do nothing.
+//! That the server's calls make entries of the server rule, which entries change nothing, and which servers lack
+//! nothing (`specs/Laws.antt`). These are the contracts of functions that do nothing.
 ghost use Rattle.dso_server.specs.Laws.{BreaksChangeNothing, LostByRule, LostChangeNothing, NamedIsKnown, NothingIsLackedLater};
 ghost use Rattle.dso_server.specs.Laws.{RejoinsChangeNothing, TakenByRule};
 

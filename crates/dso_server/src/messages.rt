@@ -1,4 +1,4 @@
-//! Messages to clients, as a call answers them.
+//! Messages to clients, as a call answers them (`specs/Sending.antt`).
 ghost use Rattle.std.specs.Prelude.{◌≡◌, [], ◌∷◌, ◌++◌, IfOk, OnOk};
 ghost use Rattle.std.specs.Option.{option_copied};
 ghost use Rattle.dso_law.specs.ServerStep.{object_to};

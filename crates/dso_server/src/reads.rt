@@ -1,4 +1,5 @@
-//! What the server knows, of whatever entries it stands for. These reads take no memory.
+//! What the server knows, of whatever entries it stands for (`dso_law/specs/ServerReadings.antt`). These reads take no
+//! memory.
 ghost use Rattle.std.specs.Prelude.{◌≡◌, ◌↔◌, IsTrue, eqb, is_some, Some};
 ghost use Rattle.std.specs.List.{list_any};
 ghost use Rattle.std.specs.Option.{option_copied};

@@ -1,4 +1,4 @@
-//! The server's core.
+//! The server's core (`specs/Answering.antt`).
 ghost use Rattle.std.specs.Prelude.{ℕ, ◌≡◌, ◌≤◌, ◌+◌, ◌<◌, ◌^◌, List, [], IfOk, OnOk};
 ghost use Rattle.dso_base.specs.declared.journal.Entry.{Entry};
 ghost use Rattle.dso_law.specs.ServerReadings.{is_lost};

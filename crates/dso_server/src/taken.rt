@@ -1,4 +1,4 @@
-//! What becomes of a message, and the number of its kind.
+//! What becomes of a message, and the number of its kind (`specs/Tags.antt`).
 ghost use Rattle.std.specs.Prelude.{◌≡◌};
 ghost use Rattle.dso_server.specs.Tags.{tag_of};
 

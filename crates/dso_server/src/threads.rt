@@ -1,4 +1,4 @@
-//! The threads of the cluster, each with how its last record ended.
+//! The threads of the cluster, each with how its last record ended (`specs/Threads.antt`).
 ghost use Rattle.std.specs.Prelude.{◌≡◌, true, false, None, Some, cond, is_some, eqb, map, ◌&&◌, IfOk, OnOk};
 ghost use Rattle.std.specs.List.{list_any};
 ghost use Rattle.dso_base.specs.Following.{is_thread};

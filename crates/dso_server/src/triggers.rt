@@ -1,4 +1,4 @@
-//! The triggers of a client: when it is lost, and when its connection breaks.
+//! The triggers of a client: when it is lost, and when its connection breaks (`specs/Triggers.antt`).
 ghost use Rattle.std.specs.List.{list_any};
 ghost use Rattle.std.specs.Prelude.{ℕ, ◌≡◌, ◌<◌, List, IfOk, filter, length, ltb};
 ghost use Rattle.dso_base.specs.declared.journal.Trigger.{Trigger};

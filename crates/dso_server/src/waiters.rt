@@ -1,4 +1,4 @@
-//! The server's lists of waiters.
+//! The server's lists of waiters (`specs/Waiters.antt`).
 ghost use Rattle.std.specs.Prelude.{◌≡◌, [], ◌∷◌, ◌++◌, drop, slice_get, OnOk, IfOk};
 ghost use Rattle.std.specs.List.{list_any};
 ghost use Rattle.dso_base.specs.Following.{is_thread};

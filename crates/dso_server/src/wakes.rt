@@ -1,4 +1,4 @@
-//! Those whom a record wakes.
+//! Those whom a record wakes (`dso_law/specs/ServerWaiters.antt`).
 ghost use Rattle.std.specs.Prelude.{◌≡◌, [], ◌∷◌, ◌++◌, OnOk};
 ghost use Rattle.dso_base.specs.declared.record.Choice.TheVariants as choice;
 ghost use Rattle.dso_law.specs.ServerWaiters.{first_only, lists_after, lists_noted, waiters_woken, wake_each, wakes, wakes_of, wakes_timed_out};

@@ -1,4 +1,4 @@
-//! The laws of connections. Each is the contract of a function that does nothing.
+//! The laws of connections (`specs/Laws.antt`). Each is the contract of a function that does nothing.
 ghost use Rattle.dso_session.specs.Laws.{GivenUpOnce, KeepsSent};
 
 /// Whatever happens to an end, the messages that it sent are those sent before and those that it sends now, and each frame that

@@ -1,5 +1,5 @@
-//! The two ends of a client's connection: messages are numbered, kept until the other end has seen them, and given up in order
-//! and once, whatever breaks between.
+//! The two ends of a client's connection: messages are numbered, kept until the other end has seen them, and given up
+//! in order and once, whatever breaks between.
 //!
 //! A caller:
 //!

@@ -1,4 +1,4 @@
-//! One end of a connection.
+//! One end of a connection (`specs/Ends.antt`).
 ghost use Rattle.std.specs.Prelude.{ℕ, ◌+◌, ◌<◌, ◌≤◌, ◌^◌, ◌≡◌, IfErr, IfOk, OnErr, OnOk, true};
 ghost use Rattle.dso_session.specs.Ends.{IsInOrder, opened, posted, next_frame, behind_frame, answer, answer_hello, after_frame, broken, forgotten, is_new, sent_count};
 ghost use Rattle.dso_session.specs.declared.frame.Frame.TheVariants.{Hello};

@@ -1,4 +1,4 @@
-//! The bodies of objects, in a table by id.
+//! The bodies of objects, in a table by id (`specs/Graph.antt`).
 ghost use Rattle.std.specs.Prelude.{◌≡◌, None, Some, cond, eqb, replicate, OnOk, IfOk};
 ghost use Rattle.dso_base.specs.declared.value.Value.TheVariants as Value;
 ghost use Rattle.std.specs.Ordering.{nat_cmp};

@@ -1,4 +1,4 @@
-//! The changes of a record that are for other clients.
+//! The changes of a record that are for other clients (`specs/Changes.antt`).
 ghost use Rattle.std.specs.Prelude.{◌≡◌, ◌++◌, [], ◌∷◌, Some, filter, OnOk, IfOk};
 ghost use Rattle.std.specs.Ordering.{nat_cmp};
 ghost use Rattle.std.specs.BTreeMap.{IsOrdered};

@@ -1,4 +1,4 @@
-//! Which client holds which object.
+//! Which client holds which object (`specs/Graph.antt`).
 ghost use Rattle.std.specs.Prelude.{◌≡◌, true, false, cond, eqb, OnOk};
 ghost use Rattle.dso_store.specs.Graph.{holds_by, with_holder};
 

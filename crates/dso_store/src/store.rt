@@ -1,4 +1,4 @@
-//! The server's graph.
+//! The server's graph (`specs/Graph.antt`).
 ghost use Rattle.std.specs.Prelude.{◌≡◌, false, None, Some, cond, eqb, OnOk, IfOk};
 ghost use Rattle.std.specs.Option.{option_copied};
 ghost use Rattle.dso_base.specs.declared.journal.Input.TheVariants.{TookUp, Lose};

@@ -1,4 +1,4 @@
-//! The parts of statements that hold no block.
+//! The parts of statements that hold no block (`specs/ProgramReader.antt`).
 
 ghost use Rattle.std.specs.Prelude.{◌≡◌, ◌+◌, ◌≤◌, [], ◌∷◌, IfOk};
 ghost use Rattle.dso_syntax.specs.StatementLevels as blocks;

@@ -1,4 +1,4 @@
-//! Expressions: read from token to token, the operators by their ranks.
+//! Expressions: read from token to token, the operators by their ranks (`specs/ExpressionReader.antt`).
 //!
 //! `levels` bounds how many levels are opened within, and so how deep the functions call each other.
 

@@ -1,4 +1,4 @@
-//! What the definitions of the grammar say: which texts are programs, of which tree.
+//! What the definitions of the grammar say: which texts are programs, of which tree (`specs/SyntaxFaults.antt`).
 
 ghost use Rattle.std.specs.Prelude.{◌≡◌, ◌↔◌, ℕ, [], Ok};
 ghost use Rattle.dso_tokens.specs.Bytes.{Text};

@@ -1,4 +1,4 @@
-//! Classes and threads: read from token to token.
+//! Classes and threads: read from token to token (`specs/ProgramReader.antt`).
 
 ghost use Rattle.std.specs.Prelude.{◌≡◌, ◌≤◌, length, IfOk};
 ghost use Rattle.dso_syntax.specs.StatementLevels as blocks;

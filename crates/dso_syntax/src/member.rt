@@ -1,4 +1,4 @@
-//! The members of classes: read from token to token.
+//! The members of classes: read from token to token (`specs/ProgramReader.antt`).
 
 ghost use Rattle.std.specs.Prelude.{◌≡◌, ◌≤◌, length, IfOk};
 ghost use Rattle.dso_syntax.specs.StatementLevels as blocks;

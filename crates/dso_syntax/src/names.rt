@@ -1,4 +1,4 @@
-//! Names, as they are taken from the tokens that are left.
+//! Names, as they are taken from the tokens that are left (`specs/ExpressionReader.antt`).
 
 ghost use Rattle.std.specs.Prelude.{◌≡◌, IfOk};
 ghost use Rattle.dso_syntax.specs.ExpressionReader as reader;

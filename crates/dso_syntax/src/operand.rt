@@ -1,4 +1,5 @@
-//! The parts of an expression that hold no whole expression: what stands before one and behind it.
+//! The parts of an expression that hold no whole expression: what stands before one and behind it
+//! (`specs/OperandReader.antt`).
 
 ghost use Rattle.std.specs.Prelude.{◌≡◌, ◌+◌, ◌<◌, ◌≤◌, None, IfOk};
 ghost use Rattle.dso_syntax.specs.Grammar as grammar;

@@ -1,4 +1,4 @@
-//! The expression that a token is by itself.
+//! The expression that a token is by itself (`specs/Grammar.antt`).
 
 ghost use Rattle.std.specs.Prelude.{◌≡◌, IfOk};
 ghost use Rattle.dso_syntax.specs.Grammar as grammar;

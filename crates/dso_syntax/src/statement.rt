@@ -1,4 +1,4 @@
-//! Statements and blocks: read from token to token.
+//! Statements and blocks: read from token to token (`specs/ProgramReader.antt`).
 //!
 //! `levels` bounds how many levels are opened within, and so how deep the functions call each other.
 

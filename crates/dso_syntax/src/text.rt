@@ -1,4 +1,4 @@
-//! Whole program texts.
+//! Whole program texts (`specs/ParseAnswer.antt`).
 
 ghost use Rattle.std.specs.Prelude.{◌≡◌, ◌≤◌, ◌<◌, Err, length, IfOk, IfErr};
 ghost use Rattle.dso_syntax.specs.ParseAnswer as answer;

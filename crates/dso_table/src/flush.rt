@@ -1,4 +1,4 @@
-//! Which objects may be flushed, and the flush.
+//! Which objects may be flushed, and the flush (`specs/Victims.antt`).
 ghost use Rattle.std.specs.Prelude.{◌≡◌, ◌↔◌, IsTrue, OnOk, OnErr, IfErr};
 ghost use Rattle.dso_table.specs.States.{flushed};
 ghost use Rattle.dso_table.specs.Tables.{state_in, TablesAgree};

@@ -1,4 +1,4 @@
-//! Notes of threads of objects.
+//! Notes of threads of objects (`specs/States.antt`).
 ghost use Rattle.std.specs.Prelude.{◌≡◌, None, Some, IfNone, IfSome, OnOk, OnErr};
 ghost use Rattle.dso_table.specs.States.{with_note, without_thread};
 ghost use Rattle.dso_table.specs.Tables.{notes_in};

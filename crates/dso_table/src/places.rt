@@ -1,4 +1,4 @@
-//! The objects that aren't absent, each at its place.
+//! The objects that aren't absent, each at its place (`specs/Slots.antt`).
 ghost use Rattle.std.specs.Prelude.{◌≡◌, None, Some, is_some, true, OnOk, OnErr};
 ghost use Rattle.std.specs.Bool.{OnTrue, OnFalse};
 ghost use Rattle.std.specs.Option.{option_copied, option_map};

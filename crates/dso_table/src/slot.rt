@@ -1,4 +1,4 @@
-//! How an object stands with a client, and what is kept of it.
+//! How an object stands with a client, and what is kept of it (`specs/Slots.antt`).
 ghost use Rattle.std.specs.Prelude.{◌≡◌, Some, length, ltb, slice_set};
 ghost use Rattle.std.specs.Bool.{OnTrue, OnFalse};
 ghost use Rattle.dso_change.specs.Hands.{with_field, has_field};

@@ -1,4 +1,4 @@
-//! The table of a client's objects.
+//! The table of a client's objects (`specs/States.antt`).
 ghost use Rattle.std.specs.Prelude.{◌≡◌, IfNone, IfSome, IfOk, IfErr, OnOk, OnErr};
 ghost use Rattle.std.specs.Bool.{OnTrue, OnFalse};
 ghost use Rattle.std.specs.Option.{option_copied};

@@ -1,4 +1,4 @@
-//! The tables of a client's objects: the places, the order of use, and the notes of threads.
+//! The tables of a client's objects: the places, the order of use, and the notes of threads (`specs/Tables.antt`).
 ghost use Rattle.std.specs.Prelude.{◌≡◌, true, false, Some, IfOk, OnOk, OnErr};
 ghost use Rattle.std.specs.Bool.{OnTrue, OnFalse};
 ghost use Rattle.dso_change.specs.Hands.{has_field};

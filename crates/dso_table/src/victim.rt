@@ -1,4 +1,4 @@
-//! The object that is flushed next.
+//! The object that is flushed next (`specs/Victims.antt`).
 ghost use Rattle.std.specs.Prelude.{ℕ, ◌≡◌, true, IfNone, IfSome};
 ghost use Rattle.dso_lookup.specs.Search.{is_listed};
 ghost use Rattle.dso_table.specs.Tables.{state_in, TablesAgree};

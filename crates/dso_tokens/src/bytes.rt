@@ -1,4 +1,4 @@
-//! The bytes of a program, by what they may stand for.
+//! The bytes of a program, by what they may stand for (`specs/ByteClasses.antt`).
 
 ghost use Rattle.std.specs.Prelude.{◌≡◌, ◌≤◌, length};
 ghost use Rattle.std.specs.List.{prefix_len};

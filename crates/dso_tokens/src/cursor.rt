@@ -1,4 +1,4 @@
-//! The tokens that are left to read, and how they are taken.
+//! The tokens that are left to read, and how they are taken (`specs/TokenReader.antt`).
 
 ghost use Rattle.std.specs.Prelude.{◌≡◌, ◌<◌, suc, IfOk};
 ghost use Rattle.dso_tokens.specs.TokenReader as reader;

@@ -1,4 +1,4 @@
-//! The tokens of a text.
+//! The tokens of a text (`specs/Reading.antt`).
 
 ghost use Rattle.std.specs.Prelude.{◌≡◌, ◌≤◌, ◌+◌, ℕ, List, length, IfOk};
 ghost use Rattle.dso_tokens.specs.Bytes.{Text, line_after};

@@ -1,4 +1,4 @@
-//! Text literals.
+//! Text literals (`specs/Scan.antt`).
 
 ghost use Rattle.std.specs.Prelude.{◌≡◌, ◌<◌, ◌≤◌, ◌-◌, ◌^◌, false, length, IfOk, IfSome};
 ghost use Rattle.dso_tokens.specs.Scan as spec;

@@ -1,4 +1,4 @@
-//! What a token is by itself: an operator, a sign, a kind of values.
+//! What a token is by itself: an operator, a sign, a kind of values (`specs/Operators.antt`).
 
 ghost use Rattle.std.specs.Prelude.{◌≡◌};
 ghost use Rattle.dso_tokens.specs.Operators as operators;

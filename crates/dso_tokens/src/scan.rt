@@ -1,4 +1,4 @@
-//! What stands at the front of a text: white space or a comment, a token, a fault, or nothing.
+//! What stands at the front of a text: white space or a comment, a token, a fault, or nothing (`specs/Token.antt`).
 
 ghost use Rattle.std.specs.Prelude.{◌≡◌, ◌≢◌, ◌<◌, ◌≤◌, ◌+◌, ◌-◌, ◌^◌, false, true, length, find, IfOk, IfSome, Some, None};
 ghost use Rattle.std.specs.Prelude.{nat_eq};

@@ -1,4 +1,4 @@
-//! The open block of a thread.
+//! The open block of a thread (`specs/InHand.antt`).
 ghost use Rattle.std.specs.Prelude.{◌≡◌, [], ◌∷◌, ◌++◌, OnOk, OnErr, IfOk};
 ghost use Rattle.std.specs.Option.{option_copied};
 ghost use Rattle.dso_base.specs.Block.{Work, put_shared, publish};

@@ -1,4 +1,4 @@
-//! A thread's private objects.
+//! A thread's private objects (`specs/InHand.antt`).
 ghost use Rattle.std.specs.Prelude.{◌≡◌, None, Some, OnOk, OnErr};
 ghost use Rattle.std.specs.BTreeMap.{is_at};
 ghost use Rattle.std.specs.Option.{option_copied};

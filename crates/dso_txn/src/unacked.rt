@@ -1,4 +1,4 @@
-//! The records of a client that the server has not acknowledged.
+//! The records of a client that the server has not acknowledged (`specs/Numbers.antt`).
 ghost use Rattle.std.specs.Prelude.{ℕ, ◌≡◌, ◌↔◌, true, false, IsTrue, IfNone, IfSome, OnOk, OnErr};
 ghost use Rattle.std.specs.Bool.{OnTrue, OnFalse};
 ghost use Rattle.dso_txn.specs.Numbers.{numbers_in, with_number, IsLeast};

@@ -1,4 +1,4 @@
-//! The threads that wait for a notification, in the order of their waits.
+//! The threads that wait for a notification, in the order of their waits (`specs/Waiters.antt`).
 ghost use Rattle.std.specs.Prelude.{◌≡◌, [], ◌∷◌, ◌++◌, drop, slice_get, OnOk, OnErr};
 ghost use Rattle.dso_wait.specs.Waiters.{is_listed, without, without_client};
 

@@ -1,4 +1,4 @@
-//! Frames and records as bytes, both ways.
+//! Frames and records as bytes, both ways (`specs/Spelling.antt`, `specs/Faults.antt`).
 ghost use Rattle.std.specs.Prelude.{◌≡◌, ◌↔◌, IfOk, IsTrue, Ok, OnOk};
 ghost use Rattle.dso_base.specs.declared.message.Down.{Down};
 ghost use Rattle.dso_base.specs.declared.message.Up.{Up};

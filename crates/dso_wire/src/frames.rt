@@ -1,4 +1,4 @@
-//! Frames put at the end of other bytes, and read from the front.
+//! Frames put at the end of other bytes, and read from the front (`specs/Spelling.antt`).
 ghost use Rattle.std.specs.Prelude.{◌≡◌, ◌++◌, ◌↔◌, IsTrue, OnOk};
 ghost use Rattle.dso_wire.specs.Cells.{bytes_of};
 ghost use Rattle.dso_wire.specs.CanGo.{FrameCanGo};

@@ -1,4 +1,4 @@
-//! The laws of the wire. Each is the contract of a function that does nothing.
+//! The laws of the wire (`specs/Laws.antt`). Each is the contract of a function that does nothing.
 ghost use Rattle.dso_session.specs.declared.frame.Frame.{Frame};
 ghost use Rattle.dso_base.specs.declared.message.Down.{Down};
 ghost use Rattle.dso_base.specs.declared.message.Up.{Up};

@@ -1,4 +1,4 @@
-//! Lists as bytes: a count, and so many items.
+//! Lists as bytes: a count, and so many items (`specs/Spelling.antt`).
 ghost use Rattle.std.specs.Prelude.{◌≡◌, ◌++◌, ◌↔◌, All, IsTrue, OnOk};
 ghost use Rattle.std.specs.List.{flat_map};
 ghost use Rattle.dso_wire.specs.Cells.{bytes_of, listed};

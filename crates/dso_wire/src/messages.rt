@@ -1,4 +1,4 @@
-//! Messages as bytes.
+//! Messages as bytes (`specs/Spelling.antt`).
 ghost use Rattle.std.specs.Prelude.{◌≡◌, ◌++◌, ◌↔◌, IsTrue, OnOk};
 ghost use Rattle.dso_wire.specs.Cells.{bytes_of};
 ghost use Rattle.dso_wire.specs.CanGo.{UpCanGo, DownCanGo};

@@ -1,4 +1,4 @@
-//! Numbers read from the front.
+//! Numbers read from the front (`specs/Reading.antt`).
 ghost use Rattle.std.specs.Prelude.{◌≡◌};
 ghost use Rattle.std.specs.Int.{w32, w64};
 ghost use Rattle.dso_wire.specs.Reading.{Gives, number_at, ranged_at};

@@ -1,4 +1,4 @@
-//! Bytes that are one thing, all of them.
+//! Bytes that are one thing, all of them (`specs/Faults.antt`).
 ghost use Rattle.std.specs.Prelude.{◌≡◌, ◌-◌};
 ghost use Rattle.dso_wire.specs.Faults.{IsAnswer, fault_told, whole};
 ghost use Rattle.dso_wire.specs.Reading.{frame_at, record_at};

@@ -1,4 +1,4 @@
-//! What has bytes, and numbers put behind others.
+//! What has bytes, and numbers put behind others (`specs/Cells.antt`).
 ghost use Rattle.std.specs.Prelude.{◌≡◌, ◌++◌, ◌<◌, ◌^◌, ◌↔◌, List, IsTrue, OnOk, FitsSigned};
 ghost use Rattle.std.specs.Int.{w32, w64};
 ghost use Rattle.dso_wire.specs.Cells.{Cell, bytes_of, number};

@@ -1,4 +1,4 @@
-//! What the words behind a command give.
+//! What the words behind a command give (`specs/WordReading.antt`).
 ghost use Rattle.std.specs.Prelude.{◌≡◌};
 ghost use Rattle.dso_words.specs.Given.{told};
 ghost use Rattle.dso_words.specs.WordReading.{nothing, set_value, with_name, with_value};

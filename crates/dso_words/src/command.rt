@@ -1,4 +1,4 @@
-//! What the words ask for.
+//! What the words ask for (`specs/Words.antt`).
 ghost use Rattle.std.specs.Prelude.{◌≡◌, ◌↔◌, IsTrue};
 ghost use Rattle.dso_words.specs.Given.{told};
 ghost use Rattle.dso_words.specs.Said.{said};

@@ -1,4 +1,4 @@
-//! Laws of what the words ask for. Each is the contract of a function that does nothing.
+//! Laws of what the words ask for (`specs/Words.antt`). Each is the contract of a function that does nothing.
 ghost use Rattle.dso_words.specs.Words.{WordsAskOnce};
 
 /// Whatever words there are, they ask for one thing at most.

@@ -1,4 +1,4 @@
-//! The numbers that words say.
+//! The numbers that words say (`specs/Words.antt`).
 ghost use Rattle.std.specs.Prelude.{◌≡◌, ◌^◌, ◌≤◌, length, IfSome, MatchOption, true};
 ghost use Rattle.std.specs.Str.{all_ascii_digits};
 ghost use Rattle.std.specs.Str.Parse.{digits_value};

@@ -1,4 +1,4 @@
-//! The options of the program.
+//! The options of the program (`specs/WordReading.antt`).
 ghost use Rattle.std.specs.Prelude.{◌≡◌};
 ghost use Rattle.dso_words.specs.WordReading.{option_named};
 

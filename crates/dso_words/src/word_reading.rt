@@ -1,4 +1,4 @@
-//! The words behind a command, read one after the other.
+//! The words behind a command, read one after the other (`specs/WordReading.antt`).
 ghost use Rattle.std.specs.Prelude.{◌≡◌, map, MatchOption, Some, None};
 ghost use Rattle.std.specs.String.{string_bytes};
 ghost use Rattle.dso_words.specs.WordReading.{at_end, parted, read, with_argument, with_option, with_word};

@@ -1,4 +1,4 @@
-//! The words behind the program's name.
+//! The words behind the program's name (`specs/Words.antt`).
 ghost use Rattle.std.specs.Prelude.{◌≡◌, ◌∷◌, ℕ, codes, map, MatchOption};
 ghost use Rattle.std.specs.String.{string_bytes};
 ghost use Rattle.dso_words.specs.Said.{said};

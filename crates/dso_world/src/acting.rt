@@ -1,4 +1,4 @@
-//! The steps of a client: a thread acts, a message is taken, an object is flushed.
+//! The steps of a client: a thread acts, a message is taken, an object is flushed (`specs/MemberSteps.antt`).
 ghost use Rattle.std.specs.Prelude.{◌≡◌, [], ◌∷◌, IfOk};
 ghost use Rattle.dso_base.specs.declared.message.Up.TheVariants as up;
 ghost use Rattle.dso_class.specs.declared.program.Program.{Program};

@@ -1,4 +1,4 @@
-//! A step of the cluster, made by its node.
+//! A step of the cluster, made by its node (`specs/NodeSteps.antt`).
 ghost use Rattle.std.specs.Prelude.{◌≡◌, IfOk, true};
 ghost use Rattle.dso_world.specs.MemberSteps.{StandsOpen, Steps};
 ghost use Rattle.dso_world.specs.NodeSteps.{StandOpen, StepsAll};

@@ -1,4 +1,4 @@
-//! Which steps are open.
+//! Which steps are open (`specs/ChosenSlot.antt`).
 ghost use Rattle.std.specs.Option.{option_map_or};
 ghost use Rattle.std.specs.Prelude.{◌≡◌, ◌<◌, false, true, length, option_and_then, position, slice_get, IfNone, IfSome};
 ghost use Rattle.dso_world.specs.ChosenSlot.{is_slot};

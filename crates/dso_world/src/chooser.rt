@@ -1,4 +1,4 @@
-//! Which step is taken next.
+//! Which step is taken next (`specs/ChosenSlot.antt`, `specs/Flags.antt`).
 ghost use Rattle.std.specs.Prelude.{◌≡◌, ◌+◌, ◌<◌, ◌≤◌, ◌^◌, IfOk, IfSome, false, length, set, slice_get};
 ghost use Rattle.std.specs.Option.{option_map_or};
 ghost use Rattle.dso_world.specs.Flags.{closed_row, is_set, next_set, nth_set, chosen_place};

@@ -1,4 +1,4 @@
-//! Which triggers are due.
+//! Which triggers are due (`dso_law/specs/ServerReadings.antt`).
 ghost use Rattle.std.specs.Prelude.{◌≡◌, ◌<◌, filter, length};
 ghost use Rattle.std.specs.List.{list_any};
 ghost use Rattle.dso_law.specs.ServerReadings.{is_reached};

@@ -1,4 +1,4 @@
-//! What an entry makes of the board.
+//! What an entry makes of the board (`specs/Following.antt`).
 ghost use Rattle.std.specs.Prelude.{◌≡◌, ◌+◌, ◌<◌, ◌^◌, length};
 ghost use Rattle.dso_world.specs.Following.{Follows, Marks};
 ghost use Rattle.dso_world.specs.Touched.{is_input_of, is_touched};

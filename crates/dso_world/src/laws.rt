@@ -1,4 +1,4 @@
-//! The laws of the cluster in one program. Each is the contract of a function that does nothing.
+//! The laws of the cluster in one program (`specs/Laws.antt`). Each is the contract of a function that does nothing.
 ghost use Rattle.dso_world.specs.Breaks.{BrokenIsNeverDue};
 ghost use Rattle.dso_world.specs.Finishing.{EndedAsksNothing, FinishedWhereNoneIsBusy};
 ghost use Rattle.dso_world.specs.LinkStands.{LinksGoOn};

@@ -1,4 +1,4 @@
-//! The connection of a client.
+//! The connection of a client (`specs/Link.antt`).
 ghost use Rattle.std.specs.Prelude.{◌≡◌, ◌↔◌, ◌≤◌, ◌<◌, ◌+◌, ◌^◌, [], IfOk, IsTrue, OnOk};
 ghost use Rattle.dso_session.specs.Ends.{sent_count};
 ghost use Rattle.dso_world.specs.Link.{opening_line, sent_up, sent_down, taken_up, taken_down, pumped_up, pumped_down, first_answer, cut};

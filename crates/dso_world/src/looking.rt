@@ -1,4 +1,5 @@
-//! Which steps are open, and whether the run is finished, by the nodes.
+//! Which steps are open, and whether the run is finished, by the nodes (`dso_legal/specs/Slots.antt`,
+//! `specs/Looking.antt`).
 ghost use Rattle.std.specs.Prelude.{◌≡◌, ◌<◌, ◌&&◌, ◌||◌, List, eqb, ltb, not, suc};
 ghost use Rattle.dso_base.specs.declared.journal.Entry.{Entry};
 ghost use Rattle.dso_session.specs.Ends.{sent_count};

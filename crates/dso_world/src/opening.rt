@@ -1,4 +1,4 @@
-//! A cluster before its first step.
+//! A cluster before its first step (`specs/NodesStand.antt`).
 ghost use Rattle.std.specs.Prelude.{◌≡◌, ◌++◌, [], IfOk, OnOk, eqb, filter, length, map};
 ghost use Rattle.dso_class.specs.Sound.{IsSound};
 ghost use Rattle.dso_legal.specs.Slots.{client_slots, slots};

@@ -1,4 +1,4 @@
-//! What goes from an end of a connection into its channel, and out of a channel to an end.
+//! What goes from an end of a connection into its channel, and out of a channel to an end (`specs/Link.antt`).
 ghost use Rattle.std.specs.Prelude.{◌≡◌, ◌++◌, OnOk, drop};
 ghost use Rattle.dso_session.specs.Ends.{IsInOrder};
 ghost use Rattle.dso_world.specs.Link.{after_first, emptied, first_answer, gives};

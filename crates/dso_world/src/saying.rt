@@ -1,4 +1,4 @@
-//! What a client sends in an entry.
+//! What a client sends in an entry (`specs/Sending.antt`).
 ghost use Rattle.std.specs.Prelude.{◌≡◌, ◌<◌, ◌^◌, map, IfOk, OnOk};
 ghost use Rattle.dso_base.specs.declared.journal.Sent.TheVariants as sent;
 ghost use Rattle.dso_world.specs.Sending.{after_saying, all_sent_up, client_entry, clock_after};

@@ -1,4 +1,4 @@
-//! A seed, moved on step by step.
+//! A seed, moved on step by step (`specs/ChosenSlot.antt`).
 ghost use Rattle.std.specs.Prelude.{◌≡◌, ◌≤◌, ◌<◌};
 ghost use Rattle.dso_world.specs.ChosenSlot.{moved_on, seed_after, lot};
 

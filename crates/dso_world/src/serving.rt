@@ -1,4 +1,5 @@
-//! The steps of the server: it takes a message of a client, loses it, or breaks its connection.
+//! The steps of the server: it takes a message of a client, loses it, or breaks its connection
+//! (`specs/NodeSteps.antt`).
 ghost use Rattle.std.specs.Prelude.{◌≡◌, ◌<◌, List, IfOk, OnOk};
 ghost use Rattle.dso_base.specs.declared.journal.Entry.{Entry};
 ghost use Rattle.dso_class.specs.declared.program.Program.{Program};

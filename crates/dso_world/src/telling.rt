@@ -1,4 +1,4 @@
-//! What the server sends in an entry.
+//! What the server sends in an entry (`specs/Sending.antt`).
 ghost use Rattle.std.specs.Prelude.{◌≡◌, ◌<◌, ◌^◌, [], ◌∷◌, IfOk, OnOk};
 ghost use Rattle.dso_server.specs.Sending.{sent_of};
 ghost use Rattle.dso_world.specs.Link.{sent_down};

@@ -1,4 +1,4 @@
-//! What an entry weighs.
+//! What an entry weighs (`dso_base/specs/Weight.antt`).
 ghost use Rattle.std.specs.Prelude.{ℕ, ◌≡◌, ◌+◌, ◌-◌, ◌^◌, min};
 ghost use Rattle.dso_base.specs.Weight.{entry_weight_of, sent_values_of, txn_values_of};
 

@@ -1,4 +1,4 @@
-//! The cluster in one program.
+//! The cluster in one program (`specs/WorldStands.antt`).
 ghost use Rattle.std.specs.Prelude.{◌≡◌, ◌<◌, ◌-◌, ◌^◌, false, true, [], length, min, slice_get, IfOk, IsErr, OnErr, OnOk};
 ghost use Rattle.std.specs.Option.{option_copied};
 ghost use Rattle.dso_class.specs.declared.program.Program.{Program};
