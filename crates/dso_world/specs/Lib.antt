@@ -14,6 +14,5 @@ pub mod NodesStand
 pub mod PastOf
 pub mod Sending
 pub mod Touched
-pub mod Triggers
 pub mod WorldStands
 pub mod WorldSteps

@@ -11,6 +11,7 @@ use Rattle.dso_law.specs.Entries.{entries_of}
 use Rattle.dso_server.specs.Answering.{given_by}
 use Rattle.dso_server.specs.Lacking.{LacksNothing}
 use Rattle.dso_server.specs.ServerStands.{ServerStands}
+use Rattle.dso_server.specs.Triggers.{AreTriggersOf}
 use Rattle.dso_base.specs.declared.both.Both.{Both}
 use Rattle.dso_base.specs.declared.both.Both.TheVariants as both
 use Rattle.dso_world.specs.declared.member.Member.{Member}
@@ -21,8 +22,8 @@ use Rattle.dso_world.specs.WorldSteps.{settings_of}
 
 module _ (program : Program) where
   -- Client c after the entries: its core stands for its own entries, its connection for what happened to it, by this
-  -- course and past, and its clock is that of its last entry. It has sent no more records than there are entries, and
-  -- no lock is held more often.
+  -- course and past, and its clock is that of its last entry. Its triggers are those of the program, it has sent no
+  -- more records than there are entries, and no lock is held more often.
   pub record MemberStandsBy (c : ℕ) (course : Course) (past : Past Both) (member : Member)
       (es : List Entry) : Type 0 where
     pub client : ClientStands program.code (settings_of program) c member.client (entries_of (node.Client c) es)
@@ -31,6 +32,7 @@ module _ (program : Program) where
     pub holds : HoldsAtMost (length es) member.client
     pub link : LinkStands course past member.link
     pub clock : member.clock ≡ last_clock (node.Client c) es
+    pub triggers : AreTriggersOf c program.losses program.breaks member.triggers
 
   -- so by the journal
   abbrev pub MemberStands : ℕ → Member → List Entry → Type 0

@@ -1,5 +1,6 @@
 //! What an entry makes of the board (`specs/Following.antt`).
 ghost use Rattle.std.specs.Prelude.{◌≡◌, ◌+◌, ◌<◌, ◌^◌, length};
+ghost use Rattle.dso_class.specs.declared.program.Program.{Program};
 ghost use Rattle.dso_world.specs.Following.{Follows, Marks};
 ghost use Rattle.dso_world.specs.Touched.{is_input_of, is_touched};
 ghost use Rattle.dso_world.specs.WorldSteps.{slot_of};
@@ -45,19 +46,18 @@ fn is_touched(entry: &Entry, step: Step) -> bool
 
 /// The flags of the slots that the entry may open or close are those that the nodes tell.
 pub(crate) fn mark(
-    program: &Program,
     nodes: &Nodes,
     entry: &Entry,
     steps: &[Step],
     chooser: &mut Chooser,
 )
     requires { length steps.now ≡ length chooser.old.flags }
-    ensures { Marks program.now nodes.now entry.now steps.now chooser.old chooser.new }
+    ensures { (program : Program) → Marks program nodes.now entry.now steps.now chooser.old chooser.new }
 {
     for place in 0..steps.len() {
         let step = steps[place];
         if is_touched(entry, step) {
-            chooser.set(place, is_open(program, nodes, step));
+            chooser.set(place, is_open(nodes, step));
         }
     }
 }
@@ -75,13 +75,7 @@ pub(crate) fn follow(
     requires few { board.old.chooser.entries + 1 < 2 ^ 63 }
     ensures { Follows program.now nodes.now entry.now place board.old board.new }
 {
-    mark(
-        program,
-        nodes,
-        entry,
-        board.steps.as_slice(),
-        &mut board.chooser,
-    );
+    mark(nodes, entry, board.steps.as_slice(), &mut board.chooser);
     board.chooser.taken(place);
     board.is_finished = is_finished(program, nodes);
 }

@@ -34,7 +34,6 @@ mod applying;
 mod arrived;
 mod board;
 mod chooser;
-mod due;
 mod following;
 pub mod laws;
 mod link;

@@ -2,6 +2,7 @@
 //! `specs/Looking.antt`).
 ghost use Rattle.std.specs.Prelude.{◌≡◌, ◌<◌, ◌&&◌, ◌||◌, List, eqb, ltb, not, suc};
 ghost use Rattle.dso_base.specs.declared.journal.Entry.{Entry};
+ghost use Rattle.dso_class.specs.declared.program.Program.{Program};
 ghost use Rattle.dso_session.specs.Ends.{sent_count};
 ghost use Rattle.dso_world.specs.Busy.{is_busy};
 ghost use Rattle.dso_world.specs.Looking.{TellsBusy, TellsDue, TellsFinished, TellsOpen, TellsOpenAt};
@@ -11,7 +12,6 @@ ghost use Rattle.dso_world.specs.Touched.{client_of};
 ghost use Rattle.dso_world.specs.WorldSteps.{settings_of, slot_of};
 
 use crate::applying::client_of;
-use crate::due::{is_break_due, is_loss_due};
 use crate::member::Member;
 use crate::nodes::Nodes;
 use crate::{Link, Step};
@@ -20,14 +20,14 @@ use dso_class::Program;
 use dso_server::Server;
 
 /// Whether a loss of the client is due, and whether a break of its connection is.
-fn due(program: &Program, number: u8, server: &Server, member: &Member) -> (bool, bool)
-    ensures { TellsDue program.now number server.now member.now result.0 result.1 }
+fn due(number: u8, server: &Server, member: &Member) -> (bool, bool)
+    ensures { (program : Program) → TellsDue program number server.now member.now result.0 result.1 }
 {
     let is_lost = server.is_lost(number);
-    let losses = program.losses.as_slice();
-    let is_loss_due = is_loss_due(number, member, is_lost, losses);
-    let breaks = program.breaks.as_slice();
-    let is_break_due = is_break_due(number, member, is_lost, is_loss_due, breaks);
+    let taken = member.link.taken_up();
+    let broke = member.link.breaks();
+    let is_loss_due = member.triggers.is_loss_due(taken, is_lost);
+    let is_break_due = member.triggers.is_break_due(taken, is_lost, is_loss_due, broke);
     (is_loss_due, is_break_due)
 }
 
@@ -46,33 +46,33 @@ fn can_take(is_due: bool, is_empty: bool) -> bool
 }
 
 /// Whether the step of the client of this number is open.
-fn is_open_at(program: &Program, number: u8, server: &Server, member: &Member, step: Step) -> bool
+fn is_open_at(number: u8, server: &Server, member: &Member, step: Step) -> bool
     requires { number ≡ client_of (slot_of step) }
-    ensures { TellsOpenAt program.now number server.now member.now step result }
+    ensures { (program : Program) → TellsOpenAt program number server.now member.now step result }
 {
     match step {
         Step::Act(thread) => member.client.enabled(thread.index),
         Step::TakeDown(_) => !member.link.is_down_empty(),
         Step::Flush(_) => member.client.may_flush(),
         Step::TakeUp(_) => can_take(
-            is_either(due(program, number, server, member)),
+            is_either(due(number, server, member)),
             member.link.is_up_empty(),
         ),
-        Step::Lose(_) => due(program, number, server, member).0,
-        Step::Break(_) => due(program, number, server, member).1,
+        Step::Lose(_) => due(number, server, member).0,
+        Step::Break(_) => due(number, server, member).1,
     }
 }
 
 /// Whether the step is open.
-pub(crate) fn is_open(program: &Program, nodes: &Nodes, step: Step) -> bool
-    ensures { TellsOpen program.now nodes.now step result }
+pub(crate) fn is_open(nodes: &Nodes, step: Step) -> bool
+    ensures { (program : Program) → TellsOpen program nodes.now step result }
 {
     let number = client_of(step);
     if number == 0 {
         return false;
     }
     match nodes.members.get(number as usize - 1) {
-        Some(member) => is_open_at(program, number, &nodes.server, member, step),
+        Some(member) => is_open_at(number, &nodes.server, member, step),
         None => false,
     }
 }
@@ -92,11 +92,11 @@ fn keeps_going(is_due: bool, is_lost: bool, is_quiet: bool, alive: usize) -> boo
 }
 
 /// Whether the client of this number keeps the run going.
-fn is_busy(program: &Program, number: u8, server: &Server, member: &Member) -> bool
-    ensures { TellsBusy program.now number server.now member.now result }
+fn is_busy(number: u8, server: &Server, member: &Member) -> bool
+    ensures { (program : Program) → TellsBusy program number server.now member.now result }
 {
     keeps_going(
-        is_either(due(program, number, server, member)),
+        is_either(due(number, server, member)),
         server.is_lost(number),
         is_quiet(&member.link),
         member.client.alive(),
@@ -110,7 +110,7 @@ fn is_busy_at(program: &Program, nodes: &Nodes, place: u8) -> bool
     ensures { (es : List Entry) → IsJournal program.now es → NodesStand program.now nodes.now es → result ≡ is_busy (settings_of program.now) (suc place) es }
 {
     match nodes.members.get(place as usize) {
-        Some(member) => is_busy(program, place + 1, &nodes.server, member),
+        Some(member) => is_busy(place + 1, &nodes.server, member),
         None => false,
     }
 }

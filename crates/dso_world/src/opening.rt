@@ -14,7 +14,7 @@ use crate::{Chooser, Link, Step};
 use dso_base::{NoMemory, ThreadId};
 use dso_class::Program;
 use dso_client::Client;
-use dso_server::Server;
+use dso_server::{Server, Triggers};
 use std::alloc::Global;
 
 /// How many of the threads are of the client of this number.
@@ -37,10 +37,14 @@ fn member(alloc: Global, program: &Program, number: u8) -> Result<Member, NoMemo
 {
     let threads = thread_count(program.threads.as_slice(), number) as u8;
     let client = Client::new(alloc, &program.code, number, threads, program.resident)?;
+    let losses = program.losses.as_slice();
+    let breaks = program.breaks.as_slice();
+    let triggers = Triggers::new(alloc, number, losses, breaks)?;
     Ok(Member {
         client,
         link: Link::new(alloc),
         clock: 0,
+        triggers,
     })
 }
 
@@ -111,7 +115,7 @@ pub(crate) fn board(alloc: Global, program: &Program, nodes: &Nodes) -> Result<B
     let steps = steps(alloc, program)?;
     let mut chooser = Chooser::new(alloc, steps.len())?;
     for place in 0..steps.len() {
-        chooser.set(place, is_open(program, nodes, steps[place]));
+        chooser.set(place, is_open(nodes, steps[place]));
     }
     Ok(Board {
         steps,

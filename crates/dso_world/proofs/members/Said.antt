@@ -74,7 +74,7 @@ module _ (program : Program) (c : ℕ) (es : List Entry) (journal : IsJournal pr
           core.client core.runs core.records core.holds
           (all_up_stand (course_of (settings_of program) c es) clock messages before old.link stands.link)
           (own_course c es clock i event (settings_of program) (map ToServer messages) (still c))
-          (own_sends c es clock i event messages none (still c)) refl;
+          (own_sends c es clock i event messages none (still c)) refl stands.triggers;
     }
 
   -- the clock of an entry that hears nothing
@@ -118,5 +118,5 @@ module _ (program : Program) (c : ℕ) (es : List Entry) (journal : IsJournal pr
           core.client core.runs core.records core.holds
           (all_up_stand Joined took_clock messages (record before { down_taken = before.down_taken + 1 }) line link)
           (own_course c es took_clock (input.TookDown letter.message) None (settings_of program) (map ToServer messages) refl ∙ joined)
-          (own_takes c es took_clock letter.message messages) refl;
+          (own_takes c es took_clock letter.message messages) refl stands.triggers;
     }

@@ -164,7 +164,7 @@ module _ (program : Program) (c : ℕ) (old : Member) where
                 (record (past_of both.Up both.Down c es) { rejoins = (past_of both.Up both.Down c es).rejoins + 1 })
                 (stands_rejoined program.code (settings_of program) c (clock_after old.clock 0) (entries_of (node.Client c) es) old.client stands.client)
                 stands.runs (omega (arith, a)) (holds_more (length es) (suc (length es)) old.client (omega arith) stands.holds)
-                come.stands (own_half c es (clock_after old.clock 0) (settings_of program) come.course come.once) (own_rejoins c es (clock_after old.clock 0)) refl;
+                come.stands (own_half c es (clock_after old.clock 0) (settings_of program) come.course come.once) (own_rejoins c es (clock_after old.clock 0)) refl stands.triggers;
           }
 
   -- ---- a flush

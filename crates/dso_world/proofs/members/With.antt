@@ -12,6 +12,7 @@ use Rattle.dso_client.specs.CodeRuns.{RunsCode}
 use Rattle.dso_law.specs.Channels.{last_clock}
 use Rattle.dso_law.specs.Entries.{entries_of}
 use Rattle.dso_plain.proofs.keys.SameKeys.{number_self}
+use Rattle.dso_server.specs.Triggers.{AreTriggersOf}
 use Rattle.dso_base.specs.declared.both.Both.{Both}
 use Rattle.dso_base.specs.declared.both.Both.TheVariants as both
 use Rattle.dso_world.specs.declared.member.Member.{Member}
@@ -37,8 +38,8 @@ module _ (program : Program) (c clock : ℕ) (input : Input) (sent : List Sent) 
       → ClientStands program.code (settings_of program) c member.client (own_entry ∷ entries_of (node.Client c) es)
       → RunsCode program.code member.client → member.client.ledger.records ≤ suc (length es) → HoldsAtMost (suc (length es)) member.client
       → LinkStands course past member.link → course_of (settings_of program) c (own_entry ∷ es) ≡ course → past_of both.Up both.Down c (own_entry ∷ es) ≡ past
-      → member.clock ≡ clock → MemberStands program c member (own_entry ∷ es)
-  member_with member course past client runs records holds link same_course same_past now = record {
+      → member.clock ≡ clock → AreTriggersOf c program.losses program.breaks member.triggers → MemberStands program c member (own_entry ∷ es)
+  member_with member course past client runs records holds link same_course same_past now triggers = record {
     client = subst (ClientStands program.code (settings_of program) c member.client) own_more client;
     runs = runs;
     records = records;
@@ -46,4 +47,5 @@ module _ (program : Program) (c clock : ℕ) (input : Input) (sent : List Sent) 
     link = subst (λ course. LinkStands course (past_of both.Up both.Down c (own_entry ∷ es)) member.link) (sym same_course)
         (subst (λ past. LinkStands course past member.link) (sym same_past) link);
     clock = now ∙ sym own_last;
+    triggers = triggers;
   }

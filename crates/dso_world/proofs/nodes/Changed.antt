@@ -32,7 +32,7 @@ module _ (program : Program) (c : ℕ) (change : Line Both → Line Both) (cours
       → MemberStandsBy program d (course_of (settings_of program) d es) (past_of both.Up both.Down d es) before es → (its ≡ true → LinkStands course past (change before.link))
       → MemberStandsBy program d (cond its course (course_of (settings_of program) d es)) (cond its past (past_of both.Up both.Down d es)) member es
   changed_member d true before member is stands link = subst (λ member. MemberStandsBy program d course past member es) is
-      (record { client = stands.client; runs = stands.runs; records = stands.records; holds = stands.holds; link = link refl; clock = stands.clock })
+      (record { client = stands.client; runs = stands.runs; records = stands.records; holds = stands.holds; link = link refl; clock = stands.clock; triggers = stands.triggers })
   changed_member d false before member is stands link = subst (λ member. MemberStandsBy program d (course_of (settings_of program) d es) (past_of both.Up both.Down d es) member es) is stands
 
   pub changed : ((place : ℕ) (member : Member) → slice_get old place ≡ Some member → MemberStandsBy program (suc place) (course_of (settings_of program) (suc place) es) (past_of both.Up both.Down (suc place) es) member es)

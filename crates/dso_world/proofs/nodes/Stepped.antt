@@ -65,6 +65,7 @@ module _ (program : Program) (c : ℕ) (entry : Entry) (its : entry.node ≡ nod
     link = subst (λ course. LinkStands course (past_of both.Up both.Down d (said (node.Client c) ∷ es)) member.link) (sym (other_course d es entry.clock entry.input entry.event (settings_of program) c entry.sent other))
         (subst (λ past. LinkStands (course_of (settings_of program) d es) past member.link) (sym (other_past d es entry.clock entry.input entry.event c entry.sent other)) stands.link);
     clock = stands.clock ∙ sym (ap (λ b. cond b entry.clock (last_clock (node.Client d) es)) other);
+    triggers = stands.triggers;
   })
 
   -- So is the server.

@@ -95,6 +95,7 @@ module _ (program : Program) (course : ℕ → Course) (past : ℕ → Past Both
         (subst (λ past. LinkStands (course (suc place)) past (after_hearing (suc place) entry.clock messages before).link) (sym same_past)
         (all_down_stand (course (suc place)) entry.clock (suc place) messages (past (suc place)) before.link stands.link));
     clock = stands.clock;
+    triggers = stands.triggers;
   })
 
   pub told_stand : length old.members.items ≡ program.clients

@@ -18,6 +18,7 @@ use Rattle.dso_law.specs.Settings.{Settings, clients_of, threads_of, up_to}
 use Rattle.dso_legal.specs.Slots.{Acts, TakesDown, Flushes, TakesUp, Loses, Breaks, client_slots, is_due, is_finished, slots}
 use Rattle.dso_machine.specs.Next.{next_request}
 use Rattle.dso_server.specs.ServerStands.{ServerStands}
+use Rattle.dso_server.specs.Triggers.{AreTriggersOf, break_due_by, loss_due_by}
 use Rattle.dso_server.specs.declared.server.Server.{Server}
 use Rattle.dso_session.specs.Ends.{sent_count}
 use Rattle.dso_base.specs.declared.both.Both.{Both}
@@ -34,7 +35,6 @@ use Rattle.dso_world.specs.MemberSteps.{IsJournal}
 use Rattle.dso_world.specs.NodesStand.{MemberStands, NodesStand}
 use Rattle.dso_world.specs.PastOf.{course_of, past_of}
 use Rattle.dso_world.specs.Touched.{client_of}
-use Rattle.dso_world.specs.Triggers.{break_due_by, loss_due_by}
 use Rattle.dso_world.specs.WorldSteps.{settings_of, slot_of}
 use Rattle.dso_world.proofs.journals.Letters.{letters_are_left}
 use Rattle.dso_session.proofs.Sent.{all_sent}
@@ -99,28 +99,30 @@ module _ (program : Program) where
   -- ---- triggers
 
   -- Which triggers are due is told by what was taken, how often the connection broke, and whether the client is lost.
-  pub due_told : (c : ℕ) (server : Server) (member : Member) (lost loss break : Bool) (losses all : List Trigger)
-      → ((p : Settings) (es : List Entry) → ServerStands p server es → lost ≡ is_lost c es) → losses ≡ program.losses → all ≡ program.breaks
-      → loss ≡ loss_due_by c member.link.server.accepted lost losses
-      → break ≡ break_due_by c member.link.server.accepted lost loss member.link.server.epoch all
+  pub due_told : (c : ℕ) (server : Server) (member : Member) (lost loss break : Bool) (taken broke : ℕ)
+      → ((p : Settings) (es : List Entry) → ServerStands p server es → lost ≡ is_lost c es)
+      → taken ≡ member.link.server.accepted → broke ≡ member.link.server.epoch
+      → ((d : ℕ) (losses all : List Trigger) → AreTriggersOf d losses all member.triggers → loss ≡ loss_due_by d taken lost losses)
+      → ((d : ℕ) (losses all : List Trigger) → AreTriggersOf d losses all member.triggers → break ≡ break_due_by d taken lost loss broke all)
       → TellsDue program c server member loss break
-  due_told c server member lost loss break losses all tells losses_are all_are loss_by break_by es pair =
+  due_told c server member lost loss break taken broke tells taken_is broke_is loss_by break_by es pair =
       let own = entries_of node.Server es in
       let gone = is_lost c own in
-      let lost_is : lost ≡ is_lost c own = tells (settings_of program) own pair.core in
-      let taken : member.link.server.accepted ≡ taken_count c own = pair.stands.link.server.accepted in
-      let broke : member.link.server.epoch ≡ count_inputs (breaks c) own = pair.stands.link.server.epoch in
+      let losses = program.losses in
+      let all = program.breaks in
+      let lost_is : lost ≡ gone = tells (settings_of program) own pair.core in
+      let took : taken ≡ taken_count c own = taken_is ∙ pair.stands.link.server.accepted in
+      let breaks_are : broke ≡ count_inputs (breaks c) own = broke_is ∙ pair.stands.link.server.epoch in
       let loss_is : loss ≡ is_loss_due (settings_of program) c own =
-      loss_by ∙ ap (λ b. not b && list_any (is_reached c member.link.server.accepted) losses) lost_is
-      ∙ ap (λ n. not gone && list_any (is_reached c n) losses) taken
-      ∙ ap (λ list. not gone && list_any (is_reached c (taken_count c own)) list) losses_are in
+      loss_by c losses all pair.stands.triggers ∙ ap (λ b. not b && list_any (is_reached c taken) losses) lost_is
+      ∙ ap (λ n. not gone && list_any (is_reached c n) losses) took in
       let due = is_loss_due (settings_of program) c own in (
         loss_is,
-        break_by ∙ ap (λ b. not b && (not loss && ltb member.link.server.epoch (length (filter (is_reached c member.link.server.accepted) all)))) lost_is
-            ∙ ap (λ b. not gone && (not b && ltb member.link.server.epoch (length (filter (is_reached c member.link.server.accepted) all)))) loss_is
-            ∙ ap (λ n. not gone && (not due && ltb member.link.server.epoch (length (filter (is_reached c n) all)))) taken
-            ∙ ap (λ n. not gone && (not due && ltb n (length (filter (is_reached c (taken_count c own)) all)))) broke
-            ∙ ap (λ list. not gone && (not due && ltb (count_inputs (breaks c) own) (length (filter (is_reached c (taken_count c own)) list)))) all_are,
+        break_by c losses all pair.stands.triggers
+            ∙ ap (λ b. not b && (not loss && ltb broke (length (filter (is_reached c taken) all)))) lost_is
+            ∙ ap (λ b. not gone && (not b && ltb broke (length (filter (is_reached c taken) all)))) loss_is
+            ∙ ap (λ n. not gone && (not due && ltb broke (length (filter (is_reached c n) all)))) took
+            ∙ ap (λ n. not gone && (not due && ltb n (length (filter (is_reached c (taken_count c own)) all)))) breaks_are,
       )
 
   module _ (c : ℕ) (server : Server) (member : Member) (loss break : Bool) (tells : TellsDue program c server member loss break) where

@@ -27,6 +27,7 @@ use Rattle.dso_server.specs.Answering.{given_by}
 use Rattle.dso_server.specs.Lacking.{LacksNothing}
 use Rattle.dso_server.specs.ServerStands.{ServerStands}
 use Rattle.dso_server.specs.Threads.{RunsThreadsOf}
+use Rattle.dso_server.specs.Triggers.{AreTriggersOf}
 use Rattle.dso_base.specs.declared.both.Both.{Both}
 use Rattle.dso_world.specs.declared.member.Member.{Member}
 use Rattle.dso_world.specs.declared.nodes.Nodes.{Nodes}
@@ -107,8 +108,8 @@ module _ (program : Program) (sound : IsSound program) where
 
   pub member_stands : (number n : ℕ) (member : Member) → n ≡ length (filter (λ t. eqb t.client number) program.threads) → RunsCode program.code member.client
       → ((p : Settings) → p.shape ≡ program.code.shape → p.resident ≡ program.resident → threads_of p number ≡ first_threads number n → ClientStands program.code p number member.client [])
-      → member.link ≡ opening_line → member.clock ≡ 0 → MemberStands program number member []
-  member_stands number n member is runs stands line clock =
+      → member.link ≡ opening_line → member.clock ≡ 0 → AreTriggersOf number program.losses program.breaks member.triggers → MemberStands program number member []
+  member_stands number n member is runs stands line clock triggers =
       let client : ClientStands program.code (settings_of program) number member.client [] = stands (settings_of program) refl refl
       (own_first program.code sound.code program.threads sound.threads sound.threads_rise number ∙ ap (first_threads number) (sym is)) in
       let none : member.client.ledger.records ≡ 0 = client.parts.ledger.records in
@@ -122,6 +123,7 @@ module _ (program : Program) (sound : IsSound program) where
         };
         link = subst (λ line. LinkStands Joined (opening_past {M = Both}) line) (sym line) (links_go_on {M = Both}).opens;
         clock = clock;
+        triggers = triggers;
       }
 
   -- one client more

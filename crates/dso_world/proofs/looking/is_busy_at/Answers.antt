@@ -3,7 +3,7 @@ use Rattle.dso_world.proofs.looking.is_busy_at.Goals as goal
 
 pub returns-in-Some : goal.returns-in-Some
 returns-in-Some c = busy_at c.args.program.now c.args.place c.args.nodes.now c.in-Some.member.now c.is_busy.result c.requires.within
-    (lent c.args.nodes.now.members.items c.deref.result.now c.args.place c.in-Some.member.now c.deref.ensures.value c.in-Some.ensures.lookup.0 c.in-Some.ensures.lookup.1) c.is_busy.ensures
+    (lent c.args.nodes.now.members.items c.deref.result.now c.args.place c.in-Some.member.now c.deref.ensures.value c.in-Some.ensures.lookup.0 c.in-Some.ensures.lookup.1) (c.is_busy.ensures c.args.program.now)
 
 pub returns-in-None : goal.returns-in-None
 returns-in-None c = nobody_at c.args.program.now c.args.place c.args.nodes.now c.requires.within

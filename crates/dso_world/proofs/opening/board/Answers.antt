@@ -15,7 +15,7 @@ loop-place-preserved c =
     let place = c.loop-place.place in
     let within : place < length steps = (let is = c.len-place-end.ensures in let items = c.in_ok-steps.steps.ok.0 in let less = c.loop-place-test.true in omega (arith, is, items, less)) in
     c.set.ensures ∙ row_on c.args.program.now c.requires.sound c.args.nodes.now steps place c.index.result.now c.is_open.result c.loop-place.chooser c.requires.stands c.in_ok-steps.ensures
-    (got steps place c.index.result.now within c.index.ensures) c.is_open.ensures c.loop-place.invariant
+    (got steps place c.index.result.now within c.index.ensures) (c.is_open.ensures c.args.program.now) c.loop-place.invariant
 
 pub returns : goal.returns
 returns c =
