@@ -45,12 +45,7 @@ fn is_touched(entry: &Entry, step: Step) -> bool
 }
 
 /// The flags of the slots that the entry may open or close are those that the nodes tell.
-pub(crate) fn mark(
-    nodes: &Nodes,
-    entry: &Entry,
-    steps: &[Step],
-    chooser: &mut Chooser,
-)
+pub(crate) fn mark(nodes: &Nodes, entry: &Entry, steps: &[Step], chooser: &mut Chooser)
     requires { length steps.now ≡ length chooser.old.flags }
     ensures { (program : Program) → Marks program nodes.now entry.now steps.now chooser.old chooser.new }
 {

@@ -27,7 +27,9 @@ fn due(number: u8, server: &Server, member: &Member) -> (bool, bool)
     let taken = member.link.taken_up();
     let broke = member.link.breaks();
     let is_loss_due = member.triggers.is_loss_due(taken, is_lost);
-    let is_break_due = member.triggers.is_break_due(taken, is_lost, is_loss_due, broke);
+    let is_break_due = member
+        .triggers
+        .is_break_due(taken, is_lost, is_loss_due, broke);
     (is_loss_due, is_break_due)
 }
 
