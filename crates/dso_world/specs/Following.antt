@@ -14,6 +14,12 @@ use Rattle.dso_world.specs.NodesStand.{NodesStand}
 use Rattle.dso_world.specs.WorldSteps.{settings_of, slot_of}
 use Rattle.dso_world.specs.WorldStands.{BoardStands}
 
+-- the row has as many flags, and its round stands where it stood
+pub record KeepsRound (old new : Row) : Type 0 where
+  pub many : length new.flags ≡ length old.flags
+  pub begin : new.begin ≡ old.begin
+  pub entries : new.entries ≡ old.entries
+
 module _ (program : Program) where
   -- the steps are those of all slots, and each flag tells whether its slot is open after the entries
   pub record AreFlags (steps : List Step) (row : Row) (es : List Entry) : Type 0 where
@@ -21,14 +27,10 @@ module _ (program : Program) where
     pub flags : row.flags
         ≡ map (is_open (settings_of program) (next_request program.code) es) (slots (settings_of program))
 
-  -- Whatever entries the flags told of: where the nodes stand for them with this one, they tell of these; the rest of
-  -- the row stays.
-  pub record Marks (nodes : Nodes) (entry : Entry) (steps : List Step) (old new : Row) : Type 0 where
-    pub flags : (es : List Entry) → IsJournal program (entry ∷ es) → NodesStand program nodes (entry ∷ es)
-        → AreFlags steps old es → AreFlags steps new (entry ∷ es)
-    pub many : length new.flags ≡ length old.flags
-    pub begin : new.begin ≡ old.begin
-    pub entries : new.entries ≡ old.entries
+  -- whatever entries the flags told of: where the nodes stand for them with this one, they tell of these
+  abbrev pub Marks : Nodes → Entry → List Step → Row → Row → Type 0
+  Marks nodes entry steps old new = (es : List Entry) → IsJournal program (entry ∷ es)
+      → NodesStand program nodes (entry ∷ es) → AreFlags steps old es → AreFlags steps new (entry ∷ es)
 
   -- whatever entries the board stood for, it stands for them with this one, which was made at the slot of this place
   abbrev pub Follows : Nodes → Entry → ℕ → Board → Board → Type 0

@@ -1,5 +1,5 @@
 -- What the messages that an entry sends make of the connections.
-use Rattle.std.specs.Prelude.{ℕ, suc, cond, eqb, max, Option, List, [], ◌∷◌, map}
+use Rattle.std.specs.Prelude.{ℕ, suc, cond, eqb, max, List, [], ◌∷◌, map}
 use Rattle.dso_base.specs.declared.journal.Entry.{Entry}
 use Rattle.dso_base.specs.declared.journal.Node.TheVariants as node
 use Rattle.dso_base.specs.declared.journal.Sent.TheVariants.{ToServer}

@@ -1,7 +1,7 @@
 //! What an entry makes of the board (`specs/Following.antt`).
 ghost use Rattle.std.specs.Prelude.{◌≡◌, ◌+◌, ◌<◌, ◌^◌, length};
 ghost use Rattle.dso_class.specs.declared.program.Program.{Program};
-ghost use Rattle.dso_world.specs.Following.{Follows, Marks};
+ghost use Rattle.dso_world.specs.Following.{Follows, KeepsRound, Marks};
 ghost use Rattle.dso_world.specs.Touched.{is_input_of, is_touched};
 ghost use Rattle.dso_world.specs.WorldSteps.{slot_of};
 
@@ -47,7 +47,8 @@ fn is_touched(entry: &Entry, step: Step) -> bool
 /// The flags of the slots that the entry may open or close are those that the nodes tell.
 pub(crate) fn mark(nodes: &Nodes, entry: &Entry, steps: &[Step], chooser: &mut Chooser)
     requires { length steps.now ≡ length chooser.old.flags }
-    ensures { (program : Program) → Marks program nodes.now entry.now steps.now chooser.old chooser.new }
+    ensures flags { (program : Program) → Marks program nodes.now entry.now steps.now chooser.old chooser.new }
+    ensures round { KeepsRound chooser.old chooser.new }
 {
     for place in 0..steps.len() {
         let step = steps[place];

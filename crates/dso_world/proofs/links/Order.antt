@@ -1,5 +1,5 @@
 -- What an end gave stays among what it sent, and what the other end has seen was given.
-use Rattle.std.proofs.Common.{ℕ, suc, ◌-◌, ◌≤◌, ◌≡◌, refl, Bool, true, false, cond, eqb, leb, ltb, not, ◌||◌, Option, Some, None, [], ◌∷◌, slice_get, arith}
+use Rattle.std.proofs.Common.{ℕ, suc, ◌-◌, ◌≤◌, ◌≡◌, refl, Bool, true, false, cond, eqb, leb, ltb, not, ◌||◌, Option, Some, None, slice_get, arith}
 use Rattle.std.proofs.lemmas.List.{length-drop}
 use Rattle.std.proofs.lemmas.Bool.{ltb-false}
 use Rattle.std.proofs.lemmas.Option.{slice_get_within}

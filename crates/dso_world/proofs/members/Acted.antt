@@ -7,7 +7,6 @@ use Rattle.dso_base.specs.declared.journal.Input.TheVariants as input
 use Rattle.dso_base.specs.declared.journal.Node.TheVariants as node
 use Rattle.dso_base.specs.declared.lock.ThreadId.{ThreadId}
 use Rattle.dso_base.specs.declared.message.Up.{Up}
-use Rattle.dso_base.specs.declared.request.Event.{Event}
 use Rattle.dso_base.specs.Following.{is_thread}
 use Rattle.dso_class.specs.declared.program.Program.{Program}
 use Rattle.dso_client.specs.declared.acted.Acted.{Acted}

@@ -1,5 +1,5 @@
 -- What a client of a short journal keeps is small.
-use Rattle.std.proofs.Common.{ℕ, suc, ◌≤◌, refl, sym, subst, Bool, true, false, cond, List, [], ◌∷◌, length, arith}
+use Rattle.std.proofs.Common.{ℕ, suc, ◌≤◌, sym, subst, Bool, true, false, cond, List, [], ◌∷◌, length, arith}
 use Rattle.dso_base.specs.declared.journal.Entry.{Entry}
 use Rattle.dso_base.specs.declared.journal.Input.{Input}
 use Rattle.dso_base.specs.declared.journal.Node.{Node}

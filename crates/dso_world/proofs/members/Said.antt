@@ -1,6 +1,6 @@
 -- What the steps of a client make of a journal and of it.
 use Rattle.std.specs.List.{list_any}
-use Rattle.std.proofs.Common.{ℕ, suc, max, ◌+◌, ◌≤◌, ◌≡◌, refl, ◌∙◌, ap, Bool, true, false, cond, eqb, Option, Some, None, List, [], ◌∷◌, length, map}
+use Rattle.std.proofs.Common.{ℕ, suc, max, ◌+◌, ◌≤◌, ◌≡◌, refl, ◌∙◌, ap, true, false, eqb, Option, Some, None, List, ◌∷◌, length, map}
 use Rattle.dso_base.specs.declared.journal.Entry.{Entry}
 use Rattle.dso_base.specs.declared.journal.Input.{Input}
 use Rattle.dso_base.specs.declared.journal.Input.TheVariants as input

@@ -1,5 +1,5 @@
 -- A client with one entry more of its own.
-use Rattle.std.proofs.Common.{ℕ, suc, ◌≤◌, ◌≡◌, refl, sym, ◌∙◌, ap, subst, Bool, true, false, cond, Option, List, [], ◌∷◌, length}
+use Rattle.std.proofs.Common.{ℕ, suc, ◌≤◌, ◌≡◌, sym, ◌∙◌, ap, subst, cond, Option, List, ◌∷◌, length}
 use Rattle.dso_base.specs.declared.journal.Entry.{Entry}
 use Rattle.dso_base.specs.declared.journal.Input.{Input}
 use Rattle.dso_base.specs.declared.journal.Node.TheVariants as node

@@ -1,5 +1,5 @@
 -- The nodes once one of the clients made its step.
-use Rattle.std.proofs.Common.{ℕ, zero, suc, ◌-◌, ◌<◌, ◌≡◌, ◌≢◌, ◌⊎◌, inl, inr, refl, sym, ◌∙◌, ap, subst, Bool, true, false, cond, eqb, Option, Some, List, [], ◌∷◌, length, slice_get, slice_index_or, slice_set, arith}
+use Rattle.std.proofs.Common.{ℕ, zero, suc, ◌-◌, ◌<◌, ◌≡◌, ◌≢◌, ◌⊎◌, inl, inr, refl, sym, ◌∙◌, ap, subst, false, cond, eqb, Some, List, [], ◌∷◌, length, slice_get, slice_index_or, slice_set, arith}
 use Rattle.std.proofs.lemmas.Bool.{ne_eqb}
 use Rattle.std.specs.Vec.{with_item}
 use Rattle.dso_base.specs.declared.journal.Entry.{Entry}

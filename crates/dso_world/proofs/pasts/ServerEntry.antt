@@ -1,5 +1,5 @@
 -- What an entry of the server does to the pasts of the connections.
-use Rattle.std.proofs.Common.{ℕ, suc, ◌+◌, ◌≡◌, refl, ◌∙◌, ap, true, false, cond, eqb, ltb, not, List, ◌∷◌, ◌++◌, arith}
+use Rattle.std.proofs.Common.{ℕ, suc, ◌+◌, ◌≡◌, ◌∙◌, ap, true, false, cond, eqb, ltb, not, List, ◌∷◌, ◌++◌, arith}
 use Rattle.dso_base.specs.declared.journal.Entry.{Entry}
 use Rattle.dso_base.specs.declared.journal.Node.TheVariants.{Server}
 use Rattle.dso_base.specs.declared.message.Down.{Down}

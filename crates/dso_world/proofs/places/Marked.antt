@@ -1,5 +1,5 @@
 -- The flags of a row are told anew one after the other.
-use Rattle.std.proofs.Common.{ℕ, zero, suc, ◌+◌, ◌≡◌, refl, sym, ◌∙◌, ap, Some, List, [], ◌∷◌, ◌++◌, drop, map, slice_get, slice_set, take, arith}
+use Rattle.std.proofs.Common.{ℕ, zero, suc, ◌+◌, ◌≡◌, sym, ◌∙◌, ap, Some, List, [], ◌∷◌, ◌++◌, drop, map, slice_get, slice_set, take, arith}
 
 module _ {X Y : Type 0} (f g : X → Y) where
   -- the flags up to a place by one test, and behind it by another

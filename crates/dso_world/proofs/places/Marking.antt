@@ -1,6 +1,8 @@
 -- The flags of a row are told anew where an entry may have changed them.
 use Rattle.std.specs.List.{list_any}
-use Rattle.std.proofs.Common.{ℕ, zero, suc, ◌+◌, ◌≡◌, refl, sym, ◌∙◌, ap, Bool, true, false, eqb, ◌&&◌, ◌||◌, Option, Some, List, [], ◌∷◌, ◌++◌, drop, length, map, slice_get, slice_set, take}
+use Rattle.std.proofs.Common.{ℕ, zero, suc, ◌+◌, ◌≤◌, ◌≡◌, refl, sym, ◌∙◌, ap, Bool, true, false, eqb, ◌&&◌, ◌||◌, Some, List, [], ◌∷◌, ◌++◌, drop, length, map, slice_get, slice_set, take, arith}
+use Rattle.std.proofs.lemmas.List.{append-nil, length-map, take_all}
+use Rattle.std.proofs.Math.ListN.{drop_of_length-le}
 use Rattle.std.proofs.lemmas.Bool.{eq-eqb}
 use Rattle.dso_base.specs.declared.journal.Entry.{Entry}
 use Rattle.dso_class.specs.declared.program.Program.{Program}
@@ -10,7 +12,7 @@ use Rattle.dso_world.specs.declared.nodes.Nodes.{Nodes}
 use Rattle.dso_world.specs.declared.step.Step.{Step}
 use Rattle.dso_world.specs.ChosenSlot.{is_slot}
 use Rattle.dso_world.specs.Flags.{Row}
-use Rattle.dso_world.specs.Following.{AreFlags}
+use Rattle.dso_world.specs.Following.{AreFlags, Marks}
 use Rattle.dso_world.specs.Looking.{TellsOpen}
 use Rattle.dso_world.specs.MemberSteps.{IsJournal}
 use Rattle.dso_world.specs.NodesStand.{NodesStand}
@@ -87,3 +89,16 @@ module _ (program : Program) (nodes : Nodes) (entry : Entry) (steps : List Step)
         unmarked (opens (entry ∷ es)) (opens es) place all row.flags (slot_of step) (marks.flags es journal stands are) (slot_at_place place step es are is)
         (others_stay (settings_of program) (next_request program.code) entry es (slot_of step) untouched);
   }
+
+  -- So behind the last place they all tell of the entries with this one.
+  pub all_marked : (place : ℕ) (row : Row) → length steps ≤ place → MarkedTo place row → Marks program nodes entry steps old row
+  all_marked place row past marks = λ es journal stands are.
+      let same : length all ≡ length steps = sym (ap length are.listed) ∙ length-map steps slot_of in
+      let behind : length all ≤ place = omega (arith, same, past) in
+      record {
+        listed = are.listed;
+        flags = marks.flags es journal stands are
+            ∙ ap (λ front. map (opens (entry ∷ es)) front ++ map (opens es) (drop place all)) (take_all place all behind)
+            ∙ ap (λ rest. map (opens (entry ∷ es)) all ++ map (opens es) rest) (drop_of_length-le all behind)
+            ∙ append-nil (map (opens (entry ∷ es)) all);
+      }

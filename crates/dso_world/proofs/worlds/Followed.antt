@@ -1,5 +1,5 @@
 -- The board is followed by an entry.
-use Rattle.std.proofs.Common.{ℕ, suc, ◌+◌, ◌<◌, ◌≡◌, ◌≢◌, inl, inr, refl, sym, ◌∙◌, ap, Bool, Option, Some, None, List, [], ◌∷◌, length, slice_get, AllPairs, arith}
+use Rattle.std.proofs.Common.{ℕ, ◌+◌, ◌<◌, ◌≡◌, ◌≢◌, inl, inr, sym, ◌∙◌, ap, Bool, Option, Some, None, List, ◌∷◌, length, slice_get, AllPairs, arith}
 use Rattle.std.proofs.lemmas.List.{length-map}
 use Rattle.std.proofs.lemmas.Option.{slice_get-get_or}
 use Rattle.dso_base.specs.declared.journal.Entry.{Entry}
@@ -13,7 +13,7 @@ use Rattle.dso_world.specs.declared.board.Board.{Board}
 use Rattle.dso_world.specs.declared.nodes.Nodes.{Nodes}
 use Rattle.dso_world.specs.ChosenSlot.{slot_at}
 use Rattle.dso_world.specs.Flags.{Row}
-use Rattle.dso_world.specs.Following.{AreFlags, Follows, Marks}
+use Rattle.dso_world.specs.Following.{AreFlags, Follows, KeepsRound, Marks}
 use Rattle.dso_world.specs.Laws.{place_behind}
 use Rattle.dso_world.specs.Looking.{TellsFinished}
 use Rattle.dso_world.specs.WorldSteps.{settings_of}
@@ -30,7 +30,7 @@ threads_once : (threads : List ThreadId) → AllPairs IsThreadBefore threads →
 threads_once threads rise = λ i j d less within. before_differs _ _ (rise i j d less within)
 
 module _ (program : Program) (nodes : Nodes) (entry : Entry) (place : ℕ) (old : Board) (marked : Row) (finished : Bool)
-    (within : place < length old.chooser.flags) (marks : Marks program nodes entry old.steps.items old.chooser marked) where
+    (within : place < length old.chooser.flags) (marks : Marks program nodes entry old.steps.items old.chooser marked) (round : KeepsRound old.chooser marked) where
   -- the place of the round goes on behind the place of the entry's slot
   goes_on : (es : List Entry) → IsSound program → BoardStands program old es → slice_get (slots (settings_of program)) place ≡ slot_at entry.node entry.input
       → place + 1 ≡ place_behind (slot_at entry.node entry.input) (slots (settings_of program))
@@ -46,13 +46,13 @@ module _ (program : Program) (nodes : Nodes) (entry : Entry) (place : ℕ) (old 
   pub followed : TellsFinished program nodes finished
       → Follows program nodes entry place old (record old { chooser = record marked { begin = place + 1; entries = marked.entries + 1 }; is_finished = finished })
   followed ends = λ es journal nodes_stand stands at.
-      let now : AreFlags program old.steps.items marked (entry ∷ es) = marks.flags es journal nodes_stand (record { listed = stands.steps; flags = stands.row.flags }) in
+      let now : AreFlags program old.steps.items marked (entry ∷ es) = marks es journal nodes_stand (record { listed = stands.steps; flags = stands.row.flags }) in
       record {
         steps = stands.steps;
         row = record {
           flags = now.flags;
           begin = goes_on es journal.sound stands at;
-          entries = let same : marked.entries ≡ length es = marks.entries ∙ stands.row.entries in omega (arith, same);
+          entries = let same : marked.entries ≡ length es = round.entries ∙ stands.row.entries in omega (arith, same);
         };
         finished = ends (entry ∷ es) journal nodes_stand;
       }

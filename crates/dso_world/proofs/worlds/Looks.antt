@@ -1,6 +1,6 @@
 -- What the nodes tell: which triggers are due, which slots are open, and which clients keep the run going.
 use Rattle.std.specs.List.{list_any, flat_map}
-use Rattle.std.proofs.Common.{ℕ, zero, suc, ◌+◌, ◌-◌, ◌<◌, ◌≤◌, ◌≡◌, ◌↔◌, inl, inr, refl, sym, ◌∙◌, ap, subst, Bool, true, false, eqb, ltb, not, ◌&&◌, ◌||◌, Some, List, [], ◌∷◌, ◌++◌, filter, length, map, slice_get, slice_index_or, arith}
+use Rattle.std.proofs.Common.{ℕ, suc, ◌+◌, ◌-◌, ◌<◌, ◌≤◌, ◌≡◌, ◌↔◌, inl, inr, refl, sym, ◌∙◌, ap, subst, Bool, true, false, eqb, ltb, not, ◌&&◌, ◌||◌, Some, List, [], ◌∷◌, ◌++◌, filter, length, map, slice_get, slice_index_or, arith}
 use Rattle.std.specs.Prelude.{IsTrue}
 use Rattle.std.proofs.lemmas.Bool.{eq-eqb, ltb-false, ltb-true}
 use Rattle.std.proofs.lemmas.List.Folds.{list_any-append}

@@ -1,4 +1,4 @@
-use Rattle.std.proofs.Common.{◌≤◌, ◌≡◌, ◌^◌, None, [], ◌∷◌, ap, length, sym, subst, arith}
+use Rattle.std.proofs.Common.{◌≤◌, ◌≡◌, ◌^◌, None, ap, length, sym, subst, arith}
 use Rattle.dso_base.specs.declared.journal.Input.TheVariants as input
 use Rattle.dso_class.specs.declared.program.Program.{Program}
 use Rattle.dso_legal.specs.Slots as slot

@@ -2,7 +2,6 @@ use Rattle.std.proofs.Common.{◌≤◌, ◌≡◌, ◌∙◌, ◌^◌, None, So
 use Rattle.dso_base.specs.declared.journal.Input.TheVariants as input
 use Rattle.dso_legal.specs.Slots as slot
 use Rattle.dso_session.specs.declared.frame.Accepted.TheVariants as accepted
-use Rattle.dso_base.specs.declared.both.Both.TheVariants as both
 use Rattle.dso_world.specs.declared.made.Made.{Made}
 use Rattle.dso_world.specs.MemberSteps.{Steps}
 use Rattle.dso_world.specs.Sending.{after_saying, client_entry}

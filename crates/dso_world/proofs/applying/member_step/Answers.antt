@@ -1,4 +1,4 @@
-use Rattle.std.proofs.Common.{ℕ, suc, ◌-◌, ◌<◌, ◌≡◌, ◌∙◌, refl, Bool, false, true, Some, ap, length, slice_get, sym, subst, arith}
+use Rattle.std.proofs.Common.{suc, ◌-◌, ◌<◌, ◌≡◌, ◌∙◌, refl, false, true, Some, ap, length, slice_get, sym, subst, arith}
 use Rattle.std.specs.Vec.{with_item}
 use Rattle.dso_world.specs.MemberSteps.{Steps}
 use Rattle.dso_world.specs.NodeSteps.{StepsAll}

@@ -4,11 +4,14 @@ use Rattle.dso_world.proofs.worlds.Followed.{followed}
 use Rattle.dso_world.proofs.following.follow.Goals as goal
 
 pub taken-requires-clause-place : goal.taken-requires-clause-place
-taken-requires-clause-place c = omega (arith, (c.mark.ensures c.args.program.now).many, c.requires.place)
+taken-requires-clause-place c = omega (arith, c.mark.ensures.round.many, c.requires.place)
+
+pub taken-requires-clause-fits : goal.taken-requires-clause-fits
+taken-requires-clause-fits c = let same = c.mark.ensures.round.entries in omega (arith, same, c.requires.few)
 
 pub returns : goal.returns
 returns c = subst (λ chooser. Follows c.args.program.now c.args.nodes.now c.args.entry.now c.args.place c.args.board.now (record { steps = c.args.board.now.steps; chooser = chooser; is_finished = c.is_finished-board.result }))
     (sym c.taken.ensures)
     (followed c.args.program.now c.args.nodes.now c.args.entry.now c.args.place c.args.board.now c.mark.new.chooser c.is_finished-board.result c.requires.place
-    (subst (λ steps. Marks c.args.program.now c.args.nodes.now c.args.entry.now steps c.args.board.now.chooser c.mark.new.chooser) c.as_slice.ensures.value (c.mark.ensures c.args.program.now))
+    (subst (λ steps. Marks c.args.program.now c.args.nodes.now c.args.entry.now steps c.args.board.now.chooser c.mark.new.chooser) c.as_slice.ensures.value (c.mark.ensures.flags c.args.program.now)) c.mark.ensures.round
     c.is_finished-board.ensures)

@@ -13,6 +13,6 @@ new-requires-clause-there c = threads_there c.args.program.now c.requires c.args
 
 pub returns : goal.returns
 returns c = member_stands c.args.program.now c.requires c.args.number c.thread_count-threads.result _ (c.thread_count-threads.ensures ∙ ap (λ list. length (filter (λ t. eqb t.client c.args.number) list)) c.as_slice.ensures)
-    c.in_ok-client.ensures.runs c.in_ok-client.ensures.stands c.new-2.ensures refl
+    c.in_ok-client.ensures.runs c.in_ok-client.ensures.stands c.new-3.ensures refl
     (subst (λ losses. AreTriggersOf c.args.number losses c.args.program.now.breaks c.in_ok-triggers.triggers) c.as_slice-losses.ensures
     (subst (λ breaks. AreTriggersOf c.args.number c.as_slice-losses.result.now breaks c.in_ok-triggers.triggers) c.as_slice-breaks.ensures c.in_ok-triggers.ensures))

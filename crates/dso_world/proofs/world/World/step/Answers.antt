@@ -1,5 +1,5 @@
 use Rattle.std.specs.Option.{option_and_then, option_map_or}
-use Rattle.std.proofs.Common.{ℕ, ◌<◌, ◌^◌, ◌≡◌, refl, ◌∙◌, ap, Bool, true, false, is_some, Option, Some, None, length, slice_get, arith}
+use Rattle.std.proofs.Common.{◌<◌, ◌^◌, ◌≡◌, refl, ◌∙◌, ap, true, false, is_some, Option, Some, None, length, slice_get, arith}
 use Rattle.std.proofs.lemmas.List.{length-reverse}
 use Rattle.dso_base.specs.declared.no_memory.NoMemory.{NoMemory}
 use Rattle.dso_world.specs.Flags.{is_set}
