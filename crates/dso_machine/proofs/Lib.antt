@@ -5,3 +5,4 @@ pub mod standing
 pub mod moves
 pub mod protocol
 pub mod unwinding
+pub mod frames

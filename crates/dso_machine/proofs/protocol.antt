@@ -3,7 +3,9 @@ pub mod Protocol
 pub mod Parts
 pub mod Requests
 pub mod Locks
+pub mod Maps
 pub mod Calls
 pub mod Expressions
 pub mod Statements
 pub mod Threads
+pub mod MapWalks

@@ -3,3 +3,4 @@ pub mod Requests
 pub mod Steps
 pub mod Goes
 pub mod Replies
+pub mod Maps

@@ -8,8 +8,10 @@ use Rattle.dso_base.specs.declared.value.ClassId.{ClassId}
 use Rattle.dso_base.specs.declared.value.ClassId.TheVariants.{Plain, Array, Roots}
 use Rattle.dso_base.specs.declared.value.Value.{Value}
 use Rattle.dso_base.specs.declared.value.Value.TheVariants as value
+use Rattle.dso_map.specs.Calls.{map_op}
 use Rattle.dso_machine.specs.declared.code.Code.{Code}
 use Rattle.dso_machine.specs.declared.code.Method.{Method}
+use Rattle.dso_machine.specs.Maps.{call_map}
 use Rattle.dso_machine.specs.Outcome.{Environment, Outcome, Gives, Leaves, Fails, Meaning, choose, on_value, holding}
 use Rattle.dso_machine.specs.Outcome.{looking, on_object, moving_with, under_with}
 
@@ -78,16 +80,17 @@ run_method bodies m method object args =
     let held = value.Ref object ∷ vars in
     under_name held method.named (under_monitor held method.synced object (invoke bodies m (value.Ref object) vars))
 
--- a method that was found, if one more call may nest
-abbrev pub call_method : MethodMeanings → ℕ → ℕ → List Value → Option Method → Meaning
-call_method bodies m object args None at = Fails NoSuchField at
-call_method bodies m object args (Some method) at =
+-- A method that was found, if one more call may nest. The numbers behind those of the code are those of the map's
+-- methods.
+abbrev pub call_method : Code → MethodMeanings → ℕ → ℕ → List Value → Option Method → Meaning
+call_method code bodies m object args None at = call_map object args (map_op (m - length code.methods) args) at
+call_method code bodies m object args (Some method) at =
     choose (nat_lt 0 at.environment.depth_left) (run_method bodies m method object args) (Fails StackOverflow) at
 
 -- the method of the object's class
 abbrev pub call_number : Code → MethodMeanings → ℕ → List Value → Option ℕ → Meaning
 call_number code bodies object args None at = Fails NoSuchField at
-call_number code bodies object args (Some m) at = call_method bodies m object args (slice_get code.methods m) at
+call_number code bodies object args (Some m) at = call_method code bodies m object args (slice_get code.methods m) at
 
 -- a call on an object of this class
 abbrev pub call_in : Code → MethodMeanings → List (ℕ × ℕ) → List Value → ℕ → ClassId → ℕ → Meaning

@@ -6,6 +6,8 @@ use Rattle.dso_base.specs.declared.request.Reply.{Reply}
 use Rattle.dso_base.specs.declared.request.Request.TheVariants as request
 use Rattle.dso_base.specs.declared.value.Value.{Value}
 use Rattle.dso_base.specs.declared.value.Value.TheVariants as value
+use Rattle.dso_map.specs.declared.map_call.MapCall.{MapCall}
+use Rattle.dso_map.specs.Calls.{rest_of}
 use Rattle.dso_machine.specs.declared.code.Code.{Code}
 use Rattle.dso_machine.specs.declared.code.ThreadBody.{ThreadBody}
 use Rattle.dso_machine.specs.declared.machine.Core.{Core}
@@ -36,6 +38,7 @@ use Rattle.dso_machine.specs.Calls.{back_in, begin, invoke, under_monitor, call_
 use Rattle.dso_machine.specs.Expressions.{field_of, field_in, element_of, element_in, new_array, a_boolean, second}
 use Rattle.dso_machine.specs.Expressions.{expr}
 use Rattle.dso_machine.specs.Limits.{most_moves}
+use Rattle.dso_machine.specs.Maps.{told, told_reply, args_of}
 use Rattle.dso_machine.specs.Outcome.{Environment, State, Outcome, Gives, Leaves, Fails, Over, Meaning, on_value}
 use Rattle.dso_machine.specs.Outcome.{on_reply, on_next, on_next_beside, on_object, result_of, ask, asking, done, made}
 use Rattle.dso_machine.specs.Outcome.{got, seen, tell, get, getting, moved, moving, moving_with, settling, leave}
@@ -121,12 +124,17 @@ use_values (then.Write w) = write_values w
 use_values (then.Monitor m) = monitor_values m
 use_values other = []
 
+-- by a call of a map
+abbrev pub map_values : MapCall → List Value
+map_values call = value.Ref call.object ∷ args_of call.op
+
 -- by a task of the continuation
 abbrev pub task_values : Task → List Value
 task_values (task.Then t) = use_values t
 task_values (task.Back frame) = frame.this ∷ frame.vars
 task_values (task.Leave l grade) = monitor_of l
 task_values (task.Close l) = monitor_of l
+task_values (task.Mapped call) = map_values call
 
 -- by a continuation, the next task first
 abbrev pub outer_of : List Task → List Value
@@ -169,6 +177,7 @@ module _ (code : Code) (n k : ℕ) where
   locked_at (locked.Block ss) at = block_at ss at
   locked_at (locked.Monitor call) at = under_monitor (call_values call) call.synced call.object (body_at call) at
   locked_at (locked.Body call) at = body_at call at
+  locked_at (locked.Map call) at = told call.object (rest_of call) at
 
   -- the arguments that are left, and then the call
   abbrev pub arguments_at : List (ℕ × ℕ) → Value → List Value → List Expr → Meaning
@@ -233,6 +242,7 @@ module _ (code : Code) (n k : ℕ) where
   heard (reply.Ticked l n) r at = on_value (λ v. tell (request.Resume l)) (unless_woken (ticks l n) r at)
   heard (reply.TimedOut l) r at = on_value (λ v. tell (request.Resume l)) (timed_out r at)
   heard (reply.Paused a) r at = on_value (λ v. moved (move_at a)) (done r at)
+  heard (reply.Map call) r at = told_reply call.object (rest_of call) r at
 
   -- what a task of the continuation makes of a part's outcome, where this is held for what comes after the task
   abbrev pub after_part : List Value → Task → Outcome → Outcome
@@ -240,6 +250,7 @@ module _ (code : Code) (n k : ℕ) where
   after_part outer (task.Back frame) o = back_in (environment_of frame outer) o
   after_part outer (task.Leave l grade) o = leave l grade (letting_go (monitor_of l) outer o)
   after_part outer (task.Close l) o = letting_go (monitor_of l) outer o
+  after_part outer (task.Mapped call) o = letting_go (map_values call) outer o
 
   -- what the thread is about to do
   abbrev pub meant : Now → Meaning

@@ -1,7 +1,10 @@
 pub mod Calls
 pub mod Expressions
+pub mod Frames
 pub mod KnownValues
 pub mod Limits
+pub mod Maps
+pub mod MapCalls
 pub mod Next
 pub mod Outcome
 pub mod Continuation

@@ -1,5 +1,5 @@
 -- Which code is sound: every number in it names something that is there, and nothing is more than there may be.
-use Rattle.std.specs.Prelude.{◌≡◌, ◌≢◌, ℕ, suc, ◌<◌, ◌≤◌, Bool, true, false, List, [], ◌∷◌, length, map, All}
+use Rattle.std.specs.Prelude.{◌≡◌, ◌≢◌, ◌⊎◌, ℕ, suc, ◌+◌, ◌<◌, ◌≤◌, Bool, true, false, List, [], ◌∷◌, length, map, All}
 use Rattle.std.specs.Prelude.{AllPairs, Contains, slice_get, Some, None, IfSome}
 use Rattle.dso_base.specs.declared.lock.Grade.{Grade}
 use Rattle.dso_base.specs.declared.lock.ThreadId.{ThreadId}
@@ -14,6 +14,7 @@ use Rattle.dso_base.specs.declared.value.Kind.{Kind}
 use Rattle.dso_base.specs.declared.value.Value.{Value}
 use Rattle.dso_base.specs.declared.value.Value.TheVariants as value
 use Rattle.dso_base.specs.Shape.{HasField}
+use Rattle.dso_map.specs.MapClass.{IsMapClass, map_size, is_map}
 use Rattle.dso_machine.specs.declared.code.Code.{Code}
 use Rattle.dso_machine.specs.declared.code.Method.{Method}
 use Rattle.dso_machine.specs.declared.code.ThreadBody.{ThreadBody}
@@ -43,17 +44,34 @@ is_unary op.Not = true
 is_unary op.Neg = true
 is_unary other = false
 
--- the places name fields that are there, in different classes
+-- the places name fields that are there, in different classes, of which none is that of maps
 pub record ArePlaces (shape : Shape) (places : List (ℕ × ℕ)) : Type 0 where
   pub there : All (λ place. HasField shape (Plain place.0) place.1) places
+  pub of_no_map : All (λ place. is_map shape place.0 ≡ false) places
   pub differ : AllPairs (λ place other. place.0 ≢ other.0) places
 
 -- the method of this number is there, of the class beside it, and takes so many arguments
-pub record IsCallee (code : Code) (count : ℕ) (callee : ℕ × ℕ) : Type 0 where
+pub record IsCodeCallee (code : Code) (count : ℕ) (callee : ℕ × ℕ) : Type 0 where
   pub method : Method
   pub there : slice_get code.methods callee.1 ≡ Some method
   pub class : method.class ≡ callee.0
   pub params : method.params ≡ count
+
+-- how many arguments the methods of a map take: get, has, size, put, remove
+abbrev pub map_arguments : List ℕ
+map_arguments = 1 ∷ 1 ∷ 0 ∷ 2 ∷ 1 ∷ []
+
+-- the class is that of maps; the number is that of a method of maps, behind all of the code, which takes so many
+-- arguments
+pub record IsMapCallee (code : Code) (count : ℕ) (callee : ℕ × ℕ) : Type 0 where
+  pub class : is_map code.shape callee.0 ≡ true
+  pub place : ℕ
+  pub number : callee.1 ≡ length code.methods + place
+  pub params : slice_get map_arguments place ≡ Some count
+
+-- a call may reach this method of this class
+abbrev pub IsCallee : Code → ℕ → ℕ × ℕ → Type 0
+IsCallee code count callee = IsCodeCallee code count callee ⊎ IsMapCallee code count callee
 
 -- the methods that a call may reach are there, in different classes
 pub record AreCallees (code : Code) (count : ℕ) (callees : List (ℕ × ℕ)) : Type 0 where
@@ -124,9 +142,11 @@ abbrev pub IsGuard : Shape → Guard → Type 0
 IsGuard shape guard.Own = Unit {0}
 IsGuard shape (guard.Name lock) = lock < shape.names
 
--- a class has no more fields than there may be, and each one's guard is there
+-- a class has no more fields than there may be, and each one's guard is there; one of as many fields as a map is that
+-- of maps
 pub record IsSoundClass (shape : Shape) (class : ClassShape) : Type 0 where
   pub few_fields : length class.fields ≤ most_fields
+  pub as_map : length class.fields ≡ map_size → IsMapClass class
   pub guards : All (λ field. IsGuard shape field.guard) class.fields
 
 -- a method's named lock is there, and is no root's own

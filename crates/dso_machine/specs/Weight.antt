@@ -103,6 +103,7 @@ task_weight (task.Then t) = use_weight t
 task_weight (task.Back frame) = 1
 task_weight (task.Leave l grade) = 1
 task_weight (task.Close l) = 1
+task_weight (task.Mapped call) = 1
 
 -- the weight of a continuation
 abbrev pub tasks_weight : List Task → ℕ

@@ -11,6 +11,7 @@ ghost use Rattle.dso_machine.specs.Statements.{methods};
 
 use crate::Code;
 use crate::continuation::{Call, Frame, Locked, Now, OnReply, Step};
+use crate::map::call_map;
 use crate::on_reply::{enter_monitor, unwanted};
 use crate::operators::{level_of, lookup};
 use dso_base::{ClassId, Fault, Grade, Items, LockName, NoMemory, Reply, Request, Value};
@@ -45,7 +46,7 @@ fn enter_named(named: Option<(u32, Grade)>, call: Call) -> Now
     }
 }
 
-/// A method of this number is called.
+/// A method of this number is called. The numbers behind those of the code are those of the map's methods.
 fn call_method(
     code: &Code,
     frame: &Frame,
@@ -57,7 +58,8 @@ fn call_method(
         ≡ calls.call_number code.now (methods code.now n) object args (Some number) (in_frame frame.now outer moves rs)) }
 {
     let Some(method) = code.methods.get(number as usize) else {
-        return Ok(Step::fail(Fault::NoSuchField));
+        let place = number as usize - code.methods.len();
+        return Ok(call_map(object, place, args.as_slice()));
     };
     if frame.room == 0 {
         return Ok(Step::fail(Fault::StackOverflow));

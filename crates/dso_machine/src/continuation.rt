@@ -5,6 +5,7 @@ ghost use Rattle.dso_machine.specs.Continuation.{alone, used};
 use crate::stack::Stack;
 use crate::{Expr, FieldRef, Stmt};
 use dso_base::{Boxed, Fault, Grade, Items, Kind, LockName, Op, Request, Value};
+use dso_map::MapCall;
 
 /// The frame of a method, or of the thread's body: the object, the variables, and how many more frames may stand on it.
 #[derive(Debug, Drop)]
@@ -51,6 +52,8 @@ pub(crate) enum Locked {
     Monitor(Call),
     /// A call that has its locks.
     Body(Call),
+    /// A call of a map.
+    Map(MapCall),
 }
 
 /// What is written, and into what.
@@ -157,6 +160,8 @@ pub(crate) enum OnReply {
     TimedOut(LockName),
     /// The thread paused before the move.
     Paused(Move),
+    /// A call of a map asked something of the map's fields.
+    Map(MapCall),
 }
 
 /// A task of the continuation: what is still to be done after a part.
@@ -170,6 +175,8 @@ pub(crate) enum Task {
     Leave(LockName, Grade),
     /// The block of a private object ends: nothing is left.
     Close(LockName),
+    /// A call of a map ends: the map and the arguments are held no longer.
+    Mapped(MapCall),
 }
 
 /// What the thread is about to do.

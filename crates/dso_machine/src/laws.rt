@@ -1,4 +1,4 @@
-//! What the machine's definitions say of every thread's run: how it leaves its locks, and how it waits.
+//! What the machine's definitions say of every thread's run: how it leaves its locks, how it waits, and how it calls maps.
 
 ghost use Rattle.std.specs.Prelude.{◌≡◌, [], ◌∷◌, ◌++◌, List, Option, Some};
 ghost use Rattle.dso_base.specs.declared.lock.LockName.{LockName};
@@ -11,7 +11,10 @@ ghost use Rattle.dso_base.specs.declared.request.Request.TheVariants as request;
 ghost use Rattle.dso_base.specs.declared.request.Request.{Request};
 ghost use Rattle.dso_machine.specs.declared.code.Code.{Code};
 ghost use Rattle.dso_machine.specs.declared.code.ThreadBody.{ThreadBody};
+ghost use Rattle.dso_machine.specs.Frames.{KeepsFrames, frames_after};
+ghost use Rattle.dso_machine.specs.MapCalls.{MapsAreCalled};
 ghost use Rattle.dso_machine.specs.Next.{body_of, next_request, replies_in};
+ghost use Rattle.dso_machine.specs.Sound.{IsSound};
 ghost use Rattle.dso_machine.specs.Unwinding.{AreBehindExit, FailsAfter, FollowsCode, SettlesAsEntered, Unwinds, locks_after, outer};
 ghost use Rattle.dso_machine.specs.WaitingThreads.{AsksAsItWaits, Awake, waiting_after};
 
@@ -61,4 +64,19 @@ pub fn locks_nest()
         → FollowsCode code t events
         → next_request code t events ≡ Some request.Settle
         → AreBehindExit events }
+{}
+
+/// A thread of sound code goes from call to call of maps: it calls what it saw to be a map, asks inside a call what the call asks, and
+/// touches no map's field outside of calls. So it is whatever it is answered, of what is listed.
+pub fn maps_are_called()
+    ensures { MapsAreCalled }
+{}
+
+/// A thread of sound code holds nothing that it made up: after one more event each object that its frames hold, or that its next
+/// request names, is object 0, or was so before, or is told by the reply.
+///
+/// `frames_after` is what the frames hold: in the body that runs its object and its variables, the values that were evaluated and aren't
+/// used yet, the objects whose blocks are still to be left, and so those of the callers.
+pub fn frames_are_kept()
+    ensures { (code : Code) → IsSound code → KeepsFrames (next_request code) (frames_after code) }
 {}

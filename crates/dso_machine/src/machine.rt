@@ -181,7 +181,7 @@ impl Core {
             Some(Task::Leave(lock, grade)) => {
                 Ok(Now::Ask(Request::Exit(lock), OnReply::Left(grade, end)))
             }
-            Some(Task::Close(_)) => Ok(Now::Have(end)),
+            Some(Task::Close(_) | Task::Mapped(_)) => Ok(Now::Have(end)),
         }
     }
 

@@ -11,6 +11,7 @@ ghost use Rattle.dso_machine.specs.Statements.{put_fitting, ticking};
 
 use crate::call::call_seen;
 use crate::continuation::{Call, End, Frame, Locked, Move, Now, OnReply, Step, Task};
+use crate::map::{ask_map, map_heard};
 use crate::operators::{level_of, lookup, takes, within};
 use crate::stack::Stack;
 use crate::{Code, FieldRef};
@@ -216,6 +217,7 @@ fn begin(locked: Locked) -> Now
         Locked::Block(body) => Now::Run(Stack::from_items(body)),
         Locked::Monitor(call) => enter_monitor(call),
         Locked::Body(call) => Now::Pace(Move::Body(call)),
+        Locked::Map(call) => ask_map(call),
     }
 }
 
@@ -313,5 +315,6 @@ pub(crate) fn hear(code: &Code, frame: &Frame, reply: Reply, on: OnReply) -> Res
         OnReply::Ticked(lock, ticks) => Ok(ticked(reply, lock, ticks)),
         OnReply::TimedOut(lock) => Ok(timed_out(reply, lock)),
         OnReply::Paused(then) => Ok(paused(reply, then)),
+        OnReply::Map(call) => Ok(map_heard(reply, call)),
     }
 }

@@ -1,5 +1,5 @@
 //! A stack, which contracts see as a list with its top first.
-ghost use Rattle.std.specs.Prelude.{◌≡◌, ◌↔◌, [], ◌∷◌, ◌++◌, IsNone, IsTrue, OnOk, OnErr, IfErr};
+ghost use Rattle.std.specs.Prelude.{◌≡◌, ◌↔◌, [], ◌∷◌, ◌++◌, IsNone, IsTrue, OnOk, OnErr, IfErr, reverse};
 ghost use Rattle.std.specs.Option.{option_to_list};
 
 use dso_base::Items;
@@ -44,6 +44,13 @@ impl<T> Stack<T> {
         ensures { IsTrue result ↔ (self.now ≡ []) }
     {
         self.items.is_empty()
+    }
+
+    /// The items, the one on top last.
+    pub(crate) fn as_slice(&self) -> &[T]
+        ensures { result.now ≡ reverse self.now }
+    {
+        self.items.as_slice()
     }
 
     /// Puts an item on top. Where there is no memory the stack is as before, and the item is given back.

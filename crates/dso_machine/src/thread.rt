@@ -1,5 +1,5 @@
 //! A thread of a program: what it asks, by what it was answered.
-ghost use Rattle.std.specs.Prelude.{◌≡◌, ◌≢◌, ◌++◌, ◌∷◌, ◌↔◌, [], IfOk, IsTrue, List, None, Option, Some};
+ghost use Rattle.std.specs.Prelude.{ℕ, ◌≡◌, ◌≢◌, ◌++◌, ◌∷◌, ◌↔◌, [], IfOk, IsTrue, List, None, Option, Some};
 ghost use Rattle.std.specs.Option.{option_copied};
 ghost use Rattle.dso_base.specs.declared.lock.ThreadId.{ThreadId};
 ghost use Rattle.dso_base.specs.declared.request.Event.{Event};
@@ -7,6 +7,7 @@ ghost use Rattle.dso_base.specs.declared.request.Request.{Request};
 ghost use Rattle.dso_base.specs.Following.{IsListedFor};
 ghost use Rattle.dso_machine.specs.declared.code.Code.{Code};
 ghost use Rattle.dso_machine.specs.declared.thread.Due.{Due};
+ghost use Rattle.dso_machine.specs.Frames.{IsAtRest, frames_after, holds_then, is_listed};
 ghost use Rattle.dso_machine.specs.Next.{body_of, next_request};
 ghost use Rattle.dso_machine.specs.Continuation.{IsAsk, StandsAt};
 ghost use Rattle.dso_machine.specs.Sound.{IsSound};
@@ -15,6 +16,7 @@ ghost use Rattle.dso_machine.specs.Standing.{IsAnswered, IsOver, Resumes, Thread
 use crate::call::variables;
 use crate::continuation::{Frame, Now, OnReply};
 use crate::copies::copy_block;
+use crate::held::objects_held;
 use crate::machine::Core;
 use crate::on_reply::hear;
 use crate::stack::Stack;
@@ -111,6 +113,22 @@ impl Thread {
         ensures asks { (code : Code) (t : ThreadId) (events : List Event) → ThreadStands code t self.now events → (IsTrue result ↔ (next_request code t events ≡ None)) }
     {
         matches!(self.due, Due::Over)
+    }
+
+    /// The objects that the thread holds where it rests: those in its frames, and those that its request names.
+    ///
+    /// It rests where its request is out, and where it has ended; then it holds nothing. An object is listed as often as it is held.
+    /// It answers NoMemory where an allocation was refused.
+    pub fn named(&self, alloc: Global) -> Result<Vec<u64>, NoMemory>
+        requires rests { IsAtRest self.now }
+        ensures { IfOk result (λ named. (code : Code) (t : ThreadId) (events : List Event) → ThreadStands code t self.now events
+            → (o : ℕ) → is_listed o named.items ≡ holds_then (next_request code) (frames_after code) t events o) }
+    {
+        match &self.due {
+            Due::Going(now) => objects_held(alloc, &self.core, now, request_of(now)),
+            Due::Heard(_, _) => unreachable!(),
+            Due::Over => Ok(Vec::new(alloc)),
+        }
     }
 }
 

@@ -1,5 +1,5 @@
 -- Numbers of what a text declares are those of something in its code.
-use Rattle.std.proofs.Common.{◌≡◌, ◌≢◌, ℕ, zero, suc, ◌<◌, sym, ap, ◌∙◌, subst, arith, List, [], ◌∷◌, map, length, slice_get, Some, All, AllPairs, Contains}
+use Rattle.std.proofs.Common.{◌≡◌, ◌≢◌, ℕ, zero, suc, ◌<◌, false, inl, sym, ap, ◌∙◌, subst, arith, List, [], ◌∷◌, map, length, slice_get, get_or, Some, All, AllPairs, Contains}
 use Rattle.std.specs.List.{AllZip}
 use Rattle.std.proofs.lemmas.List.{length-map}
 use Rattle.std.proofs.lemmas.List.Elements.{All-weaker, All-contains_itself}
@@ -7,6 +7,7 @@ use Rattle.std.proofs.lemmas.Option.{slice_get_within, none-some, same_Some}
 use Rattle.dso_base.specs.declared.shape.ClassShape.{ClassShape}
 use Rattle.dso_base.specs.declared.value.ClassId.TheVariants.{Plain}
 use Rattle.dso_base.specs.Shape as base
+use Rattle.dso_map.specs.MapClass.{is_map}
 use Rattle.dso_machine.specs.declared.code.Code.{Code}
 use Rattle.dso_machine.specs.declared.tree.FieldRef.{FieldRef}
 use Rattle.dso_machine.specs.Sound.{ArePlaces, IsCallee, AreCallees}
@@ -51,11 +52,12 @@ module _ (source : Source) (code : Code) (is : IsCode source code) where
   field_there name class number has =
       subst (λ n. number < n) (row_long source (classes_of source.ast.items) code.shape.classes class has.row is.classes has.of_class) (slice_get_within has.row number name has.of_field)
 
-  -- the places of a field name are there
-  pub places_sound : (name : Word) (f : FieldRef) → IsFieldRef (field_names source) name f → ArePlaces code.shape f.places
-  places_sound name f ref = record {
+  -- the places of a field name are there, where no class is that of maps
+  pub places_sound : ((class : ℕ) → is_map code.shape class ≡ false) → (name : Word) (f : FieldRef) → IsFieldRef (field_names source) name f → ArePlaces code.shape f.places
+  places_sound no_map name f ref = record {
     there = All-weaker (λ place. HasField (field_names source) name place.0 place.1) (λ place. base.HasField code.shape (Plain place.0) place.1) (λ place has. field_there name place.0 place.1 has) f.places
         (pairs_hold (HasField (field_names source) name) f.places ref.places);
+    of_no_map = λ k place within. no_map (get_or f.places k place).0;
     differ = pairs_differ (HasField (field_names source) name) f.places ref.places;
   }
 
@@ -63,7 +65,7 @@ module _ (source : Source) (code : Code) (is : IsCode source code) where
   callee_there : (name : Word) (count : ℕ) (callee : ℕ × ℕ) → HasMethod (all_methods source.ast.items) name count callee.0 callee.1 → IsCallee code count callee
   callee_there name count callee has =
       let found = zip_at (IsMethod source) (all_methods source.ast.items) code.methods callee.1 has.declared is.methods has.of_method in
-      record { method = found.0; there = found.1; class = found.2.of_class ∙ has.of_class; params = found.2.all_params ∙ has.takes }
+      inl (record { method = found.0; there = found.1; class = found.2.of_class ∙ has.of_class; params = found.2.all_params ∙ has.takes })
 
   -- the methods of a name and number of arguments are there
   pub callees_sound : (name : Word) (count : ℕ) (callees : List (ℕ × ℕ)) → AreThePairs (HasMethod (all_methods source.ast.items) name count) callees → AreCallees code count callees

@@ -32,7 +32,7 @@ use Rattle.dso_class.proofs.faultless.Text.{IsCleanBody, IsCleanMethod, IsCleanT
 use Rattle.dso_class.proofs.grammar.Operators.{block_fits}
 use Rattle.dso_class.proofs.grammar.GoodTrees.{IsQuiet, quiet_right}
 use Rattle.dso_class.proofs.grammar.Fits.{MethodFits, ThreadFits, methods_fit, threads_fit}
-use Rattle.dso_class.proofs.soundness.Shape.{few_lock_names, few_methods_from, numbers_below, params_among, lock_sound, classes_sound}
+use Rattle.dso_class.proofs.soundness.Shape.{few_lock_names, few_methods_from, numbers_below, params_among, lock_sound, no_map, classes_sound}
 use Rattle.dso_class.proofs.soundness.Numbers.{names_long}
 use Rattle.dso_class.proofs.soundness.Statements.{sound_block}
 use Rattle.dso_class.proofs.thread_ids.Sound as threads
@@ -67,7 +67,7 @@ module _ (config : Config) (ast : Ast) (locks texts : List Word) (code : Code) (
       let known = map (λ name. name.name) params in
       let quiet : IsQuiet owner (block (map (statement owner) trees) known) = quiet_right owner (map (λ name. on name.line (parameter name.name)) params) (block (map (statement owner) trees) known) (record { none = fine.this_in_method }) in
       subst (λ n. SoundBlock (record { code = code; vars = n; in_method = not owner.in_thread }) most_nested statements) (sym of.all_vars)
-      (sound_block source code is owner (variables_of owner params trees) of.grade known most_nested of.means (record { right = fit; quiet = quiet }))
+      (sound_block source code is (no_map source code is clean.classes) owner (variables_of owner params trees) of.grade known most_nested of.means (record { right = fit; quiet = quiet }))
 
   -- a body has few variables
   vars_few : (owner : Owner) (params : List Ident) (trees : List StmtTree) (vars : ℕ) (statements : List Stmt) → IsBody source owner params trees vars statements → IsCleanBody owner params trees → vars ≤ 64

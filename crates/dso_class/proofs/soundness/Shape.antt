@@ -1,5 +1,6 @@
 -- The shape of a faultless text's code, and its methods' numbers, are within the limits.
-use Rattle.std.proofs.Common.{◌≡◌, ℕ, suc, ◌+◌, ◌*◌, ◌≤◌, ◌<◌, arith, List, [], ◌∷◌, ◌++◌, map, length, slice_get, Option, Some, IfSome, All}
+use Rattle.std.proofs.Common.{◌≡◌, refl, eqb, Bool, true, false, None, ℕ, suc, ◌+◌, ◌*◌, ◌≤◌, ◌<◌, arith, List, [], ◌∷◌, ◌++◌, map, length, slice_get, Option, Some, IfSome, All}
+use Rattle.std.proofs.lemmas.Bool.{eqb-true}
 use Rattle.std.proofs.lemmas.List.{length-append, length-map}
 use Rattle.std.proofs.lemmas.List.Elements.{All-nil, All-cons, All-head, All-tail, All-append}
 use Rattle.std.proofs.lemmas.Option.{slice_get_within}
@@ -10,6 +11,8 @@ use Rattle.dso_base.specs.declared.shape.Guard.{Guard}
 use Rattle.dso_config.specs.declared.config.Config.{Config}
 use Rattle.dso_config.specs.InRange.{IsInRange, entries}
 use Rattle.dso_machine.specs.declared.code.Code.{Code}
+use Rattle.dso_base.specs.Shape as base
+use Rattle.dso_map.specs.MapClass.{map_size, is_map}
 use Rattle.dso_machine.specs.Sound as machine
 use Rattle.dso_syntax.specs.declared.tree.Ident.{Ident}
 use Rattle.dso_syntax.specs.declared.tree.Member.{Member}
@@ -22,7 +25,7 @@ use Rattle.dso_class.specs.Declarations.{ClassTree, FieldTree, classes_of, field
 use Rattle.dso_entries.specs.ConfigEntries.{lock_mentions}
 use Rattle.dso_class.specs.TextProgram.{Source, roots_of, IsField, IsClass, IsGuard, IsNamedLock, IsCode}
 use Rattle.dso_class.proofs.faultless.Text.{IsCleanClass}
-use Rattle.dso_class.proofs.lists.SideBySide.{zip_length, zip_all}
+use Rattle.dso_class.proofs.lists.SideBySide.{zip_length, zip_all, all_at}
 
 -- ---- lengths
 
@@ -95,9 +98,31 @@ module _ (source : Source) (code : Code) (is : IsCode source code) where
   class_sound : (class : ClassTree) (shape : ClassShape) → IsClass source class shape → IsCleanClass class → machine.IsSoundClass code.shape shape
   class_sound class shape of clean = record {
     few_fields = omega (arith, clean.few_fields, zip_length (IsField source class.name) (fields_of class.members) shape.fields of.fields);
+    as_map = λ same. absurd (omega (arith, same, clean.few_fields, zip_length (IsField source class.name) (fields_of class.members) shape.fields of.fields));
     guards = zip_all (IsField source class.name) (λ field. Unit {0}) (λ field. machine.IsGuard code.shape field.guard) (fields_of class.members) shape.fields (λ field shape of_field _. field_sound class.name field shape of_field) of.fields
         (λ k d within. tt);
   }
+
+  -- a class of a text has fewer fields than a map
+  few_of_class : (class : ClassTree) (shape : ClassShape) → IsClass source class shape → IsCleanClass class → length shape.fields < map_size
+  few_of_class class shape of clean = omega (arith, clean.few_fields, zip_length (IsField source class.name) (fields_of class.members) shape.fields of.fields)
+
+  no_map_of : (shape : Option ClassShape) → IfSome shape (λ class. length class.fields < map_size) → eqb (length (base.fields_of shape)) map_size ≡ false
+  no_map_of None few = refl
+  no_map_of (Some class) few = not_as_many (eqb (length class.fields) map_size) refl
+    where
+      not_as_many : (b : Bool) → eqb (length class.fields) map_size ≡ b → eqb (length class.fields) map_size ≡ false
+      not_as_many true is = absurd (omega (arith, few, eqb-true (length class.fields) map_size is))
+      not_as_many false is = is
+
+  -- so none is that of maps
+  pub no_map : All IsCleanClass (classes_of source.ast.items) → (class : ℕ) → is_map code.shape class ≡ false
+  no_map clean class = no_map_of (slice_get code.shape.classes class) (few_at (slice_get code.shape.classes class) refl)
+    where
+      few_at : (shape : Option ClassShape) → slice_get code.shape.classes class ≡ shape → IfSome shape (λ one. length one.fields < map_size)
+      few_at None at = tt
+      few_at (Some shape) at = all_at (λ one. length one.fields < map_size) code.shape.classes class shape
+          (zip_all (IsClass source) IsCleanClass (λ one. length one.fields < map_size) (classes_of source.ast.items) code.shape.classes few_of_class is.classes clean) at
 
   -- the shapes of all classes are within the limits
   pub classes_sound : All IsCleanClass (classes_of source.ast.items) → All (machine.IsSoundClass code.shape) code.shape.classes

@@ -1,7 +1,8 @@
 -- Statements in numbers are sound where their trees are good: each number is of something that is there.
-use Rattle.std.proofs.Common.{◌≡◌, ℕ, zero, suc, not, refl, ap, subst, List, ◌++◌, length, Option}
+use Rattle.std.proofs.Common.{◌≡◌, ℕ, zero, suc, false, not, refl, ap, subst, List, ◌++◌, length, Option}
 use Rattle.std.proofs.lemmas.Option.{slice_get_within}
 use Rattle.dso_base.specs.declared.lock.Grade.{Grade}
+use Rattle.dso_map.specs.MapClass.{is_map}
 use Rattle.dso_machine.specs.declared.code.Code.{Code}
 use Rattle.dso_machine.specs.declared.tree.Expr.{Expr}
 use Rattle.dso_machine.specs.declared.tree.Stmt.{Stmt}
@@ -18,7 +19,7 @@ use Rattle.dso_class.proofs.grammar.GoodTrees as good
 use Rattle.dso_class.proofs.grammar.GoodTrees.{IsGood, AreGood, IsGoodStmt, IsGoodBlock}
 use Rattle.dso_class.proofs.soundness.Numbers.{places_sound, callees_sound, class_there, root_there, text_there}
 
-module _ (source : Source) (code : Code) (is : IsCode source code) (owner : Owner) (variables : List Word) (grade : Option Grade) where
+module _ (source : Source) (code : Code) (is : IsCode source code) (no_map : (class : ℕ) → is_map code.shape class ≡ false) (owner : Owner) (variables : List Word) (grade : Option Grade) where
   -- what the names of the body's trees are numbers in
   abbrev numbers : Numbers
   numbers = numbers_of source variables grade
@@ -46,7 +47,7 @@ module _ (source : Source) (code : Code) (is : IsCode source code) (owner : Owne
     sound_expr known (MeansExpr.array {line = line} {kind = kind} {a = a} inner) fine = SoundExpr.array (sound_expr known inner (good.good_array owner known line kind a fine))
     sound_expr known (MeansExpr.root {i = i} from at) fine = SoundExpr.root (root_there source code is i at)
     sound_expr known (MeansExpr.field {line = line} {a = a} {name = name} {f = f} inner ref) fine =
-        SoundExpr.field (sound_expr known inner (good.good_field owner known line a name fine)) (places_sound source code is name.name f ref)
+        SoundExpr.field (sound_expr known inner (good.good_field owner known line a name fine)) (places_sound source code is no_map name.name f ref)
     sound_expr known (MeansExpr.element {line = line} {a = a} {c = c} inner index) fine =
         let parts = good.good_element owner known line a c fine in
         SoundExpr.element (sound_expr known inner parts.0) (sound_expr known index parts.1)
@@ -77,7 +78,7 @@ module _ (source : Source) (code : Code) (is : IsCode source code) (owner : Owne
         SoundStmt.put_root (root_there source code is i numbered) (sound_expr known one (good.good_assign owner known line room (g.expression at (e.Field (g.expression from (e.Name class)) name)) a fine).1)
     sound_stmt known room (MeansStmt.put_field {line = line} at {a = a} {c = c} {name = name} {f = f} one ref other) fine =
         let parts = good.good_assign owner known line room (g.expression at (e.Field a name)) c fine in
-        SoundStmt.put_field (sound_expr known one (good.good_field owner known at a name parts.0)) (places_sound source code is name.name f ref) (sound_expr known other parts.1)
+        SoundStmt.put_field (sound_expr known one (good.good_field owner known at a name parts.0)) (places_sound source code is no_map name.name f ref) (sound_expr known other parts.1)
     sound_stmt known room (MeansStmt.put_element {line = line} at {a = a} {c = c} {g = b} one index other) fine =
         let parts = good.good_assign owner known line room (g.expression at (e.Elem a c)) b fine in
         let place = good.good_element owner known at a c parts.0 in

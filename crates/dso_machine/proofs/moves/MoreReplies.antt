@@ -1,12 +1,12 @@
 -- What comes later makes no difference: with more replies and more moves, a part that was not stopped comes to the same.
-use Rattle.std.proofs.Common.{◌≡◌, refl, ℕ, ◌+◌, ◌-◌, Bool, true, false, List, [], ◌∷◌, ◌++◌, map, Option, None, Some, subst, sym, ap}
+use Rattle.std.proofs.Common.{◌≡◌, refl, ℕ, ◌+◌, ◌-◌, Bool, true, false, List, [], ◌∷◌, ◌++◌, length, map, Option, None, Some, subst, sym, ap}
 use Rattle.std.specs.Prelude.{nat_lt, slice_get, Result, Ok, Err}
 use Rattle.dso_base.specs.declared.lock.Grade.{Grade}
 use Rattle.dso_base.specs.declared.lock.Grade.TheVariants as grade
 use Rattle.dso_base.specs.declared.lock.LockName.{LockName}
 use Rattle.dso_base.specs.declared.lock.LockName.TheVariants.{Mon, Name}
 use Rattle.dso_base.specs.declared.request.Fault.{Fault}
-use Rattle.dso_base.specs.declared.request.Fault.TheVariants.{StackOverflow}
+use Rattle.dso_base.specs.declared.request.Fault.TheVariants.{BadValue, StackOverflow}
 use Rattle.dso_base.specs.declared.request.Reply.{Reply}
 use Rattle.dso_base.specs.declared.request.Reply.TheVariants.{Done, Made, Seen, Val, Local, Refused}
 use Rattle.dso_base.specs.declared.request.Request.{Request}
@@ -14,12 +14,18 @@ use Rattle.dso_base.specs.declared.request.Request.TheVariants as request
 use Rattle.dso_base.specs.declared.value.ClassId.{ClassId}
 use Rattle.dso_base.specs.declared.value.Value.{Value}
 use Rattle.dso_base.specs.declared.value.Value.TheVariants as value
+use Rattle.dso_map.specs.declared.map_op.MapOp.{MapOp}
+use Rattle.dso_map.specs.Calls.{map_op}
+use Rattle.dso_map.specs.Fields.{MapField, place_of, field_takes}
+use Rattle.dso_map.specs.Talk.{Talk, talk}
+use Rattle.dso_map.specs.Talk.Talk.{Gets, Puts, Ends}
 use Rattle.dso_machine.specs.declared.code.Code.{Code}
 use Rattle.dso_machine.specs.declared.code.Method.{Method}
 use Rattle.dso_machine.specs.declared.tree.Expr.{Expr}
 use Rattle.dso_machine.specs.Calls.{lookup_class, back_in, begin, under_name, under_monitor, run_method, call_method, call_number, call_on, arguments, variables, callee, MethodMeanings}
 use Rattle.dso_machine.specs.Expressions.{make, expr}
 use Rattle.dso_machine.specs.Limits.{most_moves}
+use Rattle.dso_machine.specs.Maps.{told, told_value, grade_of, call_map}
 use Rattle.dso_machine.specs.Outcome.{Environment, State, Outcome, Wants, Gives, Leaves, Fails, Hears, Over, Stopped, Meaning, choose, on_value, on_reply, result_of, asked, ask, unwanted, done, made, got, seen, tell, get, look, on_object, moved, paced, moving, level_of, settling, leaving, leave, entered, under, under_with, restored, holding, with_outer, asking, telling, getting, looking, moving_with, monitor_of}
 
 -- the same with more replies behind those that are left
@@ -217,13 +223,30 @@ steady_monitor : (vs : List Value) (synced : Option Grade) (o : ℕ) (m k : Mean
 steady_monitor vs None o m k s = s
 steady_monitor vs (Some grade) o m k s = steady_under_with vs (Mon o) grade m k s
 
+-- ---- maps
+
+steady_value : (f : MapField) (m : Value → Meaning) → ((v : Value) → Steady (m v) (m v)) → (v : Value) → Steady (told_value f m v) (told_value f m v)
+steady_value f m s v more at = ext_choose more (field_takes f v) (m v) (Fails BadValue) (m v) (Fails BadValue) at (s v more at) refl
+
+-- what a map's talk asks
+steady_told : (o : ℕ) (talk : Talk) → Steady (told o talk) (told o talk)
+steady_told o (Gets f then) = steady_after (told_value f (λ v. told o (then v))) (told_value f (λ v. told o (then v))) (get o (place_of f)) (get o (place_of f)) (steady_get o (place_of f)) (steady_value f (λ v. told o (then v)) (λ v. steady_told o (then v)))
+steady_told o (Puts f v then) = steady_after (λ x. told o then) (λ x. told o then) (tell (request.Put o (place_of f) v)) (tell (request.Put o (place_of f) v)) (steady_tell (request.Put o (place_of f) v)) (λ x. steady_told o then)
+steady_told o (Ends v) = λ more at. refl
+
+-- a call of a map
+steady_call_map : (o : ℕ) (args : List Value) (call : Option MapOp) → Steady (call_map o args call) (call_map o args call)
+steady_call_map o args None more at = refl
+steady_call_map o args (Some call) more at = steady_holding (value.Ref o ∷ args) (under (Mon o) (grade_of call) (told o (talk call))) (under (Mon o) (grade_of call) (told o (talk call)))
+    (steady_under (Mon o) (grade_of call) (told o (talk call)) (told o (talk call)) (steady_told o (talk call))) more at
+
 module _ (c : Code) (w x : MethodMeanings) (s : SteadyWays w x) where
   steady_run : (m : ℕ) (method : Method) (o : ℕ) (args : List Value) → Steady (run_method w m method o args) (run_method x m method o args)
   steady_run m method o args = steady_name (value.Ref o ∷ variables method.vars args) method.named _ _ (steady_monitor (value.Ref o ∷ variables method.vars args) method.synced o _ _
       (steady_moving_with (value.Ref o ∷ variables method.vars args) _ _ (steady_begin w x s m (value.Ref o) (variables method.vars args))))
 
-  steady_method : (m o : ℕ) (args : List Value) (method : Option Method) → Steady (call_method w m o args method) (call_method x m o args method)
-  steady_method m o args None more at = refl
+  steady_method : (m o : ℕ) (args : List Value) (method : Option Method) → Steady (call_method c w m o args method) (call_method c x m o args method)
+  steady_method m o args None more at = steady_call_map o args (map_op (m - length c.methods) args) more at
   steady_method m o args (Some method) more at = ext_choose more (nat_lt 0 at.environment.depth_left) _ (Fails StackOverflow) _ (Fails StackOverflow) at (steady_run m method o args more at) refl
 
   steady_number : (o : ℕ) (args : List Value) (number : Option ℕ) → Steady (call_number c w o args number) (call_number c x o args number)

@@ -7,6 +7,7 @@ use Rattle.dso_base.specs.declared.lock.Grade.TheVariants as grade
 use Rattle.dso_base.specs.declared.lock.LockName.{LockName}
 use Rattle.dso_base.specs.declared.lock.LockName.TheVariants.{Mon, Name}
 use Rattle.dso_base.specs.declared.request.Fault.{Fault}
+use Rattle.dso_base.specs.declared.request.Fault.TheVariants.{BadValue}
 use Rattle.dso_base.specs.declared.request.Reply.{Reply}
 use Rattle.dso_base.specs.declared.request.Reply.TheVariants.{Done, Made, Seen, Val, Local, Refused}
 use Rattle.dso_base.specs.declared.request.Request.{Request}
@@ -14,10 +15,16 @@ use Rattle.dso_base.specs.declared.request.Request.TheVariants as request
 use Rattle.dso_base.specs.declared.value.ClassId.{ClassId}
 use Rattle.dso_base.specs.declared.value.Value.{Value}
 use Rattle.dso_base.specs.declared.value.Value.TheVariants as value
+use Rattle.dso_map.specs.declared.map_op.MapOp.{MapOp}
+use Rattle.dso_map.specs.Calls.{map_op}
+use Rattle.dso_map.specs.Fields.{MapField, place_of, field_takes}
+use Rattle.dso_map.specs.Talk.{Talk, talk}
+use Rattle.dso_map.specs.Talk.Talk.{Gets, Puts, Ends}
 use Rattle.dso_machine.specs.declared.code.Code.{Code}
 use Rattle.dso_machine.specs.declared.code.Method.{Method}
 use Rattle.dso_machine.specs.Calls.{lookup_class, back_in, callee, begin, invoke, under_name, under_monitor, run_method, call_method, call_number, call_in, call_on, variables, MethodMeanings}
 use Rattle.dso_machine.specs.Limits.{most_moves}
+use Rattle.dso_machine.specs.Maps.{told, told_value, grade_of, call_map}
 use Rattle.dso_machine.specs.Outcome.{Environment, State, Outcome, Wants, Gives, Leaves, Fails, Hears, Over, Stopped, Meaning, choose, on_value, on_reply, result_of, asked, ask, unwanted, done, made, got, seen, tell, get, look, on_object, moved, paced, moving, level_of, settling, leaving, leave, entered, under, under_with, restored, holding, with_outer, asking, telling, getting, looking, moving_with, monitor_of}
 
 -- how many moves there may be before the replies are used up
@@ -239,13 +246,30 @@ good_under_monitor N vs (Some grade) o m fine = good_under_with N vs (Mon o) gra
 pub good_run : (N : ℕ) (w : MethodMeanings) → FineWays N w → (m : ℕ) (method : Method) (o : ℕ) (args : List Value) → GoodAt N (run_method w m method o args)
 good_run N w fw m method o args = good_under_name N (value.Ref o ∷ variables method.vars args) method.named _ (good_under_monitor N (value.Ref o ∷ variables method.vars args) method.synced o _ (good_invoke N w fw m (value.Ref o) (variables method.vars args)))
 
-pub good_method : (N : ℕ) (w : MethodMeanings) → FineWays N w → (m o : ℕ) (args : List Value) (method : Option Method) → GoodAt N (call_method w m o args method)
-good_method N w fw m o args None at h = omega arith
-good_method N w fw m o args (Some method) at h = good_choose (budget at) (nat_lt 0 at.environment.depth_left) _ _ at (good_run N w fw m method o args at h) (omega arith)
+-- ---- maps
+
+good_told_value : (f : MapField) (m : Value → Meaning) → ((v : Value) (at : State) → Good (budget at) (m v at)) → (v : Value) (at : State) → Good (budget at) (told_value f m v at)
+good_told_value f m g v at = good_choose (budget at) (field_takes f v) (m v) (Fails BadValue) at (g v at) (omega arith)
+
+-- what a map's talk asks
+good_told : (o : ℕ) (talk : Talk) (at : State) → Good (budget at) (told o talk at)
+good_told o (Gets f then) at = good_value (budget at) (told_value f (λ v. told o (then v))) (get o (place_of f) at) (good_get o (place_of f) at) (λ v u le. good_told_value f (λ v. told o (then v)) (λ v u. good_told o (then v) u) v u)
+good_told o (Puts f v then) at = good_value (budget at) (λ x. told o then) (tell (request.Put o (place_of f) v) at) (good_tell (request.Put o (place_of f) v) at) (λ x u le. good_told o then u)
+good_told o (Ends v) at = omega arith
+
+-- a call of a map
+good_call_map : (N o : ℕ) (args : List Value) (call : Option MapOp) → GoodAt N (call_map o args call)
+good_call_map N o args None at h = omega arith
+good_call_map N o args (Some call) at h = good_holding N (value.Ref o ∷ args) (under (Mon o) (grade_of call) (told o (talk call)))
+    (good_under N (Mon o) (grade_of call) (told o (talk call)) (λ u le. good_told o (talk call) u)) at h
+
+pub good_method : (c : Code) (N : ℕ) (w : MethodMeanings) → FineWays N w → (m o : ℕ) (args : List Value) (method : Option Method) → GoodAt N (call_method c w m o args method)
+good_method c N w fw m o args None at h = good_call_map N o args (map_op (m - length c.methods) args) at h
+good_method c N w fw m o args (Some method) at h = good_choose (budget at) (nat_lt 0 at.environment.depth_left) _ _ at (good_run N w fw m method o args at h) (omega arith)
 
 pub good_number : (c : Code) (N : ℕ) (w : MethodMeanings) → FineWays N w → (o : ℕ) (args : List Value) (number : Option ℕ) → GoodAt N (call_number c w o args number)
 good_number c N w fw o args None at h = omega arith
-good_number c N w fw o args (Some m) at h = good_method N w fw m o args (slice_get c.methods m) at h
+good_number c N w fw o args (Some m) at h = good_method c N w fw m o args (slice_get c.methods m) at h
 
 pub good_call : (c : Code) (N : ℕ) (w : MethodMeanings) → FineWays N w → (callees : List (ℕ × ℕ)) (x : Value) (args : List Value) → GoodAt N (call_on c w callees x args)
 good_call c N w fw callees x args at h = good_object (λ o. looking args (call_in c w callees args o) o) x at

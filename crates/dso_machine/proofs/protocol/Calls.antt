@@ -1,21 +1,28 @@
 -- Calls keep to what may be asked.
-use Rattle.std.proofs.Common.{◌≡◌, refl, ℕ, zero, suc, ◌-◌, ◌≤◌, List, [], ◌∷◌, ◌++◌, length, Option, None, Some}
+use Rattle.std.proofs.Common.{◌≡◌, refl, sym, subst, ◌∙◌, inl, inr, ℕ, zero, suc, ◌-◌, ◌≤◌, All, eqb, cond, Bool, true, false, List, [], ◌∷◌, ◌++◌, length, Option, None, Some}
 use Rattle.std.specs.Prelude.{nat_lt, replicate, slice_get, IfSome}
+use Rattle.std.proofs.lemmas.Bool.{eqb-true}
+use Rattle.std.proofs.lemmas.List.Elements.{All-head, All-tail}
 use Rattle.dso_base.specs.declared.lock.Grade.{Grade}
 use Rattle.dso_base.specs.declared.lock.LockName.TheVariants.{Mon, Name}
 use Rattle.dso_base.specs.declared.request.Fault.TheVariants.{NoSuchField, StackOverflow}
 use Rattle.dso_base.specs.declared.shape.Shape.{Shape}
+use Rattle.dso_base.specs.declared.value.ClassId.{ClassId}
+use Rattle.dso_base.specs.declared.value.ClassId.TheVariants.{Plain, Array, Roots}
 use Rattle.dso_base.specs.declared.value.Value.{Value}
 use Rattle.dso_base.specs.declared.value.Value.TheVariants as value
+use Rattle.dso_map.specs.Calls.{map_op}
+use Rattle.dso_map.specs.MapClass.{is_map}
 use Rattle.dso_machine.specs.declared.code.Code.{Code}
 use Rattle.dso_machine.specs.declared.code.Method.{Method}
-use Rattle.dso_machine.specs.Calls.{lookup_class, variables, back_in, callee, begin, invoke, under_name, under_monitor, run_method, call_method, call_number, call_in, call_on, arguments, MethodMeanings}
-use Rattle.dso_machine.specs.Sound.{IsMethodLock}
+use Rattle.dso_machine.specs.Calls.{lookup, variables, back_in, callee, begin, invoke, under_name, under_monitor, run_method, call_method, call_number, call_in, call_on, arguments, MethodMeanings}
+use Rattle.dso_machine.specs.Sound.{IsCallee, AreCallees, IsMethodLock}
 use Rattle.dso_machine.specs.Outcome.{Environment, Outcome, Wants, Gives, Leaves, Fails, Hears, Over, Stopped, Meaning, looking, holding}
 use Rattle.dso_machine.proofs.protocol.Protocol.{KnowsValue, Keeper}
 use Rattle.dso_machine.proofs.protocol.Parts.{refilled, Obeys, keeps_on, KnowsAll, KnowsEnvironment, Fine, More, Part, all_later, environment_later, more_then, more_itself, part_later, part_fails, part_value, part_holding, part_choose}
 use Rattle.dso_machine.proofs.protocol.Requests.{part_looking, part_object, part_moving_with}
 use Rattle.dso_machine.proofs.protocol.Locks.{part_under_with}
+use Rattle.dso_machine.proofs.protocol.Maps.{IsMapAt, part_call_map}
 
 -- ---- lists of values
 
@@ -25,7 +32,7 @@ known_nulls has_text knows zero = tt
 known_nulls has_text knows (suc n) = (tt, known_nulls has_text knows n)
 
 -- values that are known, and others behind them
-known_append : (has_text knows : ℕ → Type 0) (vs ws : List Value) → KnowsAll has_text knows vs → KnowsAll has_text knows ws → KnowsAll has_text knows (vs ++ ws)
+pub known_append : (has_text knows : ℕ → Type 0) (vs ws : List Value) → KnowsAll has_text knows vs → KnowsAll has_text knows ws → KnowsAll has_text knows (vs ++ ws)
 known_append has_text knows [] ws known rest = rest
 known_append has_text knows (v ∷ vs) ws known rest = (known.0, known_append has_text knows vs ws known.1 rest)
 
@@ -35,12 +42,27 @@ known_variables has_text knows count vs known = known_append has_text knows vs (
 
 -- ---- calls
 
+-- the number that a list of callees has for a class is that of one of them
+callee_of : (code : Code) (count class first number : ℕ) (others : Option ℕ) (b : Bool) (m : ℕ) → eqb first class ≡ b → IsCallee code count (first, number)
+    → (others ≡ Some m → IsCallee code count (class, m)) → cond b (Some number) others ≡ Some m → IsCallee code count (class, m)
+callee_of code count class first number others true m is here rest found =
+    let same : number ≡ m = cc found in
+    subst (λ c. IsCallee code count (c, m)) (eqb-true first class is) (subst (λ n. IsCallee code count (first, n)) same here)
+callee_of code count class first number others false m is here rest found = rest found
+
+callee_there : (code : Code) (count : ℕ) (callees : List (ℕ × ℕ)) (class : ℕ) → All (IsCallee code count) callees → (m : ℕ) → lookup callees class ≡ Some m → IsCallee code count (class, m)
+callee_there code count [] class are m found = absurd (cc found)
+callee_there code count (callee ∷ callees) class are m found = callee_of code count class callee.0 callee.1 (lookup callees class) (eqb callee.0 class) m refl
+    (All-head (IsCallee code count) callee callees are) (callee_there code count callees class (All-tail (IsCallee code count) callee callees are) m) found
+
 module _ {shape : Shape} (k : Keeper shape) where
-  -- the methods' bodies keep to what may be asked, from every point; their named locks are there, and those of the roots
+  -- the methods' bodies keep to what may be asked, from every point; their named locks are there, and those of the roots; a class
+  -- of as many fields as a map is that of maps
   pub record Bodies (code : Code) (ways : MethodMeanings) : Type 0 where
     pub body : (m : ℕ) (g : k.Point) → Part k g (ways m)
     pub locks : (m : ℕ) (method : Method) → slice_get code.methods m ≡ Some method → IfSome method.named (IsMethodLock shape)
     pub roots : shape.roots ≤ shape.names
+    pub maps : (class : ℕ) → is_map code.shape class ≡ true → (is_map shape class ≡ true) × IsMapAt shape class
 
 module _ {shape : Shape} (k : Keeper shape) where
   -- at the end of a body the environment of the caller is the thread's again
@@ -85,23 +107,38 @@ module _ {shape : Shape} (k : Keeper shape) where
         (part_invoke g m (value.Ref object) (variables method.vars args) known (known_variables k.HasText (k.Knows g) method.vars args args_known)))
 
     -- a method that was found, if one more call may nest
-    part_method : (g : k.Point) (m object : ℕ) (args : List Value) (method : Option Method) → slice_get code.methods m ≡ method → k.Knows g object → KnowsAll k.HasText (k.Knows g) args → Part k g (call_method ways m object args method)
-    part_method g m object args None is known args_known = part_fails k g NoSuchField
-    part_method g m object args (Some method) is known args_known = record {
+    part_method : (g : k.Point) (m object class size count : ℕ) (args : List Value) (method : Option Method) → slice_get code.methods m ≡ method → IsCallee code count (class, m)
+        → k.Knows g object → KnowsAll k.HasText (k.Knows g) args → k.Looked g object (Plain class) size → Part k g (call_method code ways m object args method)
+    part_method g m object class size count args None is (inl of_code) known args_known looked = absurd (cc (sym is ∙ of_code.there))
+    part_method g m object class size count args None is (inr of_map) known args_known looked = record {
+      from = (part_call_map k g object class size (m - length code.methods) args (map_op (m - length code.methods) args) refl (bodies.maps class of_map.class).0 (bodies.maps class of_map.class).1 known args_known looked).from;
+    }
+    part_method g m object class size count args (Some method) is its known args_known looked = record {
       from = λ h u more environment. (part_choose k g (nat_lt 0 u.environment.depth_left) (run_method ways m method object args) (Fails StackOverflow)
           (λ may_nest. part_run g m method object args (bodies.locks m method is) known args_known) (part_fails k g StackOverflow)).from h u more environment;
     }
 
     -- the method of this number
-    part_number : (g : k.Point) (object : ℕ) (args : List Value) (number : Option ℕ) → k.Knows g object → KnowsAll k.HasText (k.Knows g) args → Part k g (call_number code ways object args number)
-    part_number g object args None known args_known = part_fails k g NoSuchField
-    part_number g object args (Some m) known args_known = part_method g m object args (slice_get code.methods m) refl known args_known
+    part_number : (g : k.Point) (object class size count : ℕ) (args : List Value) (number : Option ℕ) → ((m : ℕ) → number ≡ Some m → IsCallee code count (class, m)) → k.Knows g object
+        → KnowsAll k.HasText (k.Knows g) args → k.Looked g object (Plain class) size → Part k g (call_number code ways object args number)
+    part_number g object class size count args None its known args_known looked = part_fails k g NoSuchField
+    part_number g object class size count args (Some m) its known args_known looked =
+        part_method g m object class size count args (slice_get code.methods m) refl (its m refl) known args_known looked
+
+    -- a call on an object of this class
+    part_call_in : (g : k.Point) (callees : List (ℕ × ℕ)) (count object : ℕ) (args : List Value) (class : ClassId) (size : ℕ) → All (IsCallee code count) callees → k.Knows g object
+        → KnowsAll k.HasText (k.Knows g) args → k.Looked g object class size → Part k g (call_in code ways callees args object class size)
+    part_call_in g callees count object args (Plain class) size are known args_known looked =
+        part_number g object class size count args (lookup callees class) (callee_there code count callees class are) known args_known looked
+    part_call_in g callees count object args (Array kind) size are known args_known looked = part_fails k g NoSuchField
+    part_call_in g callees count object args Roots size are known args_known looked = part_fails k g NoSuchField
 
     -- a call with its operands
-    pub part_call : (g : k.Point) (callees : List (ℕ × ℕ)) (x : Value) (args : List Value) → KnowsValue k.HasText (k.Knows g) x → KnowsAll k.HasText (k.Knows g) args → Part k g (call_on code ways callees x args)
-    part_call g callees x args known args_known = part_object k g (λ object. looking args (call_in code ways callees args object) object) x known
+    pub part_call : (g : k.Point) (callees : List (ℕ × ℕ)) (count : ℕ) (x : Value) (args : List Value) → AreCallees code count callees → KnowsValue k.HasText (k.Knows g) x
+        → KnowsAll k.HasText (k.Knows g) args → Part k g (call_on code ways callees x args)
+    part_call g callees count x args are known args_known = part_object k g (λ object. looking args (call_in code ways callees args object) object) x known
         (λ object object_known. part_looking k g args (call_in code ways callees args object) object object_known
-        (λ h more class size looked. part_number h object args (lookup_class callees class) (more.knows object object_known) (all_later k g h more.knows args args_known)))
+        (λ h more class size looked. part_call_in h callees count object args class size are.there (more.knows object object_known) (all_later k g h more.knows args args_known) looked))
 
   -- ---- arguments
 

@@ -1,5 +1,5 @@
 -- Sound expressions keep to what may be asked.
-use Rattle.std.proofs.Common.{◌≡◌, refl, ℕ, zero, suc, ◌<◌, ◌≤◌, arith, All, eqb, Bool, true, false, List, [], ◌∷◌, length, map, Option, None, Some, subst, sym}
+use Rattle.std.proofs.Common.{◌≡◌, refl, ◌∙◌, inl, inr, ℕ, zero, suc, ◌<◌, ◌≤◌, arith, All, eqb, Bool, true, false, List, [], ◌∷◌, length, map, Option, None, Some, subst, sym}
 use Rattle.std.specs.Prelude.{ℤ, pos, negsuc, nat_le, nat_lt, cond, slice_index_or, slice_set, Ok, Err}
 use Rattle.std.specs.Ordering.{int_eq}
 use Rattle.std.proofs.lemmas.Bool.{leb-true, eqb-true, ltb-true}
@@ -16,6 +16,7 @@ use Rattle.dso_base.specs.declared.value.Kind.{Kind}
 use Rattle.dso_base.specs.declared.value.Value.{Value}
 use Rattle.dso_base.specs.declared.value.Value.TheVariants as value
 use Rattle.dso_base.specs.Shape.{HasField, fields_at}
+use Rattle.dso_map.specs.MapClass.{is_map}
 use Rattle.dso_machine.specs.declared.code.Code.{Code}
 use Rattle.dso_machine.specs.declared.tree.Expr.{Expr}
 use Rattle.dso_machine.specs.declared.tree.FieldRef.{FieldRef}
@@ -27,7 +28,7 @@ use Rattle.dso_machine.specs.Sound.{Scope, IsLiteral, ArePlaces, SoundExpr, Soun
 use Rattle.dso_machine.specs.Values.{binary_longs, binary, unary}
 use Rattle.dso_machine.proofs.forms.Equations.{expr_Const, expr_Var, expr_This, expr_Root, expr_Field, expr_Elem, expr_Call, expr_NewObject, expr_NewArray, expr_Unary, expr_Binary}
 use Rattle.dso_machine.proofs.protocol.Protocol.{KnowsValue, Keeper}
-use Rattle.dso_machine.proofs.protocol.Parts.{Obeys, KnowsAll, Part, value_later, part_gives, part_fails, part_value, part_holding, part_choose}
+use Rattle.dso_machine.proofs.protocol.Parts.{IsNoMapAt, Obeys, KnowsAll, Part, value_later, part_gives, part_fails, part_value, part_holding, part_choose}
 use Rattle.dso_machine.proofs.protocol.Requests.{KnowsResult, part_result, part_get, part_make, part_look, part_object}
 use Rattle.dso_machine.proofs.protocol.Locks.{part_under}
 use Rattle.dso_machine.proofs.protocol.Calls.{Bodies, Parts, part_call, part_arguments}
@@ -35,7 +36,7 @@ use Rattle.dso_machine.proofs.protocol.Calls.{Bodies, Parts, part_call, part_arg
 -- ---- values
 
 -- a literal is known, where the texts of the shape may be named: it is no object
-known_literal : (shape : Shape) (has_text knows : ℕ → Type 0) → ((t : ℕ) → t < shape.texts → has_text t) → (v : Value) → IsLiteral shape v → KnowsValue has_text knows v
+pub known_literal : (shape : Shape) (has_text knows : ℕ → Type 0) → ((t : ℕ) → t < shape.texts → has_text t) → (v : Value) → IsLiteral shape v → KnowsValue has_text knows v
 known_literal shape has_text knows own (value.Ref object) literal = absurd literal
 known_literal shape has_text knows own value.Null literal = tt
 known_literal shape has_text knows own (value.Long n) literal = tt
@@ -54,14 +55,14 @@ known_longs has_text knows op.Rem m n = known_unless has_text knows (int_eq n (p
 known_longs has_text knows o m n = tt
 
 -- between any two values,
-known_binary : (has_text knows : ℕ → Type 0) (o : Op) (a b : Value) → KnowsResult has_text knows (binary o a b)
+pub known_binary : (has_text knows : ℕ → Type 0) (o : Op) (a b : Value) → KnowsResult has_text knows (binary o a b)
 known_binary has_text knows op.Eq a b = tt
 known_binary has_text knows op.Ne a b = tt
 known_binary has_text knows o (value.Long m) (value.Long n) = known_longs has_text knows o m n
 known_binary has_text knows o a b = tt
 
 -- or before one
-known_unary : (has_text knows : ℕ → Type 0) (o : Op) (v : Value) → KnowsResult has_text knows (unary o v)
+pub known_unary : (has_text knows : ℕ → Type 0) (o : Op) (v : Value) → KnowsResult has_text knows (unary o v)
 known_unary has_text knows op.Not (value.Bool b) = tt
 known_unary has_text knows op.Neg (value.Long n) = tt
 known_unary has_text knows o v = tt
@@ -105,19 +106,41 @@ pub within_below : (i : ℤ) (size p : ℕ) → within i size ≡ Some p → p <
 within_below (pos i) size p found = below i size p (nat_lt i size) refl found
 within_below (negsuc i) size p found = absurd (cc found)
 
+-- the class that such a list has a place for is not that of maps
+no_map_class : (shape : Shape) (class first place : ℕ) (others : Option ℕ) (b : Bool) (p : ℕ) → eqb first class ≡ b → is_map shape first ≡ false
+    → (others ≡ Some p → is_map shape class ≡ false) → cond b (Some place) others ≡ Some p → is_map shape class ≡ false
+no_map_class shape class first place others true p is here rest found = subst (λ c. is_map shape c ≡ false) (eqb-true first class is) here
+no_map_class shape class first place others false p is here rest found = rest found
+
+pub places_of_no_map : (shape : Shape) (places : List (ℕ × ℕ)) (class p : ℕ) → All (λ place. is_map shape place.0 ≡ false) places → lookup places class ≡ Some p → is_map shape class ≡ false
+places_of_no_map shape [] class p none found = absurd (cc found)
+places_of_no_map shape (place ∷ places) class p none found = no_map_class shape class place.0 place.1 (lookup places class) (eqb place.0 class) p refl
+    (All-head (λ x. is_map shape x.0 ≡ false) place places none)
+    (places_of_no_map shape places class p (All-tail (λ x. is_map shape x.0 ≡ false) place places none)) found
+
+-- so an object of it is no map
+pub no_map_of : {shape : Shape} (k : Keeper shape) (g : k.Point) (object class size : ℕ) → k.Looked g object (Plain class) size → is_map shape class ≡ false → IsNoMapAt k g object
+no_map_of k g object class size looked other = inr (Plain class, size, looked, λ is. cc (sym other ∙ is))
+
+-- nor is an array
+pub array_no_map : {shape : Shape} (k : Keeper shape) (g : k.Point) (object : ℕ) (kind : Kind) (size : ℕ) → k.Looked g object (Array kind) size → IsNoMapAt k g object
+array_no_map k g object kind size looked = inr (Array kind, size, looked, λ is. is)
+
 module _ {shape : Shape} (k : Keeper shape) where
   -- ---- fields and elements
 
   -- a field of an object that is known, if it was found,
   part_field_at : (g : k.Point) (object class size : ℕ) (place : Option ℕ) → k.Knows g object → k.Looked g object (Plain class) size
-      → ((p : ℕ) → place ≡ Some p → HasField shape (Plain class) p) → Part k g (field_at object place)
+      → ((p : ℕ) → place ≡ Some p → HasField shape (Plain class) p × (is_map shape class ≡ false)) → Part k g (field_at object place)
   part_field_at g object class size None known looked there = part_fails k g NoSuchField
   part_field_at g object class size (Some place) known looked there = part_get k g object place
-      (λ h more. k.get_asked h object place (Plain class) size more.awake (more.knows object known) (more.looked object (Plain class) size looked) (there place refl))
+      (λ h more. k.get_asked h object place (Plain class) size more.awake (more.knows object known) (more.looked object (Plain class) size looked) (there place refl).0)
+      (no_map_of k g object class size looked (there place refl).1)
 
   -- in an object of this class,
   part_field_in : (g : k.Point) (f : FieldRef) (object : ℕ) (class : ClassId) (size : ℕ) → ArePlaces shape f.places → k.Knows g object → k.Looked g object class size → Part k g (field_in f object class size)
-  part_field_in g f object (Plain class) size places known looked = part_field_at g object class size (lookup f.places class) known looked (λ p found. places_there shape f.places class p places.there found)
+  part_field_in g f object (Plain class) size places known looked = part_field_at g object class size (lookup f.places class) known looked
+      (λ p found. (places_there shape f.places class p places.there found, places_of_no_map shape f.places class p places.of_no_map found))
   part_field_in g f object (Array kind) size places known looked = part_choose k g f.length (Gives (value.Long (pos size))) (Fails NoSuchField) (λ is. part_gives k g (value.Long (pos size)) tt) (part_fails k g NoSuchField)
   part_field_in g f object Roots size places known looked = part_fails k g NoSuchField
 
@@ -132,6 +155,7 @@ module _ {shape : Shape} (k : Keeper shape) where
   part_element_at g object kind size None known looked there = part_fails k g BadIndex
   part_element_at g object kind size (Some place) known looked there = part_get k g object place
       (λ h more. k.get_asked h object place (Array kind) size more.awake (more.knows object known) (more.looked object (Array kind) size looked) (there place refl))
+      (array_no_map k g object kind size looked)
 
   -- in an object of this class,
   part_element_in : (g : k.Point) (i : ℤ) (object : ℕ) (class : ClassId) (size : ℕ) → k.Knows g object → k.Looked g object class size → Part k g (element_in i object class size)
@@ -148,7 +172,7 @@ module _ {shape : Shape} (k : Keeper shape) where
 
   -- a root that is there is read
   part_root : (g : k.Point) (r : ℕ) → r < shape.roots → shape.roots ≤ shape.names → Part k g (root r)
-  part_root g r there locks = part_under k g (Name r) grade.Read (get 0 r) tt (omega (arith, there, locks)) (part_get k g 0 r (λ h more. k.get_root_asked h r more.awake there))
+  part_root g r there locks = part_under k g (Name r) grade.Read (get 0 r) tt (omega (arith, there, locks)) (part_get k g 0 r (λ h more. k.get_root_asked h r more.awake there) (inl refl))
 
   -- a new array has no more elements than there may be
   part_array : (g : k.Point) (kind : Kind) (v : Value) → Part k g (new_array kind v)
@@ -211,7 +235,7 @@ module _ (c : Code) (k : Keeper c.shape) (ways : MethodMeanings) (bodies : Bodie
     part_expr (SoundExpr.call {a = a} {callees = callees} {args = args} inner are rest) g = part_as k g _ _ (expr_Call c ways a callees args)
         (part_value k g _ (expr c ways a) (part_expr inner g)
         (λ x h more known. part_arguments k (call_on c ways callees x) x (map (expr c ways) args) h [] (part_exprs rest h) tt
-        (λ vs i further all. part_call k c ways bodies i callees x vs (value_later k h i further.knows x known) all)))
+        (λ vs i further all. part_call k c ways bodies i callees (length args) x vs are (value_later k h i further.knows x known) all)))
     part_expr (SoundExpr.object {c = class} there) g = part_as k g _ _ (expr_NewObject c ways class)
         (part_make k g (Plain class) (length (fields_at c.shape class)) (λ h more. k.class_asked h class more.awake there))
     part_expr (SoundExpr.array {k = kind} {a = a} inner) g = part_as k g _ _ (expr_NewArray c ways kind a)

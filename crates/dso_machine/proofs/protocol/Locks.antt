@@ -37,7 +37,7 @@ module _ {shape : Shape} (k : Keeper shape) where
       → Obeys k P g (λ rs. settling vs grade m (with_replies rs (asked_at u)))
   settles P vs g grade.Read m u awake then = then g (k.same_itself g) (λ object known. known)
   settles P vs g grade.Write m u awake then = then g (k.same_itself g) (λ object known. known)
-  settles P vs g grade.Synchronous m u awake then = Obeys.asks request.Settle refl (k.settle_asked g awake) (after_settling P g m u awake then)
+  settles P vs g grade.Synchronous m u awake then = Obeys.asks request.Settle refl (k.settle_asked g awake) tt (after_settling P g m u awake then)
 
   -- A part under a lock that was entered, from the point before.
   module _ (g : k.Point) (l : LockName) (grade : Grade) (awake : k.Awake g) (enters : k.IsReply g (request.Enter l (level_of grade)) Done) where
@@ -46,7 +46,7 @@ module _ {shape : Shape} (k : Keeper shape) where
     inside = k.after (request.Enter l (level_of grade)) Done g
 
     -- what follows an exit: it is answered Done
-    after_exit : (P : Outcome → k.Point → Type 0) (vs : List Value) (m : Meaning) (h : k.Point) (u : State) → k.Same inside h
+    pub after_exit : (P : Outcome → k.Point → Type 0) (vs : List Value) (m : Meaning) (h : k.Point) (u : State) → k.Same inside h
         → ((i : k.Point) → k.Same g i → ((object : ℕ) → k.Knows h object → k.Knows i object) → Obeys k P i (λ rs. m (with_replies rs (asked_at u))))
         → (r : Reply) → k.IsReply h (request.Exit l) r → Obeys k P (k.after (request.Exit l) r h) (λ rs. on_value (λ v. settling vs grade m) (done r (with_replies rs (asked_at u))))
     after_exit P vs m h u same then Done comes =
@@ -60,14 +60,14 @@ module _ {shape : Shape} (k : Keeper shape) where
     leaves_lock : (P : Outcome → k.Point → Type 0) (vs : List Value) (m : Meaning) (h : k.Point) (u : State) → k.Same inside h
         → ((i : k.Point) → k.Same g i → ((object : ℕ) → k.Knows h object → k.Knows i object) → Obeys k P i (λ rs. m (with_replies rs (asked_at u))))
         → Obeys k P h (λ rs. leaving vs l grade m (with_replies rs u))
-    leaves_lock P vs m h u same then = Obeys.asks (request.Exit l) refl (k.exit_asked g h l (level_of grade) awake enters same) (after_exit P vs m h u same then)
+    leaves_lock P vs m h u same then = Obeys.asks (request.Exit l) refl (k.exit_asked g h l (level_of grade) awake enters same) tt (after_exit P vs m h u same then)
 
     -- what is held and known after that
-    kept_outside : (h : k.Point) (v : Value) (u : State) → Kept k inside h v u.environment → (i : k.Point) → k.Same g i → ((object : ℕ) → k.Knows h object → k.Knows i object) → Kept k g i v u.environment
+    pub kept_outside : (h : k.Point) (v : Value) (u : State) → Kept k inside h v u.environment → (i : k.Point) → k.Same g i → ((object : ℕ) → k.Knows h object → k.Knows i object) → Kept k g i v u.environment
     kept_outside h v u kept i same knows = record { same = same; value = value_later k h i knows v kept.value; environment = environment_later k h i knows u.environment kept.environment }
 
     -- at each end of the part its lock is left
-    leaves_at_end : (e : Outcome) (h : k.Point) → Fine k inside e h → Obeys k (Fine k g) h (λ rs. leave l grade (refilled rs e))
+    pub leaves_at_end : (e : Outcome) (h : k.Point) → Fine k inside e h → Obeys k (Fine k g) h (λ rs. leave l grade (refilled rs e))
     leaves_at_end (Gives v u) h fine = leaves_lock (Fine k g) (v ∷ []) (Gives v) h u fine.same (λ i same knows. Obeys.ends (Gives v (asked_at u)) (λ rs. refl) (kept_outside h v u fine i same knows))
     leaves_at_end (Leaves v u) h fine = leaves_lock (Fine k g) (v ∷ []) (Leaves v) h u fine.same (λ i same knows. Obeys.ends (Leaves v (asked_at u)) (λ rs. refl) (kept_outside h v u fine i same knows))
     leaves_at_end (Fails fault u) h fine = leaves_lock (Fine k g) [] (Fails fault) h u fine (λ i same knows. Obeys.ends (Fails fault (asked_at u)) (λ rs. refl) same)
@@ -107,7 +107,7 @@ module _ {shape : Shape} (k : Keeper shape) where
   -- a part under a lock that is known and there
   pub part_under_with : (g : k.Point) (vs : List Value) (l : LockName) (grade : Grade) (m : Meaning) → KnowsLock (k.Knows g) l → HasLock shape l → Part k g m → Part k g (under_with vs l grade m)
   part_under_with g vs l grade m known there part = record {
-    from = λ h u more environment. Obeys.asks (request.Enter l (level_of grade)) refl (k.enter_asked h l (level_of grade) more.awake (lock_later k g h more.knows l known) there)
+    from = λ h u more environment. Obeys.asks (request.Enter l (level_of grade)) refl (k.enter_asked h l (level_of grade) more.awake (lock_later k g h more.knows l known) there) tt
         (keeps_entered h l grade m u more.awake (part_later k g h m more part) environment);
   }
 
@@ -129,7 +129,7 @@ module _ {shape : Shape} (k : Keeper shape) where
 
     -- it asks for the lock again
     keeps_resuming : (h : k.Point) → k.Roused g l h → Obeys k (Fine k g) h (λ rs. tell (request.Resume l) (with_replies rs (asked_at u)))
-    keeps_resuming h roused = Obeys.asks (request.Resume l) refl (k.resume_asked g h l roused) (after_resume h roused)
+    keeps_resuming h roused = Obeys.asks (request.Resume l) refl (k.resume_asked g h l roused) tt (after_resume h roused)
 
     -- what follows its timeout
     after_timeout : (h : k.Point) → k.Asleep g l h → (r : Reply) → k.IsReply h (request.Timeout l) r
@@ -148,8 +148,8 @@ module _ {shape : Shape} (k : Keeper shape) where
 
     -- so many ticks, and its timeout
     keeps_ticking : (n : ℕ) (h : k.Point) → k.Asleep g l h → Obeys k (Fine k g) h (λ rs. ticking l n (with_replies rs (asked_at u)))
-    keeps_ticking zero h asleep = Obeys.asks (request.Timeout l) refl (k.timeout_asked g h l asleep) (after_timeout h asleep)
-    keeps_ticking (suc n) h asleep = Obeys.asks (request.Tick l) refl (k.tick_asked g h l asleep) (after_tick n h (keeps_ticking n) asleep)
+    keeps_ticking zero h asleep = Obeys.asks (request.Timeout l) refl (k.timeout_asked g h l asleep) tt (after_timeout h asleep)
+    keeps_ticking (suc n) h asleep = Obeys.asks (request.Tick l) refl (k.tick_asked g h l asleep) tt (after_tick n h (keeps_ticking n) asleep)
 
     -- with and without a limit
     keeps_waiting : (n : ℕ) (h : k.Point) → k.Asleep g l h → Obeys k (Fine k g) h (λ rs. waiting l n (with_replies rs (asked_at u)))
@@ -166,6 +166,6 @@ module _ {shape : Shape} (k : Keeper shape) where
   -- a thread waits on the monitor of an object that it knows, and then has it again
   pub part_wait : (n : ℕ) (g : k.Point) (object : ℕ) → k.Knows g object → Part k g (wait n (Mon object))
   part_wait n g object known = record {
-    from = λ h u more environment. Obeys.asks (request.Wait (Mon object)) refl (k.wait_asked h object more.awake (more.knows object known))
+    from = λ h u more environment. Obeys.asks (request.Wait (Mon object)) refl (k.wait_asked h object more.awake (more.knows object known)) tt
         (keeps_waited n h (Mon object) u more.awake environment);
   }

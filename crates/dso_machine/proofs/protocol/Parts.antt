@@ -1,14 +1,23 @@
 -- Parts that keep to what may be asked: requests, values, moves, locks.
-use Rattle.std.proofs.Common.{◌≡◌, refl, ℕ, Bool, true, false, List, [], ◌∷◌, ◌++◌, subst, sym, ap, ◌∙◌}
+use Rattle.std.proofs.Common.{◌≡◌, ◌⊎◌, inl, inr, refl, ℕ, Some, Bool, true, false, List, [], ◌∷◌, ◌++◌, subst, sym, ap, ◌∙◌}
 use Rattle.dso_base.specs.declared.lock.LockName.{LockName}
 use Rattle.dso_base.specs.declared.lock.LockName.TheVariants.{Mon, Name}
 use Rattle.dso_base.specs.declared.request.Fault.{Fault}
 use Rattle.dso_base.specs.declared.request.Reply.{Reply}
+use Rattle.dso_base.specs.declared.request.Reply.TheVariants.{Done, Local}
 use Rattle.dso_base.specs.declared.request.Request.{Request}
+use Rattle.dso_base.specs.declared.request.Request.TheVariants.{Get, Put, Exit}
 use Rattle.dso_base.specs.declared.shape.Shape.{Shape}
 use Rattle.dso_base.specs.declared.value.ClassId.{ClassId}
+use Rattle.dso_base.specs.declared.value.ClassId.TheVariants.{Plain}
 use Rattle.dso_base.specs.declared.value.Value.{Value}
 use Rattle.dso_base.specs.declared.value.Value.TheVariants as value
+use Rattle.dso_map.specs.declared.map_op.MapOp.{MapOp}
+use Rattle.dso_map.specs.Calls.{request_of, accepts, after_reply}
+use Rattle.dso_map.specs.MapClass.{is_map}
+use Rattle.dso_map.specs.Talk.{Talk, talk}
+use Rattle.dso_map.specs.Talk.Talk.{Ends}
+use Rattle.dso_machine.specs.MapCalls.{IsOfMaps, entry_of}
 use Rattle.dso_machine.specs.Outcome.{Environment, State, Outcome, Wants, Gives, Leaves, Fails, Hears, Over, Stopped, Meaning, choose, on_value, with_outer, restored, holding}
 use Rattle.dso_machine.specs.Unwinding.{with_replies}
 use Rattle.dso_machine.proofs.protocol.Protocol.{KnowsValue, KnowsLock, Keeper}
@@ -25,28 +34,76 @@ refilled rs (Hears r u) = Hears r (with_replies rs u)
 refilled rs Over = Over
 refilled rs Stopped = Stopped
 
--- What comes of the replies keeps to what may be asked: it wants a request that may be asked at the point, and goes on so after
--- each reply that may come; or it ends there, hears no more replies, and its end is as said.
-pub data Obeys {shape : Shape} (k : Keeper shape) (P : Outcome → k.Point → Type 0) : k.Point → (List Reply → Outcome) → Type 0 where
-  asks : {g : k.Point} {o : List Reply → Outcome} (q : Request) {env : Environment} → o [] ≡ Wants q env → k.Asks g q
-      → ((r : Reply) → k.IsReply g q r → Obeys k P (k.after q r g) (λ rs. o (r ∷ rs))) → Obeys k P g o
-  ends : {g : k.Point} {o : List Reply → Outcome} (e : Outcome) → ((rs : List Reply) → o rs ≡ refilled rs e) → P e g → Obeys k P g o
+-- the object is no map at the point: it is object 0, or was looked at, and is of another class
+abbrev pub IsNoMapAt : {shape : Shape} (k : Keeper shape) → k.Point → ℕ → Type 0
+IsNoMapAt {shape} k g object = (object ≡ 0) ⊎ ((class : ClassId) × (size : ℕ) × k.Looked g object class size × (IsOfMaps shape class → ⊥))
+
+-- the request touches no map's field
+abbrev pub IsApartAt : {shape : Shape} (k : Keeper shape) → k.Point → Request → Type 0
+IsApartAt k g (Get object place) = IsNoMapAt k g object
+IsApartAt k g (Put object place v) = IsNoMapAt k g object
+IsApartAt k g q = Unit {0}
+
+mutual
+  -- What comes of the replies keeps to what may be asked: it wants a request that may be asked at the point and touches no map's
+  -- field, and goes on so after each reply that may come; or it calls an object that was seen to be a map; or it ends there, hears
+  -- no more replies, and its end is as said.
+  pub data Obeys {shape : Shape} (k : Keeper shape) (P : Outcome → k.Point → Type 0) : k.Point → (List Reply → Outcome) → Type 0 where
+    asks : {g : k.Point} {o : List Reply → Outcome} (q : Request) {env : Environment} → o [] ≡ Wants q env → k.Asks g q → IsApartAt k g q
+        → ((r : Reply) → k.IsReply g q r → Obeys k P (k.after q r g) (λ rs. o (r ∷ rs))) → Obeys k P g o
+    calls : {g : k.Point} {o : List Reply → Outcome} (object : ℕ) (call : MapOp) (class size : ℕ) {env : Environment} → k.Looked g object (Plain class) size → is_map shape class ≡ true
+        → o [] ≡ Wants (entry_of object call) env → k.Asks g (entry_of object call)
+        → (k.IsReply g (entry_of object call) Done → InCall k P object (talk call) true (k.after (entry_of object call) Done g) (λ rs. o (Done ∷ rs)))
+        → (k.IsReply g (entry_of object call) Local → InCall k P object (talk call) false (k.after (entry_of object call) Local g) (λ rs. o (Local ∷ rs)))
+        → ((r : Reply) → (r ≡ Done → ⊥) → (r ≡ Local → ⊥) → k.IsReply g (entry_of object call) r → Obeys k P (k.after (entry_of object call) r g) (λ rs. o (r ∷ rs)))
+        → Obeys k P g o
+    ends : {g : k.Point} {o : List Reply → Outcome} (e : Outcome) → ((rs : List Reply) → o rs ≡ refilled rs e) → P e g → Obeys k P g o
+
+  -- So inside a call of a map of which this much is left, where the monitor was entered or not: it wants what the talk asks, and at its
+  -- end the exit; and after it, or after a reply that the talk doesn't take, it keeps to what may be asked as before.
+  pub data InCall {shape : Shape} (k : Keeper shape) (P : Outcome → k.Point → Type 0) : ℕ → Talk → Bool → k.Point → (List Reply → Outcome) → Type 0 where
+    goes : {object : ℕ} {rest : Talk} {locked : Bool} {g : k.Point} {o : List Reply → Outcome} (q : Request) {env : Environment} → request_of object rest ≡ Some q → o [] ≡ Wants q env → k.Asks g q
+        → ((r : Reply) → k.IsReply g q r → accepts rest r ≡ true → InCall k P object (after_reply rest r) locked (k.after q r g) (λ rs. o (r ∷ rs)))
+        → ((r : Reply) → k.IsReply g q r → accepts rest r ≡ false → Obeys k P (k.after q r g) (λ rs. o (r ∷ rs))) → InCall k P object rest locked g o
+    leaves : {object : ℕ} {v : Value} {g : k.Point} {o : List Reply → Outcome} {env : Environment} → o [] ≡ Wants (Exit (Mon object)) env → k.Asks g (Exit (Mon object))
+        → ((r : Reply) → k.IsReply g (Exit (Mon object)) r → Obeys k P (k.after (Exit (Mon object)) r g) (λ rs. o (r ∷ rs))) → InCall k P object (Ends v) true g o
+    over : {object : ℕ} {v : Value} {g : k.Point} {o : List Reply → Outcome} → Obeys k P g o → InCall k P object (Ends v) false g o
 
 -- functions that agree are one function
 pub one_function : {A B : Type 0} (f g : A → B) → ((x : A) → f x ≡ g x) → f ≡ g
 one_function f g same = λ i x. same x i
 
 module _ {shape : Shape} (k : Keeper shape) where
-  -- with another end
-  pub keeps_so : (P Q : Outcome → k.Point → Type 0) {g : k.Point} {o : List Reply → Outcome} → Obeys k P g o → ((e : Outcome) (h : k.Point) → P e h → Q e h) → Obeys k Q g o
-  keeps_so P Q (Obeys.asks q is may go) so = Obeys.asks q is may (λ r comes. keeps_so P Q (go r comes) so)
-  keeps_so P Q (Obeys.ends e is end) so = Obeys.ends e is (so e _ end)
+  mutual
+    -- what is made of an outcome goes on from its end, if it makes nothing of a request
+    pub keeps_on : (P Q : Outcome → k.Point → Type 0) (f : Outcome → Outcome) → ((q : Request) (env : Environment) → f (Wants q env) ≡ Wants q env) → {g : k.Point} {o : List Reply → Outcome} → Obeys k P g o
+        → ((e : Outcome) (h : k.Point) → P e h → Obeys k Q h (λ rs. f (refilled rs e))) → Obeys k Q g (λ rs. f (o rs))
+    keeps_on P Q f stays (Obeys.asks q {env = env} is may apart go) then = Obeys.asks q (ap f is ∙ stays q env) may apart (λ r comes. keeps_on P Q f stays (go r comes) then)
+    keeps_on P Q f stays (Obeys.calls object call class size {env = env} looked map is may inside beside other) then =
+        Obeys.calls object call class size looked map (ap f is ∙ stays (entry_of object call) env) may (λ comes. in_call_on P Q f stays (inside comes) then)
+        (λ comes. in_call_on P Q f stays (beside comes) then) (λ r one two comes. keeps_on P Q f stays (other r one two comes) then)
+    keeps_on P Q f stays (Obeys.ends e is end) then = subst (Obeys k Q _) (one_function _ _ (λ rs. ap f (sym (is rs)))) (then e _ end)
 
-  -- what is made of an outcome goes on from its end, if it makes nothing of a request
-  pub keeps_on : (P Q : Outcome → k.Point → Type 0) (f : Outcome → Outcome) → ((q : Request) (env : Environment) → f (Wants q env) ≡ Wants q env) → {g : k.Point} {o : List Reply → Outcome} → Obeys k P g o
-      → ((e : Outcome) (h : k.Point) → P e h → Obeys k Q h (λ rs. f (refilled rs e))) → Obeys k Q g (λ rs. f (o rs))
-  keeps_on P Q f leaves (Obeys.asks q {env = env} is may go) then = Obeys.asks q (ap f is ∙ leaves q env) may (λ r comes. keeps_on P Q f leaves (go r comes) then)
-  keeps_on P Q f leaves (Obeys.ends e is end) then = subst (Obeys k Q _) (one_function _ _ (λ rs. ap f (sym (is rs)))) (then e _ end)
+    in_call_on : (P Q : Outcome → k.Point → Type 0) (f : Outcome → Outcome) → ((q : Request) (env : Environment) → f (Wants q env) ≡ Wants q env) → {object : ℕ} {rest : Talk} {locked : Bool} {g : k.Point}
+        {o : List Reply → Outcome} → InCall k P object rest locked g o → ((e : Outcome) (h : k.Point) → P e h → Obeys k Q h (λ rs. f (refilled rs e))) → InCall k Q object rest locked g (λ rs. f (o rs))
+    in_call_on P Q f stays (InCall.goes q {env = env} asked is may on off) then = InCall.goes q asked (ap f is ∙ stays q env) may (λ r comes takes. in_call_on P Q f stays (on r comes takes) then)
+        (λ r comes refuses. keeps_on P Q f stays (off r comes refuses) then)
+    in_call_on P Q f stays (InCall.leaves {env = env} is may go) then = InCall.leaves (ap f is ∙ stays (Exit (Mon _)) env) may (λ r comes. keeps_on P Q f stays (go r comes) then)
+    in_call_on P Q f stays (InCall.over keeps) then = InCall.over (keeps_on P Q f stays keeps then)
+
+  mutual
+    -- with another end
+    pub keeps_so : (P Q : Outcome → k.Point → Type 0) {g : k.Point} {o : List Reply → Outcome} → Obeys k P g o → ((e : Outcome) (h : k.Point) → P e h → Q e h) → Obeys k Q g o
+    keeps_so P Q (Obeys.asks q is may apart go) so = Obeys.asks q is may apart (λ r comes. keeps_so P Q (go r comes) so)
+    keeps_so P Q (Obeys.calls object call class size looked map is may inside beside other) so = Obeys.calls object call class size looked map is may (λ comes. in_call_so P Q (inside comes) so)
+        (λ comes. in_call_so P Q (beside comes) so) (λ r one two comes. keeps_so P Q (other r one two comes) so)
+    keeps_so P Q (Obeys.ends e is end) so = Obeys.ends e is (so e _ end)
+
+    in_call_so : (P Q : Outcome → k.Point → Type 0) {object : ℕ} {rest : Talk} {locked : Bool} {g : k.Point} {o : List Reply → Outcome} → InCall k P object rest locked g o
+        → ((e : Outcome) (h : k.Point) → P e h → Q e h) → InCall k Q object rest locked g o
+    in_call_so P Q (InCall.goes q asked is may on off) so = InCall.goes q asked is may (λ r comes takes. in_call_so P Q (on r comes takes) so) (λ r comes refuses. keeps_so P Q (off r comes refuses) so)
+    in_call_so P Q (InCall.leaves is may go) so = InCall.leaves is may (λ r comes. keeps_so P Q (go r comes) so)
+    in_call_so P Q (InCall.over keeps) so = InCall.over (keeps_so P Q keeps so)
 
 -- ---- what is known
 
@@ -107,6 +164,11 @@ module _ {shape : Shape} (k : Keeper shape) where
   -- and an environment.
   pub environment_later : (g h : k.Point) → ((object : ℕ) → k.Knows g object → k.Knows h object) → (environment : Environment) → KnowsEnvironment k g environment → KnowsEnvironment k h environment
   environment_later g h knows environment known = record { this = value_later g h knows environment.this known.this; vars = all_later g h knows environment.vars known.vars }
+
+  -- what is no map is none later
+  pub no_map_later : (g h : k.Point) (object : ℕ) → More k g h → IsNoMapAt k g object → IsNoMapAt k h object
+  no_map_later g h object more (inl is) = inl is
+  no_map_later g h object more (inr (class, size, looked, other)) = inr (class, size, more.looked object class size looked, other)
 
   -- a point after another, and a third one after it
   pub more_then : (g h i : k.Point) → More k g h → More k h i → More k g i

@@ -15,7 +15,7 @@ use Rattle.dso_machine.specs.Expressions.{make}
 use Rattle.dso_machine.specs.Limits.{most_moves}
 use Rattle.dso_machine.specs.Outcome.{Meaning, on_reply, result_of, asking, unwanted, done, made, got, seen, telling, tell, getting, get, looking, look, on_object, moved, paced, moving_with, moving}
 use Rattle.dso_machine.proofs.protocol.Protocol.{KnowsValue, is_plain, Keeper}
-use Rattle.dso_machine.proofs.protocol.Parts.{Obeys, More, Part, environment_later, more_then, part_later, part_at, part_gives, part_fails, part_value}
+use Rattle.dso_machine.proofs.protocol.Parts.{IsNoMapAt, IsApartAt, no_map_later, Obeys, More, Part, environment_later, more_then, part_later, part_at, part_gives, part_fails, part_value}
 
 -- the value, if there is one, is known
 abbrev pub KnowsResult : (ℕ → Type 0) → (ℕ → Type 0) → Result Value Fault → Type 0
@@ -41,7 +41,7 @@ module _ {shape : Shape} (k : Keeper shape) where
   part_made g q r comes = record { from = λ h u more environment. (part_unwanted (k.after q r g) r).from h u more environment }
 
   -- a value that was read is known
-  read_value : (g : k.Point) (q : Request) (v : Value) → k.IsReply g q (Val v) → KnowsValue k.HasText (k.Knows (k.after q (Val v) g)) v
+  pub read_value : (g : k.Point) (q : Request) (v : Value) → k.IsReply g q (Val v) → KnowsValue k.HasText (k.Knows (k.after q (Val v) g)) v
   read_value g q (value.Ref object) comes = k.read_known g q object comes
   read_value g q value.Null comes = tt
   read_value g q (value.Long n) comes = tt
@@ -72,10 +72,10 @@ module _ {shape : Shape} (k : Keeper shape) where
   more_after g q r awake = record { awake = awake; knows = k.still_known g q r; looked = k.still_looked g q r }
 
   -- a plain request that may be asked, and what is made of its reply
-  part_plain : (g : k.Point) (vs : List Value) (q : Request) (f : Reply → Meaning) → is_plain q ≡ true → ((h : k.Point) → More k g h → k.Asks h q)
+  part_plain : (g : k.Point) (vs : List Value) (q : Request) (f : Reply → Meaning) → is_plain q ≡ true → ((h : k.Point) → More k g h → k.Asks h q × IsApartAt k h q)
       → ((h : k.Point) (r : Reply) → More k g h → More k g (k.after q r h) → k.IsReply h q r → Part k (k.after q r h) (f r)) → Part k g (λ at. on_reply f (asking vs q at))
   part_plain g vs q f plain may then = record {
-    from = λ h u more environment. Obeys.asks q refl (may h more) (λ r comes.
+    from = λ h u more environment. Obeys.asks q refl (may h more).0 (may h more).1 (λ r comes.
         let same : k.Same h (k.after q r h) = k.plain_same h q r more.awake plain comes in
         let awake : k.Awake (k.after q r h) = k.same_awake h (k.after q r h) same more.awake in
         part_at k h (k.after q r h) (f r) (record { environment = u.environment; moves = 0; replies = [] }) awake same
@@ -83,27 +83,27 @@ module _ {shape : Shape} (k : Keeper shape) where
   }
 
   -- a plain request that is answered Done
-  pub part_telling : (g : k.Point) (vs : List Value) (q : Request) → is_plain q ≡ true → ((h : k.Point) → More k g h → k.Asks h q) → Part k g (telling vs q)
+  pub part_telling : (g : k.Point) (vs : List Value) (q : Request) → is_plain q ≡ true → ((h : k.Point) → More k g h → k.Asks h q × IsApartAt k h q) → Part k g (telling vs q)
   part_telling g vs q plain may = part_plain g vs q done plain may (λ h r more later comes. part_done (k.after q r h) r)
 
-  pub part_tell : (g : k.Point) (q : Request) → is_plain q ≡ true → ((h : k.Point) → More k g h → k.Asks h q) → Part k g (tell q)
+  pub part_tell : (g : k.Point) (q : Request) → is_plain q ≡ true → ((h : k.Point) → More k g h → k.Asks h q × IsApartAt k h q) → Part k g (tell q)
   part_tell g q plain may = part_telling g [] q plain may
 
   -- a field or an element is read,
-  pub part_getting : (g : k.Point) (vs : List Value) (object place : ℕ) → ((h : k.Point) → More k g h → k.Asks h (request.Get object place)) → Part k g (getting vs object place)
-  part_getting g vs object place may = part_plain g vs (request.Get object place) got refl may (λ h r more later comes. part_got h (request.Get object place) r comes)
+  pub part_getting : (g : k.Point) (vs : List Value) (object place : ℕ) → ((h : k.Point) → More k g h → k.Asks h (request.Get object place)) → IsNoMapAt k g object → Part k g (getting vs object place)
+  part_getting g vs object place may other = part_plain g vs (request.Get object place) got refl (λ h more. (may h more, no_map_later k g h object more other)) (λ h r more later comes. part_got h (request.Get object place) r comes)
 
-  pub part_get : (g : k.Point) (object place : ℕ) → ((h : k.Point) → More k g h → k.Asks h (request.Get object place)) → Part k g (get object place)
-  part_get g object place may = part_getting g [] object place may
+  pub part_get : (g : k.Point) (object place : ℕ) → ((h : k.Point) → More k g h → k.Asks h (request.Get object place)) → IsNoMapAt k g object → Part k g (get object place)
+  part_get g object place may other = part_getting g [] object place may other
 
   -- an object is made,
   pub part_make : (g : k.Point) (class : ClassId) (size : ℕ) → ((h : k.Point) → More k g h → k.Asks h (request.New class size)) → Part k g (make class size)
-  part_make g class size may = part_plain g [] (request.New class size) made refl may (λ h r more later comes. part_made h (request.New class size) r comes)
+  part_make g class size may = part_plain g [] (request.New class size) made refl (λ h more. (may h more, tt)) (λ h r more later comes. part_made h (request.New class size) r comes)
 
   -- an object that is known is looked at, and is then of the class and size that were seen
   pub part_looking : (g : k.Point) (vs : List Value) (f : ClassId → ℕ → Meaning) (object : ℕ) → k.Knows g object
       → ((h : k.Point) → More k g h → (class : ClassId) (size : ℕ) → k.Looked h object class size → Part k h (f class size)) → Part k g (looking vs f object)
-  part_looking g vs f object known part = part_plain g vs (request.Look object) (seen f) refl (λ h more. k.look_asked h object more.awake (more.knows object known))
+  part_looking g vs f object known part = part_plain g vs (request.Look object) (seen f) refl (λ h more. (k.look_asked h object more.awake (more.knows object known), tt))
       (λ h r more later comes. part_seen h f object r comes (part (k.after (request.Look object) r h) later))
 
   pub part_look : (g : k.Point) (f : ClassId → ℕ → Meaning) (object : ℕ) → k.Knows g object
@@ -126,7 +126,7 @@ module _ {shape : Shape} (k : Keeper shape) where
   part_paced : (g : k.Point) (vs : List Value) (b : Bool) (m : Meaning) → Part k g m → Part k g (paced vs b m)
   part_paced g vs true m part = record { from = λ h u more environment. (part_moved g m part).from h u more environment }
   part_paced g vs false m part = record {
-    from = λ h u more environment. (part_value k g (λ v. moved m) (telling vs request.Pause) (part_telling g vs request.Pause refl (λ h more. k.pause_asked h more.awake))
+    from = λ h u more environment. (part_value k g (λ v. moved m) (telling vs request.Pause) (part_telling g vs request.Pause refl (λ h more. (k.pause_asked h more.awake, tt)))
         (λ v h more known. part_moved h m (part_later k g h m more part))).from h u more environment;
   }
 

@@ -1,5 +1,5 @@
 -- Sound statements keep to what may be asked.
-use Rattle.std.proofs.Common.{◌≡◌, refl, ℕ, zero, suc, ◌<◌, ◌≤◌, ◌≢◌, arith, Bool, true, false, not, eqb, List, [], ◌∷◌, map, Option, None, Some, sym, ap, ◌∙◌}
+use Rattle.std.proofs.Common.{◌≡◌, refl, inl, ℕ, zero, suc, ◌<◌, ◌≤◌, ◌≢◌, arith, Bool, true, false, not, eqb, List, [], ◌∷◌, map, Option, None, Some, sym, ap, ◌∙◌}
 use Rattle.std.proofs.lemmas.Bool.{eq-eqb}
 use Rattle.std.specs.Prelude.{ℤ, pos}
 use Rattle.dso_base.specs.declared.lock.Grade.{Grade}
@@ -16,6 +16,7 @@ use Rattle.dso_base.specs.declared.value.Value.{Value}
 use Rattle.dso_base.specs.declared.value.Value.TheVariants as value
 use Rattle.dso_base.specs.Shape.{HasField, kind_of}
 use Rattle.dso_base.specs.Value.{Fits}
+use Rattle.dso_map.specs.MapClass.{is_map}
 use Rattle.dso_machine.specs.declared.code.Code.{Code}
 use Rattle.dso_machine.specs.declared.tree.Expr.{Expr}
 use Rattle.dso_machine.specs.declared.tree.FieldRef.{FieldRef}
@@ -28,11 +29,11 @@ use Rattle.dso_machine.specs.Statements.{assign, put_fitting, put_field_at, put_
 use Rattle.dso_machine.specs.Values.{takes}
 use Rattle.dso_machine.proofs.forms.Equations.{stmt_Assign, stmt_PutField, stmt_PutElem, stmt_PutRoot, stmt_Eval, stmt_If, stmt_While, stmt_Sync, stmt_Wait, stmt_TimedWait, stmt_Notify, stmt_NotifyAll, stmt_Print, stmt_Return}
 use Rattle.dso_machine.proofs.protocol.Protocol.{KnowsValue, HasPlace, Keeper}
-use Rattle.dso_machine.proofs.protocol.Parts.{Obeys, More, Part, value_later, part_later, part_gives, part_leaves, part_fails, part_stopped, part_value, part_holding, part_choose}
+use Rattle.dso_machine.proofs.protocol.Parts.{IsNoMapAt, no_map_later, Obeys, More, Part, value_later, part_later, part_gives, part_leaves, part_fails, part_stopped, part_value, part_holding, part_choose}
 use Rattle.dso_machine.proofs.protocol.Requests.{part_tell, part_getting, part_looking, part_object, part_moving}
 use Rattle.dso_machine.proofs.protocol.Locks.{part_under, part_under_with, part_wait}
 use Rattle.dso_machine.proofs.protocol.Calls.{Bodies}
-use Rattle.dso_machine.proofs.protocol.Expressions.{places_there, within_below, known_set, part_as, part_expr}
+use Rattle.dso_machine.proofs.protocol.Expressions.{places_there, places_of_no_map, no_map_of, array_no_map, within_below, known_set, part_as, part_expr}
 
 -- ---- kinds
 
@@ -65,27 +66,30 @@ module _ {shape : Shape} (k : Keeper shape) where
 
   -- a field or an element is,
   part_put : (g : k.Point) (object place : ℕ) (v : Value) (class : ClassId) (size : ℕ) → k.Knows g object → KnowsValue k.HasText (k.Knows g) v
-      → k.Looked g object class size → HasPlace shape class size place → Fits (kind_of shape class place) v → Part k g (put object place v)
-  part_put g object place v class size known v_known looked there fits = part_tell k g (request.Put object place v) refl
-      (λ h more. k.put_asked h object place v class size more.awake (more.knows object known) (value_later k g h more.knows v v_known) (more.looked object class size looked) there fits)
+      → k.Looked g object class size → HasPlace shape class size place → IsNoMapAt k g object → Fits (kind_of shape class place) v → Part k g (put object place v)
+  part_put g object place v class size known v_known looked there other fits = part_tell k g (request.Put object place v) refl
+      (λ h more. (
+        k.put_asked h object place v class size more.awake (more.knows object known) (value_later k g h more.knows v v_known) (more.looked object class size looked) there fits,
+        no_map_later k g h object more other,
+      ))
 
   -- if it takes the value
   part_put_fitting : (g : k.Point) (object place : ℕ) (v : Value) (class : ClassId) (size : ℕ) → k.Knows g object → KnowsValue k.HasText (k.Knows g) v
-      → k.Looked g object class size → HasPlace shape class size place → Part k g (put_fitting (kind_of shape class place) object place v)
-  part_put_fitting g object place v class size known v_known looked there = part_choose k g (takes (kind_of shape class place) v) (put object place v) (Fails BadValue)
-      (λ takes_it. part_put g object place v class size known v_known looked there (takes_fits (kind_of shape class place) v takes_it)) (part_fails k g BadValue)
+      → k.Looked g object class size → HasPlace shape class size place → IsNoMapAt k g object → Part k g (put_fitting (kind_of shape class place) object place v)
+  part_put_fitting g object place v class size known v_known looked there other = part_choose k g (takes (kind_of shape class place) v) (put object place v) (Fails BadValue)
+      (λ takes_it. part_put g object place v class size known v_known looked there other (takes_fits (kind_of shape class place) v takes_it)) (part_fails k g BadValue)
 
   -- a field that was found is given a value,
   part_put_field_at : (g : k.Point) (class object : ℕ) (v : Value) (size : ℕ) (place : Option ℕ) → k.Knows g object → KnowsValue k.HasText (k.Knows g) v
-      → k.Looked g object (Plain class) size → ((p : ℕ) → place ≡ Some p → HasField shape (Plain class) p) → Part k g (put_field_at shape class object v place)
+      → k.Looked g object (Plain class) size → ((p : ℕ) → place ≡ Some p → HasField shape (Plain class) p × (is_map shape class ≡ false)) → Part k g (put_field_at shape class object v place)
   part_put_field_at g class object v size None known v_known looked there = part_fails k g NoSuchField
-  part_put_field_at g class object v size (Some place) known v_known looked there = part_put_fitting g object place v (Plain class) size known v_known looked (there place refl)
+  part_put_field_at g class object v size (Some place) known v_known looked there = part_put_fitting g object place v (Plain class) size known v_known looked (there place refl).0 (no_map_of k g object class size looked (there place refl).1)
 
   -- in an object of this class,
   part_put_field_in : (g : k.Point) (f : FieldRef) (v : Value) (object : ℕ) (class : ClassId) (size : ℕ) → ArePlaces shape f.places → k.Knows g object → KnowsValue k.HasText (k.Knows g) v
       → k.Looked g object class size → Part k g (put_field_in shape f v object class size)
   part_put_field_in g f v object (Plain class) size places known v_known looked = part_put_field_at g class object v size (lookup f.places class) known v_known looked
-      (λ p found. places_there shape f.places class p places.there found)
+      (λ p found. (places_there shape f.places class p places.there found, places_of_no_map shape f.places class p places.of_no_map found))
   part_put_field_in g f v object class size places known v_known looked = part_fails k g NoSuchField
 
   -- or of a value
@@ -98,7 +102,7 @@ module _ {shape : Shape} (k : Keeper shape) where
   part_put_element_at : (g : k.Point) (kind : Kind) (object : ℕ) (v : Value) (size : ℕ) (place : Option ℕ) → k.Knows g object → KnowsValue k.HasText (k.Knows g) v
       → k.Looked g object (Array kind) size → ((p : ℕ) → place ≡ Some p → p < size) → Part k g (put_element_at kind object v place)
   part_put_element_at g kind object v size None known v_known looked there = part_fails k g BadIndex
-  part_put_element_at g kind object v size (Some place) known v_known looked there = part_put_fitting g object place v (Array kind) size known v_known looked (there place refl)
+  part_put_element_at g kind object v size (Some place) known v_known looked there = part_put_fitting g object place v (Array kind) size known v_known looked (there place refl) (array_no_map k g object kind size looked)
 
   -- in an object of this class,
   part_put_element_in : (g : k.Point) (i : ℤ) (v : Value) (object : ℕ) (class : ClassId) (size : ℕ) → k.Knows g object → KnowsValue k.HasText (k.Knows g) v
@@ -115,13 +119,13 @@ module _ {shape : Shape} (k : Keeper shape) where
 
   -- a root that isn't bound is given a value,
   part_bind_null : (g : k.Point) (r : ℕ) (v bound : Value) → r < shape.roots → Fits kind.Ref v → KnowsValue k.HasText (k.Knows g) v → Part k g (bind_null r v bound)
-  part_bind_null g r v value.Null there fits known = part_tell k g (request.Put 0 r v) refl (λ h more. k.put_root_asked h r v more.awake (value_later k g h more.knows v known) there fits)
+  part_bind_null g r v value.Null there fits known = part_tell k g (request.Put 0 r v) refl (λ h more. (k.put_root_asked h r v more.awake (value_later k g h more.knows v known) there fits, inl refl))
   part_bind_null g r v bound there fits known = part_gives k g value.Null tt
 
   -- under its lock,
   part_bind : (g : k.Point) (r : ℕ) (v : Value) → r < shape.roots → shape.roots ≤ shape.names → Fits kind.Ref v → KnowsValue k.HasText (k.Knows g) v → Part k g (bind r v)
   part_bind g r v there locks fits known = part_under_with k g (v ∷ []) (Name r) grade.Write (λ at. on_value (bind_null r v) (getting (v ∷ []) 0 r at)) tt (omega (arith, there, locks))
-      (part_value k g (bind_null r v) (getting (v ∷ []) 0 r) (part_getting k g (v ∷ []) 0 r (λ h more. k.get_root_asked h r more.awake there)) (λ bound h more bound_known. part_bind_null h r v bound there fits (value_later k g h more.knows v known)))
+      (part_value k g (bind_null r v) (getting (v ∷ []) 0 r) (part_getting k g (v ∷ []) 0 r (λ h more. k.get_root_asked h r more.awake there) (inl refl)) (λ bound h more bound_known. part_bind_null h r v bound there fits (value_later k g h more.knows v known)))
 
   -- if it takes the value
   part_put_root : (g : k.Point) (r : ℕ) (v : Value) → r < shape.roots → shape.roots ≤ shape.names → KnowsValue k.HasText (k.Knows g) v → Part k g (put_root r v)
@@ -206,11 +210,11 @@ module _ (c : Code) (k : Keeper c.shape) (ways : MethodMeanings) (methods : Bodi
     part_stmt (SoundStmt.timed_wait {a = a} {b = b} one other) g = part_as k g _ _ (stmt_TimedWait c ways n a b)
         (part_of one (on_next timed_wait (expr c ways b)) g (λ x h more known. part_beside other (x ∷ []) (timed_wait x) h (λ v i further v_known. part_timed_wait k i x v (value_later k h i further.knows x known))))
     part_stmt (SoundStmt.notify {a = a} one) g = part_as k g _ _ (stmt_Notify c ways n a) (part_of_monitor one (λ object. tell (request.Notify (Mon object)))
-        (λ h object known. part_tell k h (request.Notify (Mon object)) refl (λ i more. k.notify_asked i object more.awake (more.knows object known))) g)
+        (λ h object known. part_tell k h (request.Notify (Mon object)) refl (λ i more. (k.notify_asked i object more.awake (more.knows object known), tt))) g)
     part_stmt (SoundStmt.notify_all {a = a} one) g = part_as k g _ _ (stmt_NotifyAll c ways n a) (part_of_monitor one (λ object. tell (request.NotifyAll (Mon object)))
-        (λ h object known. part_tell k h (request.NotifyAll (Mon object)) refl (λ i more. k.notify_all_asked i object more.awake (more.knows object known))) g)
+        (λ h object known. part_tell k h (request.NotifyAll (Mon object)) refl (λ i more. (k.notify_all_asked i object more.awake (more.knows object known), tt))) g)
     part_stmt (SoundStmt.print {a = a} one) g = part_as k g _ _ (stmt_Print c ways n a) (part_of one (λ v. tell (request.Print v)) g
-        (λ v h more known. part_tell k h (request.Print v) refl (λ i further. k.print_asked i v further.awake (value_later k h i further.knows v known))))
+        (λ v h more known. part_tell k h (request.Print v) refl (λ i further. (k.print_asked i v further.awake (value_later k h i further.knows v known), tt))))
     part_stmt SoundStmt.leave g = part_as k g _ _ (stmt_Return c ways n None) (part_leaves k g value.Null tt)
     part_stmt (SoundStmt.answer {a = a} one) g = part_as k g _ _ (stmt_Return c ways n (Some a)) (part_of one Leaves g (λ v h more known. part_leaves k h v known))
 

@@ -29,7 +29,7 @@ use Rattle.dso_machine.specs.Limits.{most_moves}
 use Rattle.dso_machine.specs.Next.{body_of, replies_in, whole, enough_for, next_of, next_request, request_of}
 use Rattle.dso_base.specs.declared.value.Value.{Value}
 use Rattle.dso_machine.specs.Outcome.{Environment, Outcome, Wants, Over, on_value, leave, letting_go, monitor_of}
-use Rattle.dso_machine.specs.Continuation.{Takes, Means, Completes, StandsAt, with_then, outer_of, environment_of, held_at, after_part, used_value, use_values}
+use Rattle.dso_machine.specs.Continuation.{Takes, Means, Completes, StandsAt, with_then, outer_of, environment_of, held_at, after_part, used_value, use_values, map_values}
 use Rattle.dso_machine.specs.Standing.{ThreadStands, StandsFor, HearsAt, MeansHeard, IsEnded, IsAnswered, Resumes, asked_by, asked_at}
 use Rattle.dso_machine.proofs.steps.Steps.{along, goes_on}
 
@@ -86,12 +86,14 @@ wants_past code n k outer (task.Then t) q env = ap (on_value (used_value code n 
 wants_past code n k outer (task.Back frame) q env = refl
 wants_past code n k outer (task.Leave l grade) q env = ap (leave l grade) (let_wants (monitor_of l) outer q env)
 wants_past code n k outer (task.Close l) q env = let_wants (monitor_of l) outer q env
+wants_past code n k outer (task.Mapped call) q env = let_wants (map_values call) outer q env
 
 over_past : (code : Code) (n k : ℕ) (outer : List Value) (t : Task) → after_part code n k outer t Over ≡ Over
 over_past code n k outer (task.Then t) = ap (on_value (used_value code n k t)) (let_over (use_values t) outer)
 over_past code n k outer (task.Back frame) = refl
 over_past code n k outer (task.Leave l grade) = ap (leave l grade) (let_over (monitor_of l) outer)
 over_past code n k outer (task.Close l) = let_over (monitor_of l) outer
+over_past code n k outer (task.Mapped call) = let_over (map_values call) outer
 
 -- and is what the whole asks
 wants : (code : Code) (N : ℕ) (ts : List Task) (q : Request) (env : Environment) (o : Outcome) → Completes code N ts (Wants q env) o → o ≡ Wants q env
@@ -107,7 +109,7 @@ abbrev pub environment_at : Now → Core → Environment
 environment_at a core = environment_of core.frame (held_at a ++ outer_of core.tasks)
 
 -- what a request that is out comes to
-pub asks_out : (code : Code) (N : ℕ) (a : Now) (q : Request) (core : Core) (o : Outcome) → asked_by a ≡ Some q → Means code N a core [] o → o ≡ Wants q (environment_at a core)
+asks_out : (code : Code) (N : ℕ) (a : Now) (q : Request) (core : Core) (o : Outcome) → asked_by a ≡ Some q → Means code N a core [] o → o ≡ Wants q (environment_at a core)
 asks_out code N (now.Ask p on) q core o is h = wants code N core.tasks p (environment_at (now.Ask p on) core) o h.rest ∙ ap (λ x. Wants x (environment_at (now.Ask p on) core)) (some_same p q is)
   where
     some_same : (p q : Request) → Some p ≡ Some q → p ≡ q
@@ -118,18 +120,22 @@ asks_out code N (now.End fault) q core o is h = wants code N core.tasks (request
     some_same p q e = cc e
 asks_out code N a q core o is h = absurd (cc is)
 
--- the theorem: the request that is out is the program's next one
-pub asks_next : (code : Code) (t : ThreadId) (body : ThreadBody) (a : Now) (core : Core) (q : Request) (events : List Event) → body_of t code.bodies ≡ Some body → asked_by a ≡ Some q
-    → StandsAt code body a core (replies_in events) → next_request code t events ≡ Some q
-asks_next code t body a core q events its is st =
-    let past : List Reply = replies_in events in
+-- a thread whose request is out wants it where it stands, by so many moves as are enough
+pub wanted_at : (code : Code) (body : ThreadBody) (a : Now) (core : Core) (q : Request) (past : List Reply) → asked_by a ≡ Some q → StandsAt code body a core past
+    → whole code body (enough_for past) past ≡ Wants q (environment_at a core)
+wanted_at code body a core q past is st =
     let left : ℕ = enough_for past - st.made in
     let b = st.bounded in
     let f = st.few in
     let e : st.made + left ≡ enough_for past = omega arith in
     let means : Means code left a core [] (whole code body (enough_for past) past) = subst (λ i. Means code left a core [] (whole code body i past)) e
     (subst (λ xs. Means code left a core [] (whole code body (st.made + left) xs)) (append-nil past) (st.means left [])) in
-    ap (next_of code past) its ∙ ap request_of (asks_out code left a q core _ is means)
+    asks_out code left a q core _ is means
+
+-- the theorem: the request that is out is the program's next one
+pub asks_next : (code : Code) (t : ThreadId) (body : ThreadBody) (a : Now) (core : Core) (q : Request) (events : List Event) → body_of t code.bodies ≡ Some body → asked_by a ≡ Some q
+    → StandsAt code body a core (replies_in events) → next_request code t events ≡ Some q
+asks_next code t body a core q events its is st = ap (next_of code (replies_in events)) its ∙ ap request_of (wanted_at code body a core q (replies_in events) is st)
 
 -- what comes of the step after a reply is followed
 pub heard_followed : (code : Code) (r : Reply) (on : OnReply) (core : Core) (step : Step) (result : Result Now NoMemory) (next : Core) → Takes code on r core.frame step
@@ -139,7 +145,7 @@ heard_followed code r on core step (Ok a) next takes is at =
 heard_followed code r on core step (Err e) next takes is at = tt
 
 -- the replies of events and of one more
-replies_more : (t : ThreadId) (q : Request) (r : Reply) (woken : Option ThreadId) (events : List Event) → replies_in (events ++ Act t q r woken ∷ []) ≡ replies_in events ++ r ∷ []
+pub replies_more : (t : ThreadId) (q : Request) (r : Reply) (woken : Option ThreadId) (events : List Event) → replies_in (events ++ Act t q r woken ∷ []) ≡ replies_in events ++ r ∷ []
 replies_more t q r woken [] = refl
 replies_more t q r woken (Act u p s w ∷ events) = ap (λ xs. s ∷ xs) (replies_more t q r woken events)
 replies_more t q r woken (Lost client ∷ events) = replies_more t q r woken events

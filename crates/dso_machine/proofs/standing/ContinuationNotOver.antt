@@ -32,18 +32,20 @@ use Rattle.dso_machine.specs.declared.continuation.Writing.{Writing}
 use Rattle.dso_machine.specs.declared.continuation.Writing.TheVariants as write
 use Rattle.dso_machine.specs.declared.tree.Expr.{Expr}
 use Rattle.dso_machine.specs.declared.tree.Stmt.{Stmt}
+use Rattle.dso_map.specs.Calls.{rest_of}
 use Rattle.dso_machine.specs.Calls.{call_on, call_in}
 use Rattle.dso_machine.specs.Expressions.{field_in, element_of, element_in, expr}
+use Rattle.dso_machine.specs.Maps.{told_reply}
 use Rattle.dso_machine.specs.Next.{finish}
-use Rattle.dso_machine.specs.Outcome.{State, Outcome, Wants, Gives, Leaves, Fails, Hears, Over, Stopped, Meaning, on_value, on_reply, on_next, on_next_beside, holding, letting_go, monitor_of, asked, unwanted, done, made, got, seen, tell, getting, moved, moving_with, settling, entered}
-use Rattle.dso_machine.specs.Continuation.{Completes, standing, ended, end_values, call_values, move_values, use_values, outer_of, block_at, loop_at, move_at, body_at, locked_at, arguments_at, written, used_monitor, used_value, heard, after_part, meant, environment_of}
+use Rattle.dso_machine.specs.Outcome.{State, Outcome, Wants, Gives, Leaves, Fails, Hears, Over, Stopped, Meaning, on_value, on_reply, on_next_beside, holding, letting_go, monitor_of, asked, unwanted, done, made, got, seen, tell, getting, moved, moving_with, settling, entered}
+use Rattle.dso_machine.specs.Continuation.{Completes, standing, ended, end_values, call_values, map_values, move_values, use_values, outer_of, block_at, loop_at, move_at, body_at, locked_at, arguments_at, written, used_monitor, used_value, heard, after_part, meant, environment_of}
 use Rattle.dso_machine.specs.Statements.{put_field, put_field_in, put_element, put_element_in, bind_null, unless_woken, timed_out, ticks, waiting, wait, timed_wait, stmt, block, methods}
 use Rattle.dso_machine.specs.Values.{binary, unary}
 use Rattle.dso_machine.specs.Unwinding.{with_replies}
 use Rattle.dso_machine.proofs.standing.NotOver.{Live, live_from, IsLive, live_tidy, live_value, live_letting_go, live_back, live_leave, live_settling, live_ticks, live_waiting, live_unless_woken, live_timed_out}
 use Rattle.dso_machine.proofs.unwinding.Tidy.{IsTidy, tidy_after, tidy_holding, tidy_fails, tidy_gives, tidy_leaves}
-use Rattle.dso_machine.proofs.unwinding.Parts.{tidy_array, tidy_assign, tidy_begin, tidy_bind_null, tidy_boolean, tidy_branch, tidy_call, tidy_call_in, tidy_done, tidy_element, tidy_element_in, tidy_field, tidy_field_in, tidy_get, tidy_getting, tidy_got, tidy_invoke, tidy_made, tidy_monitor, tidy_moved, tidy_moving, tidy_moving_with, tidy_object, tidy_put_element, tidy_put_element_in, tidy_put_field, tidy_put_field_in, tidy_put_root, tidy_result, tidy_second, tidy_seen, tidy_spun, tidy_sync, tidy_tell, tidy_turn, tidy_timed_wait, tidy_unwanted, tidy_wait}
-use Rattle.dso_machine.proofs.unwinding.Trees.{tidy_args_on, tidy_beside, tidy_block, tidy_expr, tidy_methods, tidy_of, tidy_stmt}
+use Rattle.dso_machine.proofs.unwinding.Parts.{tidy_told, tidy_told_reply, tidy_array, tidy_assign, tidy_begin, tidy_bind_null, tidy_boolean, tidy_branch, tidy_call, tidy_call_in, tidy_done, tidy_element, tidy_element_in, tidy_field, tidy_field_in, tidy_get, tidy_getting, tidy_got, tidy_invoke, tidy_made, tidy_monitor, tidy_moved, tidy_moving, tidy_moving_with, tidy_object, tidy_put_element, tidy_put_element_in, tidy_put_field, tidy_put_field_in, tidy_put_root, tidy_result, tidy_second, tidy_seen, tidy_spun, tidy_sync, tidy_tell, tidy_turn, tidy_timed_wait, tidy_unwanted, tidy_wait}
+use Rattle.dso_machine.proofs.unwinding.Trees.{tidy_args_on, tidy_beside, tidy_block, tidy_expr, tidy_methods, tidy_stmt}
 
 module _ (code : Code) (n k : ℕ) where
   -- what a move starts
@@ -64,6 +66,7 @@ module _ (code : Code) (n k : ℕ) where
   tidy_locked (locked.Block ss) = tidy_block code (methods code n) (tidy_methods code n) n ss
   tidy_locked (locked.Monitor call) = tidy_monitor (call_values call) call.synced call.object (body_at code n k call) (tidy_body call)
   tidy_locked (locked.Body call) = tidy_body call
+  tidy_locked (locked.Map call) = tidy_told call.object (rest_of call)
 
   tidy_args : (callees : List (ℕ × ℕ)) (x : Value) (before : List Value) (rest : List Expr) → IsTidy (arguments_at code n k callees x before rest)
   tidy_args callees x before rest = tidy_args_on code (methods code n) (tidy_methods code n) (call_on code (methods code n) callees x) (tidy_call code (methods code n) (tidy_methods code n) callees x) x rest before
@@ -145,6 +148,7 @@ module _ (code : Code) (n k : ℕ) where
   live_heard (reply.TimedOut l) r core = live_value (λ v. tell (request.Resume l)) (timed_out r (standing core [])) ((live_timed_out r).at (standing core [])) (λ v. live_resume l)
   live_heard (reply.Paused a) r core =
       live_from (λ at. on_value (λ v. moved (move_at code n k a)) (done r at)) (tidy_after (λ v. moved (move_at code n k a)) (done r) (tidy_done r) (λ v. tidy_moved (move_at code n k a) (tidy_move a))) (standing core [])
+  live_heard (reply.Map call) r core = live_from (told_reply call.object (rest_of call) r) (tidy_told_reply call.object (rest_of call) r) (standing core [])
 
   -- what the thread is about to do; a request is wanted
   pub live_now : (a : Now) (core : Core) → Live (meant code n k a (standing core []))
@@ -163,6 +167,7 @@ module _ (code : Code) (n k : ℕ) where
   live_part outer (task.Back frame) p live = live_back (environment_of frame outer) p live
   live_part outer (task.Leave l grade) p live = live_leave l grade (letting_go (monitor_of l) outer p) (live_letting_go (monitor_of l) outer p live)
   live_part outer (task.Close l) p live = live_letting_go (monitor_of l) outer p live
+  live_part outer (task.Mapped call) p live = live_letting_go (map_values call) outer p live
 
 -- the end of a thread's code wants its reply where none is left
 end_wants : (q : Request) (at : State) (rs : List Reply) → rs ≡ [] → on_reply (λ r u. Over) (asked [] q at rs) ≡ Over → ⊥

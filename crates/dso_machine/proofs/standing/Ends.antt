@@ -66,13 +66,17 @@ hears_on code body r on core past st over =
     (subst (λ xs. MeansHeard code left r on core [] (whole code body (st.made + left) xs)) (append-nil past) (st.means left [])) in
     live_rest code left core.tasks _ _ (live_heard code means.fuel.n means.fuel.k on r core) means.rest over
 
--- a thread that has ended asks nothing
-asks_nothing : (code : Code) (body : ThreadBody) (past : List Reply) → IsEnded code body past → request_of (whole code body (enough_for past) past) ≡ None
-asks_nothing code body past st =
+-- a thread that has ended is over, by so many moves as are enough,
+pub over_after : (code : Code) (body : ThreadBody) (past : List Reply) → IsEnded code body past → whole code body (enough_for past) past ≡ Over
+over_after code body past st =
     let left : ℕ = enough_for past - st.made in
     let b = st.bounded in
     let e : st.made + left ≡ enough_for past = omega arith in
-    ap request_of (subst (λ i. whole code body i past ≡ Over) e (st.over left))
+    subst (λ i. whole code body i past ≡ Over) e (st.over left)
+
+-- so it asks nothing
+asks_nothing : (code : Code) (body : ThreadBody) (past : List Reply) → IsEnded code body past → request_of (whole code body (enough_for past) past) ≡ None
+asks_nothing code body past st = ap request_of (over_after code body past st)
 
 -- a thread that has ended asks nothing more
 ends_none : (code : Code) (body : ThreadBody) (d : Due) (core : Core) (past : List Reply) → StandsFor code body d core past → is_over d → request_of (whole code body (enough_for past) past) ≡ None

@@ -11,6 +11,7 @@ use Rattle.dso_base.specs.declared.lock.LockName.{LockName}
 use Rattle.dso_base.specs.declared.lock.LockName.TheVariants.{Mon, Name}
 use Rattle.dso_base.specs.declared.value.Value.{Value}
 use Rattle.dso_base.specs.declared.value.Value.TheVariants as value
+use Rattle.dso_map.specs.declared.map_call.MapCall.{MapCall}
 use Rattle.dso_machine.specs.declared.code.Code.{Code}
 use Rattle.dso_machine.specs.declared.machine.Core.{Core}
 use Rattle.dso_machine.specs.declared.continuation.End.{End}
@@ -26,7 +27,7 @@ use Rattle.dso_machine.specs.declared.continuation.Task.TheVariants as task
 use Rattle.dso_machine.specs.declared.tree.Stmt.{Stmt}
 use Rattle.dso_machine.specs.Next.{finish}
 use Rattle.dso_machine.specs.Outcome.{State, Outcome, Over, on_value, on_reply, asked, ask, done, settling, letting_go, with_outer}
-use Rattle.dso_machine.specs.Continuation.{Opens, Executes, Uses, Keeps, Means, Fuel, Completes, standing, meant, meant_with, after_part, ended, with_then, outer_of, use_values, used_value}
+use Rattle.dso_machine.specs.Continuation.{Opens, Executes, Uses, Keeps, Means, Fuel, Completes, standing, meant, meant_with, after_part, ended, with_then, outer_of, use_values, map_values, used_value}
 use Rattle.dso_machine.proofs.steps.Requests.{on_asked}
 
 module _ (code : Code) where
@@ -115,6 +116,11 @@ module _ (code : Code) where
       → Keeps code (now.Have e) (record core { tasks = task.Close l ∷ core.tasks }) (now.Have e) core
   closes_block e l core = pops _ _ (task.Close l) core core refl (λ n k p q rs. closed_after n k p q l e core rs)
 
+  -- a call of a map ends
+  pub ends_map : (e : End) (call : MapCall) (core : Core)
+      → Keeps code (now.Have e) (record core { tasks = task.Mapped call ∷ core.tasks }) (now.Have e) core
+  ends_map e call core = pops _ _ (task.Mapped call) core core refl (λ n k p q rs. left_go (map_values call) (outer_of core.tasks) e (standing core rs))
+
   -- a lock is left at the end of a part
   left_after : (n k p q : ℕ) (l : LockName) (grade : Grade) (e : End) (core : Core) (rs : List Reply)
       → after_part code n k (outer_of core.tasks) (task.Leave l grade) (meant code p q (now.Have e) (standing (record core { tasks = task.Leave l grade ∷ core.tasks }) rs))
@@ -174,7 +180,7 @@ module _ (code : Code) where
   weaken N [] p o h = h
   weaken N (t ∷ ts) p o h = (weaker N h.0, weaken N ts (after_part code h.0.n h.0.k (outer_of ts) t p) o h.1)
 
-pub ruleset steps = (opens_keep, executes_keep, uses_keep, passes_leave, passes_fail, back_gives, back_leaves, back_fails, leaves_lock, closes_block, ends_gives, ends_leaves, ends_fails)
+pub ruleset steps = (opens_keep, executes_keep, uses_keep, passes_leave, passes_fail, back_gives, back_leaves, back_fails, leaves_lock, closes_block, ends_map, ends_gives, ends_leaves, ends_fails)
 
 -- a part is begun, and what comes of the step is followed
 pub followed : (code : Code) (a : Now) (core : Core) (step : Step) (result : Result Now NoMemory) (next : Core) → Opens code a core.frame step

@@ -1,5 +1,5 @@
 -- Tidy parts: requests, moves, locks, calls, fields and elements, what is written.
-use Rattle.std.proofs.Common.{◌≡◌, refl, ℕ, zero, suc, ◌+◌, ◌-◌, Bool, true, false, List, [], ◌∷◌, Option, None, Some}
+use Rattle.std.proofs.Common.{◌≡◌, refl, ℕ, zero, suc, ◌+◌, ◌-◌, Bool, true, false, List, [], ◌∷◌, length, Option, None, Some}
 use Rattle.std.specs.Prelude.{ℤ, pos, negsuc, nat_lt, nat_le, slice_get, Result, Ok, Err}
 use Rattle.dso_base.specs.declared.lock.Grade.{Grade}
 use Rattle.dso_base.specs.declared.lock.Grade.TheVariants as grade
@@ -21,12 +21,18 @@ use Rattle.dso_base.specs.declared.value.Kind.TheVariants as kind
 use Rattle.dso_base.specs.declared.value.Value.{Value}
 use Rattle.dso_base.specs.declared.value.Value.TheVariants as value
 use Rattle.dso_base.specs.Shape.{kind_of}
+use Rattle.dso_map.specs.declared.map_op.MapOp.{MapOp}
+use Rattle.dso_map.specs.Calls.{map_op}
+use Rattle.dso_map.specs.Fields.{MapField, place_of, field_takes}
+use Rattle.dso_map.specs.Talk.{Talk, talk}
+use Rattle.dso_map.specs.Talk.Talk.{Gets, Puts, Ends}
 use Rattle.dso_machine.specs.declared.code.Code.{Code}
 use Rattle.dso_machine.specs.declared.code.Method.{Method}
 use Rattle.dso_machine.specs.declared.tree.FieldRef.{FieldRef}
 use Rattle.dso_machine.specs.Calls.{lookup, lookup_class, callee, begin, invoke, under_name, under_monitor, run_method, call_method, call_number, call_in, call_on, variables, MethodMeanings}
 use Rattle.dso_machine.specs.Expressions.{field_at, field_in, field_of, within, element_at, element_in, element_of, root, make, new_array, a_boolean, second}
 use Rattle.dso_machine.specs.Limits.{most_elements, most_moves}
+use Rattle.dso_machine.specs.Maps.{told, told_value, told_reply, grade_of, call_map}
 use Rattle.dso_machine.specs.Outcome.{State, Gives, Fails, Meaning, choose, on_value, on_reply, result_of, asking, unwanted, done, made, got, seen, telling, tell, getting, get, put, looking, look, on_object, moved, paced, moving_with, moving, holding, monitor_of, entered, under, under_with}
 use Rattle.dso_machine.specs.Statements.{assign, put_fitting, put_field_at, put_field_in, put_field, put_element_at, put_element_in, put_element, bind_null, bind, put_root, sync, unless_woken, ticks, ticking, waiting, wait, on_count, timed_wait, branch, turn, spun}
 use Rattle.dso_machine.specs.Unwinding.{with_replies}
@@ -211,14 +217,40 @@ pub tidy_monitor : (vs : List Value) (synced : Option Grade) (object : ℕ) (m :
 tidy_monitor vs None object m s = s
 tidy_monitor vs (Some grade) object m s = tidy_under_with vs (Mon object) grade m s
 
+-- ---- maps
+
+-- what is made of a value that was read of a map's field
+tidy_value : (f : MapField) (m : Value → Meaning) → ((v : Value) → IsTidy (m v)) → (v : Value) → IsTidy (told_value f m v)
+tidy_value f m s v = tidy_choice (field_takes f v) (m v) (Fails BadValue) (s v) (tidy_fails BadValue)
+
+-- what a map's talk asks
+pub tidy_told : (object : ℕ) (talk : Talk) → IsTidy (told object talk)
+tidy_told object (Gets f then) = tidy_after (told_value f (λ v. told object (then v))) (get object (place_of f)) (tidy_get object (place_of f)) (tidy_value f (λ v. told object (then v)) (λ v. tidy_told object (then v)))
+tidy_told object (Puts f v then) = tidy_after (λ x. told object then) (put object (place_of f) v) (tidy_tell (request.Put object (place_of f) v) refl) (λ x. tidy_told object then)
+tidy_told object (Ends v) = tidy_gives v
+
+-- and what it makes of a reply
+pub tidy_told_reply : (object : ℕ) (talk : Talk) (r : Reply) → IsTidy (told_reply object talk r)
+tidy_told_reply object (Gets f then) r = tidy_after (told_value f (λ v. told object (then v))) (got r) (tidy_got r) (tidy_value f (λ v. told object (then v)) (λ v. tidy_told object (then v)))
+tidy_told_reply object (Puts f v then) r = tidy_after (λ x. told object then) (done r) (tidy_done r) (λ x. tidy_told object then)
+tidy_told_reply object (Ends v) r = tidy_unwanted r
+
+-- a call of a map
+tidy_call_map : (object : ℕ) (args : List Value) (call : Option MapOp) → IsTidy (call_map object args call)
+tidy_call_map object args None = tidy_fails BadValue
+tidy_call_map object args (Some call) = record {
+  from = λ u. (tidy_holding (value.Ref object ∷ args) (under (Mon object) (grade_of call) (told object (talk call)))
+      (tidy_under (Mon object) (grade_of call) (told object (talk call)) (tidy_told object (talk call)))).from u;
+}
+
 module _ (c : Code) (w : MethodMeanings) (s : TidyMethods w) where
   -- a method of an object
   tidy_run : (m : ℕ) (method : Method) (object : ℕ) (args : List Value) → IsTidy (run_method w m method object args)
   tidy_run m method object args = tidy_name (value.Ref object ∷ variables method.vars args) method.named _ (tidy_monitor (value.Ref object ∷ variables method.vars args) method.synced object _ (tidy_invoke w s m (value.Ref object) (variables method.vars args)))
 
   -- a method that was found
-  tidy_method : (m object : ℕ) (args : List Value) (method : Option Method) → IsTidy (call_method w m object args method)
-  tidy_method m object args None = tidy_fails NoSuchField
+  tidy_method : (m object : ℕ) (args : List Value) (method : Option Method) → IsTidy (call_method c w m object args method)
+  tidy_method m object args None = record { from = λ u. (tidy_call_map object args (map_op (m - length c.methods) args)).from u }
   tidy_method m object args (Some method) = record {
     from = λ u. (tidy_choice (nat_lt 0 u.environment.depth_left) (run_method w m method object args) (Fails StackOverflow) (tidy_run m method object args) (tidy_fails StackOverflow)).from u;
   }
