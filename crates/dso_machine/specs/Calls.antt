@@ -13,7 +13,7 @@ use Rattle.dso_machine.specs.declared.code.Code.{Code}
 use Rattle.dso_machine.specs.declared.code.Method.{Method}
 use Rattle.dso_machine.specs.Maps.{call_map}
 use Rattle.dso_machine.specs.Outcome.{Environment, Outcome, Gives, Leaves, Fails, Meaning, choose, on_value, holding}
-use Rattle.dso_machine.specs.Outcome.{looking, on_object, moving_with, under_with}
+use Rattle.dso_machine.specs.Outcome.{looking, on_object, moving, under}
 
 -- the number that the list has for the class, the first one
 abbrev pub lookup : List (ℕ × ℕ) → ℕ → Option ℕ
@@ -45,7 +45,7 @@ back_in caller o = o
 abbrev pub held_by : Environment → List Value
 held_by caller = caller.this ∷ caller.vars ++ caller.outer
 
--- the environment of a method's body, in which one call less may nest than in its caller's, which is held
+-- the environment of a method, in which one call less may nest than in its caller's, which is held
 abbrev pub callee : Value → List Value → Environment → Environment
 callee this vars caller = record {
   this = this;
@@ -54,31 +54,25 @@ callee this vars caller = record {
   outer = held_by caller;
 }
 
--- a method's body in an environment of its own
-abbrev pub begin : MethodMeanings → ℕ → Value → List Value → Meaning
-begin bodies m this vars at =
-    back_in at.environment (bodies m (record at { environment = callee this vars at.environment }))
+-- a part in the environment of a method that is called on this object, with these variables
+abbrev pub in_callee : Value → List Value → Meaning → Meaning
+in_callee this vars m at = back_in at.environment (m (record at { environment = callee this vars at.environment }))
 
--- a method's body, begun as a move
-abbrev pub invoke : MethodMeanings → ℕ → Value → List Value → Meaning
-invoke bodies m this vars = moving_with (this ∷ vars) (begin bodies m this vars)
+-- a part under a method's named lock, if it has one
+abbrev pub under_name : Option (ℕ × Grade) → Meaning → Meaning
+under_name None m = m
+under_name (Some lock) m = under (Name lock.0) lock.1 m
 
--- a part under a method's named lock, if it has one, which is entered while these values are held
-abbrev pub under_name : List Value → Option (ℕ × Grade) → Meaning → Meaning
-under_name vs None m = m
-under_name vs (Some lock) m = under_with vs (Name lock.0) lock.1 m
+-- a part under the object's monitor, if the method takes it
+abbrev pub under_monitor : Option Grade → ℕ → Meaning → Meaning
+under_monitor None object m = m
+under_monitor (Some grade) object m = under (Mon object) grade m
 
--- a part under the object's monitor, if the method takes it, which is entered while these values are held
-abbrev pub under_monitor : List Value → Option Grade → ℕ → Meaning → Meaning
-under_monitor vs None object m = m
-under_monitor vs (Some grade) object m = under_with vs (Mon object) grade m
-
--- a method of an object: its locks, the named one first, and then its body
+-- A method of an object: its locks, the named one first, and then its body, begun as a move. Its environment is there
+-- before the first lock is entered, and until the last one is left.
 abbrev pub run_method : MethodMeanings → ℕ → Method → ℕ → List Value → Meaning
-run_method bodies m method object args =
-    let vars = variables method.vars args in
-    let held = value.Ref object ∷ vars in
-    under_name held method.named (under_monitor held method.synced object (invoke bodies m (value.Ref object) vars))
+run_method bodies m method object args = in_callee (value.Ref object) (variables method.vars args)
+    (under_name method.named (under_monitor method.synced object (moving (bodies m))))
 
 -- A method that was found, if one more call may nest. The numbers behind those of the code are those of the map's
 -- methods.

@@ -11,7 +11,6 @@ use Rattle.dso_map.specs.Calls.{rest_of}
 use Rattle.dso_machine.specs.declared.code.Code.{Code}
 use Rattle.dso_machine.specs.declared.code.ThreadBody.{ThreadBody}
 use Rattle.dso_machine.specs.declared.machine.Core.{Core}
-use Rattle.dso_machine.specs.declared.continuation.Call.{Call}
 use Rattle.dso_machine.specs.declared.continuation.End.{End}
 use Rattle.dso_machine.specs.declared.continuation.End.TheVariants as end
 use Rattle.dso_machine.specs.declared.continuation.Frame as table_frame
@@ -34,14 +33,14 @@ use Rattle.dso_machine.specs.declared.continuation.Writing.{Writing}
 use Rattle.dso_machine.specs.declared.continuation.Writing.TheVariants as write
 use Rattle.dso_machine.specs.declared.tree.Expr.{Expr}
 use Rattle.dso_machine.specs.declared.tree.Stmt.{Stmt}
-use Rattle.dso_machine.specs.Calls.{back_in, begin, invoke, under_monitor, call_in, call_on, arguments}
+use Rattle.dso_machine.specs.Calls.{back_in, under_monitor, call_in, call_on, arguments}
 use Rattle.dso_machine.specs.Expressions.{field_of, field_in, element_of, element_in, new_array, a_boolean, second}
 use Rattle.dso_machine.specs.Expressions.{expr}
 use Rattle.dso_machine.specs.Limits.{most_moves}
 use Rattle.dso_machine.specs.Maps.{told, told_reply, args_of}
 use Rattle.dso_machine.specs.Outcome.{Environment, State, Outcome, Gives, Leaves, Fails, Over, Meaning, on_value}
 use Rattle.dso_machine.specs.Outcome.{on_reply, on_next, on_next_beside, on_object, result_of, ask, asking, done, made}
-use Rattle.dso_machine.specs.Outcome.{got, seen, tell, get, getting, moved, moving, moving_with, settling, leave}
+use Rattle.dso_machine.specs.Outcome.{got, seen, tell, get, getting, moved, moving, settling, leave}
 use Rattle.dso_machine.specs.Outcome.{entered, with_outer, letting_go, monitor_of}
 use Rattle.dso_machine.specs.Statements.{assign, put_field, put_field_in, put_element, put_element_in, bind_null}
 use Rattle.dso_machine.specs.Statements.{put_root, sync, unless_woken, timed_out, ticks, waiting, wait, timed_wait}
@@ -75,20 +74,9 @@ end_values (end.Gives v) = v ∷ []
 end_values (end.Leaves v) = v ∷ []
 end_values (end.Fails fault) = []
 
--- by a call
-abbrev pub call_values : Call → List Value
-call_values call = value.Ref call.object ∷ call.vars
-
--- by what a move starts
-abbrev pub move_values : Move → List Value
-move_values (move.Turn test body) = []
-move_values (move.Body call) = call_values call
-
 -- by what is done under a lock
 abbrev pub locked_values : Locked → List Value
 locked_values (locked.Bind r v) = v ∷ []
-locked_values (locked.Monitor call) = call_values call
-locked_values (locked.Body call) = call_values call
 locked_values other = []
 
 -- by what is done with a reply
@@ -100,7 +88,6 @@ reply_values (reply.Entered l grade part) = locked_values part
 reply_values (reply.Left grade end) = end_values end
 reply_values (reply.Settled end) = end_values end
 reply_values (reply.Bind r v) = v ∷ []
-reply_values (reply.Paused a) = move_values a
 reply_values other = []
 
 -- by what is written
@@ -144,7 +131,6 @@ outer_of (t ∷ ts) = task_values t ++ outer_of ts
 -- by what the thread is about to do
 abbrev pub held_at : Now → List Value
 held_at (now.Ask q on) = reply_values on
-held_at (now.Pace a) = move_values a
 held_at other = []
 
 -- Of this code, with at most n moves one inside another, and k turns of the loop that is spoken of.
@@ -164,19 +150,19 @@ module _ (code : Code) (n k : ℕ) where
   -- what a move starts
   abbrev pub move_at : Move → Meaning
   move_at (move.Turn test body) = spun (expr_at test) (block_at body) k
-  move_at (move.Body call) = begin (methods code n) call.method (value.Ref call.object) call.vars
+  move_at (move.Body m) = methods code n m
 
-  -- a call that has its locks
-  abbrev pub body_at : Call → Meaning
-  body_at call = invoke (methods code n) call.method (value.Ref call.object) call.vars
+  -- the body of a method that has its locks
+  abbrev pub body_at : ℕ → Meaning
+  body_at m = moving (methods code n m)
 
   -- what is done under a lock
   abbrev pub locked_at : Locked → Meaning
   locked_at (locked.Read r) at = get 0 r at
   locked_at (locked.Bind r v) at = on_value (bind_null r v) (getting (v ∷ []) 0 r at)
   locked_at (locked.Block ss) at = block_at ss at
-  locked_at (locked.Monitor call) at = under_monitor (call_values call) call.synced call.object (body_at call) at
-  locked_at (locked.Body call) at = body_at call at
+  locked_at (locked.Monitor call) at = under_monitor call.synced call.object (body_at call.method) at
+  locked_at (locked.Body m) at = body_at m at
   locked_at (locked.Map call) at = told call.object (rest_of call) at
 
   -- the arguments that are left, and then the call
@@ -258,7 +244,7 @@ module _ (code : Code) (n k : ℕ) where
   meant (now.Arguments callees x before rest) at = arguments_at callees x before rest at
   meant (now.Execute s) at = stmt code (methods code n) n s at
   meant (now.Run ss) at = block_at ss at
-  meant (now.Pace a) at = moving_with (move_values a) (move_at a) at
+  meant (now.Pace a) at = moving (move_at a) at
   meant (now.Have end) at = ended end at
   meant (now.Ask q on) at = on_reply (heard on) (asking (reply_values on) q at)
   meant (now.End fault) at = on_reply (λ r at. Over) (ask (request.End fault) at)
@@ -296,10 +282,11 @@ pub record Uses (code : Code) (t : OnValue) (v : Value) (frame : table_frame.Fra
   pub uses : (n k moves : ℕ) (outer : List Value) (rs : List Reply) →
       used_value code n k t v (in_frame frame outer moves rs) ≡ stepped code n k step (in_frame next outer moves rs)
 
--- What is done with a reply comes to what the step comes to, where a move may be made.
-pub record Takes (code : Code) (on : OnReply) (r : Reply) (frame : table_frame.Frame) (step : Step) : Type 0 where
+-- What is done with a reply comes to what the step comes to, in a frame that may be another, where a move may be made.
+pub record Takes (code : Code) (on : OnReply) (r : Reply) (frame : table_frame.Frame) (step : Step)
+    (next : table_frame.Frame) : Type 0 where
   pub takes : (n k moves : ℕ) (outer : List Value) (rs : List Reply) → moves < most_moves →
-      heard code n k on r (in_frame frame outer moves rs) ≡ stepped code n k step (in_frame frame outer moves rs)
+      heard code n k on r (in_frame frame outer moves rs) ≡ stepped code n k step (in_frame next outer moves rs)
 
 -- ---- all that is left
 

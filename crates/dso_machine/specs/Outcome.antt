@@ -187,18 +187,14 @@ on_object f v at = Fails BadValue at
 abbrev pub moved : Meaning → Meaning
 moved m at = m (record at { moves = at.moves + 1 })
 
--- a move, after a pause where one is due, in which these values are held
-abbrev pub paced : List Value → Bool → Meaning → Meaning
-paced vs true m at = moved m at
-paced vs false m at = on_value (λ v. moved m) (telling vs request.Pause at)
+-- a move, after a pause where one is due
+abbrev pub paced : Bool → Meaning → Meaning
+paced true m at = moved m at
+paced false m at = on_value (λ v. moved m) (tell request.Pause at)
 
--- a move that uses these values, before which the thread pauses where it made the most moves since its last request
-abbrev pub moving_with : List Value → Meaning → Meaning
-moving_with vs m at = paced vs (nat_lt at.moves most_moves) m at
-
--- a move that uses no value
+-- a move, before which the thread pauses where it made the most moves since its last request
 abbrev pub moving : Meaning → Meaning
-moving = moving_with []
+moving m at = paced (nat_lt at.moves most_moves) m at
 
 -- ---- locks
 

@@ -23,12 +23,11 @@ pub(crate) enum End {
     Fails(Fault),
 }
 
-/// A method that is called: on which object, with which variables, and at which level it takes the object's monitor.
-#[derive(Debug, Drop)]
+/// A method whose frame is the thread's: on which object it is called, and at which grade it takes the object's monitor.
+#[derive(Clone, Copy, Debug)]
 pub(crate) struct Call {
     pub(crate) method: u32,
     pub(crate) object: u64,
-    pub(crate) vars: Items<Value>,
     pub(crate) synced: Option<Grade>,
 }
 
@@ -36,7 +35,7 @@ pub(crate) struct Call {
 #[derive(Debug, Drop)]
 pub(crate) enum Move {
     Turn(Boxed<Expr>, Items<Stmt>),
-    Body(Call),
+    Body(u32),
 }
 
 /// What is done under a lock.
@@ -48,10 +47,10 @@ pub(crate) enum Locked {
     Bind(u32, Value),
     /// The statements of a block.
     Block(Items<Stmt>),
-    /// A call whose monitor is still to be entered, if it takes one.
+    /// A method whose monitor is still to be entered, if it takes one.
     Monitor(Call),
-    /// A call that has its locks.
-    Body(Call),
+    /// The body of a method that has its locks.
+    Body(u32),
     /// A call of a map.
     Map(MapCall),
 }
@@ -257,12 +256,12 @@ impl Step {
         }
     }
 
-    /// A method's body, after which the frame below is the thread's again.
-    pub(crate) fn above(body: Items<Stmt>, below: Frame) -> Step
-        ensures { result ≡ record { now = Now.Run body; then = Some (Task.Back below) } }
+    /// What a method begins with, after which the frame below is the thread's again.
+    pub(crate) fn above(now: Now, below: Frame) -> Step
+        ensures { result ≡ record { now = now; then = Some (Task.Back below) } }
     {
         Step {
-            now: Now::Run(Stack::from_items(body)),
+            now,
             then: Some(Task::Back(below)),
         }
     }

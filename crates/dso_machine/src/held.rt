@@ -1,10 +1,10 @@
 //! What a thread holds: the values in its frame, in its continuation, and in what it is about to do.
 ghost use Rattle.std.specs.Prelude.{◌≡◌, ◌++◌, ◌∷◌, IfOk, OnOk};
-ghost use Rattle.dso_machine.specs.Continuation.{call_values, end_values, held_at, locked_values, map_values, monitor_values, move_values, reply_values, task_values, use_values, write_values};
+ghost use Rattle.dso_machine.specs.Continuation.{end_values, held_at, locked_values, map_values, monitor_values, reply_values, task_values, use_values, write_values};
 ghost use Rattle.dso_machine.specs.Frames.{all_held, objects_of, request_values, with_tasks};
 ghost use Rattle.dso_machine.specs.Outcome.{monitor_of};
 
-use crate::continuation::{Call, End, Locked, Monitor, Move, Now, OnReply, OnValue, Task, Writing};
+use crate::continuation::{End, Locked, Monitor, Now, OnReply, OnValue, Task, Writing};
 use crate::machine::Core;
 use dso_base::{LockName, NoMemory, Request, Value};
 use dso_map::{MapCall, MapOp};
@@ -46,31 +46,13 @@ fn add_end(held: &mut Vec<Value>, end: End) -> Result<(), NoMemory>
     }
 }
 
-/// What a call holds.
-fn add_call(held: &mut Vec<Value>, call: &Call) -> Result<(), NoMemory>
-    ensures { OnOk result (held.new.items ≡ held.old.items ++ call_values call.now) }
-{
-    add_with(held, Value::Ref(call.object), call.vars.as_slice())
-}
-
-/// What a move holds that starts.
-fn add_move(held: &mut Vec<Value>, start: &Move) -> Result<(), NoMemory>
-    ensures { OnOk result (held.new.items ≡ held.old.items ++ move_values start.now) }
-{
-    match start {
-        Move::Turn(_, _) => add(held, &[]),
-        Move::Body(call) => add_call(held, call),
-    }
-}
-
 /// What is held by what is done under a lock.
 fn add_locked(held: &mut Vec<Value>, part: &Locked) -> Result<(), NoMemory>
     ensures { OnOk result (held.new.items ≡ held.old.items ++ locked_values part.now) }
 {
     match part {
         Locked::Bind(_, value) => add(held, &[*value]),
-        Locked::Monitor(call) | Locked::Body(call) => add_call(held, call),
-        Locked::Read(_) | Locked::Block(_) | Locked::Map(_) => add(held, &[]),
+        _ => add(held, &[]),
     }
 }
 
@@ -84,7 +66,6 @@ fn add_reply(held: &mut Vec<Value>, on: &OnReply) -> Result<(), NoMemory>
         OnReply::Bind(_, value) => add(held, &[*value]),
         OnReply::Entered(_, _, part) => add_locked(held, part),
         OnReply::Left(_, end) | OnReply::Settled(end) => add_end(held, *end),
-        OnReply::Paused(start) => add_move(held, start),
         _ => add(held, &[]),
     }
 }
@@ -168,7 +149,6 @@ fn add_now(held: &mut Vec<Value>, now: &Now) -> Result<(), NoMemory>
 {
     match now {
         Now::Ask(_, on) => add_reply(held, on),
-        Now::Pace(start) => add_move(held, start),
         _ => add(held, &[]),
     }
 }

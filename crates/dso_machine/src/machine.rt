@@ -12,7 +12,7 @@ ghost use Rattle.dso_machine.specs.Sound.{IsSound};
 ghost use Rattle.dso_machine.specs.Statements.{statements_of};
 ghost use Rattle.dso_machine.specs.Weight.{step_weight, task_weight, tasks_weight, then_weight, use_weight, weigh};
 
-use crate::continuation::{Call, End, Frame, Move, Now, OnReply, OnValue, Step, Task};
+use crate::continuation::{End, Frame, Move, Now, OnReply, OnValue, Step, Task};
 use crate::copies::{copy_block, copy_expr};
 use crate::evaluate::evaluate;
 use crate::execute::execute;
@@ -23,7 +23,6 @@ use crate::stack::Stack;
 use crate::{Code, Expr, Stmt};
 use dso_base::{Boxed, Items, NoMemory, Request, Value};
 use std::alloc::Global;
-use std::mem;
 
 /// The most moves of a thread between two of its requests.
 const MOST_MOVES: u32 = 1000;
@@ -300,22 +299,16 @@ impl Core {
         }
     }
 
-    /// A method's body is begun, in a frame of its own.
+    /// A method's body is begun, in its frame.
     #[tactic(auto, using(crate::proofs::standing::AfterReplies::begun))]
-    fn make_body(&mut self, alloc: Global, code: &Code, call: Call) -> Result<Now, NoMemory>
+    fn make_body(&mut self, alloc: Global, code: &Code, method: u32) -> Result<Now, NoMemory>
         requires { self.old.moves < most_moves }
-        ensures makes { IfOk result (λ then. MakesMove code.now (Now.Pace (Move.Body call)) self.old then self.new) }
+        ensures makes { IfOk result (λ then. MakesMove code.now (Now.Pace (Move.Body method)) self.old then self.new) }
         ensures moved { IfOk result (λ then. self.new.moves ≡ self.old.moves + 1) }
     {
-        let body = body_of(alloc, code, call.method)?;
-        let frame = Frame {
-            this: Value::Ref(call.object),
-            vars: call.vars,
-            room: self.frame.room.saturating_sub(1),
-        };
-        let below = mem::replace(&mut self.frame, frame);
+        let body = body_of(alloc, code, method)?;
         self.moves += 1;
-        self.follow(Step::above(body, below))
+        Ok(Now::Run(Stack::from_items(body)))
     }
 
     /// A move is made.
@@ -326,7 +319,7 @@ impl Core {
     {
         match then {
             Move::Turn(test, body) => self.make_turn(alloc, test, body),
-            Move::Body(call) => self.make_body(alloc, code, call),
+            Move::Body(method) => self.make_body(alloc, code, method),
         }
     }
 

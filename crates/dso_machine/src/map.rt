@@ -40,7 +40,7 @@ fn ask_on(call: MapCall) -> Now
 /// A call of a map asked something of the map's fields.
 #[tactic(auto, using(crate::proofs::steps::Maps::hears_told, crate::proofs::steps::Maps::not_told))]
 pub(crate) fn map_heard(reply: Reply, call: MapCall) -> Step
-    ensures takes { (code : Code) (frame : Frame) → Takes code (OnReply.Map call) reply frame result }
+    ensures takes { (code : Code) (frame : Frame) → Takes code (OnReply.Map call) reply frame result frame }
 {
     if call.accepts(reply) {
         let mut call = call;

@@ -30,7 +30,7 @@ pub(crate) fn unwanted(reply: Reply) -> Step
 
 /// A request was done.
 fn done(reply: Reply) -> Step
-    ensures takes { (code : Code) (frame : Frame) → Takes code OnReply.Done reply frame result }
+    ensures takes { (code : Code) (frame : Frame) → Takes code OnReply.Done reply frame result frame }
 {
     match reply {
         Reply::Done => Step::give(Value::Null),
@@ -40,7 +40,7 @@ fn done(reply: Reply) -> Step
 
 /// An object was made.
 fn made(reply: Reply) -> Step
-    ensures takes { (code : Code) (frame : Frame) → Takes code OnReply.Made reply frame result }
+    ensures takes { (code : Code) (frame : Frame) → Takes code OnReply.Made reply frame result frame }
 {
     match reply {
         Reply::Made(object) => Step::give(Value::Ref(object)),
@@ -50,7 +50,7 @@ fn made(reply: Reply) -> Step
 
 /// A value was read.
 fn got(reply: Reply) -> Step
-    ensures takes { (code : Code) (frame : Frame) → Takes code OnReply.Got reply frame result }
+    ensures takes { (code : Code) (frame : Frame) → Takes code OnReply.Got reply frame result frame }
 {
     match reply {
         Reply::Val(value) => Step::give(value),
@@ -60,7 +60,7 @@ fn got(reply: Reply) -> Step
 
 /// A field is read of an object of this class and size.
 fn field_in(field: FieldRef, object: u64, class: ClassId, size: u32) -> Step
-    ensures takes { (code : Code) (frame : Frame) → Takes code (OnReply.Field object field) (Reply.Seen class size) frame result }
+    ensures takes { (code : Code) (frame : Frame) → Takes code (OnReply.Field object field) (Reply.Seen class size) frame result frame }
 {
     match class {
         ClassId::Plain(class) => match lookup(field.places.as_slice(), class) {
@@ -74,7 +74,7 @@ fn field_in(field: FieldRef, object: u64, class: ClassId, size: u32) -> Step
 
 /// An object was seen of which a field is read.
 fn field_seen(reply: Reply, object: u64, field: FieldRef) -> Step
-    ensures takes { (code : Code) (frame : Frame) → Takes code (OnReply.Field object field) reply frame result }
+    ensures takes { (code : Code) (frame : Frame) → Takes code (OnReply.Field object field) reply frame result frame }
 {
     match reply {
         Reply::Seen(class, size) => field_in(field, object, class, size),
@@ -84,7 +84,7 @@ fn field_seen(reply: Reply, object: u64, field: FieldRef) -> Step
 
 /// An object was seen of which an element is read.
 fn element_seen(reply: Reply, object: u64, index: i64) -> Step
-    ensures takes { (code : Code) (frame : Frame) → Takes code (OnReply.Element object index) reply frame result }
+    ensures takes { (code : Code) (frame : Frame) → Takes code (OnReply.Element object index) reply frame result frame }
 {
     match reply {
         Reply::Seen(ClassId::Array(_), size) => match within(index, size) {
@@ -99,7 +99,7 @@ fn element_seen(reply: Reply, object: u64, index: i64) -> Step
 /// A root was read that is to be bound: one that is bound stays.
 #[tactic(auto, using(crate::proofs::steps::Replies::binds_by_reply))]
 fn bind(reply: Reply, root: u32, value: Value) -> Step
-    ensures takes { (code : Code) (frame : Frame) → Takes code (OnReply.Bind root value) reply frame result }
+    ensures takes { (code : Code) (frame : Frame) → Takes code (OnReply.Bind root value) reply frame result frame }
 {
     match binding_of(reply) {
         Binding::Binds => Step::ask(Request::Put(0, root, value), OnReply::Done),
@@ -129,7 +129,7 @@ fn tick(lock: LockName, ticks: u64) -> Step
 /// The thread waits on a lock.
 #[tactic(auto, using(crate::proofs::steps::Replies::waits_by_reply))]
 fn waited(reply: Reply, lock: LockName, ticks: u64) -> Step
-    ensures takes { (code : Code) (frame : Frame) → Takes code (OnReply.Waited lock ticks) reply frame result }
+    ensures takes { (code : Code) (frame : Frame) → Takes code (OnReply.Waited lock ticks) reply frame result frame }
 {
     match after_wait(reply, ticks) {
         AfterWait::Resumes => resume(lock),
@@ -141,7 +141,7 @@ fn waited(reply: Reply, lock: LockName, ticks: u64) -> Step
 /// A tick told a thread that waits on a lock whether it was woken.
 #[tactic(auto, using(crate::proofs::steps::Replies::ticks_by_reply))]
 fn ticked(reply: Reply, lock: LockName, ticks: u64) -> Step
-    ensures takes { (code : Code) (frame : Frame) → Takes code (OnReply.Ticked lock ticks) reply frame result }
+    ensures takes { (code : Code) (frame : Frame) → Takes code (OnReply.Ticked lock ticks) reply frame result frame }
 {
     match after_tick(reply) {
         AfterWait::Resumes => resume(lock),
@@ -152,7 +152,7 @@ fn ticked(reply: Reply, lock: LockName, ticks: u64) -> Step
 
 /// A wait is over, since it timed out or since the thread was woken before that.
 fn timed_out(reply: Reply, lock: LockName) -> Step
-    ensures takes { (code : Code) (frame : Frame) → Takes code (OnReply.TimedOut lock) reply frame result }
+    ensures takes { (code : Code) (frame : Frame) → Takes code (OnReply.TimedOut lock) reply frame result frame }
 {
     match reply {
         Reply::Done | Reply::Val(Value::Bool(true)) => resume(lock),
@@ -163,7 +163,7 @@ fn timed_out(reply: Reply, lock: LockName) -> Step
 /// A lock was left that was entered at this grade, after a part that ended so.
 #[tactic(auto, using(crate::proofs::steps::Requests::settles_on, crate::proofs::steps::Replies::exits_by_reply))]
 fn left(reply: Reply, grade: Grade, end: End) -> Step
-    ensures takes { (code : Code) (frame : Frame) → Takes code (OnReply.Left grade end) reply frame result }
+    ensures takes { (code : Code) (frame : Frame) → Takes code (OnReply.Left grade end) reply frame result frame }
 {
     match after_exit(reply, grade) {
         AfterExit::Settles => Step::ask(Request::Settle, OnReply::Settled(end)),
@@ -174,7 +174,7 @@ fn left(reply: Reply, grade: Grade, end: End) -> Step
 
 /// The thread settled after it left a lock, after a part that ended so.
 fn settled(reply: Reply, end: End) -> Step
-    ensures takes { (code : Code) (frame : Frame) → Takes code (OnReply.Settled end) reply frame result }
+    ensures takes { (code : Code) (frame : Frame) → Takes code (OnReply.Settled end) reply frame result frame }
 {
     match reply {
         Reply::Done => Step::have(end),
@@ -184,7 +184,7 @@ fn settled(reply: Reply, end: End) -> Step
 
 /// The thread paused before a move.
 fn paused(reply: Reply, then: Move) -> Step
-    ensures takes { (code : Code) (frame : Frame) → Takes code (OnReply.Paused then) reply frame result }
+    ensures takes { (code : Code) (frame : Frame) → Takes code (OnReply.Paused then) reply frame result frame }
 {
     match reply {
         Reply::Done => Step::alone(Now::Pace(then)),
@@ -192,7 +192,7 @@ fn paused(reply: Reply, then: Move) -> Step
     }
 }
 
-/// A call whose monitor is still to be entered, if it takes one.
+/// A method whose monitor is still to be entered, if it takes one.
 pub(crate) fn enter_monitor(call: Call) -> Now
     ensures is { (code : Code) (n k : ℕ) (at : State) → meant code n k result at ≡ locked_at code n k (Locked.Monitor call) at }
 {
@@ -200,9 +200,10 @@ pub(crate) fn enter_monitor(call: Call) -> Now
         Some(grade) => {
             let lock = LockName::Mon(call.object);
             let request = Request::Enter(lock, level_of(grade));
-            Now::Ask(request, OnReply::Entered(lock, grade, Locked::Body(call)))
+            let body = Locked::Body(call.method);
+            Now::Ask(request, OnReply::Entered(lock, grade, body))
         }
-        None => Now::Pace(Move::Body(call)),
+        None => Now::Pace(Move::Body(call.method)),
     }
 }
 
@@ -216,14 +217,14 @@ fn begin(locked: Locked) -> Now
         Locked::Bind(root, value) => Now::Ask(Request::Get(0, root), OnReply::Bind(root, value)),
         Locked::Block(body) => Now::Run(Stack::from_items(body)),
         Locked::Monitor(call) => enter_monitor(call),
-        Locked::Body(call) => Now::Pace(Move::Body(call)),
+        Locked::Body(method) => Now::Pace(Move::Body(method)),
         Locked::Map(call) => ask_map(call),
     }
 }
 
 /// A lock was asked for. One that is Local is not left.
 fn entered(reply: Reply, lock: LockName, grade: Grade, locked: Locked) -> Step
-    ensures takes { (code : Code) (frame : Frame) → Takes code (OnReply.Entered lock grade locked) reply frame result }
+    ensures takes { (code : Code) (frame : Frame) → Takes code (OnReply.Entered lock grade locked) reply frame result frame }
 {
     match reply {
         Reply::Done => Step {
@@ -262,7 +263,7 @@ fn kind_of(code: &Code, class: u32, place: u32) -> Kind
 
 /// An object was seen of which a field is written: an array has none.
 fn put_field_seen(code: &Code, reply: Reply, object: u64, field: FieldRef, value: Value) -> Step
-    ensures takes { (frame : Frame) → Takes code.now (OnReply.PutField object field value) reply frame result }
+    ensures takes { (frame : Frame) → Takes code.now (OnReply.PutField object field value) reply frame result frame }
 {
     match reply {
         Reply::Seen(ClassId::Plain(class), _) => match lookup(field.places.as_slice(), class) {
@@ -276,7 +277,7 @@ fn put_field_seen(code: &Code, reply: Reply, object: u64, field: FieldRef, value
 
 /// An object was seen of which an element is written.
 fn put_element_seen(reply: Reply, object: u64, index: i64, value: Value) -> Step
-    ensures takes { (code : Code) (frame : Frame) → Takes code (OnReply.PutElement object index value) reply frame result }
+    ensures takes { (code : Code) (frame : Frame) → Takes code (OnReply.PutElement object index value) reply frame result frame }
 {
     match reply {
         Reply::Seen(ClassId::Array(kind), size) => match within(index, size) {
@@ -289,8 +290,13 @@ fn put_element_seen(reply: Reply, object: u64, index: i64, value: Value) -> Step
 }
 
 /// A reply is there.
-pub(crate) fn hear(code: &Code, frame: &Frame, reply: Reply, on: OnReply) -> Result<Step, NoMemory>
-    ensures takes { IfOk result (λ step. Takes code.now on reply frame.now step) }
+pub(crate) fn hear(
+    code: &Code,
+    frame: &mut Frame,
+    reply: Reply,
+    on: OnReply,
+) -> Result<Step, NoMemory>
+    ensures takes { IfOk result (λ step. Takes code.now on reply frame.old step frame.new) }
 {
     match on {
         OnReply::Done => Ok(done(reply)),

@@ -166,7 +166,7 @@ fn resume(core: &mut Core, code: &Code, due: Due) -> Result<Now, NoMemory>
 fn hear_reply(core: &mut Core, code: &Code, reply: Reply, on: OnReply) -> Result<Now, NoMemory>
     ensures { IfOk result (λ now. Resumes code.now (Due.Heard reply on) core.old now core.new) }
 {
-    let step = hear(code, &core.frame, reply, on)?;
+    let step = hear(code, &mut core.frame, reply, on)?;
     core.follow(step)
 }
 

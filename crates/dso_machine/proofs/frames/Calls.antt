@@ -1,23 +1,27 @@
--- Calls hold only what is known: the object and the arguments are held up to the body, and what the caller holds all the while.
-use Rattle.std.proofs.Common.{refl, ℕ, ◌-◌, List, [], ◌∷◌, ◌++◌, length, Option, None, Some, subst, sym}
+-- Calls hold only what is known: the object and the variables in the method's environment, and what the caller holds all the while.
+use Rattle.std.proofs.Common.{◌≡◌, refl, ℕ, ◌-◌, List, [], ◌∷◌, ◌++◌, length, Option, None, Some, subst, sym}
 use Rattle.std.specs.Prelude.{nat_lt, slice_get}
 use Rattle.dso_base.specs.declared.lock.Grade.{Grade}
 use Rattle.dso_base.specs.declared.lock.LockName.TheVariants.{Mon, Name}
 use Rattle.dso_base.specs.declared.request.Fault.TheVariants.{NoSuchField, StackOverflow}
+use Rattle.dso_base.specs.declared.request.Reply.{Reply}
+use Rattle.dso_base.specs.declared.request.Reply.TheVariants.{Done, Local}
+use Rattle.dso_base.specs.declared.request.Request.TheVariants.{Enter}
 use Rattle.dso_base.specs.declared.value.ClassId.{ClassId}
 use Rattle.dso_base.specs.declared.value.Value.{Value}
 use Rattle.dso_base.specs.declared.value.Value.TheVariants as value
 use Rattle.dso_map.specs.Calls.{map_op}
 use Rattle.dso_machine.specs.declared.code.Code.{Code}
 use Rattle.dso_machine.specs.declared.code.Method.{Method}
-use Rattle.dso_machine.specs.Calls.{lookup_class, back_in, begin, callee, held_by, invoke, under_name, under_monitor, run_method, call_method, call_number, call_in, call_on, variables, MethodMeanings}
-use Rattle.dso_machine.specs.Outcome.{Environment, Outcome, Wants, Gives, Leaves, Fails, Hears, Over, Stopped, Meaning, looking}
+use Rattle.dso_machine.specs.Calls.{lookup_class, back_in, callee, held_by, in_callee, under_name, under_monitor, run_method, call_method, call_number, call_in, call_on, variables, MethodMeanings}
+use Rattle.dso_machine.specs.Outcome.{Environment, State, Outcome, Wants, Gives, Leaves, Fails, Hears, Over, Stopped, Meaning, looking, level_of, leave, entered, under}
+use Rattle.dso_machine.specs.Unwinding.{with_replies}
 use Rattle.dso_machine.proofs.protocol.Calls.{known_variables}
 use Rattle.dso_machine.proofs.protocol.Parts.{refilled}
 use Rattle.dso_machine.proofs.steps.Maps.{args_are}
-use Rattle.dso_machine.proofs.frames.Held.{Objects, IsOne, AreOf, front, behind, both, all_within, Within, within_both, Stands, EndsIn, HoldsOnly, Part, goes_on, part_by, part_fails}
+use Rattle.dso_machine.proofs.frames.Held.{Objects, IsOne, IsOf, AreOf, front, behind, both, all_within, Within, within_both, Stands, EndsIn, HoldsOnly, Part, goes_on, part_by, part_fails, asked_with}
 use Rattle.dso_machine.proofs.frames.Maps.{part_call_map}
-use Rattle.dso_machine.proofs.frames.Parts.{part_choose, part_looking, part_moving_with, part_object, part_under_with}
+use Rattle.dso_machine.proofs.frames.Parts.{left_end, part_choose, part_looking, part_moving, part_object, part_under_with, part_unwanted}
 
 -- the methods' bodies hold only what is known
 abbrev pub Bodies : MethodMeanings → Type 0
@@ -41,38 +45,52 @@ back_end kept caller within k e end = by_end e end
     by_end Over end = absurd end
     by_end Stopped end = absurd end
 
--- a method's body in an environment of its own
-part_begin : (w : MethodMeanings) → Bodies w → (m : ℕ) (this : Value) (vars : List Value) → Part (this ∷ vars) (begin w m this vars)
-part_begin w bodies m this vars = record {
+-- A part in the environment of a method that is called on this object holds only what is known.
+record OnObject (object : ℕ) (m : Meaning) : Type 0 where
+  pub from : (known : Objects) (kept : List Value) (u : State) → Stands known kept u.environment → u.environment.this ≡ value.Ref object → HoldsOnly kept known (λ rs. m (with_replies rs u))
+
+-- so does all of the method, where the caller holds only that
+part_callee : (object : ℕ) (vars : List Value) (m : Meaning) → OnObject object m → Part (value.Ref object ∷ vars) (in_callee (value.Ref object) vars m)
+part_callee object vars m part = record {
   from = λ known kept u st all.
       let caller : Environment = u.environment in
       goes_on (back_in caller) (record { wants = λ q env. refl; stopped = refl; over = refl })
       (λ o e. within_both (caller.this ∷ caller.vars) caller.outer o (st.stays o e))
-      ((bodies m).from known (held_by caller) (record u { environment = callee this vars caller })
-      (record { this = all.0; vars = all.1; outer = both known (caller.this ∷ caller.vars) caller.outer (st.this, st.vars) st.outer; stays = λ o e. e }) tt)
+      (part.from known (held_by caller) (record u { environment = callee (value.Ref object) vars caller })
+      (record { this = all.0; vars = all.1; outer = both known (caller.this ∷ caller.vars) caller.outer (st.this, st.vars) st.outer; stays = λ o e. e }) refl)
       (back_end kept caller st.stays);
 }
 
-part_invoke : (w : MethodMeanings) → Bodies w → (m : ℕ) (this : Value) (vars : List Value) → Part (this ∷ vars) (invoke w m this vars)
-part_invoke w bodies m this vars = part_moving_with (this ∷ vars) (begin w m this vars) (part_begin w bodies m this vars)
+-- a part whose named lock was asked for
+named_entered : (object : ℕ) (l : ℕ) (grade : Grade) (m : Meaning) → OnObject object m → (r : Reply) → OnObject object (entered (Name l) grade m r)
+named_entered object l grade m part Done = record {
+  from = λ known kept u st is. goes_on (leave (Name l) grade) (record { wants = λ q env. refl; stopped = refl; over = refl }) (λ o e. e) (part.from known kept u st is)
+      (λ k e end. left_end (Name l) grade kept k e end tt);
+}
+named_entered object l grade m part Local = record { from = λ known kept u st is. part.from known kept u st is }
+named_entered object l grade m part r = record { from = λ known kept u st is. (part_unwanted [] r).from known kept u st tt }
 
 -- a part under a method's named lock, if it has one
-part_name : (vs : List Value) (named : Option (ℕ × Grade)) (m : Meaning) → Part vs m → Part vs (under_name vs named m)
-part_name vs None m part = part
-part_name vs (Some lock) m part = part_by vs (λ k all. both k vs [] all tt) (part_under_with vs (Name lock.0) lock.1 m part)
+under_named : (object : ℕ) (named : Option (ℕ × Grade)) (m : Meaning) → OnObject object m → OnObject object (under_name named m)
+under_named object None m part = part
+under_named object (Some lock) m part = record {
+  from = λ known kept u st is. asked_with known kept [] (Enter (Name lock.0) (level_of lock.1)) u (λ rs. under (Name lock.0) lock.1 m (with_replies rs u)) st tt refl
+      (λ r k stands told. (named_entered object lock.0 lock.1 m part r).from k kept (record u { moves = 0 }) stands is);
+}
 
 -- a part under the object's monitor, if the method takes it
-part_monitor : (vs : List Value) (synced : Option Grade) (object : ℕ) (m : Meaning) → ((k : Objects) → AreOf k vs → IsOne k object) → Part vs m → Part vs (under_monitor vs synced object m)
-part_monitor vs None object m its part = part
-part_monitor vs (Some grade) object m its part = part_by vs (λ k all. both k vs (value.Ref object ∷ []) all (its k all, tt)) (part_under_with vs (Mon object) grade m part)
+under_own : (object : ℕ) (synced : Option Grade) (m : Meaning) → Part [] m → OnObject object (under_monitor synced object m)
+under_own object None m part = record { from = λ known kept u st is. part.from known kept u st tt }
+under_own object (Some grade) m part = record {
+  from = λ known kept u st is. (part_under_with [] (Mon object) grade m part).from known kept u st (subst (IsOf known) is st.this, tt);
+}
 
 module _ (c : Code) (w : MethodMeanings) (bodies : Bodies w) where
   -- a method of an object
   part_run : (m : ℕ) (method : Method) (object : ℕ) (args : List Value) → Part (value.Ref object ∷ args) (run_method w m method object args)
   part_run m method object args =
-      let held : List Value = value.Ref object ∷ variables method.vars args in
       part_by (value.Ref object ∷ args) (λ k all. (all.0, known_variables (λ t. Unit {0}) (IsOne k) method.vars args all.1))
-      (part_name held method.named _ (part_monitor held method.synced object _ (λ k all. all.0) (part_invoke w bodies m (value.Ref object) (variables method.vars args))))
+      (part_callee object (variables method.vars args) _ (under_named object method.named _ (under_own object method.synced _ (part_moving (w m) (bodies m)))))
 
   -- a method that was found, or one of the map's
   part_method : (m object : ℕ) (args : List Value) (method : Option Method) → Part (value.Ref object ∷ args) (call_method c w m object args method)

@@ -26,7 +26,7 @@ use Rattle.dso_machine.specs.Calls.{lookup, arguments}
 use Rattle.dso_machine.specs.Expressions.{field_at, field_in, field_of, within, element_at, element_in, element_of, root, make, new_array, a_boolean, second}
 use Rattle.dso_machine.specs.Frames.{request_values}
 use Rattle.dso_machine.specs.Limits.{most_elements, most_moves}
-use Rattle.dso_machine.specs.Outcome.{Outcome, Wants, Gives, Leaves, Fails, Hears, Over, Stopped, Meaning, choose, on_value, on_reply, result_of, asking, unwanted, done, made, got, seen, telling, tell, getting, get, put, looking, look, on_object, moved, paced, moving_with, moving, monitor_of, level_of, settling, leaving, leave, entered, under, under_with}
+use Rattle.dso_machine.specs.Outcome.{Outcome, Wants, Gives, Leaves, Fails, Hears, Over, Stopped, Meaning, choose, on_value, on_reply, result_of, asking, unwanted, done, made, got, seen, telling, tell, getting, get, put, looking, look, on_object, moved, paced, moving, monitor_of, level_of, settling, leaving, leave, entered, under, under_with}
 use Rattle.dso_machine.specs.Statements.{assign, put_fitting, put_field_at, put_field_in, put_field, put_element_at, put_element_in, put_element, bind_null, bind, put_root, sync, unless_woken, timed_out, ticks, ticking, waiting, wait, on_count, timed_wait, branch, turn, spun}
 use Rattle.dso_machine.specs.Unwinding.{with_replies}
 use Rattle.dso_machine.specs.Values.{binary, takes}
@@ -131,19 +131,16 @@ part_result vs (Err fault) plain = part_fails vs fault
 
 -- ---- moves
 
-part_moved : (vs : List Value) (m : Meaning) → Part vs m → Part vs (moved m)
-part_moved vs m part = record { from = λ known kept u st all. part.from known kept (record u { moves = u.moves + 1 }) st all }
+part_moved : (m : Meaning) → Part [] m → Part [] (moved m)
+part_moved m part = record { from = λ known kept u st all. part.from known kept (record u { moves = u.moves + 1 }) st all }
 
-part_paced : (vs : List Value) (few : Bool) (m : Meaning) → Part vs m → Part vs (paced vs few m)
-part_paced vs true m part = record { from = λ known kept u st all. (part_moved vs m part).from known kept u st all }
-part_paced vs false m part = record { from = λ known kept u st all. (part_told_so vs request.Pause (moved m) refl (part_moved vs m part)).from known kept u st all }
+part_paced : (few : Bool) (m : Meaning) → Part [] m → Part [] (paced few m)
+part_paced true m part = record { from = λ known kept u st all. (part_moved m part).from known kept u st all }
+part_paced false m part = record { from = λ known kept u st all. (part_told_so [] request.Pause (moved m) refl (part_moved m part)).from known kept u st all }
 
--- a part behind a move that makes use of these values
-pub part_moving_with : (vs : List Value) (m : Meaning) → Part vs m → Part vs (moving_with vs m)
-part_moving_with vs m part = record { from = λ known kept u st all. (part_paced vs (nat_lt u.moves most_moves) m part).from known kept u st all }
-
+-- a part behind a move
 pub part_moving : (m : Meaning) → Part [] m → Part [] (moving m)
-part_moving m part = part_moving_with [] m part
+part_moving m part = record { from = λ known kept u st all. (part_paced (nat_lt u.moves most_moves) m part).from known kept u st all }
 
 -- ---- locks
 

@@ -22,11 +22,11 @@ use Rattle.dso_map.specs.Talk.Talk.{Gets, Puts, Ends}
 use Rattle.dso_machine.specs.declared.code.Code.{Code}
 use Rattle.dso_machine.specs.declared.code.Method.{Method}
 use Rattle.dso_machine.specs.declared.tree.Expr.{Expr}
-use Rattle.dso_machine.specs.Calls.{lookup_class, back_in, begin, under_name, under_monitor, run_method, call_method, call_number, call_on, arguments, variables, callee, MethodMeanings}
+use Rattle.dso_machine.specs.Calls.{lookup_class, back_in, in_callee, under_name, under_monitor, run_method, call_method, call_number, call_on, arguments, variables, callee, MethodMeanings}
 use Rattle.dso_machine.specs.Expressions.{make, expr}
 use Rattle.dso_machine.specs.Limits.{most_moves}
 use Rattle.dso_machine.specs.Maps.{told, told_value, grade_of, call_map}
-use Rattle.dso_machine.specs.Outcome.{Environment, State, Outcome, Wants, Gives, Leaves, Fails, Hears, Over, Stopped, Meaning, choose, on_value, on_reply, result_of, asked, ask, unwanted, done, made, got, seen, tell, get, look, on_object, moved, paced, moving, level_of, settling, leaving, leave, entered, under, under_with, restored, holding, with_outer, asking, telling, getting, looking, moving_with, monitor_of}
+use Rattle.dso_machine.specs.Outcome.{Environment, State, Outcome, Wants, Gives, Leaves, Fails, Hears, Over, Stopped, Meaning, choose, on_value, on_reply, result_of, asked, ask, unwanted, done, made, got, seen, tell, get, look, on_object, moved, paced, moving, level_of, settling, leaving, leave, entered, under, under_with, restored, holding, with_outer, asking, telling, getting, looking, monitor_of}
 
 -- the same with more replies behind those that are left
 abbrev pub later : List Reply → State → State
@@ -156,15 +156,12 @@ steady_after f g m k s t more at = ext_value more f g (m at) (k (later more at))
 steady_moved : (m k : Meaning) → Steady m k → Steady (moved m) (moved k)
 steady_moved m k s more at = s more (record { environment = at.environment; moves = at.moves + 1; replies = at.replies })
 
-steady_paced : (vs : List Value) (few : Bool) (m k : Meaning) → Steady m k → Steady (paced vs few m) (paced vs few k)
-steady_paced vs true m k s more at = steady_moved m k s more at
-steady_paced vs false m k s more at = ext_value more (λ v. moved m) (λ v. moved k) (telling vs request.Pause at) _ (steady_telling vs request.Pause more at) (λ v. steady_moved m k s)
-
-pub steady_moving_with : (vs : List Value) (m k : Meaning) → Steady m k → Steady (moving_with vs m) (moving_with vs k)
-steady_moving_with vs m k s more at = steady_paced vs (nat_lt at.moves most_moves) m k s more at
+steady_paced : (few : Bool) (m k : Meaning) → Steady m k → Steady (paced few m) (paced few k)
+steady_paced true m k s more at = steady_moved m k s more at
+steady_paced false m k s more at = ext_value more (λ v. moved m) (λ v. moved k) (tell request.Pause at) _ (steady_tell request.Pause more at) (λ v. steady_moved m k s)
 
 pub steady_moving : (m k : Meaning) → Steady m k → Steady (moving m) (moving k)
-steady_moving m k s = steady_moving_with [] m k s
+steady_moving m k s more at = steady_paced (nat_lt at.moves most_moves) m k s more at
 
 -- ---- locks
 
@@ -211,17 +208,17 @@ ext_back more caller (Hears r u) n e = ap (back_in caller) e
 ext_back more caller Over n e = ap (back_in caller) e
 ext_back more caller Stopped n e = tt
 
-steady_begin : (w x : MethodMeanings) → SteadyWays w x → (m : ℕ) (this : Value) (vars : List Value) → Steady (begin w m this vars) (begin x m this vars)
-steady_begin w x s m this vars more at = ext_back more at.environment _ _
-    (s m more (record { environment = callee this vars at.environment; moves = at.moves; replies = at.replies }))
+steady_callee : (this : Value) (vars : List Value) (m k : Meaning) → Steady m k → Steady (in_callee this vars m) (in_callee this vars k)
+steady_callee this vars m k s more at = ext_back more at.environment _ _
+    (s more (record { environment = callee this vars at.environment; moves = at.moves; replies = at.replies }))
 
-steady_name : (vs : List Value) (named : Option (ℕ × Grade)) (m k : Meaning) → Steady m k → Steady (under_name vs named m) (under_name vs named k)
-steady_name vs None m k s = s
-steady_name vs (Some lock) m k s = steady_under_with vs (Name lock.0) lock.1 m k s
+steady_name : (named : Option (ℕ × Grade)) (m k : Meaning) → Steady m k → Steady (under_name named m) (under_name named k)
+steady_name None m k s = s
+steady_name (Some lock) m k s = steady_under (Name lock.0) lock.1 m k s
 
-steady_monitor : (vs : List Value) (synced : Option Grade) (o : ℕ) (m k : Meaning) → Steady m k → Steady (under_monitor vs synced o m) (under_monitor vs synced o k)
-steady_monitor vs None o m k s = s
-steady_monitor vs (Some grade) o m k s = steady_under_with vs (Mon o) grade m k s
+steady_monitor : (synced : Option Grade) (o : ℕ) (m k : Meaning) → Steady m k → Steady (under_monitor synced o m) (under_monitor synced o k)
+steady_monitor None o m k s = s
+steady_monitor (Some grade) o m k s = steady_under (Mon o) grade m k s
 
 -- ---- maps
 
@@ -242,8 +239,10 @@ steady_call_map o args (Some call) more at = steady_holding (value.Ref o ∷ arg
 
 module _ (c : Code) (w x : MethodMeanings) (s : SteadyWays w x) where
   steady_run : (m : ℕ) (method : Method) (o : ℕ) (args : List Value) → Steady (run_method w m method o args) (run_method x m method o args)
-  steady_run m method o args = steady_name (value.Ref o ∷ variables method.vars args) method.named _ _ (steady_monitor (value.Ref o ∷ variables method.vars args) method.synced o _ _
-      (steady_moving_with (value.Ref o ∷ variables method.vars args) _ _ (steady_begin w x s m (value.Ref o) (variables method.vars args))))
+  steady_run m method o args =
+      steady_callee (value.Ref o) (variables method.vars args) (under_name method.named (under_monitor method.synced o (moving (w m)))) (under_name method.named (under_monitor method.synced o (moving (x m))))
+      (steady_name method.named (under_monitor method.synced o (moving (w m))) (under_monitor method.synced o (moving (x m)))
+      (steady_monitor method.synced o (moving (w m)) (moving (x m)) (steady_moving (w m) (x m) (s m))))
 
   steady_method : (m o : ℕ) (args : List Value) (method : Option Method) → Steady (call_method c w m o args method) (call_method c x m o args method)
   steady_method m o args None more at = steady_call_map o args (map_op (m - length c.methods) args) more at

@@ -22,10 +22,10 @@ use Rattle.dso_map.specs.Talk.{Talk, talk}
 use Rattle.dso_map.specs.Talk.Talk.{Gets, Puts, Ends}
 use Rattle.dso_machine.specs.declared.code.Code.{Code}
 use Rattle.dso_machine.specs.declared.code.Method.{Method}
-use Rattle.dso_machine.specs.Calls.{lookup_class, back_in, callee, begin, invoke, under_name, under_monitor, run_method, call_method, call_number, call_in, call_on, variables, MethodMeanings}
+use Rattle.dso_machine.specs.Calls.{lookup_class, back_in, callee, in_callee, under_name, under_monitor, run_method, call_method, call_number, call_in, call_on, variables, MethodMeanings}
 use Rattle.dso_machine.specs.Limits.{most_moves}
 use Rattle.dso_machine.specs.Maps.{told, told_value, grade_of, call_map}
-use Rattle.dso_machine.specs.Outcome.{Environment, State, Outcome, Wants, Gives, Leaves, Fails, Hears, Over, Stopped, Meaning, choose, on_value, on_reply, result_of, asked, ask, unwanted, done, made, got, seen, tell, get, look, on_object, moved, paced, moving, level_of, settling, leaving, leave, entered, under, under_with, restored, holding, with_outer, asking, telling, getting, looking, moving_with, monitor_of}
+use Rattle.dso_machine.specs.Outcome.{Environment, State, Outcome, Wants, Gives, Leaves, Fails, Hears, Over, Stopped, Meaning, choose, on_value, on_reply, result_of, asked, ask, unwanted, done, made, got, seen, tell, get, look, on_object, moved, paced, moving, level_of, settling, leaving, leave, entered, under, under_with, restored, holding, with_outer, asking, telling, getting, looking, monitor_of}
 
 -- how many moves there may be before the replies are used up
 abbrev pub budget : State → ℕ
@@ -161,28 +161,25 @@ good_paused N m fine Done at u h less =
 good_paused N m fine (Refused f) at u h less = omega arith
 good_paused N m fine r at u h less = omega arith
 
-pub good_pause : (N : ℕ) (vs : List Value) (m : Meaning) → ((u : State) → budget u + 1 < N → Good (budget u) (m u)) → (at : State) (rs : List Reply)
+pub good_pause : (N : ℕ) (m : Meaning) → ((u : State) → budget u + 1 < N → Good (budget u) (m u)) → (at : State) (rs : List Reply)
     → most_moves * length rs + (most_moves - at.moves) < N
-    → Good (most_moves * length rs + (most_moves - at.moves)) (on_value (λ v. moved m) (on_reply done (asked vs request.Pause at rs)))
-good_pause N vs m fine at [] h = tt
-good_pause N vs m fine at (r ∷ rs) h =
+    → Good (most_moves * length rs + (most_moves - at.moves)) (on_value (λ v. moved m) (on_reply done (asked [] request.Pause at rs)))
+good_pause N m fine at [] h = tt
+good_pause N m fine at (r ∷ rs) h =
     let u : State = record { environment = at.environment; moves = 0; replies = rs } in
     good_more (budget u) (most_moves * length (r ∷ rs) + (most_moves - at.moves)) (on_value (λ v. moved m) (done r u)) (omega arith)
     (good_paused N m fine r at u (omega arith) (omega arith))
 
-pub good_paced : (N : ℕ) (vs : List Value) (m : Meaning) → ((u : State) → budget u + 1 < N → Good (budget u) (m u)) → (few : Bool) (at : State)
-    → nat_lt at.moves most_moves ≡ few → budget at < N → Good (budget at) (paced vs few m at)
-good_paced N vs m fine true at few h =
+pub good_paced : (N : ℕ) (m : Meaning) → ((u : State) → budget u + 1 < N → Good (budget u) (m u)) → (few : Bool) (at : State)
+    → nat_lt at.moves most_moves ≡ few → budget at < N → Good (budget at) (paced few m at)
+good_paced N m fine true at few h =
     let u : State = record { environment = at.environment; moves = at.moves + 1; replies = at.replies } in
     let less : at.moves < most_moves = ltb-true at.moves most_moves few in
     good_more (budget u) (budget at) (m u) (omega arith) (fine u (omega arith))
-good_paced N vs m fine false at few h = good_pause N vs m fine at at.replies h
-
-pub good_moving_with : (N : ℕ) (vs : List Value) (m : Meaning) → ((u : State) → budget u + 1 < N → Good (budget u) (m u)) → GoodAt N (moving_with vs m)
-good_moving_with N vs m fine at h = good_paced N vs m fine (nat_lt at.moves most_moves) at refl h
+good_paced N m fine false at few h = good_pause N m fine at at.replies h
 
 pub good_moving : (N : ℕ) (m : Meaning) → ((u : State) → budget u + 1 < N → Good (budget u) (m u)) → GoodAt N (moving m)
-good_moving N m fine = good_moving_with N [] m fine
+good_moving N m fine at h = good_paced N m fine (nat_lt at.moves most_moves) at refl h
 
 -- ---- locks
 
@@ -231,20 +228,19 @@ good_back b caller (Hears r u) g = g
 good_back b caller Over g = tt
 good_back b caller Stopped g = absurd g
 
-pub good_invoke : (N : ℕ) (w : MethodMeanings) → FineWays N w → (m : ℕ) (this : Value) (vars : List Value) → GoodAt N (invoke w m this vars)
-good_invoke N w fw m this vars = good_moving_with N (this ∷ vars) (begin w m this vars) (λ u le. good_back (budget u) u.environment _
-    (fw m (record { environment = callee this vars u.environment; moves = u.moves; replies = u.replies }) le))
+pub good_callee : (N : ℕ) (this : Value) (vars : List Value) (m : Meaning) → GoodAt N m → GoodAt N (in_callee this vars m)
+good_callee N this vars m fine at h = good_back (budget at) at.environment _ (fine (record { environment = callee this vars at.environment; moves = at.moves; replies = at.replies }) h)
 
-pub good_under_name : (N : ℕ) (vs : List Value) (named : Option (ℕ × Grade)) (m : Meaning) → GoodAt N m → GoodAt N (under_name vs named m)
-good_under_name N vs None m fine = fine
-good_under_name N vs (Some lock) m fine = good_under_with N vs (Name lock.0) lock.1 m fine
+pub good_under_name : (N : ℕ) (named : Option (ℕ × Grade)) (m : Meaning) → GoodAt N m → GoodAt N (under_name named m)
+good_under_name N None m fine = fine
+good_under_name N (Some lock) m fine = good_under N (Name lock.0) lock.1 m fine
 
-pub good_under_monitor : (N : ℕ) (vs : List Value) (synced : Option Grade) (o : ℕ) (m : Meaning) → GoodAt N m → GoodAt N (under_monitor vs synced o m)
-good_under_monitor N vs None o m fine = fine
-good_under_monitor N vs (Some grade) o m fine = good_under_with N vs (Mon o) grade m fine
+pub good_under_monitor : (N : ℕ) (synced : Option Grade) (o : ℕ) (m : Meaning) → GoodAt N m → GoodAt N (under_monitor synced o m)
+good_under_monitor N None o m fine = fine
+good_under_monitor N (Some grade) o m fine = good_under N (Mon o) grade m fine
 
 pub good_run : (N : ℕ) (w : MethodMeanings) → FineWays N w → (m : ℕ) (method : Method) (o : ℕ) (args : List Value) → GoodAt N (run_method w m method o args)
-good_run N w fw m method o args = good_under_name N (value.Ref o ∷ variables method.vars args) method.named _ (good_under_monitor N (value.Ref o ∷ variables method.vars args) method.synced o _ (good_invoke N w fw m (value.Ref o) (variables method.vars args)))
+good_run N w fw m method o args = good_callee N (value.Ref o) (variables method.vars args) _ (good_under_name N method.named _ (good_under_monitor N method.synced o _ (good_moving N (w m) (fw m))))
 
 -- ---- maps
 

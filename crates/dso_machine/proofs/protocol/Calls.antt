@@ -15,12 +15,12 @@ use Rattle.dso_map.specs.Calls.{map_op}
 use Rattle.dso_map.specs.MapClass.{is_map}
 use Rattle.dso_machine.specs.declared.code.Code.{Code}
 use Rattle.dso_machine.specs.declared.code.Method.{Method}
-use Rattle.dso_machine.specs.Calls.{lookup, variables, back_in, callee, begin, invoke, under_name, under_monitor, run_method, call_method, call_number, call_in, call_on, arguments, MethodMeanings}
+use Rattle.dso_machine.specs.Calls.{lookup, variables, back_in, callee, in_callee, under_name, under_monitor, run_method, call_method, call_number, call_in, call_on, arguments, MethodMeanings}
 use Rattle.dso_machine.specs.Sound.{IsCallee, AreCallees, IsMethodLock}
 use Rattle.dso_machine.specs.Outcome.{Environment, Outcome, Wants, Gives, Leaves, Fails, Hears, Over, Stopped, Meaning, looking, holding}
 use Rattle.dso_machine.proofs.protocol.Protocol.{KnowsValue, Keeper}
 use Rattle.dso_machine.proofs.protocol.Parts.{refilled, Obeys, keeps_on, KnowsAll, KnowsEnvironment, Fine, More, Part, all_later, environment_later, more_then, more_itself, part_later, part_fails, part_value, part_holding, part_choose}
-use Rattle.dso_machine.proofs.protocol.Requests.{part_looking, part_object, part_moving_with}
+use Rattle.dso_machine.proofs.protocol.Requests.{part_looking, part_object, part_moving}
 use Rattle.dso_machine.proofs.protocol.Locks.{part_under_with}
 use Rattle.dso_machine.proofs.protocol.Maps.{IsMapAt, part_call_map}
 
@@ -78,33 +78,29 @@ module _ {shape : Shape} (k : Keeper shape) where
   back_at_end g caller environment Over h fine = absurd fine
 
   module _ (code : Code) (ways : MethodMeanings) (bodies : Bodies k code ways) where
-    -- a body in an environment of its own
-    part_begin : (g : k.Point) (m : ℕ) (this : Value) (vars : List Value) → KnowsValue k.HasText (k.Knows g) this → KnowsAll k.HasText (k.Knows g) vars → Part k g (begin ways m this vars)
-    part_begin g m this vars this_known vars_known = record {
+    -- a part in the environment of a method
+    part_callee : (g : k.Point) (this : Value) (vars : List Value) (m : Meaning) → KnowsValue k.HasText (k.Knows g) this → KnowsAll k.HasText (k.Knows g) vars → Part k g m → Part k g (in_callee this vars m)
+    part_callee g this vars m this_known vars_known part = record {
       from = λ h u more environment. keeps_on k (Fine k h) (Fine k h) (back_in u.environment) (λ q env. refl)
-          ((bodies.body m g).from h (record u { environment = callee this vars u.environment }) more
+          (part.from h (record u { environment = callee this vars u.environment }) more
           (environment_later k g h more.knows (callee this vars u.environment) (record { this = this_known; vars = vars_known })))
           (back_at_end h u.environment environment);
     }
 
-    -- so, as a move
-    part_invoke : (g : k.Point) (m : ℕ) (this : Value) (vars : List Value) → KnowsValue k.HasText (k.Knows g) this → KnowsAll k.HasText (k.Knows g) vars → Part k g (invoke ways m this vars)
-    part_invoke g m this vars this_known vars_known = part_moving_with k g (this ∷ vars) (begin ways m this vars) (part_begin g m this vars this_known vars_known)
-
     -- a part under a method's named lock, if it has one,
-    part_under_name : (g : k.Point) (vs : List Value) (named : Option (ℕ × Grade)) (m : Meaning) → IfSome named (IsMethodLock shape) → Part k g m → Part k g (under_name vs named m)
-    part_under_name g vs None m is part = part
-    part_under_name g vs (Some lock) m is part = part_under_with k g vs (Name lock.0) lock.1 m tt is.there part
+    part_under_name : (g : k.Point) (named : Option (ℕ × Grade)) (m : Meaning) → IfSome named (IsMethodLock shape) → Part k g m → Part k g (under_name named m)
+    part_under_name g None m is part = part
+    part_under_name g (Some lock) m is part = part_under_with k g [] (Name lock.0) lock.1 m tt is.there part
 
     -- and under its object's monitor, if it takes it
-    part_under_monitor : (g : k.Point) (vs : List Value) (synced : Option Grade) (object : ℕ) (m : Meaning) → k.Knows g object → Part k g m → Part k g (under_monitor vs synced object m)
-    part_under_monitor g vs None object m known part = part
-    part_under_monitor g vs (Some grade) object m known part = part_under_with k g vs (Mon object) grade m known tt part
+    part_under_monitor : (g : k.Point) (synced : Option Grade) (object : ℕ) (m : Meaning) → k.Knows g object → Part k g m → Part k g (under_monitor synced object m)
+    part_under_monitor g None object m known part = part
+    part_under_monitor g (Some grade) object m known part = part_under_with k g [] (Mon object) grade m known tt part
 
     -- a method of an object
     part_run : (g : k.Point) (m : ℕ) (method : Method) (object : ℕ) (args : List Value) → IfSome method.named (IsMethodLock shape) → k.Knows g object → KnowsAll k.HasText (k.Knows g) args → Part k g (run_method ways m method object args)
-    part_run g m method object args lock known args_known = part_under_name g (value.Ref object ∷ variables method.vars args) method.named _ lock (part_under_monitor g (value.Ref object ∷ variables method.vars args) method.synced object _ known
-        (part_invoke g m (value.Ref object) (variables method.vars args) known (known_variables k.HasText (k.Knows g) method.vars args args_known)))
+    part_run g m method object args lock known args_known = part_callee g (value.Ref object) (variables method.vars args) _ known (known_variables k.HasText (k.Knows g) method.vars args args_known)
+        (part_under_name g method.named _ lock (part_under_monitor g method.synced object _ known (part_moving k g (ways m) (bodies.body m g))))
 
     -- a method that was found, if one more call may nest
     part_method : (g : k.Point) (m object class size count : ℕ) (args : List Value) (method : Option Method) → slice_get code.methods m ≡ method → IsCallee code count (class, m)

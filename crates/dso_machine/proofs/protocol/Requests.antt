@@ -13,7 +13,7 @@ use Rattle.dso_base.specs.declared.value.Value.{Value}
 use Rattle.dso_base.specs.declared.value.Value.TheVariants as value
 use Rattle.dso_machine.specs.Expressions.{make}
 use Rattle.dso_machine.specs.Limits.{most_moves}
-use Rattle.dso_machine.specs.Outcome.{Meaning, on_reply, result_of, asking, unwanted, done, made, got, seen, telling, tell, getting, get, looking, look, on_object, moved, paced, moving_with, moving}
+use Rattle.dso_machine.specs.Outcome.{Meaning, on_reply, result_of, asking, unwanted, done, made, got, seen, telling, tell, getting, get, looking, look, on_object, moved, paced, moving}
 use Rattle.dso_machine.proofs.protocol.Protocol.{KnowsValue, is_plain, Keeper}
 use Rattle.dso_machine.proofs.protocol.Parts.{IsNoMapAt, IsApartAt, no_map_later, Obeys, More, Part, environment_later, more_then, part_later, part_at, part_gives, part_fails, part_value}
 
@@ -123,16 +123,13 @@ module _ {shape : Shape} (k : Keeper shape) where
   part_moved g m part = record { from = λ h u more environment. part.from h (record { environment = u.environment; moves = u.moves + 1; replies = u.replies }) more environment }
 
   -- a move, after a pause where one is due
-  part_paced : (g : k.Point) (vs : List Value) (b : Bool) (m : Meaning) → Part k g m → Part k g (paced vs b m)
-  part_paced g vs true m part = record { from = λ h u more environment. (part_moved g m part).from h u more environment }
-  part_paced g vs false m part = record {
-    from = λ h u more environment. (part_value k g (λ v. moved m) (telling vs request.Pause) (part_telling g vs request.Pause refl (λ h more. (k.pause_asked h more.awake, tt)))
+  part_paced : (g : k.Point) (b : Bool) (m : Meaning) → Part k g m → Part k g (paced b m)
+  part_paced g true m part = record { from = λ h u more environment. (part_moved g m part).from h u more environment }
+  part_paced g false m part = record {
+    from = λ h u more environment. (part_value k g (λ v. moved m) (telling [] request.Pause) (part_telling g [] request.Pause refl (λ h more. (k.pause_asked h more.awake, tt)))
         (λ v h more known. part_moved h m (part_later k g h m more part))).from h u more environment;
   }
 
   -- so by how many moves were made
-  pub part_moving_with : (g : k.Point) (vs : List Value) (m : Meaning) → Part k g m → Part k g (moving_with vs m)
-  part_moving_with g vs m part = record { from = λ h u more environment. (part_paced g vs (nat_lt u.moves most_moves) m part).from h u more environment }
-
   pub part_moving : (g : k.Point) (m : Meaning) → Part k g m → Part k g (moving m)
-  part_moving g m part = part_moving_with g [] m part
+  part_moving g m part = record { from = λ h u more environment. (part_paced g (nat_lt u.moves most_moves) m part).from h u more environment }

@@ -15,6 +15,7 @@ use Rattle.dso_base.specs.Following.{IsListedFor}
 use Rattle.dso_machine.specs.declared.code.Code.{Code}
 use Rattle.dso_machine.specs.declared.code.ThreadBody.{ThreadBody}
 use Rattle.dso_machine.specs.declared.machine.Core.{Core}
+use Rattle.dso_machine.specs.declared.continuation.Frame.{Frame}
 use Rattle.dso_machine.specs.declared.continuation.Now.{Now}
 use Rattle.dso_machine.specs.declared.continuation.Now.TheVariants as now
 use Rattle.dso_machine.specs.declared.continuation.OnReply.{OnReply}
@@ -58,16 +59,17 @@ then_moves None core = refl
 then_moves (Some t) core = refl
 
 -- the reply that is there is taken
-pub hears : (code : Code) (r : Reply) (on : OnReply) (core : Core) (step : Step) → Takes code on r core.frame step → Resumes code (due.Heard r on) core step.now (with_then step.then core)
-hears code r on core step takes = record {
+pub hears : (code : Code) (r : Reply) (on : OnReply) (core : Core) (step : Step) (frame : Frame) → Takes code on r core.frame step frame
+    → Resumes code (due.Heard r on) core step.now (with_then step.then (record core { frame = frame }))
+hears code r on core step frame takes = record {
   resumes = λ body past st. record {
     made = st.made;
     bounded = let h = st.bounded in omega arith;
-    few = let h = st.rested in let same = then_moves step.then core in omega arith;
+    few = let h = st.rested in let same = then_moves step.then (record core { frame = frame }) in omega arith;
     means = λ N rs.
         let h : MeansHeard code N r on core rs (whole code body (st.made + N) (past ++ rs)) = st.means N rs in
         let few : core.moves < most_moves = let rested = st.rested in omega arith in
-        goes_on code N h.fuel step.now step.then core rs _ (along code N core.tasks _ _ _ (takes.takes h.fuel.n h.fuel.k core.moves (outer_of core.tasks) rs few) h.rest);
+        goes_on code N h.fuel step.now step.then (record core { frame = frame }) rs _ (along code N core.tasks _ _ _ (takes.takes h.fuel.n h.fuel.k core.moves (outer_of core.tasks) rs few) h.rest);
   };
 }
 
@@ -138,11 +140,11 @@ pub asks_next : (code : Code) (t : ThreadId) (body : ThreadBody) (a : Now) (core
 asks_next code t body a core q events its is st = ap (next_of code (replies_in events)) its ∙ ap request_of (wanted_at code body a core q (replies_in events) is st)
 
 -- what comes of the step after a reply is followed
-pub heard_followed : (code : Code) (r : Reply) (on : OnReply) (core : Core) (step : Step) (result : Result Now NoMemory) (next : Core) → Takes code on r core.frame step
-    → IfOk result (λ a. a ≡ step.now) → IfOk result (λ a. next ≡ with_then step.then core) → IfOk result (λ a. Resumes code (due.Heard r on) core a next)
-heard_followed code r on core step (Ok a) next takes is at =
-    subst (λ x. Resumes code (due.Heard r on) core x next) (sym is) (subst (λ x. Resumes code (due.Heard r on) core step.now x) (sym at) (hears code r on core step takes))
-heard_followed code r on core step (Err e) next takes is at = tt
+pub heard_followed : (code : Code) (r : Reply) (on : OnReply) (core : Core) (step : Step) (frame : Frame) (result : Result Now NoMemory) (next : Core) → Takes code on r core.frame step frame
+    → IfOk result (λ a. a ≡ step.now) → IfOk result (λ a. next ≡ with_then step.then (record core { frame = frame })) → IfOk result (λ a. Resumes code (due.Heard r on) core a next)
+heard_followed code r on core step frame (Ok a) next takes is at =
+    subst (λ x. Resumes code (due.Heard r on) core x next) (sym is) (subst (λ x. Resumes code (due.Heard r on) core step.now x) (sym at) (hears code r on core step frame takes))
+heard_followed code r on core step frame (Err e) next takes is at = tt
 
 -- the replies of events and of one more
 pub replies_more : (t : ThreadId) (q : Request) (r : Reply) (woken : Option ThreadId) (events : List Event) → replies_in (events ++ Act t q r woken ∷ []) ≡ replies_in events ++ r ∷ []

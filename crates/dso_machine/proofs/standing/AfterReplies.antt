@@ -1,14 +1,12 @@
 -- A thread stands for its replies.
-use Rattle.std.proofs.Common.{◌≡◌, ℕ, zero, suc, ◌+◌, ◌-◌, ◌<◌, ◌≤◌, List, [], ◌∷◌, ◌++◌, refl, sym, ap, ◌∙◌, subst, arith}
+use Rattle.std.proofs.Common.{◌≡◌, ℕ, zero, suc, ◌+◌, ◌<◌, ◌≤◌, List, [], ◌∷◌, ◌++◌, refl, sym, ap, ◌∙◌, subst, arith}
 use Rattle.std.proofs.lemmas.Bool.{lt-ltb, le-ltb}
 use Rattle.std.specs.Prelude.{slice_get}
 use Rattle.dso_base.specs.declared.request.Reply.{Reply}
 use Rattle.dso_base.specs.declared.request.Request.TheVariants as request
-use Rattle.dso_base.specs.declared.value.Value.TheVariants as value
 use Rattle.dso_machine.specs.declared.code.Code.{Code}
 use Rattle.dso_machine.specs.declared.code.ThreadBody.{ThreadBody}
 use Rattle.dso_machine.specs.declared.machine.Core.{Core}
-use Rattle.dso_machine.specs.declared.continuation.Call.{Call}
 use Rattle.dso_machine.specs.declared.continuation.Move.{Move}
 use Rattle.dso_machine.specs.declared.continuation.Move.TheVariants as move
 use Rattle.dso_machine.specs.declared.continuation.Now.{Now}
@@ -19,9 +17,8 @@ use Rattle.dso_machine.specs.declared.continuation.Task.TheVariants as task
 use Rattle.dso_machine.specs.declared.tree.Expr.{Expr}
 use Rattle.dso_machine.specs.declared.tree.Stmt.{Stmt}
 use Rattle.dso_machine.specs.Limits.{most_moves}
-use Rattle.dso_base.specs.declared.value.Value.{Value}
-use Rattle.dso_machine.specs.Outcome.{State, Meaning, on_value, on_reply, asking, done, moved, paced, moving_with}
-use Rattle.dso_machine.specs.Continuation.{call_values, move_values, Keeps, MakesMove, Means, Fuel, Completes, StandsAt, Leads, standing, move_at}
+use Rattle.dso_machine.specs.Outcome.{State, Meaning, on_value, done, tell, moved, paced, moving}
+use Rattle.dso_machine.specs.Continuation.{Keeps, MakesMove, Means, Fuel, Completes, StandsAt, Leads, standing, move_at}
 use Rattle.dso_machine.specs.Next.{whole}
 use Rattle.dso_machine.specs.Statements.{statements_of}
 use Rattle.dso_machine.proofs.steps.Requests.{on_asked}
@@ -38,8 +35,8 @@ above N zero h = absurd (omega arith)
 above N (suc k) h = record { less = k; is = refl; enough = omega arith }
 
 -- where fewer than the most moves were made, a move is made at once
-at_once : (vs : List Value) (m : Meaning) (at : State) → at.moves < most_moves → moving_with vs m at ≡ moved m at
-at_once vs m at few = ap (λ b. paced vs b m at) (lt-ltb at.moves most_moves few)
+at_once : (m : Meaning) (at : State) → at.moves < most_moves → moving m at ≡ moved m at
+at_once m at few = ap (λ b. paced b m at) (lt-ltb at.moves most_moves few)
 
 module _ (code : Code) where
   -- the start of a condition's evaluation
@@ -50,21 +47,20 @@ module _ (code : Code) where
         let k : Above N h.fuel.k = above N h.fuel.k h.fuel.k_enough in
         let u : Fuel N = record { n = h.fuel.n; k = k.less; n_enough = omega arith; k_enough = k.enough } in
         let r : Completes code N core.tasks (moved (move_at code h.fuel.n h.fuel.k (move.Turn a x)) (standing core rs)) o =
-        along code N core.tasks o _ _ (at_once [] (move_at code h.fuel.n h.fuel.k (move.Turn a x)) (standing core rs) few) (weaken code N core.tasks _ o h.rest) in
+        along code N core.tasks o _ _ (at_once (move_at code h.fuel.n h.fuel.k (move.Turn a x)) (standing core rs) few) (weaken code N core.tasks _ o h.rest) in
         record { fuel = u; rest = (u, subst (λ i. Completes code N core.tasks (moved (move_at code h.fuel.n i (move.Turn a x)) (standing core rs)) o) k.is r) };
   }
 
   -- the start of a method's body
-  pub begun_on : (core : Core) (call : Call) → core.moves < most_moves
-      → MakesMove code (now.Pace (move.Body call)) core (now.Run (statements_of (slice_get code.methods call.method)))
-      (record core { frame = record { this = value.Ref call.object; vars = call.vars; room = core.frame.room - 1 }; tasks = task.Back core.frame ∷ core.tasks; moves = core.moves + 1 })
-  begun_on core call few = record {
+  pub begun_on : (core : Core) (m : ℕ) → core.moves < most_moves
+      → MakesMove code (now.Pace (move.Body m)) core (now.Run (statements_of (slice_get code.methods m))) (record core { moves = core.moves + 1 })
+  begun_on core m few = record {
     makes = λ N rs o h.
         let n : Above N h.fuel.n = above N h.fuel.n h.fuel.n_enough in
         let u : Fuel N = record { n = n.less; k = h.fuel.k; n_enough = n.enough; k_enough = omega arith } in
-        let r : Completes code N core.tasks (moved (move_at code h.fuel.n h.fuel.k (move.Body call)) (standing core rs)) o =
-        along code N core.tasks o _ _ (at_once (call_values call) (move_at code h.fuel.n h.fuel.k (move.Body call)) (standing core rs) few) (weaken code N core.tasks _ o h.rest) in
-        record { fuel = u; rest = (u, subst (λ i. Completes code N core.tasks (moved (move_at code i h.fuel.k (move.Body call)) (standing core rs)) o) n.is r) };
+        let r : Completes code N core.tasks (moved (move_at code h.fuel.n h.fuel.k (move.Body m)) (standing core rs)) o =
+        along code N core.tasks o _ _ (at_once (move_at code h.fuel.n h.fuel.k (move.Body m)) (standing core rs) few) (weaken code N core.tasks _ o h.rest) in
+        record { fuel = u; rest = subst (λ i. Completes code N core.tasks (moved (move_at code i h.fuel.k (move.Body m)) (standing core rs)) o) n.is r };
   }
 
 -- the outcome that is left to the machine after a step
@@ -99,15 +95,15 @@ pub leads_then : (code : Code) (a : Now) (core : Core) (b : Now) (mid : Core) (c
 leads_then code a core b mid c last x y = record { leads = λ body past st. y.leads body past (x.leads body past st) }
 
 -- where the most moves were made, the thread pauses first
-paused_first : (vs : List Value) (m : Meaning) (at : State) → most_moves ≤ at.moves → moving_with vs m at ≡ on_value (λ v. moved m) (on_reply done (asking vs request.Pause at))
-paused_first vs m at many = ap (λ b. paced vs b m at) (le-ltb at.moves most_moves many)
+paused_first : (m : Meaning) (at : State) → most_moves ≤ at.moves → moving m at ≡ on_value (λ v. moved m) (tell request.Pause at)
+paused_first m at many = ap (λ b. paced b m at) (le-ltb at.moves most_moves many)
 
 pub pauses : (code : Code) (a : Move) (core : Core) → most_moves ≤ core.moves → Keeps code (now.Pace a) core (now.Ask request.Pause (reply.Paused a)) core
 pauses code a core many = record {
   keeps = λ N rs o h. record {
     fuel = h.fuel;
-    rest = along code N core.tasks o _ _ (paused_first (move_values a) (move_at code h.fuel.n h.fuel.k a) (standing core rs) many
-        ∙ sym (on_asked (λ v. moved (move_at code h.fuel.n h.fuel.k a)) done (move_values a) request.Pause (standing core rs) rs)) h.rest;
+    rest = along code N core.tasks o _ _ (paused_first (move_at code h.fuel.n h.fuel.k a) (standing core rs) many
+        ∙ sym (on_asked (λ v. moved (move_at code h.fuel.n h.fuel.k a)) done [] request.Pause (standing core rs) rs)) h.rest;
   };
 }
 

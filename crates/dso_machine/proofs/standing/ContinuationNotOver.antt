@@ -8,10 +8,8 @@ use Rattle.dso_base.specs.declared.request.Reply.TheVariants.{Done, Local}
 use Rattle.dso_base.specs.declared.request.Request.{Request}
 use Rattle.dso_base.specs.declared.request.Request.TheVariants as request
 use Rattle.dso_base.specs.declared.value.Value.{Value}
-use Rattle.dso_base.specs.declared.value.Value.TheVariants as value
 use Rattle.dso_machine.specs.declared.code.Code.{Code}
 use Rattle.dso_machine.specs.declared.machine.Core.{Core}
-use Rattle.dso_machine.specs.declared.continuation.Call.{Call}
 use Rattle.dso_machine.specs.declared.continuation.End.{End}
 use Rattle.dso_machine.specs.declared.continuation.End.TheVariants as end
 use Rattle.dso_machine.specs.declared.continuation.Locked.{Locked}
@@ -37,35 +35,35 @@ use Rattle.dso_machine.specs.Calls.{call_on, call_in}
 use Rattle.dso_machine.specs.Expressions.{field_in, element_of, element_in, expr}
 use Rattle.dso_machine.specs.Maps.{told_reply}
 use Rattle.dso_machine.specs.Next.{finish}
-use Rattle.dso_machine.specs.Outcome.{State, Outcome, Wants, Gives, Leaves, Fails, Hears, Over, Stopped, Meaning, on_value, on_reply, on_next_beside, holding, letting_go, monitor_of, asked, unwanted, done, made, got, seen, tell, getting, moved, moving_with, settling, entered}
-use Rattle.dso_machine.specs.Continuation.{Completes, standing, ended, end_values, call_values, map_values, move_values, use_values, outer_of, block_at, loop_at, move_at, body_at, locked_at, arguments_at, written, used_monitor, used_value, heard, after_part, meant, environment_of}
+use Rattle.dso_machine.specs.Outcome.{State, Outcome, Wants, Gives, Leaves, Fails, Hears, Over, Stopped, Meaning, on_value, on_reply, on_next_beside, holding, letting_go, monitor_of, asked, unwanted, done, made, got, seen, tell, getting, moved, moving, settling, entered}
+use Rattle.dso_machine.specs.Continuation.{Completes, standing, ended, end_values, map_values, use_values, outer_of, block_at, loop_at, move_at, body_at, locked_at, arguments_at, written, used_monitor, used_value, heard, after_part, meant, environment_of}
 use Rattle.dso_machine.specs.Statements.{put_field, put_field_in, put_element, put_element_in, bind_null, unless_woken, timed_out, ticks, waiting, wait, timed_wait, stmt, block, methods}
 use Rattle.dso_machine.specs.Values.{binary, unary}
 use Rattle.dso_machine.specs.Unwinding.{with_replies}
 use Rattle.dso_machine.proofs.standing.NotOver.{Live, live_from, IsLive, live_tidy, live_value, live_letting_go, live_back, live_leave, live_settling, live_ticks, live_waiting, live_unless_woken, live_timed_out}
 use Rattle.dso_machine.proofs.unwinding.Tidy.{IsTidy, tidy_after, tidy_holding, tidy_fails, tidy_gives, tidy_leaves}
-use Rattle.dso_machine.proofs.unwinding.Parts.{tidy_told, tidy_told_reply, tidy_array, tidy_assign, tidy_begin, tidy_bind_null, tidy_boolean, tidy_branch, tidy_call, tidy_call_in, tidy_done, tidy_element, tidy_element_in, tidy_field, tidy_field_in, tidy_get, tidy_getting, tidy_got, tidy_invoke, tidy_made, tidy_monitor, tidy_moved, tidy_moving, tidy_moving_with, tidy_object, tidy_put_element, tidy_put_element_in, tidy_put_field, tidy_put_field_in, tidy_put_root, tidy_result, tidy_second, tidy_seen, tidy_spun, tidy_sync, tidy_tell, tidy_turn, tidy_timed_wait, tidy_unwanted, tidy_wait}
+use Rattle.dso_machine.proofs.unwinding.Parts.{tidy_told, tidy_told_reply, tidy_array, tidy_assign, tidy_bind_null, tidy_boolean, tidy_branch, tidy_call, tidy_call_in, tidy_done, tidy_element, tidy_element_in, tidy_field, tidy_field_in, tidy_get, tidy_getting, tidy_got, tidy_made, tidy_monitor, tidy_moved, tidy_moving, tidy_object, tidy_put_element, tidy_put_element_in, tidy_put_field, tidy_put_field_in, tidy_put_root, tidy_result, tidy_second, tidy_seen, tidy_spun, tidy_sync, tidy_tell, tidy_turn, tidy_timed_wait, tidy_unwanted, tidy_wait}
 use Rattle.dso_machine.proofs.unwinding.Trees.{tidy_args_on, tidy_beside, tidy_block, tidy_expr, tidy_methods, tidy_stmt}
 
 module _ (code : Code) (n k : ℕ) where
   -- what a move starts
   tidy_move : (a : Move) → IsTidy (move_at code n k a)
   tidy_move (move.Turn test body) = tidy_spun _ _ (tidy_expr code (methods code n) (tidy_methods code n) test) (tidy_block code (methods code n) (tidy_methods code n) n body) k
-  tidy_move (move.Body call) = tidy_begin (methods code n) (tidy_methods code n) call.method (value.Ref call.object) call.vars
+  tidy_move (move.Body m) = tidy_methods code n m
 
   tidy_loop : (test : Expr) (body : List Stmt) → IsTidy (loop_at code n k test body)
   tidy_loop test body = tidy_moving _ (tidy_spun _ _ (tidy_expr code (methods code n) (tidy_methods code n) test) (tidy_block code (methods code n) (tidy_methods code n) n body) k)
 
-  tidy_body : (call : Call) → IsTidy (body_at code n k call)
-  tidy_body call = tidy_invoke (methods code n) (tidy_methods code n) call.method (value.Ref call.object) call.vars
+  tidy_body : (m : ℕ) → IsTidy (body_at code n k m)
+  tidy_body m = tidy_moving (methods code n m) (tidy_methods code n m)
 
   -- what is done under a lock
   tidy_locked : (a : Locked) → IsTidy (locked_at code n k a)
   tidy_locked (locked.Read r) = tidy_get 0 r
   tidy_locked (locked.Bind r v) = tidy_after (bind_null r v) (getting (v ∷ []) 0 r) (tidy_getting (v ∷ []) 0 r) (tidy_bind_null r v)
   tidy_locked (locked.Block ss) = tidy_block code (methods code n) (tidy_methods code n) n ss
-  tidy_locked (locked.Monitor call) = tidy_monitor (call_values call) call.synced call.object (body_at code n k call) (tidy_body call)
-  tidy_locked (locked.Body call) = tidy_body call
+  tidy_locked (locked.Monitor call) = tidy_monitor call.synced call.object (body_at code n k call.method) (tidy_body call.method)
+  tidy_locked (locked.Body m) = tidy_body m
   tidy_locked (locked.Map call) = tidy_told call.object (rest_of call)
 
   tidy_args : (callees : List (ℕ × ℕ)) (x : Value) (before : List Value) (rest : List Expr) → IsTidy (arguments_at code n k callees x before rest)
@@ -156,7 +154,7 @@ module _ (code : Code) (n k : ℕ) where
   live_now (now.Arguments callees x before rest) core = live_from (arguments_at code n k callees x before rest) (tidy_args callees x before rest) (standing core [])
   live_now (now.Execute s) core = live_from (stmt code (methods code n) n s) (tidy_stmt code (methods code n) (tidy_methods code n) n s) (standing core [])
   live_now (now.Run ss) core = live_from (block code (methods code n) n ss) (tidy_block code (methods code n) (tidy_methods code n) n ss) (standing core [])
-  live_now (now.Pace a) core = live_from (moving_with (move_values a) (move_at code n k a)) (tidy_moving_with (move_values a) (move_at code n k a) (tidy_move a)) (standing core [])
+  live_now (now.Pace a) core = live_from (moving (move_at code n k a)) (tidy_moving (move_at code n k a) (tidy_move a)) (standing core [])
   live_now (now.Have e) core = live_from (ended e) (tidy_ended e) (standing core [])
   live_now (now.Ask q on) core = tt
   live_now (now.End fault) core = tt

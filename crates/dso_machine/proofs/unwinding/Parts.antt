@@ -29,11 +29,11 @@ use Rattle.dso_map.specs.Talk.Talk.{Gets, Puts, Ends}
 use Rattle.dso_machine.specs.declared.code.Code.{Code}
 use Rattle.dso_machine.specs.declared.code.Method.{Method}
 use Rattle.dso_machine.specs.declared.tree.FieldRef.{FieldRef}
-use Rattle.dso_machine.specs.Calls.{lookup, lookup_class, callee, begin, invoke, under_name, under_monitor, run_method, call_method, call_number, call_in, call_on, variables, MethodMeanings}
+use Rattle.dso_machine.specs.Calls.{lookup, lookup_class, callee, in_callee, under_name, under_monitor, run_method, call_method, call_number, call_in, call_on, variables, MethodMeanings}
 use Rattle.dso_machine.specs.Expressions.{field_at, field_in, field_of, within, element_at, element_in, element_of, root, make, new_array, a_boolean, second}
 use Rattle.dso_machine.specs.Limits.{most_elements, most_moves}
 use Rattle.dso_machine.specs.Maps.{told, told_value, told_reply, grade_of, call_map}
-use Rattle.dso_machine.specs.Outcome.{State, Gives, Fails, Meaning, choose, on_value, on_reply, result_of, asking, unwanted, done, made, got, seen, telling, tell, getting, get, put, looking, look, on_object, moved, paced, moving_with, moving, holding, monitor_of, entered, under, under_with}
+use Rattle.dso_machine.specs.Outcome.{State, Gives, Fails, Meaning, choose, on_value, on_reply, result_of, asking, unwanted, done, made, got, seen, telling, tell, getting, get, put, looking, look, on_object, moved, paced, moving, holding, monitor_of, entered, under, under_with}
 use Rattle.dso_machine.specs.Statements.{assign, put_fitting, put_field_at, put_field_in, put_field, put_element_at, put_element_in, put_element, bind_null, bind, put_root, sync, unless_woken, ticks, ticking, waiting, wait, on_count, timed_wait, branch, turn, spun}
 use Rattle.dso_machine.specs.Unwinding.{with_replies}
 use Rattle.dso_machine.specs.Values.{binary, takes}
@@ -131,16 +131,13 @@ pub tidy_moved : (m : Meaning) → IsTidy m → IsTidy (moved m)
 tidy_moved m s = record { from = λ u. s.from (record u { moves = u.moves + 1 }) }
 
 -- a move, after a pause where one is due
-tidy_paced : (vs : List Value) (few : Bool) (m : Meaning) → IsTidy m → IsTidy (paced vs few m)
-tidy_paced vs true m s = record { from = λ u. (tidy_moved m s).from u }
-tidy_paced vs false m s = record { from = λ u. (tidy_after (λ v. moved m) (telling vs request.Pause) (tidy_telling vs request.Pause refl) (λ v. tidy_moved m s)).from u }
+tidy_paced : (few : Bool) (m : Meaning) → IsTidy m → IsTidy (paced few m)
+tidy_paced true m s = record { from = λ u. (tidy_moved m s).from u }
+tidy_paced false m s = record { from = λ u. (tidy_after (λ v. moved m) (tell request.Pause) (tidy_tell request.Pause refl) (λ v. tidy_moved m s)).from u }
 
 -- a part is tidy behind a move
-pub tidy_moving_with : (vs : List Value) (m : Meaning) → IsTidy m → IsTidy (moving_with vs m)
-tidy_moving_with vs m s = record { from = λ u. (tidy_paced vs (nat_lt u.moves most_moves) m s).from u }
-
 pub tidy_moving : (m : Meaning) → IsTidy m → IsTidy (moving m)
-tidy_moving m s = tidy_moving_with [] m s
+tidy_moving m s = record { from = λ u. (tidy_paced (nat_lt u.moves most_moves) m s).from u }
 
 -- ---- locks
 
@@ -199,23 +196,19 @@ tidy_wait n l = record {
 abbrev pub TidyMethods : MethodMeanings → Type 0
 TidyMethods w = (m : ℕ) → IsTidy (w m)
 
--- a method's body in an environment of its own
-pub tidy_begin : (w : MethodMeanings) → TidyMethods w → (m : ℕ) (this : Value) (vars : List Value) → IsTidy (begin w m this vars)
-tidy_begin w s m this vars = record { from = λ u. tidy_back u.environment ((s m).from (record u { environment = callee this vars u.environment })) }
-
--- so, as a move
-pub tidy_invoke : (w : MethodMeanings) → TidyMethods w → (m : ℕ) (this : Value) (vars : List Value) → IsTidy (invoke w m this vars)
-tidy_invoke w s m this vars = tidy_moving_with (this ∷ vars) (begin w m this vars) (tidy_begin w s m this vars)
+-- a part in the environment of a method
+tidy_callee : (this : Value) (vars : List Value) (m : Meaning) → IsTidy m → IsTidy (in_callee this vars m)
+tidy_callee this vars m s = record { from = λ u. tidy_back u.environment (s.from (record u { environment = callee this vars u.environment })) }
 
 -- a part under a method's named lock, if it has one
-tidy_name : (vs : List Value) (named : Option (ℕ × Grade)) (m : Meaning) → IsTidy m → IsTidy (under_name vs named m)
-tidy_name vs None m s = s
-tidy_name vs (Some lock) m s = tidy_under_with vs (Name lock.0) lock.1 m s
+tidy_name : (named : Option (ℕ × Grade)) (m : Meaning) → IsTidy m → IsTidy (under_name named m)
+tidy_name None m s = s
+tidy_name (Some lock) m s = tidy_under (Name lock.0) lock.1 m s
 
 -- a part under the object's monitor, if the method takes it
-pub tidy_monitor : (vs : List Value) (synced : Option Grade) (object : ℕ) (m : Meaning) → IsTidy m → IsTidy (under_monitor vs synced object m)
-tidy_monitor vs None object m s = s
-tidy_monitor vs (Some grade) object m s = tidy_under_with vs (Mon object) grade m s
+pub tidy_monitor : (synced : Option Grade) (object : ℕ) (m : Meaning) → IsTidy m → IsTidy (under_monitor synced object m)
+tidy_monitor None object m s = s
+tidy_monitor (Some grade) object m s = tidy_under (Mon object) grade m s
 
 -- ---- maps
 
@@ -246,7 +239,7 @@ tidy_call_map object args (Some call) = record {
 module _ (c : Code) (w : MethodMeanings) (s : TidyMethods w) where
   -- a method of an object
   tidy_run : (m : ℕ) (method : Method) (object : ℕ) (args : List Value) → IsTidy (run_method w m method object args)
-  tidy_run m method object args = tidy_name (value.Ref object ∷ variables method.vars args) method.named _ (tidy_monitor (value.Ref object ∷ variables method.vars args) method.synced object _ (tidy_invoke w s m (value.Ref object) (variables method.vars args)))
+  tidy_run m method object args = tidy_callee (value.Ref object) (variables method.vars args) _ (tidy_name method.named _ (tidy_monitor method.synced object _ (tidy_moving (w m) (s m))))
 
   -- a method that was found
   tidy_method : (m object : ℕ) (args : List Value) (method : Option Method) → IsTidy (call_method c w m object args method)

@@ -9,7 +9,7 @@ pub returns-in-Element : goal.returns-in-Element
 returns-in-Element c =
     let fits : SFits w64 c.in-Element.index = search rules in
     rw c.in-Element.is (record {
-      takes = subst (λ i. Takes c.args.code.now (reply.Element c.in-Element.object i) c.args.reply c.args.frame.now c.element_seen.result) (to_z-of_z w64 c.in-Element.index fits)
+      takes = subst (λ i. Takes c.args.code.now (reply.Element c.in-Element.object i) c.args.reply c.args.frame.now c.element_seen.result c.args.frame.now) (to_z-of_z w64 c.in-Element.index fits)
           (c.element_seen.ensures.takes c.args.code.now c.args.frame.now);
     })
 
@@ -17,6 +17,6 @@ pub returns-in-PutElement : goal.returns-in-PutElement
 returns-in-PutElement c =
     let fits : SFits w64 c.in-PutElement.index = search rules in
     rw c.in-PutElement.is (record {
-      takes = subst (λ i. Takes c.args.code.now (reply.PutElement c.in-PutElement.object i c.in-PutElement.value) c.args.reply c.args.frame.now c.put_element_seen.result)
+      takes = subst (λ i. Takes c.args.code.now (reply.PutElement c.in-PutElement.object i c.in-PutElement.value) c.args.reply c.args.frame.now c.put_element_seen.result c.args.frame.now)
           (to_z-of_z w64 c.in-PutElement.index fits) (c.put_element_seen.ensures.takes c.args.code.now c.args.frame.now);
     })
