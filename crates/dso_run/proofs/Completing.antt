@@ -21,7 +21,7 @@ use Rattle.dso_run.specs.declared.running.Outcome.{Outcome}
 use Rattle.dso_run.specs.declared.running.Outcome.TheVariants as outcome
 use Rattle.dso_run.specs.Completeness.{Completeness, IsDecided, IsOfRun, MayRun, MayRunRuns, NothingFailed, RanTo, TakenIsNotRefused}
 use Rattle.dso_run.specs.Headline.{CallInput, CallOutput, IsConfigRefused, IsProgramRefused, IsReportDue, ReadFailed, RoseOf, StatusMeans, WereRead, WroteWhole}
-use Rattle.dso_words.specs.Words.{AreLawful, Command, Sim, Run, Big}
+use Rattle.dso_words.specs.Words.{AreLawful, Command, Sim, Run, Big, Show, Lint}
 use Rattle.dso_words.proofs.reading_words.Asking.{asks-once}
 
 -- a configuration that is taken isn't refused
@@ -72,6 +72,10 @@ of_some (Sim call) failed (inr is) = (call.program, is)
 of_some (Run call) failed (inl is) = (call.config, is)
 of_some (Run call) failed (inr is) = (call.program, is)
 of_some (Big number) failed never = absurd never
+of_some (Show call) failed (inl is) = (call.config, is)
+of_some (Show call) failed (inr is) = (call.program, is)
+of_some (Lint call) failed (inl is) = (call.config, is)
+of_some (Lint call) failed (inr is) = (call.program, is)
 
 module _ (input : CallInput) (output : CallOutput) where
   -- a report is due of a run only

@@ -32,7 +32,7 @@ use Rattle.dso_io.specs.Environment.{Told, MayGive, Rose, taken_after, TookPrefi
 use Rattle.dso_run.specs.Files.{AreAsBefore, IsWritten}
 use Rattle.dso_run.specs.RunEnds.{EndsFinished, EndsStuck, EndsOverBudget}
 use Rattle.dso_run.specs.Status.{line_of}
-use Rattle.dso_words.specs.Words.{AreLawful, AreUnlawful, Command, Sim, Run, Big, journal_of, seed_of, steps_of}
+use Rattle.dso_words.specs.Words.{AreLawful, AreUnlawful, Command, Sim, Run, Big, Show, Lint, journal_of, seed_of, steps_of}
 
 -- how many bytes are read of a file at most: one more than a program's text may have
 abbrev pub most_read : ℕ
@@ -97,6 +97,8 @@ abbrev pub Gives : (List ℕ → Told) → Command → List ℕ → List ℕ →
 Gives content (Sim call) config program = FilesGive content call.config call.program config program
 Gives content (Run call) config program = FilesGive content call.config call.program config program
 Gives content (Big number) config program = LoadGives number config program
+Gives content (Show call) config program = FilesGive content call.config call.program config program
+Gives content (Lint call) config program = FilesGive content call.config call.program config program
 
 -- a read of one of a command's two files failed, where it is said of each name what tells that a read of it did; `big`
 -- reads no file
@@ -104,6 +106,8 @@ abbrev pub ReadFailed : Command → (List ℕ → Type 0) → Type 0
 ReadFailed (Sim call) failed = failed call.config ⊎ failed call.program
 ReadFailed (Run call) failed = failed call.config ⊎ failed call.program
 ReadFailed (Big number) failed = ⊥
+ReadFailed (Show call) failed = failed call.config ⊎ failed call.program
+ReadFailed (Lint call) failed = failed call.config ⊎ failed call.program
 
 -- how many reads of the file of a name failed has risen
 abbrev pub RoseOf : (List ℕ → ℕ) → (List ℕ → ℕ) → List ℕ → Type 0
@@ -183,13 +187,15 @@ IsRunReport p journal text =
     IsReport p.names p.threads (last_state p.code.shape (committed (reverse journal))) text
 
 -- the text is what is told of the history that a journal commits: with `big` the line of its load, with what the
--- counters come to that can be reached, and else the report
+-- counters come to that can be reached, and else the report; `show` and `lint` tell of no journal
 abbrev pub IsRunText : Command → Program → List Entry → List ℕ → Type 0
 IsRunText (Big number) p journal text =
     (total : ℤ) × IsCounterTotal p.names (last_state p.code.shape (committed (reverse journal))) total
     × (text ≡ load_line number total)
 IsRunText (Sim call) p journal text = IsRunReport p journal text
 IsRunText (Run call) p journal text = IsRunReport p journal text
+IsRunText (Show call) p journal text = ⊥
+IsRunText (Lint call) p journal text = ⊥
 
 -- the text of a run's journal is in the file that the command names for it, and no other file was changed
 abbrev pub IsKept : Command → List Entry → (List ℕ → Told) → (List ℕ → Told) → Type 0

@@ -36,7 +36,7 @@ pub(crate) fn judge<F: Files>(
             ..
         } => judge_files(alloc, config, program, files),
         Command::Big { number } => judge_load(alloc, number),
-        Command::Run { .. } => unreachable!(),
+        Command::Run { .. } | Command::Show { .. } | Command::Lint { .. } => unreachable!(),
     }
 }
 

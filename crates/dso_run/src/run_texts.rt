@@ -6,6 +6,7 @@ ghost use Rattle.dso_machine.specs.Next.{next_request};
 ghost use Rattle.dso_run.specs.Accepted.{settings_of};
 ghost use Rattle.dso_run.specs.Headline.{IsRunText};
 ghost use Rattle.dso_words.specs.Said.{said};
+ghost use Rattle.dso_words.specs.Words.{CanBeAsked};
 
 use crate::replay::heap_after;
 use dso_base::{Journal, NoMemory};
@@ -23,6 +24,7 @@ pub(crate) fn run_text(
     journal: &Journal,
     command: Command<'_>,
 ) -> Result<Vec<u8>, NoMemory>
+    requires asked { CanBeAsked (said command) }
     requires sound { IsSound program.now }
     requires legal { CommitsLegally (settings_of program.now) (next_request program.now.code) (reverse journal.now.entries) }
     ensures { IfOk result (λ text. IsRunText (said command.entry) program.now journal.now.entries text.items) }
@@ -34,5 +36,6 @@ pub(crate) fn run_text(
             let total = counter_total(alloc, program, &plain)?;
             big_line(alloc, number, total)
         }
+        Command::Show { .. } | Command::Lint { .. } => unreachable!(),
     }
 }

@@ -7,8 +7,9 @@ use denote.Ref.{Bor}
 abbrev pub told : Option (Bor (List ℕ)) → Option (List ℕ)
 told text = option_map (λ there. there.now) text
 
--- the names, of which the second is there only where the first is
-abbrev pub names_of : Option (List ℕ) → Option (List ℕ) → List (List ℕ)
-names_of None second = []
-names_of (Some first) None = first ∷ []
-names_of (Some first) (Some second) = first ∷ second ∷ []
+-- the names, of which each is there only where the one before it is
+abbrev pub names_of : Option (List ℕ) → Option (List ℕ) → Option (List ℕ) → List (List ℕ)
+names_of None second third = []
+names_of (Some first) None third = first ∷ []
+names_of (Some first) (Some second) None = first ∷ second ∷ []
+names_of (Some first) (Some second) (Some third) = first ∷ second ∷ third ∷ []

@@ -4,7 +4,7 @@ use Rattle.std.specs.Prelude.{List, [], ◌∷◌, ◌++◌, Option, Some, None,
 use Rattle.std.specs.Option.{option_map, option_and_then}
 use Rattle.std.specs.Str.{bytes_eq}
 use Rattle.dso_words.specs.declared.option_name.OptionName.{OptionName}
-use Rattle.dso_words.specs.declared.option_name.OptionName.TheVariants.{Seed, Steps, Journal}
+use Rattle.dso_words.specs.declared.option_name.OptionName.TheVariants.{Seed, Steps, Journal, Store, Collect}
 use Rattle.dso_words.specs.declared.word_reading.Reading.{Reading}
 use Rattle.dso_words.specs.declared.word_reading.Reading.TheVariants.{Open, Awaiting, Ended}
 use Rattle.dso_words.specs.Words.{Given, text_of, value_of, is_hyphened}
@@ -16,18 +16,19 @@ is_blank (first ∷ rest) = false
 
 -- nothing is given yet
 abbrev pub nothing : Given
-nothing = record { names = []; seed = None; steps = None; journal = None }
+nothing = record { names = []; seed = None; steps = None; journal = None; store = None; collect = None }
 
--- whether there are two names, or more
-abbrev pub has_two : List (List ℕ) → Bool
-has_two [] = false
-has_two (only ∷ []) = false
-has_two (first ∷ second ∷ rest) = true
+-- whether there are three names, or more
+abbrev pub has_three : List (List ℕ) → Bool
+has_three [] = false
+has_three (only ∷ []) = false
+has_three (first ∷ second ∷ []) = false
+has_three (first ∷ second ∷ third ∷ rest) = true
 
--- with one more name: none that is empty, and no third one
+-- with one more name: none that is empty, and no fourth one
 abbrev pub with_name : Given → List ℕ → Option Given
 with_name given name =
-    if is_blank name || has_two given.names then None
+    if is_blank name || has_three given.names then None
     else Some (record given { names = given.names ++ name ∷ [] })
 
 -- with this value for an option
@@ -35,6 +36,8 @@ abbrev pub set_value : Given → OptionName → List ℕ → Given
 set_value given Seed value = record given { seed = Some value }
 set_value given Steps value = record given { steps = Some value }
 set_value given Journal value = record given { journal = Some value }
+set_value given Store value = record given { store = Some value }
+set_value given Collect value = record given { collect = Some value }
 
 -- with a value for an option: none that is empty, and no second one
 abbrev pub with_value : Given → OptionName → List ℕ → Option Given
@@ -47,6 +50,8 @@ option_named word =
     if bytes_eq word (text_of Seed) then Some Seed
     else if bytes_eq word (text_of Steps) then Some Steps
     else if bytes_eq word (text_of Journal) then Some Journal
+    else if bytes_eq word (text_of Store) then Some Store
+    else if bytes_eq word (text_of Collect) then Some Collect
     else None
 
 -- a word before and behind its first `=`, None where it has none
@@ -85,6 +90,6 @@ at_end (Open given) = Some given
 at_end (Awaiting option given) = None
 at_end (Ended given) = Some given
 
--- what the words behind a command give, None where they are no arguments or have more than two names
+-- what the words behind a command give, None where they are no arguments or have more than three names
 abbrev pub read : List (List ℕ) → Option Given
 read words = option_and_then at_end (read_on (Open nothing) words)

@@ -6,19 +6,23 @@ use Rattle.std.specs.Option.{option_map, option_to_list}
 use Rattle.std.specs.Str.{all_ascii_digits}
 use Rattle.std.specs.Str.Parse.{digits_value}
 use Rattle.dso_words.specs.declared.option_name.OptionName.{OptionName}
-use Rattle.dso_words.specs.declared.option_name.OptionName.TheVariants.{Seed, Steps, Journal}
+use Rattle.dso_words.specs.declared.option_name.OptionName.TheVariants.{Seed, Steps, Journal, Store, Collect}
 
 -- how an option is written
 abbrev pub text_of : OptionName → List ℕ
 text_of Seed = codes "--seed"
 text_of Steps = codes "--steps"
 text_of Journal = codes "--journal"
+text_of Store = codes "--store"
+text_of Collect = codes "--collect"
 
 -- whether two options are one
 abbrev pub is_option : OptionName → OptionName → Bool
 is_option Seed Seed = true
 is_option Steps Steps = true
 is_option Journal Journal = true
+is_option Store Store = true
+is_option Collect Collect = true
 is_option option other = false
 
 -- whether a word has two or more bytes and begins with a hyphen
@@ -87,12 +91,16 @@ pub record Given : Type 0 where
   pub seed : Option (List ℕ)
   pub steps : Option (List ℕ)
   pub journal : Option (List ℕ)
+  pub store : Option (List ℕ)
+  pub collect : Option (List ℕ)
 
 -- the value of an option, if it is there
 abbrev pub value_of : Given → OptionName → Option (List ℕ)
 value_of given Seed = given.seed
 value_of given Steps = given.steps
 value_of given Journal = given.journal
+value_of given Store = given.store
+value_of given Collect = given.collect
 
 -- The words are arguments and an ending, and this is what they give: each option at most once.
 pub record Gives (words : List (List ℕ)) (given : Given) : Type 0 where
@@ -113,26 +121,43 @@ number_within least most word =
     else None
 
 -- What `sim` is asked for: the files of a configuration and of a program, the seed of the schedule or round robin, how
--- much the journal may weigh before the run is cut off, and a file for the journal.
+-- much the journal may weigh before the run is cut off, a file for the journal, a file in which the graph is kept, and
+-- after how many entries each garbage is collected.
 pub record SimCall : Type 0 where
   pub config : List ℕ
   pub program : List ℕ
   pub seed : Option ℕ
   pub steps : ℕ
   pub journal : Option (List ℕ)
+  pub store : Option (List ℕ)
+  pub collect : Option ℕ
 
--- what `run` is asked for: the same, without a seed
+-- what `run` is asked for: the files of a configuration and of a program, how much the journal may weigh, and a file for
+-- the journal
 pub record RunCall : Type 0 where
   pub config : List ℕ
   pub program : List ℕ
   pub steps : ℕ
   pub journal : Option (List ℕ)
 
+-- what `show` is asked for: the files of a configuration, of a program, and of a kept graph
+pub record ShowCall : Type 0 where
+  pub config : List ℕ
+  pub program : List ℕ
+  pub store : List ℕ
+
+-- what `lint` is asked for: the files of a configuration and of a program
+pub record LintCall : Type 0 where
+  pub config : List ℕ
+  pub program : List ℕ
+
 -- what the words ask for; `big` is asked for a load of this number
 pub data Command : Type 0 where
   Sim : SimCall → Command
   Run : RunCall → Command
   Big : ℕ → Command
+  Show : ShowCall → Command
+  Lint : LintCall → Command
 
 -- the seed that an option says: below 2^64, and none where the option is left out
 abbrev pub seed_said : Option (List ℕ) → Option (Option ℕ)
@@ -151,6 +176,12 @@ abbrev pub steps_said : Option (List ℕ) → Option ℕ
 steps_said None = Some usual_steps
 steps_said (Some word) = number_within 1 most_steps word
 
+-- after how many entries each garbage is collected, as an option says it: 1 to 1,000,000, and never where the option is
+-- left out
+abbrev pub collect_said : Option (List ℕ) → Option (Option ℕ)
+collect_said None = Some None
+collect_said (Some word) = option_map Some (number_within 1 1000000 word)
+
 -- `sim`, with two names and what its options say
 pub record IsSim (command : List ℕ) (given : Given) (call : SimCall) : Type 0 where
   pub word : command ≡ codes "sim"
@@ -158,14 +189,26 @@ pub record IsSim (command : List ℕ) (given : Given) (call : SimCall) : Type 0 
   pub seed : seed_said given.seed ≡ Some call.seed
   pub steps : steps_said given.steps ≡ Some call.steps
   pub journal : given.journal ≡ call.journal
+  pub store : given.store ≡ call.store
+  pub collect : collect_said given.collect ≡ Some call.collect
 
--- `run`, with two names and what its options say, of which none is a seed
+-- `run`, with two names and what its options say: those of the steps and the journal alone
 pub record IsRun (command : List ℕ) (given : Given) (call : RunCall) : Type 0 where
   pub word : command ≡ codes "run"
   pub names : given.names ≡ call.config ∷ call.program ∷ []
   pub unseeded : given.seed ≡ None
   pub steps : steps_said given.steps ≡ Some call.steps
   pub journal : given.journal ≡ call.journal
+  pub unstored : given.store ≡ None
+  pub uncollected : given.collect ≡ None
+
+-- no option is given
+pub record HasNoOption (given : Given) : Type 0 where
+  pub unseeded : given.seed ≡ None
+  pub unlimited : given.steps ≡ None
+  pub unkept : given.journal ≡ None
+  pub unstored : given.store ≡ None
+  pub uncollected : given.collect ≡ None
 
 -- `big`, with one name, which is a number from 1 to 1000, and no option
 pub record IsBig (command : List ℕ) (given : Given) (number : ℕ) : Type 0 where
@@ -173,15 +216,27 @@ pub record IsBig (command : List ℕ) (given : Given) (number : ℕ) : Type 0 wh
   pub name : List ℕ
   pub names : given.names ≡ name ∷ []
   pub said : number_within 1 1000 name ≡ Some number
-  pub unseeded : given.seed ≡ None
-  pub unlimited : given.steps ≡ None
-  pub unkept : given.journal ≡ None
+  pub plain : HasNoOption given
+
+-- `show`, with three names and no option
+pub record IsShow (command : List ℕ) (given : Given) (call : ShowCall) : Type 0 where
+  pub word : command ≡ codes "show"
+  pub names : given.names ≡ call.config ∷ call.program ∷ call.store ∷ []
+  pub plain : HasNoOption given
+
+-- `lint`, with two names and no option
+pub record IsLint (command : List ℕ) (given : Given) (call : LintCall) : Type 0 where
+  pub word : command ≡ codes "lint"
+  pub names : given.names ≡ call.config ∷ call.program ∷ []
+  pub plain : HasNoOption given
 
 -- a command with what is given asks for this
 abbrev pub IsAsked : List ℕ → Given → Command → Type 0
 IsAsked command given (Sim call) = IsSim command given call
 IsAsked command given (Run call) = IsRun command given call
 IsAsked command given (Big number) = IsBig command given number
+IsAsked command given (Show call) = IsShow command given call
+IsAsked command given (Lint call) = IsLint command given call
 
 -- The words ask for this: they are a command, and what is given behind it.
 pub record Asks (words : List (List ℕ)) (command : Command) : Type 0 where
@@ -200,26 +255,31 @@ WordsAskOnce = (words : List (List ℕ)) (command other : Command)
 -- the seed that a command's run goes by; round robin where it has none
 abbrev pub seed_of : Command → Option ℕ
 seed_of (Sim call) = call.seed
-seed_of (Run call) = None
-seed_of (Big number) = None
+seed_of command = None
 
--- how much the journal of its run may weigh before it is cut off: a load's 4,000,000
+-- how much the journal of its run may weigh before it is cut off: a load's 4,000,000, and nothing where there is no run
 abbrev pub steps_of : Command → ℕ
 steps_of (Sim call) = call.steps
 steps_of (Run call) = call.steps
 steps_of (Big number) = most_steps
+steps_of (Show call) = 0
+steps_of (Lint call) = 0
 
 -- the file for its run's journal, if it names one
 abbrev pub journal_of : Command → Option (List ℕ)
 journal_of (Sim call) = call.journal
 journal_of (Run call) = call.journal
 journal_of (Big number) = None
+journal_of (Show call) = None
+journal_of (Lint call) = None
 
--- What of it is built: all but `run`.
+-- What of it is built: `sim` without a store and without collections, and `big`.
 abbrev pub IsBuilt : Command → Type 0
-IsBuilt (Sim call) = Unit {0}
+IsBuilt (Sim call) = (call.store ≡ None) × (call.collect ≡ None)
 IsBuilt (Run call) = ⊥
 IsBuilt (Big number) = Unit {0}
+IsBuilt (Show call) = ⊥
+IsBuilt (Lint call) = ⊥
 
 -- The words ask for this, and it is built.
 pub record AreLawful (words : List (List ℕ)) (command : Command) : Type 0 where
@@ -231,6 +291,8 @@ abbrev pub CanBeAsked : Command → Type 0
 CanBeAsked (Sim call) = call.steps ≤ most_steps
 CanBeAsked (Run call) = ⊥
 CanBeAsked (Big number) = (1 ≤ number) × (number ≤ 1000)
+CanBeAsked (Show call) = ⊥
+CanBeAsked (Lint call) = ⊥
 
 -- The words are none that the program takes.
 abbrev pub AreUnlawful : List (List ℕ) → Type 0

@@ -12,9 +12,12 @@ use std::marker::Model;
 pub(crate) struct Arguments<'a> {
     pub(crate) first: Option<&'a str>,
     pub(crate) second: Option<&'a str>,
+    pub(crate) third: Option<&'a str>,
     pub(crate) seed: Option<&'a str>,
     pub(crate) steps: Option<&'a str>,
     pub(crate) journal: Option<&'a str>,
+    pub(crate) store: Option<&'a str>,
+    pub(crate) collect: Option<&'a str>,
 }
 
 impl<'a> Model for Arguments<'a> {
@@ -24,10 +27,12 @@ impl<'a> Model for Arguments<'a> {
     ghost Value = { words.Given };
 
     ghost view = { λ g. record {
-      names = names_of (told g.first) (told g.second);
+      names = names_of (told g.first) (told g.second) (told g.third);
       seed = told g.seed;
       steps = told g.steps;
       journal = told g.journal;
+      store = told g.store;
+      collect = told g.collect;
     } };
 }
 
@@ -39,28 +44,36 @@ impl<'a> Arguments<'a> {
         Arguments {
             first: None,
             second: None,
+            third: None,
             seed: None,
             steps: None,
             journal: None,
+            store: None,
+            collect: None,
         }
     }
 
-    /// With one more name: none that is empty, and no third one.
+    /// With one more name: none that is empty, and no fourth one.
     pub(crate) fn with_name(self, name: &'a str) -> Option<Arguments<'a>>
         ensures { result ≡ with_name self.entry name.now }
     {
-        match (self.first, self.second) {
+        match (self.first, self.second, self.third) {
             _ if name.is_empty() => None,
-            (None, _) => Some(Arguments {
+            (None, _, _) => Some(Arguments {
                 first: Some(name),
                 second: None,
                 ..self
             }),
-            (Some(_), None) => Some(Arguments {
+            (Some(_), None, _) => Some(Arguments {
                 second: Some(name),
+                third: None,
                 ..self
             }),
-            (Some(_), Some(_)) => None,
+            (Some(_), Some(_), None) => Some(Arguments {
+                third: Some(name),
+                ..self
+            }),
+            (Some(_), Some(_), Some(_)) => None,
         }
     }
 
@@ -72,6 +85,8 @@ impl<'a> Arguments<'a> {
             OptionName::Seed => self.seed,
             OptionName::Steps => self.steps,
             OptionName::Journal => self.journal,
+            OptionName::Store => self.store,
+            OptionName::Collect => self.collect,
         }
     }
 
@@ -91,6 +106,14 @@ impl<'a> Arguments<'a> {
             },
             OptionName::Journal => Arguments {
                 journal: value,
+                ..self
+            },
+            OptionName::Store => Arguments {
+                store: value,
+                ..self
+            },
+            OptionName::Collect => Arguments {
+                collect: value,
                 ..self
             },
         }

@@ -19,6 +19,10 @@ pub enum Command<'a> {
         steps: u64,
         /// The file that the journal is written to, if any.
         journal: Option<&'a str>,
+        /// The file in which the graph is kept, if any.
+        store: Option<&'a str>,
+        /// After how many entries each garbage is collected, 1 to 1,000,000; never where it isn't said.
+        collect: Option<u64>,
     },
     /// The same, with a thread of the host for each worker.
     Run {
@@ -31,14 +35,30 @@ pub enum Command<'a> {
     Big {
         number: u32,
     },
+    /// The graph that a file keeps, for a program over a configuration.
+    Show {
+        config: &'a str,
+        program: &'a str,
+        /// The file that keeps it.
+        store: &'a str,
+    },
+    /// Whether a program keeps to its locks, by its text.
+    Lint {
+        config: &'a str,
+        program: &'a str,
+    },
 }
 
 impl<'a> Command<'a> {
-    /// Whether it is built: all but `run`.
+    /// Whether it is built: `sim` without a store and without collections, and `big`.
     pub(crate) fn is_built(&self) -> bool
         ensures { IsTrue result ↔ IsBuilt (said self.now) }
     {
-        !matches!(self, Command::Run { .. })
+        match self {
+            Command::Sim { store, collect, .. } => store.is_none() && collect.is_none(),
+            Command::Big { .. } => true,
+            Command::Run { .. } | Command::Show { .. } | Command::Lint { .. } => false,
+        }
     }
 
     /// The seed that its run goes by; round robin where there is none.
@@ -47,17 +67,19 @@ impl<'a> Command<'a> {
     {
         match self {
             Command::Sim { seed, .. } => *seed,
-            Command::Run { .. } | Command::Big { .. } => None,
+            _ => None,
         }
     }
 
-    /// How much the journal of its run may weigh before it is cut off: a load's as much as any run's may.
+    /// How much the journal of its run may weigh before it is cut off: a load's as much as any run's may; 0 where it asks for
+    /// no run.
     pub fn steps(&self) -> u64
         ensures { result ≡ steps_of (said self.now) }
     {
         match self {
             Command::Sim { steps, .. } | Command::Run { steps, .. } => *steps,
             Command::Big { .. } => BUDGET,
+            Command::Show { .. } | Command::Lint { .. } => 0,
         }
     }
 
@@ -67,7 +89,7 @@ impl<'a> Command<'a> {
     {
         match self {
             Command::Sim { journal, .. } | Command::Run { journal, .. } => *journal,
-            Command::Big { .. } => None,
+            Command::Big { .. } | Command::Show { .. } | Command::Lint { .. } => None,
         }
     }
 }

@@ -3,13 +3,16 @@ ghost use Rattle.std.specs.Prelude.{◌≡◌, ◌^◌, ◌≤◌, length, IfSom
 ghost use Rattle.std.specs.Str.{all_ascii_digits};
 ghost use Rattle.std.specs.Str.Parse.{digits_value};
 ghost use Rattle.dso_words.specs.Given.{told};
-ghost use Rattle.dso_words.specs.Words.{number_within, seed_said, steps_said};
+ghost use Rattle.dso_words.specs.Words.{collect_said, number_within, seed_said, steps_said};
 
 /// The most that the journal of a run may weigh: a run takes no more steps than that.
 pub const BUDGET: u64 = 4_000_000;
 
 /// The steps where no option says them.
 const DEFAULT_STEPS: u64 = 1_000_000;
+
+/// The most entries between two collections of garbage.
+const MOST_COLLECT: u64 = 1_000_000;
 
 /// The most that `big` takes.
 pub(crate) const MOST_LOAD: u64 = 1000;
@@ -68,5 +71,15 @@ pub(crate) fn steps_said(word: Option<&str>) -> Option<u64>
     match word {
         Some(word) => number_within(word, 1, BUDGET),
         None => Some(DEFAULT_STEPS),
+    }
+}
+
+/// After how many entries each garbage is collected, as an option says it.
+pub(crate) fn collect_said(word: Option<&str>) -> Option<Option<u64>>
+    ensures { result ≡ collect_said (told word.entry) }
+{
+    match word {
+        Some(word) => Some(Some(number_within(word, 1, MOST_COLLECT)?)),
+        None => Some(None),
     }
 }

@@ -8,6 +8,8 @@ pub(crate) enum OptionName {
     Seed,
     Steps,
     Journal,
+    Store,
+    Collect,
 }
 
 impl OptionName {
@@ -19,6 +21,8 @@ impl OptionName {
             "--seed" => Some(OptionName::Seed),
             "--steps" => Some(OptionName::Steps),
             "--journal" => Some(OptionName::Journal),
+            "--store" => Some(OptionName::Store),
+            "--collect" => Some(OptionName::Collect),
             _ => None,
         }
     }

@@ -84,7 +84,7 @@ fn parted(word: &str) -> Option<(&str, &str)>
     word.split_once('=')
 }
 
-/// What the words behind a command give, None where they are no arguments or have more than two names.
+/// What the words behind a command give, None where they are no arguments or have more than three names.
 pub(crate) fn read(words: &[String]) -> Option<Arguments<'_>>
     ensures { result ≡ read (map string_bytes words.now) }
 {

@@ -4,16 +4,18 @@ use Rattle.std.proofs.lemmas.Bool.{leb-true}
 use Rattle.std.proofs.lemmas.Slice.Eq.{bytes_eq-Decides}
 use Rattle.std.specs.Str.{all_ascii_digits, bytes_eq}
 use Rattle.std.specs.Str.Parse.{digits_value}
-use Rattle.dso_words.specs.Words.{AreLawful, AreUnlawful, Asks, CanBeAsked, Command, IsBuilt, number_within, steps_said, Sim, Run, Big, SimCall, RunCall, Given, IsAsked, IsSim, IsRun, IsBig}
+use Rattle.dso_words.specs.Words.{AreLawful, AreUnlawful, Asks, CanBeAsked, Command, IsBuilt, number_within, steps_said, Sim, Run, Big, Show, Lint, SimCall, RunCall, ShowCall, LintCall, Given, IsAsked, IsSim, IsRun, IsBig, IsShow, IsLint}
 use Rattle.dso_words.specs.WordReading.{read}
 use Rattle.dso_words.proofs.reading_words.GivesRead.{gives-read}
 use Rattle.dso_words.proofs.reading_words.ReadGives.{read-gives}
 
--- what asks for something has two names at most
-few-names : (first : List ℕ) (given : Given) (command : Command) → IsAsked first given command → length given.names ≤ 2
+-- what asks for something has three names at most
+few-names : (first : List ℕ) (given : Given) (command : Command) → IsAsked first given command → length given.names ≤ 3
 few-names first given (Sim call) is = rw is.names (omega arith)
 few-names first given (Run call) is = rw is.names (omega arith)
 few-names first given (Big number) is = rw is.names (omega arith)
+few-names first given (Show call) is = rw is.names (omega arith)
+few-names first given (Lint call) is = rw is.names (omega arith)
 
 -- What was read of the words behind the first asks for this.
 pub record AsksRead (first : List ℕ) (rest : List (List ℕ)) (command : Command) : Type 0 where
@@ -37,17 +39,21 @@ same-some : {A : Type 0} {said : Option A} {x y : A} → said ≡ Some x → sai
 same-some one other = cc (sym one ∙ other)
 
 -- a call of `sim`, part by part
-abbrev of_sim : List ℕ → List ℕ → Option ℕ → ℕ → Option (List ℕ) → SimCall
-of_sim config program seed steps journal = record { config = config; program = program; seed = seed; steps = steps; journal = journal }
+abbrev of_sim : List ℕ → List ℕ → Option ℕ → ℕ → Option (List ℕ) → Option (List ℕ) → Option ℕ → SimCall
+of_sim config program seed steps journal store collect =
+    record { config = config; program = program; seed = seed; steps = steps; journal = journal; store = store; collect = collect }
 
 -- and one of `run`
 abbrev of_run : List ℕ → List ℕ → ℕ → Option (List ℕ) → RunCall
 of_run config program steps journal = record { config = config; program = program; steps = steps; journal = journal }
 
 -- calls of `sim` with the same parts are one
-same-sim : (a b c d : List ℕ) (s t : Option ℕ) (n m : ℕ) (j k : Option (List ℕ)) → a ≡ b → c ≡ d → s ≡ t → n ≡ m → j ≡ k → of_sim a c s n j ≡ of_sim b d t m k
-same-sim a b c d s t n m j k config program seed steps journal =
-    ap (λ x. of_sim x c s n j) config ∙ ap (λ x. of_sim b x s n j) program ∙ ap (λ x. of_sim b d x n j) seed ∙ ap (λ x. of_sim b d t x j) steps ∙ ap (λ x. of_sim b d t m x) journal
+same-sim : (a b c d : List ℕ) (s t : Option ℕ) (n m : ℕ) (j k p q : Option (List ℕ)) (u v : Option ℕ) → a ≡ b → c ≡ d → s ≡ t → n ≡ m → j ≡ k → p ≡ q → u ≡ v
+    → of_sim a c s n j p u ≡ of_sim b d t m k q v
+same-sim a b c d s t n m j k p q u v config program seed steps journal store collect =
+    ap (λ x. of_sim x c s n j p u) config ∙ ap (λ x. of_sim b x s n j p u) program ∙ ap (λ x. of_sim b d x n j p u) seed
+    ∙ ap (λ x. of_sim b d t x j p u) steps ∙ ap (λ x. of_sim b d t m x p u) journal ∙ ap (λ x. of_sim b d t m k x u) store
+    ∙ ap (λ x. of_sim b d t m k q x) collect
 
 -- and calls of `run`
 same-run : (a b c d : List ℕ) (n m : ℕ) (j k : Option (List ℕ)) → a ≡ b → c ≡ d → n ≡ m → j ≡ k → of_run a c n j ≡ of_run b d m k
@@ -60,8 +66,9 @@ sim-once first given call other is so =
     let names = sym is.names ∙ so.names in
     let config : call.config ≡ other.config = cc names in
     let program : call.program ≡ other.program = cc names in
-    same-sim call.config other.config call.program other.program call.seed other.seed call.steps other.steps call.journal other.journal config program
-    (same-some is.seed so.seed) (same-some is.steps so.steps) (sym is.journal ∙ so.journal)
+    same-sim call.config other.config call.program other.program call.seed other.seed call.steps other.steps call.journal other.journal
+    call.store other.store call.collect other.collect config program (same-some is.seed so.seed) (same-some is.steps so.steps)
+    (sym is.journal ∙ so.journal) (sym is.store ∙ so.store) (same-some is.collect so.collect)
 
 -- one call of `run`
 run-once : (first : List ℕ) (given : Given) (call other : RunCall) → IsRun first given call → IsRun first given other → call ≡ other
@@ -79,6 +86,30 @@ big-once first given number other is so =
     let name : is.name ≡ so.name = cc names in
     same-some is.said (ap (number_within 1 1000) name ∙ so.said)
 
+-- a call of `show`, and one of `lint`, part by part
+abbrev of_show : List ℕ → List ℕ → List ℕ → ShowCall
+of_show config program store = record { config = config; program = program; store = store }
+
+abbrev of_lint : List ℕ → List ℕ → LintCall
+of_lint config program = record { config = config; program = program }
+
+-- one call of `show` is asked for
+show-once : (first : List ℕ) (given : Given) (call other : ShowCall) → IsShow first given call → IsShow first given other → call ≡ other
+show-once first given call other is so =
+    let names = sym is.names ∙ so.names in
+    let config : call.config ≡ other.config = cc names in
+    let program : call.program ≡ other.program = cc names in
+    let store : call.store ≡ other.store = cc names in
+    ap (λ x. of_show x call.program call.store) config ∙ ap (λ x. of_show other.config x call.store) program ∙ ap (λ x. of_show other.config other.program x) store
+
+-- one call of `lint`
+lint-once : (first : List ℕ) (given : Given) (call other : LintCall) → IsLint first given call → IsLint first given other → call ≡ other
+lint-once first given call other is so =
+    let names = sym is.names ∙ so.names in
+    let config : call.config ≡ other.config = cc names in
+    let program : call.program ≡ other.program = cc names in
+    ap (λ x. of_lint x call.program) config ∙ ap (λ x. of_lint other.config x) program
+
 -- no word is two different ones
 one-word : (word a b : List ℕ) → bytes_eq a b ≡ false → word ≡ a → word ≡ b → ⊥
 one-word word a b differ is so = let same : bytes_eq a b ≡ true = (bytes_eq-Decides a b).1 (sym is ∙ so) in cc (same, differ)
@@ -88,12 +119,28 @@ pub asked-once : (first : List ℕ) (given : Given) (command other : Command) �
 asked-once first given (Sim call) (Sim other) is so = ap Sim (sim-once first given call other is so)
 asked-once first given (Sim call) (Run other) is so = absurd (one-word first (codes "sim") (codes "run") refl is.word so.word)
 asked-once first given (Sim call) (Big other) is so = absurd (one-word first (codes "sim") (codes "big") refl is.word so.word)
+asked-once first given (Sim call) (Show other) is so = absurd (one-word first (codes "sim") (codes "show") refl is.word so.word)
+asked-once first given (Sim call) (Lint other) is so = absurd (one-word first (codes "sim") (codes "lint") refl is.word so.word)
 asked-once first given (Run call) (Sim other) is so = absurd (one-word first (codes "run") (codes "sim") refl is.word so.word)
 asked-once first given (Run call) (Run other) is so = ap Run (run-once first given call other is so)
 asked-once first given (Run call) (Big other) is so = absurd (one-word first (codes "run") (codes "big") refl is.word so.word)
+asked-once first given (Run call) (Show other) is so = absurd (one-word first (codes "run") (codes "show") refl is.word so.word)
+asked-once first given (Run call) (Lint other) is so = absurd (one-word first (codes "run") (codes "lint") refl is.word so.word)
 asked-once first given (Big number) (Sim other) is so = absurd (one-word first (codes "big") (codes "sim") refl is.word so.word)
 asked-once first given (Big number) (Run other) is so = absurd (one-word first (codes "big") (codes "run") refl is.word so.word)
 asked-once first given (Big number) (Big other) is so = ap Big (big-once first given number other is so)
+asked-once first given (Big number) (Show other) is so = absurd (one-word first (codes "big") (codes "show") refl is.word so.word)
+asked-once first given (Big number) (Lint other) is so = absurd (one-word first (codes "big") (codes "lint") refl is.word so.word)
+asked-once first given (Show call) (Sim other) is so = absurd (one-word first (codes "show") (codes "sim") refl is.word so.word)
+asked-once first given (Show call) (Run other) is so = absurd (one-word first (codes "show") (codes "run") refl is.word so.word)
+asked-once first given (Show call) (Big other) is so = absurd (one-word first (codes "show") (codes "big") refl is.word so.word)
+asked-once first given (Show call) (Show other) is so = ap Show (show-once first given call other is so)
+asked-once first given (Show call) (Lint other) is so = absurd (one-word first (codes "show") (codes "lint") refl is.word so.word)
+asked-once first given (Lint call) (Sim other) is so = absurd (one-word first (codes "lint") (codes "sim") refl is.word so.word)
+asked-once first given (Lint call) (Run other) is so = absurd (one-word first (codes "lint") (codes "run") refl is.word so.word)
+asked-once first given (Lint call) (Big other) is so = absurd (one-word first (codes "lint") (codes "big") refl is.word so.word)
+asked-once first given (Lint call) (Show other) is so = absurd (one-word first (codes "lint") (codes "show") refl is.word so.word)
+asked-once first given (Lint call) (Lint other) is so = ap Lint (lint-once first given call other is so)
 
 -- the words are unlawful where what is behind the first can't be read
 pub unlawful_unread : (first : List ℕ) (rest : List (List ℕ)) → read rest ≡ None → AreUnlawful (first ∷ rest)
@@ -172,6 +219,8 @@ steps_by (Some word) steps is = most_of 1 4000000 word steps is
 can_be : (first : List ℕ) (given : Given) (command : Command) → IsAsked first given command → IsBuilt command → CanBeAsked command
 can_be first given (Sim call) asked built = steps_by given.steps call.steps asked.steps
 can_be first given (Run call) asked built = built
+can_be first given (Show call) asked built = built
+can_be first given (Lint call) asked built = built
 can_be first given (Big number) asked built = (least_of 1 1000 asked.name number asked.said, most_of 1 1000 asked.name number asked.said)
 
 pub lawful_can : (words : List (List ℕ)) (command : Command) → AreLawful words command → CanBeAsked command

@@ -4,7 +4,7 @@ use Rattle.std.proofs.lemmas.List.{length-append}
 use Rattle.std.specs.List.{AllByRecursion}
 use Rattle.std.specs.Option.{option_map, option_to_list}
 use Rattle.dso_words.specs.declared.option_name.OptionName.{OptionName}
-use Rattle.dso_words.specs.declared.option_name.OptionName.TheVariants.{Seed, Steps, Journal}
+use Rattle.dso_words.specs.declared.option_name.OptionName.TheVariants.{Seed, Steps, Journal, Store, Collect}
 use Rattle.dso_words.specs.declared.word_reading.Reading.TheVariants.{Open, Awaiting, Ended}
 use Rattle.dso_words.specs.Words.{Argument, Name, Apart, Joined, Given, Gives, IsArgument, IsPlain, ending, last_names, names_among, spelling, text_of, value_of, values_among}
 use Rattle.dso_words.specs.WordReading.{nothing, read, set_value, with_word}
@@ -18,18 +18,22 @@ same-value (Some a) None is = cc is
 same-value (Some a) (Some b) is = cc is
 
 -- what is given, part by part
-abbrev of_parts : List (List ℕ) → Option (List ℕ) → Option (List ℕ) → Option (List ℕ) → Given
-of_parts names seed steps journal = record { names = names; seed = seed; steps = steps; journal = journal }
+abbrev of_parts : List (List ℕ) → Option (List ℕ) → Option (List ℕ) → Option (List ℕ) → Option (List ℕ) → Option (List ℕ) → Given
+of_parts names seed steps journal store collect =
+    record { names = names; seed = seed; steps = steps; journal = journal; store = store; collect = collect }
 
 -- parts that are the same make the same
-same-parts : (n m : List (List ℕ)) (a b c d e f : Option (List ℕ)) → n ≡ m → a ≡ b → c ≡ d → e ≡ f → of_parts n a c e ≡ of_parts m b d f
-same-parts n m a b c d e f names seed steps journal =
-    ap (λ x. of_parts x a c e) names ∙ ap (λ x. of_parts m x c e) seed ∙ ap (λ x. of_parts m b x e) steps ∙ ap (λ x. of_parts m b d x) journal
+same-parts : (n m : List (List ℕ)) (a b c d e f g h i j : Option (List ℕ)) → n ≡ m → a ≡ b → c ≡ d → e ≡ f → g ≡ h → i ≡ j
+    → of_parts n a c e g i ≡ of_parts m b d f h j
+same-parts n m a b c d e f g h i j names seed steps journal store collect =
+    ap (λ x. of_parts x a c e g i) names ∙ ap (λ x. of_parts m x c e g i) seed ∙ ap (λ x. of_parts m b x e g i) steps
+    ∙ ap (λ x. of_parts m b d x g i) journal ∙ ap (λ x. of_parts m b d f x i) store ∙ ap (λ x. of_parts m b d f h x) collect
 
 -- two that have the same names and values are one
 same-given : (a b : Given) → a.names ≡ b.names → ((option : OptionName) → value_of a option ≡ value_of b option) → a ≡ b
 same-given a b names values =
-    same-parts a.names b.names a.seed b.seed a.steps b.steps a.journal b.journal names (values Seed) (values Steps) (values Journal)
+    same-parts a.names b.names a.seed b.seed a.steps b.steps a.journal b.journal a.store b.store a.collect b.collect names
+    (values Seed) (values Steps) (values Journal) (values Store) (values Collect)
 
 -- nothing is there where more values follow, and there is one at most
 free-before : (here after : Option (List ℕ)) (value : List ℕ) (rest : List (List ℕ)) → option_to_list here ++ value ∷ rest ≡ option_to_list after → here ≡ None
@@ -38,14 +42,14 @@ free-before (Some here) None value rest is = cc is
 free-before (Some here) (Some after) value rest is = cc is
 
 -- names behind `--` are taken while there is room
-ended-goes : (names : List (List ℕ)) (given : Given) → AllByRecursion (λ name. name ≢ []) names → length (given.names ++ names) ≤ 2
+ended-goes : (names : List (List ℕ)) (given : Given) → AllByRecursion (λ name. name ≢ []) names → length (given.names ++ names) ≤ 3
     → goes (Ended given) names ≡ Some (record given { names = given.names ++ names })
 ended-goes [] given named few = ap Some (same-given given (record given { names = given.names ++ [] }) (sym (append-nil given.names)) (λ option. refl))
 ended-goes (name ∷ names) given named few =
-    let room : length given.names < 2 = omega (arith, few, length-append given.names (name ∷ names)) in
+    let room : length given.names < 3 = omega (arith, few, length-append given.names (name ∷ names)) in
     let taken = ap (option_map Ended) (name-taken given name named.0 room) in
     let more : (given.names ++ name ∷ []) ++ names ≡ given.names ++ name ∷ names = append_assoc given.names (name ∷ []) names in
-    let few : length ((given.names ++ name ∷ []) ++ names) ≤ 2 = rw more few in
+    let few : length ((given.names ++ name ∷ []) ++ names) ≤ 3 = rw more few in
     goes-on (Ended given) (Ended (and_name given name)) name names taken ∙ ended-goes names (and_name given name) named.1 few
     ∙ ap (λ all. Some (record given { names = all })) more
 
@@ -54,6 +58,8 @@ names-after : (given : Given) (option : OptionName) (value : List ℕ) (behind :
 names-after given Seed value behind = refl
 names-after given Steps value behind = refl
 names-after given Journal value behind = refl
+names-after given Store value behind = refl
+names-after given Collect value behind = refl
 
 -- an option has no value before the one that it is given
 free-here : (given all : Given) (option : OptionName) (value : List ℕ) (rest : List Argument)
@@ -62,9 +68,11 @@ free-here : (given all : Given) (option : OptionName) (value : List ℕ) (rest :
 free-here given all Seed value rest is = free-before given.seed all.seed value (values_among Seed rest) is
 free-here given all Steps value rest is = free-before given.steps all.steps value (values_among Steps rest) is
 free-here given all Journal value rest is = free-before given.journal all.journal value (values_among Journal rest) is
+free-here given all Store value rest is = free-before given.store all.store value (values_among Store rest) is
+free-here given all Collect value rest is = free-before given.collect all.collect value (values_among Collect rest) is
 
 -- a name where an argument may begin
-name-step : (given : Given) (name : List ℕ) → IsPlain name → length given.names < 2 → with_word (Open given) name ≡ Some (Open (and_name given name))
+name-step : (given : Given) (name : List ℕ) → IsPlain name → length given.names < 3 → with_word (Open given) name ≡ Some (Open (and_name given name))
 name-step given name plain few =
     rw (plain-dashes name plain) (rw plain.bare (ap (option_map Open) (name-taken given name plain.some few)))
 
@@ -83,18 +91,18 @@ pub from-open : (arguments : List Argument) (last : Option (List (List ℕ))) (g
     → AllByRecursion (λ name. name ≢ []) (last_names last)
     → given.names ++ (names_among arguments ++ last_names last) ≡ all.names
     → ((option : OptionName) → option_to_list (value_of given option) ++ values_among option arguments ≡ option_to_list (value_of all option))
-    → length all.names ≤ 2 → goes (Open given) (spelling arguments ++ ending last) ≡ Some all
+    → length all.names ≤ 3 → goes (Open given) (spelling arguments ++ ending last) ≡ Some all
 from-open [] None given all lawful named names values few =
     ap Some (same-given given all (sym (append-nil given.names) ∙ names)
     (λ option. same-value (value_of given option) (value_of all option) (sym (append-nil (option_to_list (value_of given option))) ∙ values option)))
 from-open [] (Some behind) given all lawful named names values few =
-    let room : length (given.names ++ behind) ≤ 2 = rw names few in
+    let room : length (given.names ++ behind) ≤ 3 = rw names few in
     ended-goes behind given named room ∙ ap Some (same-given (record given { names = given.names ++ behind }) all names
     (λ option. same-value (value_of given option) (value_of all option) (sym (append-nil (option_to_list (value_of given option))) ∙ values option)))
 from-open (Name name ∷ rest) last given all lawful named names values few =
     let behind = names_among rest ++ last_names last in
-    let whole : length (given.names ++ name ∷ behind) ≤ 2 = rw names few in
-    let room : length given.names < 2 = omega (arith, whole, length-append given.names (name ∷ behind)) in
+    let whole : length (given.names ++ name ∷ behind) ≤ 3 = rw names few in
+    let room : length given.names < 3 = omega (arith, whole, length-append given.names (name ∷ behind)) in
     let taken = name-step given name lawful.0 room in
     let more : (given.names ++ name ∷ []) ++ behind ≡ given.names ++ name ∷ behind = append_assoc given.names (name ∷ []) behind in
     goes-on (Open given) (Open (and_name given name)) name (spelling rest ++ ending last) taken
@@ -114,8 +122,10 @@ from-nothing : {values : List (List ℕ)} {all : List (List ℕ)} (option : Opti
 from-nothing Seed is = is
 from-nothing Steps is = is
 from-nothing Journal is = is
+from-nothing Store is = is
+from-nothing Collect is = is
 
--- what words give is read of them, where it has no third name
-pub gives-read : (words : List (List ℕ)) (given : Given) → Gives words given → length given.names ≤ 2 → read words ≡ Some given
+-- what words give is read of them, where it has no fourth name
+pub gives-read : (words : List (List ℕ)) (given : Given) → Gives words given → length given.names ≤ 3 → read words ≡ Some given
 gives-read words given gives few =
     ap read gives.spelled ∙ from-open gives.arguments gives.last nothing given gives.lawful gives.named gives.names (λ option. from-nothing option (gives.values option)) few

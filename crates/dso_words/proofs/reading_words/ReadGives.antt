@@ -5,11 +5,11 @@ use Rattle.std.specs.List.{AllByRecursion}
 use Rattle.std.specs.Option.{option_map, option_and_then, option_to_list}
 use Rattle.std.specs.Str.{bytes_eq}
 use Rattle.dso_words.specs.declared.option_name.OptionName.{OptionName}
-use Rattle.dso_words.specs.declared.option_name.OptionName.TheVariants.{Seed, Steps, Journal}
+use Rattle.dso_words.specs.declared.option_name.OptionName.TheVariants.{Seed, Steps, Journal, Store, Collect}
 use Rattle.dso_words.specs.declared.word_reading.Reading.{Reading}
 use Rattle.dso_words.specs.declared.word_reading.Reading.TheVariants.{Open, Awaiting, Ended}
 use Rattle.dso_words.specs.Words.{Argument, Name, Apart, Joined, Given, Gives, IsArgument, IsPlain, ending, is_hyphened, last_names, names_among, spelling, text_of, value_of, values_among}
-use Rattle.dso_words.specs.WordReading.{at_end, has_two, is_blank, nothing, option_named, parted, read, set_value, with_argument, with_name, with_option, with_value, with_word}
+use Rattle.dso_words.specs.WordReading.{at_end, has_three, is_blank, nothing, option_named, parted, read, set_value, with_argument, with_name, with_option, with_value, with_word}
 use Rattle.dso_words.proofs.reading_words.WordParts.{parted-joins}
 use Rattle.dso_words.proofs.reading_words.WordSteps.{and_name, blank-some, goes, goes-on, goes-nowhere, value-moves}
 
@@ -49,7 +49,7 @@ record TookName (given : Given) (name : List ℕ) (next : Given) : Type 0 where
   some : name ≢ []
   is : next ≡ and_name given name
 
-took-name-by : (given : Given) (name : List ℕ) (next : Given) (t u : Bool) → is_blank name ≡ t → has_two given.names ≡ u
+took-name-by : (given : Given) (name : List ℕ) (next : Given) (t u : Bool) → is_blank name ≡ t → has_three given.names ≡ u
     → with_name given name ≡ Some next → TookName given name next
 took-name-by given name next true u blank two took = let not : with_name given name ≡ None = rw blank refl in cc (not, took)
 took-name-by given name next false true blank two took = let not : with_name given name ≡ None = rw blank (rw two refl) in cc (not, took)
@@ -58,7 +58,7 @@ took-name-by given name next false false blank two took =
     record { some = blank-some name blank; is = cc (is, took) }
 
 took-name : (given : Given) (name : List ℕ) (next : Given) → with_name given name ≡ Some next → TookName given name next
-took-name given name next took = took-name-by given name next (is_blank name) (has_two given.names) refl refl took
+took-name given name next took = took-name-by given name next (is_blank name) (has_three given.names) refl refl took
 
 -- a value that was taken
 record TookValue (given : Given) (option : OptionName) (value : List ℕ) (next : Given) : Type 0 where
@@ -81,32 +81,44 @@ took-value : (given : Given) (option : OptionName) (value : List ℕ) (next : Gi
 took-value given option value next took = took-value-by given option value next (is_blank value) (value_of given option) refl refl took
 
 -- an option by its word
-named-by : (word : List ℕ) (option : OptionName) (t u v : Bool) → bytes_eq word (text_of Seed) ≡ t → bytes_eq word (text_of Steps) ≡ u
-    → bytes_eq word (text_of Journal) ≡ v → option_named word ≡ Some option → word ≡ text_of option
-named-by word option true u v seed steps journal is =
+named-by : (word : List ℕ) (option : OptionName) (t u v w x : Bool) → bytes_eq word (text_of Seed) ≡ t → bytes_eq word (text_of Steps) ≡ u
+    → bytes_eq word (text_of Journal) ≡ v → bytes_eq word (text_of Store) ≡ w → bytes_eq word (text_of Collect) ≡ x
+    → option_named word ≡ Some option → word ≡ text_of option
+named-by word option true u v w x seed steps journal store collect is =
     let at : option_named word ≡ Some Seed = rw seed refl in
     let same : Seed ≡ option = cc (at, is) in
     (bytes_eq-Decides word (text_of Seed)).0 seed ∙ ap text_of same
-named-by word option false true v seed steps journal is =
+named-by word option false true v w x seed steps journal store collect is =
     let at : option_named word ≡ Some Steps = rw seed (rw steps refl) in
     let same : Steps ≡ option = cc (at, is) in
     (bytes_eq-Decides word (text_of Steps)).0 steps ∙ ap text_of same
-named-by word option false false true seed steps journal is =
+named-by word option false false true w x seed steps journal store collect is =
     let at : option_named word ≡ Some Journal = rw seed (rw steps (rw journal refl)) in
     let same : Journal ≡ option = cc (at, is) in
     (bytes_eq-Decides word (text_of Journal)).0 journal ∙ ap text_of same
-named-by word option false false false seed steps journal is =
-    let at : option_named word ≡ None = rw seed (rw steps (rw journal refl)) in cc (at, is)
+named-by word option false false false true x seed steps journal store collect is =
+    let at : option_named word ≡ Some Store = rw seed (rw steps (rw journal (rw store refl))) in
+    let same : Store ≡ option = cc (at, is) in
+    (bytes_eq-Decides word (text_of Store)).0 store ∙ ap text_of same
+named-by word option false false false false true seed steps journal store collect is =
+    let at : option_named word ≡ Some Collect = rw seed (rw steps (rw journal (rw store (rw collect refl)))) in
+    let same : Collect ≡ option = cc (at, is) in
+    (bytes_eq-Decides word (text_of Collect)).0 collect ∙ ap text_of same
+named-by word option false false false false false seed steps journal store collect is =
+    let at : option_named word ≡ None = rw seed (rw steps (rw journal (rw store (rw collect refl)))) in cc (at, is)
 
 named-is : (word : List ℕ) (option : OptionName) → option_named word ≡ Some option → word ≡ text_of option
 named-is word option is =
-    named-by word option (bytes_eq word (text_of Seed)) (bytes_eq word (text_of Steps)) (bytes_eq word (text_of Journal)) refl refl refl is
+    named-by word option (bytes_eq word (text_of Seed)) (bytes_eq word (text_of Steps)) (bytes_eq word (text_of Journal)) (bytes_eq word (text_of Store))
+    (bytes_eq word (text_of Collect)) refl refl refl refl refl is
 
 -- a value leaves the names as they are
 names-before : (given : Given) (option : OptionName) (value : List ℕ) (behind : List (List ℕ)) → given.names ++ behind ≡ (set_value given option value).names ++ behind
 names-before given Seed value behind = refl
 names-before given Steps value behind = refl
 names-before given Journal value behind = refl
+names-before given Store value behind = refl
+names-before given Collect value behind = refl
 
 -- a name in front
 name-first : (before all : Given) (name : List ℕ) (rest : List (List ℕ)) → IsPlain name → GivesMore (and_name before name) rest all
@@ -322,6 +334,8 @@ from-nothing : {values : List (List ℕ)} {all : List (List ℕ)} (option : Opti
 from-nothing Seed is = is
 from-nothing Steps is = is
 from-nothing Journal is = is
+from-nothing Store is = is
+from-nothing Collect is = is
 
 -- what is read of words is what they give
 pub read-gives : (words : List (List ℕ)) (given : Given) → read words ≡ Some given → Gives words given

@@ -4,11 +4,11 @@ use Rattle.std.proofs.lemmas.Slice.Eq.{bytes_eq-Decides}
 use Rattle.std.specs.Option.{option_map, option_and_then, option_to_list}
 use Rattle.std.specs.Str.{bytes_eq}
 use Rattle.dso_words.specs.declared.option_name.OptionName.{OptionName}
-use Rattle.dso_words.specs.declared.option_name.OptionName.TheVariants.{Seed, Steps, Journal}
+use Rattle.dso_words.specs.declared.option_name.OptionName.TheVariants.{Seed, Steps, Journal, Store, Collect}
 use Rattle.dso_words.specs.declared.word_reading.Reading.{Reading}
 use Rattle.dso_words.specs.declared.word_reading.Reading.TheVariants.{Open, Awaiting}
 use Rattle.dso_words.specs.Words.{Argument, Apart, Given, IsPlain, is_hyphened, text_of, value_of, values_among}
-use Rattle.dso_words.specs.WordReading.{at_end, has_two, is_blank, read_on, set_value, with_argument, with_name, with_value, with_word}
+use Rattle.dso_words.specs.WordReading.{at_end, has_three, is_blank, read_on, set_value, with_argument, with_name, with_value, with_word}
 
 -- a test is false where it can't be true
 pub false-unless : (t : Bool) → (t ≡ true → ⊥) → t ≡ false
@@ -25,11 +25,12 @@ pub blank-some : (word : List ℕ) → is_blank word ≡ false → word ≢ []
 blank-some [] never = cc never
 blank-some (first ∷ rest) is = λ empty. cc empty
 
--- fewer than two names are not two
-pub few-two : (names : List (List ℕ)) → length names < 2 → has_two names ≡ false
-few-two [] few = refl
-few-two (only ∷ []) few = refl
-few-two (first ∷ second ∷ rest) few = absurd (omega (arith, few))
+-- fewer than three names are not three
+pub few-three : (names : List (List ℕ)) → length names < 3 → has_three names ≡ false
+few-three [] few = refl
+few-three (only ∷ []) few = refl
+few-three (first ∷ second ∷ []) few = refl
+few-three (first ∷ second ∷ third ∷ rest) few = absurd (omega (arith, few))
 
 -- a word that may be a name is not `--`
 pub plain-dashes : (word : List ℕ) → IsPlain word → bytes_eq word (codes "--") ≡ false
@@ -42,8 +43,8 @@ abbrev pub and_name : Given → List ℕ → Given
 and_name given name = record given { names = given.names ++ name ∷ [] }
 
 -- a name is taken where there is room for it
-pub name-taken : (given : Given) (name : List ℕ) → name ≢ [] → length given.names < 2 → with_name given name ≡ Some (and_name given name)
-name-taken given name some few = rw (some-blank name some) (rw (few-two given.names few) refl)
+pub name-taken : (given : Given) (name : List ℕ) → name ≢ [] → length given.names < 3 → with_name given name ≡ Some (and_name given name)
+name-taken given name some few = rw (some-blank name some) (rw (few-three given.names few) refl)
 
 -- a value is taken where its option has none
 pub value-taken : (given : Given) (option : OptionName) (value : List ℕ) → value ≢ [] → value_of given option ≡ None
@@ -55,6 +56,8 @@ pub at-option : (given : Given) (option : OptionName) → with_argument given (t
 at-option given Seed = refl
 at-option given Steps = refl
 at-option given Journal = refl
+at-option given Store = refl
+at-option given Collect = refl
 
 -- the word of an option with its value gives it
 pub at-joined : (given : Given) (option : OptionName) (value : List ℕ)
@@ -62,6 +65,8 @@ pub at-joined : (given : Given) (option : OptionName) (value : List ℕ)
 at-joined given Seed value = refl
 at-joined given Steps value = refl
 at-joined given Journal value = refl
+at-joined given Store value = refl
+at-joined given Collect value = refl
 
 -- what is given once all words were read
 abbrev pub goes : Reading → List (List ℕ) → Option Given
@@ -84,9 +89,25 @@ pub value-moves : (given : Given) (option : OptionName) (value : List ℕ) (rest
 value-moves given Seed value rest Seed free = rw free refl
 value-moves given Seed value rest Steps free = refl
 value-moves given Seed value rest Journal free = refl
+value-moves given Seed value rest Store free = refl
+value-moves given Seed value rest Collect free = refl
 value-moves given Steps value rest Seed free = refl
 value-moves given Steps value rest Steps free = rw free refl
 value-moves given Steps value rest Journal free = refl
+value-moves given Steps value rest Store free = refl
+value-moves given Steps value rest Collect free = refl
 value-moves given Journal value rest Seed free = refl
 value-moves given Journal value rest Steps free = refl
 value-moves given Journal value rest Journal free = rw free refl
+value-moves given Journal value rest Store free = refl
+value-moves given Journal value rest Collect free = refl
+value-moves given Store value rest Seed free = refl
+value-moves given Store value rest Steps free = refl
+value-moves given Store value rest Journal free = refl
+value-moves given Store value rest Store free = rw free refl
+value-moves given Store value rest Collect free = refl
+value-moves given Collect value rest Seed free = refl
+value-moves given Collect value rest Steps free = refl
+value-moves given Collect value rest Journal free = refl
+value-moves given Collect value rest Store free = refl
+value-moves given Collect value rest Collect free = rw free refl
