@@ -1,0 +1,67 @@
+"""Why a run stalled, and what a thread did before it faulted."""
+from circle import circle
+from entries import fault_name
+from history import History
+from stall import Stall
+
+# how many of its last events are told of a thread that faulted
+LAST = 10
+
+
+def fault_lines(history, thread):
+    """The last events of a thread that ended by a fault; the one that it faulted at or behind is marked."""
+    events = [entry for entry in history.acts[thread] if entry.event]
+    end = events[-1]
+    number = end.event.fault
+    at = next((entry for entry in reversed(events[:-1])
+               if entry.event.kind != 'exit' or entry.event.is_refused), None)
+    is_refused = at is not None and at.event.is_refused and at.event.fault == number
+    told = 'refused here' if is_refused else 'the last thing that it did before'
+    lines = ['thread %s ended by %s (%d) at line %d; its last events:' % (thread, fault_name(number), number, end.line)]
+    for entry in events[-LAST:]:
+        mark = '   <- ' + told if entry is at else ''
+        lines.append('%8d  clock %-6d %s%s' % (entry.line, entry.clock, entry.event.text, mark))
+    return lines
+
+
+def thread_text(history, stall, thread):
+    end, lost = history.end(thread), history.lost(thread)
+    by = ' by ' + fault_name(end.event.fault) if end and end.event.fault else ''
+    parts = ['ended%s at line %d' % (by, end.line)] if end else []
+    parts += ['was lost with its client at line %d' % lost.line] if lost else []
+    return ', '.join(parts) or stall.needs[thread].text
+
+
+def circle_line(stall):
+    threads = circle({thread: need.behind for thread, need in stall.needs.items()})
+    if not threads:
+        return []
+    pairs = zip(threads, threads[1:] + threads[:1])
+    return ['the circle: ' + ', '.join('%s waits for %s' % pair for pair in pairs)]
+
+
+def cut_line(stall):
+    """Whether something can still go on, so that the run didn't stall."""
+    free = [str(thread) for thread, need in stall.needs.items() if need.is_free]
+    if stall.under_way:
+        return ['messages are under way (%d): the run was cut off' % len(stall.under_way)]
+    if free:
+        return ['%s can go on: the run was cut off' % ', '.join(free)]
+    return []
+
+
+def stall_lines(history):
+    """A line for each thread, the circle, and whether something can still go on."""
+    stall = Stall(history)
+    lines = ['thread %s %s' % (thread, thread_text(history, stall, thread)) for thread in history.threads()]
+    if not stall.needs:
+        return lines + ['nobody waits']
+    return lines + circle_line(stall) + cut_line(stall)
+
+
+def why(entries):
+    """The last events of each thread that faulted, and who waits for what."""
+    history = History(entries)
+    parts = [fault_lines(history, thread) for thread in history.threads()
+             if history.end(thread) and history.end(thread).event.fault]
+    return '\n\n'.join('\n'.join(part) for part in parts + [stall_lines(history)])
