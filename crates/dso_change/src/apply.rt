@@ -13,6 +13,22 @@ use dso_base::{
 use std::alloc::Global;
 use std::collections::BTreeMap;
 
+/// What a New made: an object of this class and size, by its id.
+#[derive(Clone, Copy)]
+struct NewObject {
+    class: ClassId,
+    size: u32,
+    id: u64,
+}
+
+/// An act: what the thread asked for, what it was answered, and whom it woke.
+#[derive(Clone, Copy)]
+struct Act {
+    request: Request,
+    reply: Reply,
+    woken: Option<ThreadId>,
+}
+
 /// A done Put: into a private object it changes that object alone, into a shared one it is gathered.
 fn put(
     alloc: Global,
@@ -34,16 +50,14 @@ fn put(
 fn make(
     alloc: Global,
     shape: &Shape,
-    class: ClassId,
-    size: u32,
-    object: u64,
+    object: NewObject,
     privates: &mut BTreeMap<u64, Body>,
     draft: &Draft,
 ) -> Result<(), NoMemory>
-    ensures { OnOk result ((work : Work) → hand_in privates.old draft.now ≡ hand_of work → hand_in privates.new draft.now ≡ hand_of (record work { privates = opening_body shape.now class size object ∷ work.privates })) }
+    ensures { OnOk result ((work : Work) → hand_in privates.old draft.now ≡ hand_of work → hand_in privates.new draft.now ≡ hand_of (record work { privates = opening_body shape.now object.class object.size object.id ∷ work.privates })) }
 {
-    let body = opening_body(alloc, shape, class, size, object)?;
-    privates.insert(object, body)?;
+    let body = opening_body(alloc, shape, object.class, object.size, object.id)?;
+    privates.insert(object.id, body)?;
     Ok(())
 }
 
@@ -58,20 +72,18 @@ fn choice_of(woken: Option<ThreadId>) -> Choice
 }
 
 /// What an act makes of the two.
-fn act(
+fn apply_act(
     alloc: Global,
     shape: &Shape,
-    request: Request,
-    reply: Reply,
-    woken: Option<ThreadId>,
+    act: Act,
     privates: &mut BTreeMap<u64, Body>,
     draft: &mut Draft,
 ) -> Result<(), NoMemory>
-    ensures { OnOk result ((work : Work) → IsOnce work → IsNewIn request reply work → hand_in privates.old draft.old ≡ hand_of work → hand_in privates.new draft.new ≡ hand_of (work_by shape.now request reply woken work)) }
+    ensures { OnOk result ((work : Work) → IsOnce work → IsNewIn act.request act.reply work → hand_in privates.old draft.old ≡ hand_of work → hand_in privates.new draft.new ≡ hand_of (work_by shape.now act.request act.reply act.woken work)) }
 {
-    match (request, reply) {
-        (Request::New(class, size), Reply::Made(object)) => {
-            make(alloc, shape, class, size, object, privates, draft)
+    match (act.request, act.reply) {
+        (Request::New(class, size), Reply::Made(id)) => {
+            make(alloc, shape, NewObject { class, size, id }, privates, draft)
         }
         (Request::Put(object, field, value), Reply::Done) => {
             let set = Set {
@@ -86,7 +98,7 @@ fn act(
             Ok(())
         }
         (Request::Notify(lock), Reply::Done) => {
-            let choice = choice_of(woken);
+            let choice = choice_of(act.woken);
             draft.notes.push(Note { lock, choice })?;
             Ok(())
         }
@@ -116,7 +128,14 @@ pub(crate) fn apply(
             reply,
             woken,
             ..
-        } => act(alloc, shape, *request, *reply, *woken, privates, draft),
+        } => {
+            let act = Act {
+                request: *request,
+                reply: *reply,
+                woken: *woken,
+            };
+            apply_act(alloc, shape, act, privates, draft)
+        }
         Event::Lost(_) => Ok(()),
     }
 }

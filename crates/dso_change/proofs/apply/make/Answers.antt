@@ -9,7 +9,7 @@ use Rattle.dso_change.proofs.apply.make.Goals as goal
 
 pub returns : goal.returns
 returns c =
-    let body = opening_body c.args.shape.now c.args.class c.args.size c.args.object in
+    let body = opening_body c.args.shape.now c.args.object.class c.args.object.size c.args.object.id in
     λ work same. body_made c.args.privates.now c.args.draft.now work same c.insert.new.self body
-    (subst (λ b. look nat_cmp c.insert.new.self ≡ written (writes (is_at (nat_cmp c.args.object)) (λ _. Some b)) (look nat_cmp c.args.privates.now)) c.in_ok-body.ensures
-    (changed_by nat_cmp c.args.privates.now c.insert.new.self c.args.object (Some c.in_ok-body.body) c.in_ok-insert.ensures.updates))
+    (subst (λ b. look nat_cmp c.insert.new.self ≡ written (writes (is_at (nat_cmp c.args.object.id)) (λ _. Some b)) (look nat_cmp c.args.privates.now)) c.in_ok-body.ensures
+    (changed_by nat_cmp c.args.privates.now c.insert.new.self c.args.object.id (Some c.in_ok-body.body) c.in_ok-insert.ensures.updates))
