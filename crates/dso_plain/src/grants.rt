@@ -7,7 +7,7 @@ ghost use Rattle.dso_plain.specs.StepInvariants.{MonitorInvariant};
 ghost use Rattle.dso_plain.specs.State.{level_of};
 ghost use Rattle.dso_plain.specs.Tables.{state_of};
 
-use crate::possible::{answers_get, answers_look, answers_new, answers_put};
+use crate::possible::{Asker, answers_get, answers_look, answers_new, answers_put};
 use crate::publish::is_owner;
 use crate::reads::{
     first_level, has_no_unmarked, holds_nothing, is_awake, is_free, is_going, is_lost, is_marked,
@@ -173,15 +173,17 @@ fn answers_end(tables: &Tables, thread: ThreadId, reply: Reply) -> bool
 }
 
 /// Whether the reply is possible for the request, whatever is marked.
-fn answers(tables: &Tables, shape: &Shape, thread: ThreadId, request: Request, reply: Reply) -> bool
-    requires { TablesInvariant tables.now }
-    ensures { IsTrue result ↔ Answers shape.now thread request reply (state_of tables.now) }
+fn answers(asker: Asker<'_>, request: Request, reply: Reply) -> bool
+    requires { TablesInvariant asker.tables.now }
+    ensures { IsTrue result ↔ Answers asker.entry.shape.now asker.entry.thread request reply (state_of asker.entry.tables.now) }
 {
+    let tables = asker.tables;
+    let thread = asker.thread;
     match request {
-        Request::New(class, size) => answers_new(tables, shape, class, size, reply),
+        Request::New(class, size) => answers_new(tables, asker.shape, class, size, reply),
         Request::Look(id) => answers_look(tables, thread, id, reply),
-        Request::Get(id, field) => answers_get(tables, shape, thread, id, field, reply),
-        Request::Put(id, field, _) => answers_put(tables, shape, thread, id, field, reply),
+        Request::Get(id, field) => answers_get(asker, id, field, reply),
+        Request::Put(id, field, _) => answers_put(asker, id, field, reply),
         Request::Enter(lock, level) => answers_enter(tables, thread, lock, level, reply),
         Request::Exit(lock) => answers_exit(tables, thread, lock, reply),
         Request::Wait(lock) | Request::Notify(lock) | Request::NotifyAll(lock) => answers_monitor(
@@ -230,21 +232,16 @@ fn is_awake_for(tables: &Tables, request: Request, thread: ThreadId) -> bool
 }
 
 /// Whether the act is possible.
-fn is_possible(
-    tables: &Tables,
-    shape: &Shape,
-    thread: ThreadId,
-    request: Request,
-    reply: Reply,
-    woken: Option<ThreadId>,
-) -> bool
-    requires { TablesInvariant tables.now }
-    ensures { IsTrue result ↔ IsPossible shape.now thread request reply woken (state_of tables.now) }
+fn is_possible(asker: Asker<'_>, request: Request, reply: Reply, woken: Option<ThreadId>) -> bool
+    requires { TablesInvariant asker.tables.now }
+    ensures { IsTrue result ↔ IsPossible asker.entry.shape.now asker.entry.thread request reply woken (state_of asker.entry.tables.now) }
 {
+    let tables = asker.tables;
+    let thread = asker.thread;
     !is_lost(tables, thread.client)
         && is_going(tables, thread)
         && is_awake_for(tables, request, thread)
-        && answers(tables, shape, thread, request, reply)
+        && answers(asker, request, reply)
         && finds_mark(tables, request, reply, thread)
         && wakes(tables, request, reply, woken)
 }
@@ -260,7 +257,15 @@ pub(crate) fn may(tables: &Tables, shape: &Shape, event: &Event) -> bool
             request,
             reply,
             woken,
-        } => is_possible(tables, shape, *thread, *request, *reply, *woken),
+        } => {
+            let thread = *thread;
+            let asker = Asker {
+                tables,
+                shape,
+                thread,
+            };
+            is_possible(asker, *request, *reply, *woken)
+        }
         Event::Lost(client) => !is_lost(tables, *client),
     }
 }

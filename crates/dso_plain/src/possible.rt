@@ -14,6 +14,14 @@ use crate::reads::{holds_nothing, holds_something, level, object, seen, stands_f
 use crate::tables::{Object, Tables};
 use dso_base::{ClassId, Fault, Level, Reply, Same, Shape, ThreadId, Value};
 
+/// A thread that asks, and what it is judged by: the tables as they stand, and the program's shape.
+#[derive(Clone, Copy)]
+pub(crate) struct Asker<'a> {
+    pub(crate) tables: &'a Tables,
+    pub(crate) shape: &'a Shape,
+    pub(crate) thread: ThreadId,
+}
+
 /// How many elements an array has at most.
 const MOST_ELEMENTS: u32 = 256;
 
@@ -72,18 +80,12 @@ pub(crate) fn answers_look(tables: &Tables, thread: ThreadId, id: u64, reply: Re
 }
 
 /// The level at which the thread holds the guard of a field, None where it does not.
-pub(crate) fn guard_level(
-    tables: &Tables,
-    shape: &Shape,
-    thread: ThreadId,
-    id: u64,
-    field: u32,
-    object: Object,
-) -> Option<Level>
-    requires { look nat_cmp tables.now.objects id ≡ Some object }
-    ensures { result ≡ level_of (hold_on_guard shape.now thread id field (state_of tables.now)) }
+pub(crate) fn guard_level(asker: Asker<'_>, id: u64, field: u32, object: Object) -> Option<Level>
+    requires { look nat_cmp asker.tables.now.objects id ≡ Some object }
+    ensures { result ≡ level_of (hold_on_guard asker.entry.shape.now asker.entry.thread id field (state_of asker.entry.tables.now)) }
 {
-    level(tables, shape.guard(object.class, id, field), thread)
+    let guard = asker.shape.guard(object.class, id, field);
+    level(asker.tables, guard, asker.thread)
 }
 
 /// Whether the field of an object has the value.
@@ -97,43 +99,36 @@ fn has_value(tables: &Tables, id: u64, field: u32, wanted: Value) -> bool
 }
 
 /// Whether a read of a shared object may give the value.
-fn reads_shared(
-    tables: &Tables,
-    shape: &Shape,
-    thread: ThreadId,
-    id: u64,
-    field: u32,
-    wanted: Value,
-    object: Object,
-) -> bool
-    requires there { look nat_cmp tables.now.objects id ≡ Some object }
+fn reads_shared(asker: Asker<'_>, id: u64, field: u32, wanted: Value, object: Object) -> bool
+    requires there { look nat_cmp asker.tables.now.objects id ≡ Some object }
     requires shared { is_none object.owner ≡ true }
-    ensures { IsTrue result ↔ AnswersGet shape.now thread id field (Reply.Val wanted) (state_of tables.now) }
+    ensures { IsTrue result ↔ AnswersGet asker.entry.shape.now asker.entry.thread id field (Reply.Val wanted) (state_of asker.entry.tables.now) }
 {
-    match guard_level(tables, shape, thread, id, field, object) {
+    let tables = asker.tables;
+    match guard_level(asker, id, field, object) {
         Some(_) => has_value(tables, id, field, wanted),
-        None => stands_from(tables, id, field, seen(tables, thread, id, field), wanted),
+        None => stands_from(
+            tables,
+            id,
+            field,
+            seen(tables, asker.thread, id, field),
+            wanted,
+        ),
     }
 }
 
 /// Whether the reply is possible for Get.
-pub(crate) fn answers_get(
-    tables: &Tables,
-    shape: &Shape,
-    thread: ThreadId,
-    id: u64,
-    field: u32,
-    reply: Reply,
-) -> bool
-    ensures { IsTrue result ↔ AnswersGet shape.now thread id field reply (state_of tables.now) }
+pub(crate) fn answers_get(asker: Asker<'_>, id: u64, field: u32, reply: Reply) -> bool
+    ensures { IsTrue result ↔ AnswersGet asker.entry.shape.now asker.entry.thread id field reply (state_of asker.entry.tables.now) }
 {
     match reply {
-        Reply::Val(wanted) => match object(tables, id) {
+        Reply::Val(wanted) => match object(asker.tables, id) {
             Some(object) => {
                 if object.owner.is_none() {
-                    reads_shared(tables, shape, thread, id, field, wanted, object)
+                    reads_shared(asker, id, field, wanted, object)
                 } else {
-                    is_owner(thread, object.owner) && has_value(tables, id, field, wanted)
+                    is_owner(asker.thread, object.owner)
+                        && has_value(asker.tables, id, field, wanted)
                 }
             }
             None => false,
@@ -143,52 +138,39 @@ pub(crate) fn answers_get(
 }
 
 /// Whether a put into a shared object may have the reply.
-fn puts_shared(
-    tables: &Tables,
-    shape: &Shape,
-    thread: ThreadId,
-    id: u64,
-    field: u32,
-    reply: Reply,
-    object: Object,
-) -> bool
-    requires agrees { IndexesAgree tables.now }
-    requires there { look nat_cmp tables.now.objects id ≡ Some object }
+fn puts_shared(asker: Asker<'_>, id: u64, field: u32, reply: Reply, object: Object) -> bool
+    requires agrees { IndexesAgree asker.tables.now }
+    requires there { look nat_cmp asker.tables.now.objects id ≡ Some object }
     requires shared { is_none object.owner ≡ true }
-    ensures { IsTrue result ↔ MayPut shape.now thread id field reply (state_of tables.now) }
+    ensures { IsTrue result ↔ MayPut asker.entry.shape.now asker.entry.thread id field reply (state_of asker.entry.tables.now) }
 {
-    match (reply, guard_level(tables, shape, thread, id, field, object)) {
+    match (reply, guard_level(asker, id, field, object)) {
         (Reply::Done, Some(Level::Write)) => true,
         (Reply::Refused(Fault::ReadOnly), Some(Level::Read)) => true,
-        (Reply::Refused(Fault::UnlockedSharedObject), _) => holds_nothing(tables, thread),
-        (Reply::Refused(Fault::WrongLock), None) => holds_something(tables, thread),
+        (Reply::Refused(Fault::UnlockedSharedObject), _) => {
+            holds_nothing(asker.tables, asker.thread)
+        }
+        (Reply::Refused(Fault::WrongLock), None) => holds_something(asker.tables, asker.thread),
         _ => false,
     }
 }
 
 /// Whether the reply is possible for Put.
-pub(crate) fn answers_put(
-    tables: &Tables,
-    shape: &Shape,
-    thread: ThreadId,
-    id: u64,
-    field: u32,
-    reply: Reply,
-) -> bool
-    requires { IndexesAgree tables.now }
-    ensures { IsTrue result ↔ AnswersPut shape.now thread id field reply (state_of tables.now) }
+pub(crate) fn answers_put(asker: Asker<'_>, id: u64, field: u32, reply: Reply) -> bool
+    requires { IndexesAgree asker.tables.now }
+    ensures { IsTrue result ↔ AnswersPut asker.entry.shape.now asker.entry.thread id field reply (state_of asker.entry.tables.now) }
 {
-    let Some(object) = object(tables, id) else {
+    let Some(object) = object(asker.tables, id) else {
         return false;
     };
     if field >= object.size {
         return false;
     }
     if object.owner.is_none() {
-        return puts_shared(tables, shape, thread, id, field, reply, object);
+        return puts_shared(asker, id, field, reply, object);
     }
     match reply {
-        Reply::Done => is_owner(thread, object.owner),
+        Reply::Done => is_owner(asker.thread, object.owner),
         _ => false,
     }
 }

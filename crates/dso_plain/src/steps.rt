@@ -13,11 +13,11 @@ use crate::changes::{enter, exit, resume, wait};
 use crate::clears::lose;
 use crate::grants::may;
 use crate::marks::{mark, mark_all};
-use crate::possible::guard_level;
+use crate::possible::{Asker, guard_level};
 use crate::reads::object;
 use crate::tables::Tables;
-use crate::writes::{count_read, end, make_object, print, put_own, put_shared, see};
-use dso_base::{Event, LockName, NoMemory, Reply, Request, Shape, ThreadId, Value};
+use crate::writes::{NewObject, count_read, end, make_object, print, put_own, put_shared, see};
+use dso_base::{Event, LockName, NoMemory, Reply, Request, Set, Shape, ThreadId};
 use std::alloc::Global;
 
 /// A read: under the guard the thread has seen the last place, without it the read is counted.
@@ -38,35 +38,33 @@ fn read(
     if object.owner.is_some() {
         return Ok(());
     }
-    match guard_level(tables, shape, thread, id, field, object) {
+    let asker = Asker {
+        tables,
+        shape,
+        thread,
+    };
+    match guard_level(asker, id, field, object) {
         Some(_) => see(tables, thread, id, field),
         None => count_read(tables),
     }
 }
 
 /// A put that may be done.
-fn put_field(
-    alloc: Global,
-    tables: &mut Tables,
-    thread: ThreadId,
-    id: u64,
-    field: u32,
-    value: Value,
-) -> Result<(), NoMemory>
+fn put_field(alloc: Global, tables: &mut Tables, thread: ThreadId, set: Set) -> Result<(), NoMemory>
     requires agrees { IndexesAgree tables.old }
     requires past { PastInvariant (state_of tables.old) }
-    ensures state { OnOk result (state_of tables.new ≡ After.apply (After.put thread id field value (is_shared ((state_of tables.old).objects id)) (state_of tables.old)) (state_of tables.old)) }
+    ensures state { OnOk result (state_of tables.new ≡ After.apply (After.put thread set.object set.field set.value (is_shared ((state_of tables.old).objects set.object)) (state_of tables.old)) (state_of tables.old)) }
     ensures agrees { OnOk result (IndexesAgree tables.new) }
 {
-    match object(tables, id) {
+    match object(tables, set.object) {
         Some(object) => {
             if object.owner.is_none() {
-                put_shared(alloc, tables, thread, id, field, value)
+                put_shared(alloc, tables, thread, set)
             } else {
-                put_own(tables, thread, id, field, value)
+                put_own(tables, thread, set)
             }
         }
-        None => put_own(tables, thread, id, field, value),
+        None => put_own(tables, thread, set),
     }
 }
 
@@ -88,35 +86,42 @@ fn notify(
     }
 }
 
-/// An act that is possible is made.
-fn act(
-    alloc: Global,
-    tables: &mut Tables,
-    shape: &Shape,
+/// An act, as an event tells it: who asked for what, what the answer was, and who was woken.
+#[derive(Clone, Copy)]
+struct Act {
     thread: ThreadId,
     request: Request,
     reply: Reply,
     woken: Option<ThreadId>,
-) -> Result<(), NoMemory>
+}
+
+/// An act that is possible is made.
+fn make_act(alloc: Global, tables: &mut Tables, shape: &Shape, act: Act) -> Result<(), NoMemory>
     requires kept { TablesInvariant tables.old }
-    requires possible { IsPossible shape.now thread request reply woken (state_of tables.old) }
-    ensures state { OnOk result (state_of tables.new ≡ After.apply (After.change_of shape.now thread request reply woken (state_of tables.old)) (state_of tables.old)) }
+    requires possible { IsPossible shape.now act.thread act.request act.reply act.woken (state_of tables.old) }
+    ensures state { OnOk result (state_of tables.new ≡ After.apply (After.change_of shape.now act.thread act.request act.reply act.woken (state_of tables.old)) (state_of tables.old)) }
     ensures agrees { OnOk result (IndexesAgree tables.new) }
 {
-    match (request, reply) {
-        (Request::New(class, size), Reply::Made(id)) => make_object(
-            alloc, tables, shape, thread, class, size, id,
-        ),
+    let thread = act.thread;
+    match (act.request, act.reply) {
+        (Request::New(class, size), Reply::Made(id)) => {
+            make_object(alloc, tables, shape, thread, NewObject { class, size, id })
+        }
         (Request::Get(id, field), Reply::Val(_)) => read(tables, shape, thread, id, field),
-        (Request::Put(id, field, value), Reply::Done) => put_field(
-            alloc, tables, thread, id, field, value,
-        ),
+        (Request::Put(object, field, value), Reply::Done) => {
+            let set = Set {
+                object,
+                field,
+                value,
+            };
+            put_field(alloc, tables, thread, set)
+        }
         (Request::Enter(lock, level), Reply::Done) => enter(alloc, tables, thread, lock, level),
         (Request::Exit(lock), Reply::Done) => exit(alloc, tables, thread, lock),
         (Request::Wait(lock), Reply::Done) => wait(alloc, tables, thread, lock),
         (Request::Timeout(lock), Reply::Done) => mark(alloc, tables, lock, thread),
         (Request::Resume(lock), Reply::Done) => resume(alloc, tables, thread, lock),
-        (Request::Notify(lock), Reply::Done) => notify(alloc, tables, lock, woken),
+        (Request::Notify(lock), Reply::Done) => notify(alloc, tables, lock, act.woken),
         (Request::NotifyAll(lock), Reply::Done) => mark_all(alloc, tables, lock),
         (Request::Print(value), Reply::Done) => print(alloc, tables, thread, value),
         (Request::End(fault), Reply::Done) => end(tables, thread, fault),
@@ -141,7 +146,15 @@ fn make(alloc: Global, tables: &mut Tables, shape: &Shape, event: &Event) -> Res
             request,
             reply,
             woken,
-        } => act(alloc, tables, shape, *thread, *request, *reply, *woken),
+        } => {
+            let act = Act {
+                thread: *thread,
+                request: *request,
+                reply: *reply,
+                woken: *woken,
+            };
+            make_act(alloc, tables, shape, act)
+        }
         Event::Lost(client) => lose(alloc, tables, *client),
     }
 }

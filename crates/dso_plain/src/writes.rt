@@ -12,7 +12,7 @@ ghost use Rattle.dso_plain.specs.Tables.{state_of};
 use crate::fields::make_fields;
 use crate::publish::publish;
 use crate::tables::{Object, Tables};
-use dso_base::{ClassId, Fault, NoMemory, Shape, ThreadId, Value};
+use dso_base::{ClassId, Fault, NoMemory, Set, Shape, ThreadId, Value};
 use dso_lookup::{push_at, put};
 use std::alloc::Global;
 
@@ -81,46 +81,46 @@ pub(crate) fn count_read(tables: &mut Tables) -> Result<(), NoMemory>
     Ok(())
 }
 
+/// What a New makes: an object of this class and size, by its id.
+#[derive(Clone, Copy)]
+pub(crate) struct NewObject {
+    pub(crate) class: ClassId,
+    pub(crate) size: u32,
+    pub(crate) id: u64,
+}
+
 /// The thread makes an object, private to it.
 pub(crate) fn make_object(
     alloc: Global,
     tables: &mut Tables,
     shape: &Shape,
     thread: ThreadId,
-    class: ClassId,
-    size: u32,
-    id: u64,
+    made: NewObject,
 ) -> Result<(), NoMemory>
     requires agrees { IndexesAgree tables.old }
     requires past { PastInvariant (state_of tables.old) }
-    requires absent { (state_of tables.old).objects id ≡ None }
-    ensures state { OnOk result (state_of tables.new ≡ After.apply (After.made_new shape.now thread class size id (state_of tables.old)) (state_of tables.old)) }
+    requires absent { (state_of tables.old).objects made.id ≡ None }
+    ensures state { OnOk result (state_of tables.new ≡ After.apply (After.made_new shape.now thread made.class made.size made.id (state_of tables.old)) (state_of tables.old)) }
     ensures agrees { OnOk result (IndexesAgree tables.new) }
 {
     let object = Object {
-        class,
-        size,
+        class: made.class,
+        size: made.size,
         owner: Some(thread),
     };
-    put(&mut tables.objects, id, object)?;
-    make_fields(&mut tables.heap, shape, class, id, size)?;
-    push_at(alloc, &mut tables.made, thread, id)?;
+    put(&mut tables.objects, made.id, object)?;
+    make_fields(&mut tables.heap, shape, made.class, made.id, made.size)?;
+    push_at(alloc, &mut tables.made, thread, made.id)?;
     Ok(())
 }
 
 /// A put into a private object.
-pub(crate) fn put_own(
-    tables: &mut Tables,
-    thread: ThreadId,
-    id: u64,
-    field: u32,
-    value: Value,
-) -> Result<(), NoMemory>
+pub(crate) fn put_own(tables: &mut Tables, thread: ThreadId, set: Set) -> Result<(), NoMemory>
     requires { IndexesAgree tables.old }
-    ensures state { OnOk result (state_of tables.new ≡ After.apply (After.put thread id field value false (state_of tables.old)) (state_of tables.old)) }
+    ensures state { OnOk result (state_of tables.new ≡ After.apply (After.put thread set.object set.field set.value false (state_of tables.old)) (state_of tables.old)) }
     ensures agrees { OnOk result (IndexesAgree tables.new) }
 {
-    put(&mut tables.heap, (id, field), value)?;
+    put(&mut tables.heap, (set.object, set.field), set.value)?;
     Ok(())
 }
 
@@ -129,20 +129,18 @@ pub(crate) fn put_shared(
     alloc: Global,
     tables: &mut Tables,
     thread: ThreadId,
-    id: u64,
-    field: u32,
-    value: Value,
+    set: Set,
 ) -> Result<(), NoMemory>
     requires agrees { IndexesAgree tables.old }
     requires past { PastInvariant (state_of tables.old) }
-    requires shared { IsShared id (state_of tables.old) }
-    ensures state { OnOk result (state_of tables.new ≡ After.apply (After.put thread id field value true (state_of tables.old)) (state_of tables.old)) }
+    requires shared { IsShared set.object (state_of tables.old) }
+    ensures state { OnOk result (state_of tables.new ≡ After.apply (After.put thread set.object set.field set.value true (state_of tables.old)) (state_of tables.old)) }
     ensures agrees { OnOk result (IndexesAgree tables.new) }
 {
-    let place = past_length(tables, id, field);
-    publish(alloc, tables, thread, value)?;
-    push_at(alloc, &mut tables.past, (id, field), value)?;
-    put(&mut tables.heap, (id, field), value)?;
-    put(&mut tables.seen, (thread, id, field), place)?;
+    let place = past_length(tables, set.object, set.field);
+    publish(alloc, tables, thread, set.value)?;
+    push_at(alloc, &mut tables.past, (set.object, set.field), set.value)?;
+    put(&mut tables.heap, (set.object, set.field), set.value)?;
+    put(&mut tables.seen, (thread, set.object, set.field), place)?;
     Ok(())
 }

@@ -6,5 +6,5 @@ use Rattle.dso_plain.proofs.steps.put_field.Goals as goal
 
 pub returns-then-is_none-clause-state : goal.returns-then-is_none-clause-state
 returns-then-is_none-clause-state c =
-    let e : IsShared c.args.id (state_of c.args.tables.now) = search rules in
-    subst (λ (b : Bool). OnOk c.put_shared.result (state_of c.put_shared.new.tables ≡ After.apply (After.put c.args.thread c.args.id c.args.field c.args.value b (state_of c.args.tables.now)) (state_of c.args.tables.now))) (sym e) c.put_shared.ensures.state
+    let e : IsShared c.args.set.object (state_of c.args.tables.now) = search rules in
+    subst (λ (b : Bool). OnOk c.put_shared.result (state_of c.put_shared.new.tables ≡ After.apply (After.put c.args.thread c.args.set.object c.args.set.field c.args.set.value b (state_of c.args.tables.now)) (state_of c.args.tables.now))) (sym e) c.put_shared.ensures.state

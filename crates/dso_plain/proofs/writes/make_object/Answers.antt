@@ -7,4 +7,4 @@ use Rattle.dso_plain.proofs.table_changes.NewAndPut.{object_made}
 use Rattle.dso_plain.proofs.writes.make_object.Goals as goal
 
 pub returns-clause-state : goal.returns-clause-state
-returns-clause-state c = object_made c.args.shape.now c.args.thread c.args.class c.args.size c.args.id c.args.tables.now c.requires.past c.requires.absent (look nat_cmp c.put.new.map) (lists_of thread_order c.push_at.new.map) (look field_order c.make_fields.new.heap) c.in_ok-put.ensures c.in_ok-push_at.ensures c.in_ok-make_fields.ensures
+returns-clause-state c = object_made c.args.shape.now c.args.thread c.args.made.class c.args.made.size c.args.made.id c.args.tables.now c.requires.past c.requires.absent (look nat_cmp c.put.new.map) (lists_of thread_order c.push_at.new.map) (look field_order c.make_fields.new.heap) c.in_ok-put.ensures c.in_ok-push_at.ensures c.in_ok-make_fields.ensures
