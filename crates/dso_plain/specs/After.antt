@@ -246,8 +246,3 @@ apply c s = record {
 -- the state after an event
 abbrev pub after : Shape → Event → PlainState → PlainState
 after shape e s = apply (change shape e s) s
-
--- The plain step: the event is possible in state s, and r is what it leaves.
-pub record PlainStep (shape : Shape) (e : Event) (s r : PlainState) : Type 0 where
-  pub may : May shape e s
-  pub leaves : r ≡ after shape e s

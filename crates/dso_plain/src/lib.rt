@@ -17,8 +17,11 @@ mod publish;
 mod reads;
 mod steps;
 mod tables;
+mod threads;
 mod writes;
 
 pub use count::Count;
 pub use plain::Plain;
+pub use possible::can_be_made;
 pub use tables::{Hold, Object, Tables};
+pub use threads::is_thread;

@@ -23,15 +23,15 @@ pub(crate) struct Asker<'a> {
 }
 
 /// How many elements an array has at most.
-const MOST_ELEMENTS: u32 = 256;
+const MOST_ELEMENTS: usize = 256;
 
-/// Whether there can be an object of this class with so many fields or elements.
-fn can_be_made(shape: &Shape, class: ClassId, size: u32) -> bool
+/// Whether there can be an object of this class with so many fields or elements. It takes no memory.
+pub fn can_be_made(shape: &Shape, class: ClassId, size: usize) -> bool
     ensures { IsTrue result ↔ CanBeMade shape.now class size }
 {
     match class {
         ClassId::Plain(number) => match shape.classes.get(number as usize) {
-            Some(class) => class.fields.len() == size as usize,
+            Some(class) => class.fields.len() == size,
             None => false,
         },
         ClassId::Array(_) => size <= MOST_ELEMENTS,
@@ -52,7 +52,7 @@ pub(crate) fn answers_new(
     match reply {
         Reply::Made(id) => id >= 1
             && object(tables, id).is_none()
-            && can_be_made(shape, class, size),
+            && can_be_made(shape, class, size as usize),
         _ => false,
     }
 }

@@ -15,6 +15,7 @@ ghost use Rattle.dso_plain.specs.Publishing.{with_shared, HasItsFields, private_
 
 use crate::fields::open_fields;
 use crate::tables::{Object, Tables};
+use crate::threads::is_thread;
 use dso_base::{NoMemory, ThreadId, Value};
 use dso_lookup::{PrivateObjects, put, reached_from};
 use std::alloc::Global;
@@ -25,7 +26,7 @@ pub(crate) fn is_owner(thread: ThreadId, owner: Option<ThreadId>) -> bool
     ensures { result ≡ State.is_owner thread owner }
 {
     match owner {
-        Some(owner) => owner.client == thread.client && owner.index == thread.index,
+        Some(owner) => is_thread(thread, owner),
         None => false,
     }
 }

@@ -156,11 +156,6 @@ newest_present : (v : Option Value) → newest (present v) ≡ v
 newest_present None = refl
 newest_present (Some v) = refl
 
--- a new past has one value at most
-short_present : (v : Option Value) → length (present v) ≤ 1
-short_present None = omega arith
-short_present (Some v) = omega arith
-
 -- what was private and is shared is shared
 shared_is : (t : ThreadId) (object : Option Object) → is_private_to t object ≡ true → is_shared (shared object) ≡ true
 shared_is t None e = absurd (cc e)

@@ -52,7 +52,3 @@ view_at t o f key = both_equal (ordering_then (thread_order t key.0) (nat_cmp o 
 -- one lock with a thread is another
 pub place_at : (l : LockName) (t : ThreadId) (key : LockName × ThreadId) → is_at_pair lock_order thread_order l t key ≡ is_place l t key
 place_at l t key = both_tests (lock_at l key.0) (thread_at t key.1)
-
--- two tests that tell the same write the same
-pub same_writes : {K V : Type 0} (p q : K → Bool) (value : K → V) (f : K → V) → ((key : K) → p key ≡ q key) → written (writes p value) f ≡ written (writes q value) f
-same_writes p q value f same = fun_ext (λ key. ap (λ b. or_old (cond b (Some (value key)) None) (f key)) (same key))

@@ -51,15 +51,6 @@ below_next k n = by (eqb_tells k n)
         rw h.0 (lt-ltb k (n + 1) (omega arith))
     by (inr h) = rw h.0 (more (ltb k n) refl h.1)
 
--- before the first field nothing is written
-pub none_below : {V : Type 0} (o : ℕ) (value old : ℕ × ℕ → V) → old ≡ written (writes (is_below o 0) value) old
-none_below o value old = fun_ext (λ key. by key (eqb key.0 o) (ltb key.1 0) (le-ltb key.1 0 (omega arith)))
-  where
-    by : (key : ℕ × ℕ) (a b : Bool) → b ≡ false → old key ≡ or_old (cond (a && b) (Some (value key)) None) (old key)
-    by key a true e = absurd (cc e)
-    by key true false e = refl
-    by key false false e = refl
-
 -- one field more
 pub one_more : {V : Type 0} (o n : ℕ) (value start old new : ℕ × ℕ → V) → old ≡ written (writes (is_below o n) value) start → new ≡ written (writes (is_field o n) (λ _. value (o, n))) old → new ≡ written (writes (is_below o (n + 1)) value) start
 one_more o n value start old new before e = e ∙ (at_field o n value old ∙ fun_ext (λ key. ap (λ x. or_old (cond (is_field o n key) (Some (value key)) None) x) (ap (λ f. f key) before) ∙ (by key (eqb key.0 o) (eqb key.1 n) (ltb key.1 n) ∙ ap (λ b. or_old (cond (eqb key.0 o && b) (Some (value key)) None) (start key)) (sym (below_next key.1 n)))))

@@ -18,10 +18,6 @@ regrouped false true false = refl
 regrouped false false true = refl
 regrouped false false false = refl
 
--- a reference that is added behind a list
-pub reference_added : (found : List ℕ) (named o : ℕ) → is_listed o (found ++ named ∷ []) ≡ (is_listed o found || eqb named o)
-reference_added found named o = list_any-append (λ x. eqb x o) found (named ∷ []) ∙ ap (λ b. is_listed o found || b) (sym (or_false (eqb named o)))
-
 -- of no field nothing
 pub named_none : (heap : ℕ × ℕ → Option Value) (a o : ℕ) (found : List ℕ) → is_listed o found ≡ (is_listed o found || names_below heap 0 a o)
 named_none heap a o found = or_false (is_listed o found)
