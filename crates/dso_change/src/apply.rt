@@ -61,8 +61,8 @@ fn make(
     Ok(())
 }
 
-/// Whom a done Notify woke.
-fn choice_of(woken: Option<ThreadId>) -> Choice
+/// Whom a done Notify of a client woke: the thread that it marked, else whom the server finds. It takes no memory.
+pub fn choice_of(woken: Option<ThreadId>) -> Choice
     ensures { result ≡ choice_of woken }
 {
     match woken {

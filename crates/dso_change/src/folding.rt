@@ -7,18 +7,12 @@ ghost use Rattle.dso_change.specs.Hands.{IsOnce};
 ghost use Rattle.dso_change.specs.Events.{MakesNew};
 
 use crate::apply::apply;
+use crate::bodies::copy;
 use crate::draft::Draft;
-use dso_base::{Body, Data, Ending, Event, NoMemory, Shape, ThreadId, Txn};
+use dso_base::{Body, Ending, Event, NoMemory, Shape, ThreadId, Txn};
 use dso_lookup::put;
-use std::alloc::{AllocError, Global};
+use std::alloc::Global;
 use std::collections::BTreeMap;
-
-/// A copy.
-fn copy<T: Data>(item: &T) -> Result<T, AllocError>
-    ensures { IfOk result (λ copy. copy ≡ item.now) }
-{
-    item.clone()
-}
 
 /// The bodies in a table by object, of each object the first one.
 fn table_of(alloc: Global, bodies: &[Body]) -> Result<BTreeMap<u64, Body>, NoMemory>

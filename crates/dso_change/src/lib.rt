@@ -12,7 +12,8 @@ mod opening;
 mod publish;
 mod sets;
 
-pub use bodies::set_in;
+pub use apply::choice_of;
+pub use bodies::{copy, set_in, write_field};
 pub use changes::changes_for;
 pub use draft::{Draft, put};
 pub use folding::fold;

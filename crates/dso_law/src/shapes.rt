@@ -4,10 +4,8 @@ ghost use Rattle.std.specs.Option.{option_copied};
 ghost use Rattle.dso_base.specs.Shape.{fields_at, guard_of, kind_of};
 ghost use Rattle.dso_law.specs.FitsDown.{FitFrom, FitsShape, HasSize};
 
-use dso_base::{Body, ClassId, FieldShape, Guard, Kind, LockName, Shape, Value, fits};
-
-/// How many elements an array has at most.
-const MOST_ELEMENTS: usize = 256;
+use dso_base::{Body, ClassId, FieldShape, Kind, LockName, Shape, Value, fits};
+use dso_plain::can_be_made;
 
 /// The field of the program's class of this number, None where there is none.
 fn field_at(shape: &Shape, number: u32, field: usize) -> Option<&FieldShape>
@@ -35,19 +33,7 @@ pub fn kind_at(shape: &Shape, class: ClassId, field: usize) -> Kind
 pub fn guard_at(shape: &Shape, class: ClassId, object: u64, field: u32) -> LockName
     ensures { result ≡ guard_of shape.now class object field }
 {
-    match class {
-        ClassId::Plain(number) => match field_at(shape, number, field as usize) {
-            Some(
-                FieldShape {
-                    guard: Guard::Name(name),
-                    ..
-                },
-            ) => LockName::Name(*name),
-            _ => LockName::Mon(object),
-        },
-        ClassId::Array(_) => LockName::Mon(object),
-        ClassId::Roots => LockName::Name(field),
-    }
+    shape.guard(class, object, field)
 }
 
 /// Whether an object of the class has so many fields or elements.
@@ -55,11 +41,7 @@ fn has_size(shape: &Shape, class: ClassId, size: usize) -> bool
     ensures { IsTrue result ↔ HasSize shape.now class size }
 {
     match class {
-        ClassId::Plain(number) => match shape.classes.get(number as usize) {
-            Some(class) => size == class.fields.len(),
-            None => false,
-        },
-        ClassId::Array(_) => size <= MOST_ELEMENTS,
+        ClassId::Plain(_) | ClassId::Array(_) => can_be_made(shape, class, size),
         ClassId::Roots => size == shape.roots as usize,
     }
 }

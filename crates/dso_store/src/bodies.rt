@@ -6,18 +6,11 @@ ghost use Rattle.dso_law.specs.Store.{opening_roots};
 ghost use Rattle.dso_store.specs.Graph.{with_news, with_sets};
 ghost use Rattle.dso_lookup.specs.Maps.{look};
 
-use dso_base::{Body, ClassId, Data, Items, NoMemory, Set, Shape, Value};
-use dso_change::set_in;
+use dso_base::{Body, ClassId, Items, NoMemory, Set, Shape, Value};
+use dso_change::{copy, set_in};
 use dso_lookup::put;
-use std::alloc::{AllocError, Global};
+use std::alloc::Global;
 use std::collections::BTreeMap;
-
-/// A copy.
-fn copy<T: Data>(item: &T) -> Result<T, AllocError>
-    ensures { IfOk result (λ copy. copy ≡ item.now) }
-{
-    item.clone()
-}
 
 /// So many nulls.
 fn nulls(alloc: Global, count: u32) -> Result<Vec<Value>, NoMemory>

@@ -30,23 +30,29 @@ fn sets_in(alloc: Global, row: &BTreeMap<u64, ()>, sets: &[Set]) -> Result<Vec<S
     Ok(held)
 }
 
+/// A client that holds objects, with the row of these.
+#[derive(Clone, Copy)]
+struct Holder<'a> {
+    client: u8,
+    row: &'a BTreeMap<u64, ()>,
+}
+
 /// Puts the changes for another client at the end, if there are any.
 fn add_changes(
     alloc: Global,
     client: u8,
     txn: &Txn,
-    other: u8,
-    row: &BTreeMap<u64, ()>,
+    other: Holder<'_>,
     changes: &mut Vec<(u8, Vec<Set>)>,
 ) -> Result<(), NoMemory>
-    ensures { OnOk result (messages_of changes.new.items ≡ messages_of changes.old.items ++ row_changes client txn.now.sets other (Some row.now)) }
+    ensures { OnOk result (messages_of changes.new.items ≡ messages_of changes.old.items ++ row_changes client txn.now.sets other.entry.client (Some other.entry.row.now)) }
 {
-    if other == client {
+    if other.client == client {
         return Ok(());
     }
-    let sets = sets_in(alloc, row, txn.sets.as_slice())?;
+    let sets = sets_in(alloc, other.row, txn.sets.as_slice())?;
     if !sets.as_slice().is_empty() {
-        changes.push((other, sets))?;
+        changes.push((other.client, sets))?;
     }
     Ok(())
 }
@@ -63,7 +69,11 @@ pub(crate) fn changes_of(
 {
     let mut changes = Vec::new(alloc);
     for (other, row) in holders {
-        add_changes(alloc, client, txn, *other, row, &mut changes)?;
+        let other = Holder {
+            client: *other,
+            row,
+        };
+        add_changes(alloc, client, txn, other, &mut changes)?;
     }
     Ok(changes)
 }
