@@ -9,3 +9,10 @@ pub enum News {
     Return,
     Loss,
 }
+
+/// News, and the client whose they are.
+#[derive(Clone, Copy)]
+pub(crate) struct ClientNews {
+    pub(crate) client: u8,
+    pub(crate) news: News,
+}

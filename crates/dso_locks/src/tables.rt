@@ -12,7 +12,7 @@ ghost use Rattle.dso_lookup.specs.Maps.{look};
 ghost use Rattle.dso_lookup.specs.Orders.{lock_order};
 
 use crate::lock::{Lock, serve};
-use crate::news::News;
+use crate::news::{ClientNews, News};
 use crate::queue::Request;
 use crate::told::Told;
 use dso_base::{Level, LockName, NoMemory};
@@ -96,16 +96,15 @@ fn change_at(
     alloc: Global,
     locks: &mut Slab<Lock>,
     place: usize,
-    client: u8,
-    news: News,
+    by: ClientNews,
     told: &mut Vec<Told>,
 ) -> Result<(), NoMemory>
-    requires { FitsNews client news (state_of (slab.get locks.old place)) }
+    requires { FitsNews by.client by.news (state_of (slab.get locks.old place)) }
     ensures changes { ChangesAt place locks.old locks.new }
-    ensures served { OnOk result ((lock : Lock) → slab.get locks.old place ≡ Some lock → IsServed lock.name (heard client news (state_in lock)) (state_of (slab.get locks.new place)) (messages_of told.old.items) (messages_of told.new.items)) }
+    ensures served { OnOk result ((lock : Lock) → slab.get locks.old place ≡ Some lock → IsServed lock.name (heard by.client by.news (state_in lock)) (state_of (slab.get locks.new place)) (messages_of told.old.items) (messages_of told.new.items)) }
 {
     if let Some(lock) = locks.get_mut(place) {
-        hear(lock, client, news)?;
+        hear(lock, by.client, by.news)?;
         serve(alloc, lock, told)?;
     }
     Ok(())
@@ -127,8 +126,11 @@ pub(crate) fn request(
 {
     let mut told = Vec::new(alloc);
     let place = place_of(alloc, tables, lock)?;
-    let news = News::Request(level);
-    change_at(alloc, &mut tables.locks, place, client, news, &mut told)?;
+    let by = ClientNews {
+        client,
+        news: News::Request(level),
+    };
+    change_at(alloc, &mut tables.locks, place, by, &mut told)?;
     Ok(told)
 }
 
@@ -148,14 +150,11 @@ pub(crate) fn returned(
     let Some(place) = tables.index.get(&lock).copied() else {
         return Ok(told);
     };
-    change_at(
-        alloc,
-        &mut tables.locks,
-        place,
+    let by = ClientNews {
         client,
-        News::Return,
-        &mut told,
-    )?;
+        news: News::Return,
+    };
+    change_at(alloc, &mut tables.locks, place, by, &mut told)?;
     Ok(told)
 }
 
@@ -172,8 +171,12 @@ pub(crate) fn lose(
     ensures placed { ArePlaced index.now locks.new }
     ensures told { OnOk result (AllTold (lost_by client) (keys index.now) (states_by index.now locks.old) (states_by index.now locks.new) told.new.items) }
 {
+    let by = ClientNews {
+        client,
+        news: News::Loss,
+    };
     for (_, place) in index {
-        change_at(alloc, locks, *place, client, News::Loss, told)?;
+        change_at(alloc, locks, *place, by, told)?;
     }
     Ok(())
 }
