@@ -1,11 +1,11 @@
 //! How an object stands with a client, and what is kept of it (`specs/Slots.antt`).
-ghost use Rattle.std.specs.Prelude.{◌≡◌, Some, length, ltb, slice_set};
+ghost use Rattle.std.specs.Prelude.{◌≡◌, Some};
 ghost use Rattle.std.specs.Bool.{OnTrue, OnFalse};
-ghost use Rattle.dso_change.specs.Hands.{with_field, has_field};
 ghost use Rattle.dso_table.specs.States.{is_resident, later_than};
 ghost use Rattle.dso_table.specs.Slots.{wrote, changed_last, has_value};
 
-use dso_base::{Body, Items, Set, Value};
+use dso_base::{Body, Set};
+use dso_change::write_field;
 use std::alloc::Global;
 
 /// How an object stands with a client where it isn't absent: asked for, or resident with this content.
@@ -21,29 +21,6 @@ pub struct Slot {
     pub object: u64,
     pub standing: Standing,
     pub changed: Option<u64>,
-}
-
-/// The values with this one in the field, as they were where there is no such field.
-fn with_value(values: Items<Value>, field: u32, value: Value) -> Items<Value>
-    ensures { result ≡ slice_set values field value }
-{
-    let mut all = values.into_vec();
-    let at = field as usize;
-    if at < all.len() {
-        all[at] = value;
-    }
-    Items::from_vec(all)
-}
-
-/// Writes the field of a body in place. False, with nothing changed, exactly where it has no such field.
-fn write_field(alloc: Global, body: &mut Body, field: u32, value: Value) -> bool
-    ensures found { result ≡ ltb field (length body.old.values) }
-    ensures written { body.new ≡ with_field field value body.old }
-{
-    let found = (field as usize) < body.values.len();
-    let values = std::mem::replace(&mut body.values, Items::new(alloc));
-    body.values = with_value(values, field, value);
-    found
 }
 
 /// The number of the last record that changed an object: this one, or the one before.

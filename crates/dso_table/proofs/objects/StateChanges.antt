@@ -4,19 +4,14 @@ use Rattle.std.proofs.Math.Path.{fun_ext}
 use Rattle.std.specs.Option.{option_map}
 use Rattle.dso_base.specs.declared.record.Body.{Body}
 use Rattle.dso_base.specs.declared.record.Set.{Set}
-use Rattle.dso_change.specs.Hands.{has_field}
 use Rattle.dso_lookup.specs.Maps.{writes, or_old, written}
 use Rattle.dso_table.specs.declared.slot.Slot.{Slot}
 use Rattle.dso_table.specs.declared.slot.Standing.TheVariants as standing
 use Rattle.dso_table.specs.declared.tables.Tables.{Tables}
 use Rattle.dso_table.specs.Slots.{wrote, changed_last, changed_before, has_slot_value}
-use Rattle.dso_table.specs.States.{State, is_resident, body_of, later_than, with_at, with_value, marked, put}
+use Rattle.dso_table.specs.States.{is_resident, later_than, with_at, with_value, marked, put}
 use Rattle.dso_table.specs.Tables.{slot_in, standing_of, mark_of, is_ordered, state_in, put_slot, TablesAgree}
 use Rattle.dso_table.proofs.lists.Numbers.{with_at_map, with_at_same}
-
--- states of which each part is the same
-pub same_state : (s t : State) → s.standing ≡ t.standing → s.marks ≡ t.marks → s.opened ≡ t.opened → s.wanted ≡ t.wanted → s.used ≡ t.used → s.residents ≡ t.residents → s.acked ≡ t.acked → s.limit ≡ t.limit → s ≡ t
-same_state s t a b c d e f g h = λ i. record { standing = a i; marks = b i; opened = c i; wanted = d i; used = e i; residents = f i; acked = g i; limit = h i }
 
 -- notes of which one more is there
 pub note_added : {K : Type 0} (at : K → Bool) (f g : K → Option (Unit {0})) → g ≡ written (writes at (λ _. Some tt)) f → (λ key. is_some (g key)) ≡ written (writes at (λ _. true)) (λ key. is_some (f key))
@@ -64,11 +59,6 @@ put_as_slot tables body changed more is = λ i. record (state_in tables) {
   marks = marks_last tables body.object changed i;
   residents = (state_in tables).residents + is i;
 }
-
--- whether a field can be written, by what is kept of the object
-pub value_there : (f : ℕ) (slot : Option Slot) → has_slot_value f slot ≡ has_field f (body_of (standing_of slot))
-value_there f None = refl
-value_there f (Some slot) = refl
 
 -- what a write makes of the standing
 pub standing_written : (change : Set) (changed : Option ℕ) (slot : Option Slot) → standing_of (option_map (wrote change changed) slot) ≡ option_map (with_value change.field change.value) (standing_of slot)

@@ -1,5 +1,5 @@
 -- What the tables tell after each change, and that they still agree.
-use Rattle.std.proofs.Common.{ℕ, ◌+◌, ◌-◌, ◌≡◌, refl, sym, ◌∙◌, ap, arith, true, false, ◌∷◌, take, Option, Some, None}
+use Rattle.std.proofs.Common.{ℕ, ◌+◌, ◌-◌, ◌≡◌, refl, sym, ◌∙◌, ap, arith, true, false, Option, Some, None}
 use Rattle.std.specs.Option.{option_map}
 use Rattle.std.specs.BTreeMap.{BTreeMap}
 use Rattle.std.specs.BTreeSet.{contains}
@@ -173,7 +173,3 @@ written_resident change changed (Some slot) = by slot.standing
     by : (s : Standing) → is_resident (standing_of (option_map (wrote change changed) (Some (record slot { standing = s })))) ≡ is_resident (Some s)
     by standing.Asked = refl
     by (standing.Resident body) = refl
-
--- an object was used
-pub told_used : (old : Tables) (order : Order) (o : ℕ) → is_resident ((state_in old).standing o) ≡ true → used_in order ≡ take (limit_in old.order) (o ∷ without o (used_in old.order)) → limit_in order ≡ limit_in old.order → number_in order ≡ number_in old.order → state_in (record old { order = order }) ≡ states.used o (state_in old)
-told_used old order o resident used limit number = rw resident (λ i. record (state_in old) { used = used i; residents = number i; limit = limit i })

@@ -1,5 +1,5 @@
 -- The order of use after a change: who is in it, how many, and that it still agrees.
-use Rattle.std.proofs.Common.{ℕ, suc, ◌+◌, ◌-◌, ◌≡◌, ◌≤◌, refl, sym, ◌∙◌, ap, subst, arith, Bool, true, false, cond, not, eqb, ◌&&◌, ◌||◌, List, [], ◌∷◌, ◌++◌, length, take, drop}
+use Rattle.std.proofs.Common.{ℕ, suc, ◌+◌, ◌-◌, ◌≡◌, ◌≤◌, refl, sym, ◌∙◌, ap, subst, arith, Bool, true, false, cond, not, eqb, ◌&&◌, ◌||◌, List, ◌∷◌, ◌++◌, length, take, drop}
 use Rattle.std.proofs.Math.Path.{fun_ext}
 use Rattle.std.proofs.lemmas.Bool.{eqb-true, eq-eqb}
 use Rattle.std.proofs.lemmas.List.{take-append-drop, take_all, length-append, length-take}
@@ -9,7 +9,7 @@ use Rattle.std.specs.Ordering.{nat_cmp}
 use Rattle.dso_lookup.specs.Search.{is_listed}
 use Rattle.dso_table.specs.declared.order.Order.{Order}
 use Rattle.dso_table.specs.States.{without, with_at}
-use Rattle.dso_table.specs.Tables.{used_in, limit_in, is_ordered, number_in, JoinedBy, IsEachOnce, OrderAgrees}
+use Rattle.dso_table.specs.Tables.{used_in, limit_in, is_ordered, number_in, IsEachOnce, OrderAgrees}
 use Rattle.dso_table.proofs.lists.Lists.{neither, listed_without, without_absent, length_without, once_without, once_front, apart_rest}
 use Rattle.dso_table.proofs.lists.Numbers.{either_way, with_at_told}
 
@@ -53,14 +53,6 @@ first_listed o p xs there = by (eqb o p) refl
         all : (a : Bool) → (a && not false) ≡ a
         all true = refl
         all false = refl
-
--- an order in which nothing changed
-pub moved_nowhere : (old new : Order) → OrderAgrees old → limit_in new ≡ limit_in old → used_in new ≡ used_in old → JoinedBy [] old.others new.others → IsMoved new (used_in old) (is_ordered old) (number_in old)
-moved_nowhere old new agrees limit used same = moved new (used_in old) (contains nat_cmp old.others) (is_ordered old) (number_in old) used (λ p. same.has p ∙ or_false (contains nat_cmp old.others p)) (λ p. refl) (omega (arith, same.number)) agrees.once (subst (λ n. length (used_in old) ≤ n) (sym limit) agrees.fits) agrees.apart
-  where
-    or_false : (b : Bool) → (b || false) ≡ b
-    or_false true = refl
-    or_false false = refl
 
 module _ (old new : Order) (agrees : OrderAgrees old) (o : ℕ) (limit : limit_in new ≡ limit_in old) where
   -- an object that is among those used last goes before them
