@@ -88,13 +88,6 @@ impl NodeLog {
         }
     }
 
-    /// The node whose entries these are. It takes no memory.
-    pub fn node(&self) -> Node
-        ensures { result ≡ self.now.node }
-    {
-        self.node
-    }
-
     /// All entries in order, each of the node and with a greater clock than the one before it. It takes no memory.
     pub fn into_entries(self) -> Vec<Entry>
         ensures entries { result.items ≡ self.entries }

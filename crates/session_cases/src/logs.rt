@@ -35,16 +35,6 @@ impl Logs {
         }
     }
 
-    /// Whose log it is that stands for a node.
-    pub fn node_of(&self, alloc: Global, text: &str) -> Result<String, NoMemory> {
-        let (node, _) = number_of(text);
-        match node {
-            0 => debugged(alloc, self.server.node()),
-            1 => debugged(alloc, self.first.node()),
-            _ => debugged(alloc, self.second.node()),
-        }
-    }
-
     /// The nodes and clocks of all entries in order. The logs are new then.
     pub fn merged(&mut self, alloc: Global) -> Result<String, NoMemory> {
         let old = std::mem::replace(self, Logs::new(alloc));

@@ -11,7 +11,6 @@
 //! | `server hello 1 0 0` | it takes a Hello: epoch, seen, clock |
 //! | `server break` | its connection breaks |
 //! | `log 2 5` | client 2 (0 is the server) adds an entry, having heard clock 5 |
-//! | `node 2` | whose log client 2's is |
 //! | `merge` | the entries of all logs, by clock and node |
 #![tactic(auto)]
 
@@ -56,7 +55,6 @@ fn told(
         "server" => ends::told(alloc, &mut ends.server, rest),
         "client" => ends::told(alloc, &mut ends.client, rest),
         "log" => logs.added(alloc, rest),
-        "node" => logs.node_of(alloc, rest),
         _ => logs.merged(alloc),
     }
 }
