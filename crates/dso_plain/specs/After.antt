@@ -1,5 +1,5 @@
 -- What an event leaves: what it writes into each part of the state.
-use Rattle.std.specs.Prelude.{ℕ, zero, suc, ◌-◌, ◌≡◌, Bool, true, false, cond, eqb, ltb, ◌&&◌, ◌||◌, is_some, pos}
+use Rattle.std.specs.Prelude.{ℕ, zero, suc, ◌-◌, Bool, true, false, cond, eqb, ltb, ◌&&◌, ◌||◌, is_some, pos}
 use Rattle.std.specs.Prelude.{Option, Some, None, List, [], ◌∷◌, length}
 use Rattle.dso_base.specs.declared.lock.Level.{Level}
 use Rattle.dso_base.specs.declared.lock.Level.TheVariants.{Write}
@@ -24,7 +24,6 @@ use Rattle.dso_base.specs.Following.{is_thread}
 use Rattle.dso_plain.specs.KeyTests.{is_lock, is_field, is_place, is_view}
 use Rattle.dso_lookup.specs.Maps.{writes, nowhere, written}
 use Rattle.dso_plain.specs.State.{Object, Hold, PlainState, is_mine, is_shared, size_of, hold_on_guard}
-use Rattle.dso_plain.specs.Possible.{May}
 
 -- What an event writes: for each part of the state the new value at each key, None where it writes nothing there.
 pub record Change : Type 0 where

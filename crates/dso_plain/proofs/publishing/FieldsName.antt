@@ -1,6 +1,5 @@
 -- The objects that the fields of an object name, added field by field to a list.
-use Rattle.std.proofs.Common.{ℕ, suc, ◌≡◌, refl, sym, ◌∙◌, ap, Bool, true, false, eqb, ◌||◌, Option, List, [], ◌∷◌, ◌++◌}
-use Rattle.std.proofs.lemmas.List.Folds.{list_any-append}
+use Rattle.std.proofs.Common.{ℕ, suc, ◌≡◌, refl, ◌∙◌, ap, Bool, true, false, ◌||◌, Option, List}
 use Rattle.dso_base.specs.declared.value.Value.{Value}
 use Rattle.dso_lookup.specs.Search.{is_listed}
 use Rattle.dso_plain.specs.After.{names_below, holds_reference}
