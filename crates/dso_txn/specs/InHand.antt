@@ -1,12 +1,14 @@
 -- What a thread has in hand, as its private objects and its open block keep it.
-use Rattle.std.specs.Prelude.{ℕ, Bool, eqb, ◌&&◌, Option, Some, None, List, find, slice_get}
+use Rattle.std.specs.Prelude.{ℕ, Bool, eqb, ◌&&◌, Option, Some, None, List, [], ◌∷◌, ◌++◌, find, slice_get}
 use Rattle.std.specs.Option.{option_map}
 use Rattle.std.specs.Ordering.{nat_cmp}
+use Rattle.dso_base.specs.declared.lock.ThreadId.{ThreadId}
 use Rattle.dso_base.specs.declared.record.Body.{Body}
+use Rattle.dso_base.specs.declared.record.Note.{Note}
 use Rattle.dso_base.specs.declared.record.Set.{Set}
 use Rattle.dso_base.specs.declared.value.Value.{Value}
 use Rattle.dso_change.specs.Hands as hands
-use Rattle.dso_change.specs.Hands.{Hand, sets_of}
+use Rattle.dso_change.specs.Hands.{Hand, IsBlank, sets_of}
 use Rattle.dso_lookup.specs.Maps.{look}
 use Rattle.dso_txn.specs.declared.open_block.OpenBlock.{OpenBlock}
 use Rattle.dso_txn.specs.declared.privates.Privates.{Privates}
@@ -14,6 +16,22 @@ use Rattle.dso_txn.specs.declared.privates.Privates.{Privates}
 -- the private objects, by id
 abbrev pub bodies_in : Privates → ℕ → Option Body
 bodies_in privates = look nat_cmp privates.bodies
+
+-- the thread whose block it is
+abbrev pub thread_of : OpenBlock → ThreadId
+thread_of block = block.thread
+
+-- nothing was done in the block
+abbrev pub IsEmpty : OpenBlock → Type 0
+IsEmpty block = IsBlank block.draft
+
+-- the block with a printed value more
+abbrev pub with_output : Value → OpenBlock → OpenBlock
+with_output value block = record block { draft = record block.draft { outs = block.draft.outs ++ value ∷ [] } }
+
+-- the block with a notification more
+abbrev pub with_note : Note → OpenBlock → OpenBlock
+with_note note block = record block { draft = record block.draft { notes = block.draft.notes ++ note ∷ [] } }
 
 -- the objects that the block published, by id
 abbrev pub news_in : OpenBlock → ℕ → Option Body

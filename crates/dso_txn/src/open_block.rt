@@ -1,9 +1,9 @@
 //! The open block of a thread (`specs/InHand.antt`).
-ghost use Rattle.std.specs.Prelude.{◌≡◌, [], ◌∷◌, ◌++◌, OnOk, OnErr, IfOk};
+ghost use Rattle.std.specs.Prelude.{◌≡◌, OnOk, IfOk};
 ghost use Rattle.std.specs.Option.{option_copied};
 ghost use Rattle.dso_base.specs.Block.{Work, put_shared, publish};
-ghost use Rattle.dso_change.specs.Hands.{hand_of, record_from, IsOnce, IsBlank};
-ghost use Rattle.dso_txn.specs.InHand.{hand_in, news_in, sets_in, value_in};
+ghost use Rattle.dso_change.specs.Hands.{hand_of, record_from, IsOnce};
+ghost use Rattle.dso_txn.specs.InHand.{IsEmpty, hand_in, news_in, sets_in, thread_of, value_in, with_note, with_output};
 ghost use Rattle.dso_txn.specs.declared.privates.Privates as privates;
 
 use crate::privates::Privates;
@@ -24,8 +24,8 @@ pub struct OpenBlock {
 impl OpenBlock {
     /// The empty block of the thread.
     pub fn new(alloc: Global, thread: ThreadId) -> OpenBlock
-        ensures thread { result.thread ≡ thread }
-        ensures empty { IsBlank result.draft }
+        ensures thread { thread_of result ≡ thread }
+        ensures empty { IsEmpty result }
     {
         OpenBlock {
             thread,
@@ -40,7 +40,7 @@ impl OpenBlock {
     /// It answers `NoMemory` where an allocation was refused; the block and the private objects are spent then.
     pub fn put(&mut self, alloc: Global, privates: &mut Privates, set: Set) -> Result<(), NoMemory>
         ensures work { OnOk result ((work : Work) → IsOnce work → hand_in privates.old self.old ≡ hand_of work → hand_in privates.new self.new ≡ hand_of (publish set.value (put_shared set.object set.field set.value work))) }
-        ensures thread { self.new.thread ≡ self.old.thread }
+        ensures thread { thread_of self.new ≡ thread_of self.old }
     {
         put(alloc, &mut privates.bodies, &mut self.draft, set)
     }
@@ -65,7 +65,7 @@ impl OpenBlock {
 
     /// Adds a printed value. It answers `NoMemory` where an allocation was refused; the block is spent then.
     pub fn print(&mut self, value: Value) -> Result<(), NoMemory>
-        ensures ok { OnOk result (self.new ≡ record self.old { draft = record self.old.draft { outs = self.old.draft.outs ++ value ∷ [] } }) }
+        ensures ok { OnOk result (self.new ≡ with_output value self.old) }
     {
         self.draft.outs.push(value)?;
         Ok(())
@@ -73,7 +73,7 @@ impl OpenBlock {
 
     /// Adds a notification. It answers `NoMemory` where an allocation was refused; the block is spent then.
     pub fn note(&mut self, note: Note) -> Result<(), NoMemory>
-        ensures ok { OnOk result (self.new ≡ record self.old { draft = record self.old.draft { notes = self.old.draft.notes ++ note ∷ [] } }) }
+        ensures ok { OnOk result (self.new ≡ with_note note self.old) }
     {
         self.draft.notes.push(note)?;
         Ok(())
@@ -84,9 +84,9 @@ impl OpenBlock {
     ///
     /// It answers `NoMemory` where an allocation was refused; the block is spent then.
     pub fn close(&mut self, alloc: Global, seq: u64, ending: Ending) -> Result<Txn, NoMemory>
-        ensures record { IfOk result (λ txn. (own : privates.Privates) (work : Work) → IsOnce work → hand_in own self.old ≡ hand_of work → txn ≡ record_from seq self.old.thread work ending) }
-        ensures empty { IsBlank self.new.draft }
-        ensures thread { self.new.thread ≡ self.old.thread }
+        ensures record { IfOk result (λ txn. (own : privates.Privates) (work : Work) → IsOnce work → hand_in own self.old ≡ hand_of work → txn ≡ record_from seq (thread_of self.old) work ending) }
+        ensures empty { IsEmpty self.new }
+        ensures thread { thread_of self.new ≡ thread_of self.old }
     {
         self.draft.close(alloc, seq, self.thread, ending)
     }
