@@ -22,7 +22,7 @@ ORACLE = os.path.join(TOP, '..', 'shared', 'oracle', 'main.py')
 # journals of examples, each with the options of its run
 OF_EXAMPLES = {'bounded_buffer': ['--seed', '0'], 'broken_connection': [], 'crossed_locks': [], 'faults': [],
                'handover': [], 'long_list': [], 'lost_client': []}
-OF_PROGRAMS = ['lost_notifier', 'missed_notification', 'nested_wait', 'own_circle', 'three_circle']
+OF_PROGRAMS = ['lost_notifier', 'missed_notification', 'nested_wait', 'own_circle', 'own_wake', 'three_circle']
 NAMES = [*OF_EXAMPLES, *OF_PROGRAMS]
 
 
@@ -201,7 +201,7 @@ class Why(Cases):
         self.check('own_circle',
                    'thread 1.1 ' + told % (75, 'm3', '1.2', 70),
                    'thread 1.2 ' + told % (78, 'm1', '1.1', 63),
-                   'the circle: 1.1 waits for 1.2, 1.2 waits for 1.1')
+                   'the circle, where the run stalled: 1.1 waits for 1.2, 1.2 waits for 1.1')
 
     def test_notification_that_came_before(self):
         self.check('missed_notification',
@@ -220,6 +220,44 @@ class Why(Cases):
                    'thread 1.1 waits for a notification of m1 since line 65; the last one since, of 2.1 at line 111, '
                    'woke nobody: its client was lost at line 104, before its record was taken',
                    'thread 2.1 ended at line 114, was lost with its client at line 104')
+
+    def test_woken_but_a_thread_beside_is_inside(self):
+        self.check('own_wake',
+                   'thread 1.1 waits for m1 at write (was woken at line 74), 1.2 is inside since line 71',
+                   'thread 1.2 waits for a notification of m3 since line 82; none came in the whole run')
+
+    def test_lease_that_moved_on(self):
+        """Client 3 had the lock and gave it back, 1.1 entered it twice and left it once, and 2.1 wants it."""
+        record = 'commit 1 3.1 new 0 set 0 out 0 note 0 exit m5'
+        told = run('why', self.written([
+            '1 c3 act 3.1 ; to s request m5 write', '2 s took c3 request m5 write ; to c3 grant m5 write',
+            '3 c3 took s grant m5 write', '4 c3 act 3.1 ; event enter m5 write done',
+            '5 c3 act 3.1 ; to s %s ; event exit m5 done' % record, '1 c1 act 1.1 ; to s request m5 write',
+            '6 s took c3 %s ; to c3 ack 1' % record, '7 s took c1 request m5 write ; to c3 recall m5',
+            '7 c3 took s ack 1', '8 c3 took s recall m5 ; to s return m5 0',
+            '9 s took c3 return m5 0 ; to c1 grant m5 write', '10 c1 took s grant m5 write',
+            '11 c1 act 1.1 ; event enter m5 write done', '12 c1 act 1.1 ; event enter m5 write done',
+            '13 c1 act 1.1 ; event exit m5 done', '1 c2 act 2.1 ; to s request m5 write',
+            '10 s took c2 request m5 write ; to c1 recall m5', '14 c1 took s recall m5'])).stdout.split('\n')
+        untold = "thread %s did its last act at line %d, and the journal doesn't tell what it asks next; " \
+                 'nothing that it tells holds it up'
+        self.assertEqual(told, [
+            untold % ('1.1', 15),
+            'thread 2.1 waits for m5 at write (asked for it at line 16): c1 has it at write since line 11, '
+            '1.1 is inside since line 13',
+            untold % ('3.1', 5), 'not held up: 1.1, 3.1; the run was cut off', ''])
+
+    def test_what_became_of_a_notification(self):
+        start = 'thread 1.1 waits for a notification of m1 since line 50; the last one since, of 2.1 at line 67, woke '
+        # the record goes at line 68, and is taken at line 69
+        for most, woken in {67: "nobody: its record wasn't taken", 68: "nobody: its record wasn't taken", 69: '1.1'}.items():
+            told = run('why', self.part('handover', most)).stdout.split('\n')
+            self.assertEqual(told[0], start + woken)
+
+    def test_woken_and_not_yet_asked(self):
+        told = run('why', self.part('nested_wait', 144)).stdout.split('\n')
+        self.assertEqual(told[0], 'thread 1.1 wants m1 at write (was woken at line 144), '
+                                  'and its client has to ask for it')
 
     def test_finished(self):
         self.check('handover', 'thread 1.1 ended at line 94', 'thread 2.1 ended at line 71', 'nobody waits')
@@ -357,6 +395,7 @@ class Refusals(Cases):
         self.check(lines[:6] + [''], "line 7: '' where a clock should stand")
         self.check(lines[:3] + ['4 c1 act 1.1 ; event enter n0 done'],
                    "line 4: 'done' where read or write should stand")
+        self.check(lines[:3] + ['4 c1 act 1.1 more ; event pause done'], "line 4: 'more' where nothing should stand")
         self.check(lines[:3] + ['4 c1 act 2.1 ; event pause done'], 'line 4: thread 2.1 acts at c1')
         self.check(lines[:3] + ['4 c1 act 1.1 ; event pause done ; to c2 recall n0'],
                    'line 4: c1 sends to a node that it has no connection with')

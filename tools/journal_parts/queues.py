@@ -41,6 +41,10 @@ class Queues:
         """{client: (level, entry)}"""
         return self.leases.get(lock, {})
 
+    def has_asked(self, lock, client):
+        """Whether a client is in the queue."""
+        return any(asked[0] == client for asked in self.queues.get(lock, []))
+
     def before(self, lock, client):
         """The clients in the queue before this one."""
         clients = [asked[0] for asked in self.queues.get(lock, [])]

@@ -1,15 +1,20 @@
 """What each thread waits for at the end of a journal, and who has it."""
 from typing import NamedTuple, Tuple
 
+from circle import circle
 from entries import node_name
 from words import Thread
 
 
 class Need(NamedTuple):
-    """What keeps a thread: in words, and the threads that it waits for. `is_free` where nothing does."""
+    """What keeps a thread: in words, and the threads that it waits for. `is_free` where nothing does.
+
+    The doubt is 0, or 1 where this stands only if the run stalled, or 2 where the thread then waits for one of several
+    locks, so for some of these threads alone."""
     text: str
     behind: Tuple[Thread, ...] = ()
     is_free: bool = False
+    doubt: int = 0
 
 
 class Stall:
@@ -19,6 +24,17 @@ class Stall:
         self.history = history
         self.under_way = history.under_way()
         self.needs = {thread: self.need(thread) for thread in history.open_threads()}
+        self.free = [thread for thread, need in self.needs.items() if need.is_free]
+        # whether something could still go on
+        self.is_cut_off = bool(self.under_way or self.free)
+
+    def circle(self):
+        """The surest circle in which threads wait for each other, with its doubt, or none."""
+        for doubt in (0,) if self.is_cut_off else (0, 1, 2):
+            threads = circle({thread: need.behind for thread, need in self.needs.items() if need.doubt <= doubt})
+            if threads:
+                return threads, doubt
+        return [], 0
 
     def need(self, thread):
         last, wait = self.history.last(thread), self.history.spans.waiting.get(thread)
@@ -44,20 +60,24 @@ class Stall:
 
     def lock_need(self, thread, lock, level, since):
         """Of a thread that wants to be inside a lock."""
+        wish = '%s at %s (%s)' % (lock, level, since)
+        if self.is_asked(thread.client, lock):
+            text, behind = self.lease_need(thread.client, lock, level)
+            return Need('waits for %s: %s' % (wish, text), behind)
         lease = self.history.spans.leased.get((thread.client, lock))
         if lease is None:
-            text, behind = self.lease_need(thread.client, lock, level)
-            return Need('waits for %s at %s (%s): %s' % (lock, level, since, text), behind)
+            return Need('wants %s, and its client has to ask for it' % wish, is_free=True)
         inside = [hold for hold in self.history.insiders(thread.client, lock) if hold.thread != thread]
         if inside:
-            return Need('waits for %s at %s (%s), %s' % (lock, level, since, inside_text(inside)), threads_of(inside))
-        return Need('wants %s at %s (%s), where nobody is inside' % (lock, level, since), is_free=True)
+            return Need('waits for %s, %s' % (wish, inside_text(inside)), threads_of(inside))
+        if (lease.level, level) == ('read', 'write'):
+            return Need('waits for %s, which its client has at read' % wish)
+        return Need('wants %s, where nobody is inside' % wish, is_free=True)
 
     def lease_need(self, client, lock, level):
         """Why a client hasn't the lease that it asked for: in words, and who is inside elsewhere."""
-        for letter in self.under_way:
-            if letter.client == client and letter.message.lock == lock and letter.message.kind in ('request', 'grant'):
-                return 'its %s is under way' % letter.message.kind, ()
+        for letter in self.lease_letters(client, lock):
+            return 'its %s is under way' % letter.message.kind, ()
         parts, behind = [], []
         ahead = self.history.queues.before(lock, client)
         for holder, (had, granted) in sorted(self.history.queues.holders(lock).items()):
@@ -114,10 +134,10 @@ class Stall:
         start = "did its last act at line %d, and the journal doesn't tell what it asks next" % last.line
         closed = self.closed_locks(last.thread)
         if not closed:
-            return Need(start + '; nothing holds it up', is_free=True)
+            return Need(start + '; nothing that it tells holds it up', is_free=True)
         told = ' or '.join('%s (%s)' % (lock, text) for lock, (text, _) in sorted(closed.items()))
-        behind = next(iter(closed.values()))[1] if len(closed) == 1 else ()
-        return Need('%s; where the run stalled it waits for %s' % (start, told), behind)
+        behind = tuple(other for _, others in closed.values() for other in others)
+        return Need('%s; where the run stalled it waits for %s' % (start, told), behind, doubt=min(len(closed), 2))
 
     def closed_locks(self, thread):
         """The locks that a thread may have to wait for without a request: lock -> (why, who is inside)."""
@@ -128,13 +148,18 @@ class Stall:
                 closed[lock] = inside_text(inside), threads_of(inside)
         for letter in self.history.letters:
             lock = letter.message.lock
-            if letter.client == client and letter.message.kind == 'request' and self.is_asked(client, lock, letter):
+            if letter.client == client and letter.message.kind == 'request' and self.is_asked(client, lock):
                 closed[lock] = self.lease_need(client, lock, letter.message.level)
         return closed
 
-    def is_asked(self, client, lock, letter):
-        queue = self.history.queues.queues.get(lock, [])
-        return letter.taken is None or any(asked[0] == client for asked in queue)
+    def is_asked(self, client, lock):
+        """Whether a client asked for a lease that it doesn't have yet."""
+        return bool(self.lease_letters(client, lock)) or self.history.queues.has_asked(lock, client)
+
+    def lease_letters(self, client, lock):
+        """A request or a grant of a lock that is under way."""
+        return [letter for letter in self.under_way if letter.client == client and letter.message.lock == lock
+                and letter.message.kind in ('request', 'grant')]
 
 
 def is_notification(entry, lock):

@@ -1,11 +1,12 @@
 """Why a run stalled, and what a thread did before it faulted."""
-from circle import circle
 from entries import fault_name
 from history import History
 from stall import Stall
 
 # how many of its last events are told of a thread that faulted
 LAST = 10
+# what is said of a circle, by its doubt
+CIRCLES = ('the circle', 'the circle, where the run stalled', 'a circle that there may be, where the run stalled')
 
 
 def fault_lines(history, thread):
@@ -33,20 +34,20 @@ def thread_text(history, stall, thread):
 
 
 def circle_line(stall):
-    threads = circle({thread: need.behind for thread, need in stall.needs.items()})
+    threads, doubt = stall.circle()
     if not threads:
         return []
+    start = CIRCLES[doubt]
     pairs = zip(threads, threads[1:] + threads[:1])
-    return ['the circle: ' + ', '.join('%s waits for %s' % pair for pair in pairs)]
+    return ['%s: %s' % (start, ', '.join('%s waits for %s' % pair for pair in pairs))]
 
 
 def cut_line(stall):
-    """Whether something can still go on, so that the run didn't stall."""
-    free = [str(thread) for thread, need in stall.needs.items() if need.is_free]
+    """Whether something could still go on, so that the run didn't stall."""
     if stall.under_way:
         return ['messages are under way (%d): the run was cut off' % len(stall.under_way)]
-    if free:
-        return ['%s can go on: the run was cut off' % ', '.join(free)]
+    if stall.free:
+        return ['not held up: %s; the run was cut off' % ', '.join(map(str, stall.free))]
     return []
 
 
