@@ -250,7 +250,8 @@ class Why(Cases):
     def test_what_became_of_a_notification(self):
         start = 'thread 1.1 waits for a notification of m1 since line 50; the last one since, of 2.1 at line 67, woke '
         # the record goes at line 68, and is taken at line 69
-        for most, woken in {67: "nobody: its record wasn't taken", 68: "nobody: its record wasn't taken", 69: '1.1'}.items():
+        nobody = "nobody: its record wasn't taken"
+        for most, woken in ((67, nobody), (68, nobody), (69, '1.1')):
             told = run('why', self.part('handover', most)).stdout.split('\n')
             self.assertEqual(told[0], start + woken)
 
