@@ -247,6 +247,20 @@ class Why(Cases):
             '1.1 is inside since line 13',
             untold % ('3.1', 5), 'not held up: 1.1, 3.1; the run was cut off', ''])
 
+    def test_resume_gives_back_all_entries(self):
+        """1.1 entered the lock twice before its wait, and left it once since."""
+        records = ['commit 1 1.1 new 0 set 0 out 0 note 0 wait m5',
+                   'commit 2 1.2 new 0 set 0 out 0 note 1 m5 here 1.1 exit m5']
+        told = run('why', self.written([
+            '1 c1 act 1.1 ; to s request m5 write', '2 s took c1 request m5 write ; to c1 grant m5 write',
+            '3 c1 took s grant m5 write', '4 c1 act 1.1 ; event enter m5 write done',
+            '5 c1 act 1.1 ; event enter m5 write done', '6 c1 act 1.1 ; to s %s ; event wait m5 done' % records[0],
+            '7 c1 act 1.2 ; event enter m5 write done', '8 c1 act 1.2 ; event notify m5 done woke 1.1',
+            '9 c1 act 1.2 ; to s %s ; event exit m5 done' % records[1], '10 c1 act 1.1 ; event resume m5 done',
+            '11 c1 act 1.1 ; event exit m5 done', '7 s took c1 %s ; to c1 ack 1' % records[0],
+            '10 s took c1 %s ; to c1 ack 2' % records[1], '12 c1 took s ack 1', '13 c1 took s ack 2'])).stdout
+        self.assertIn('where the run stalled it waits for m5 (1.1 is inside since line 10)\n', told)
+
     def test_what_became_of_a_notification(self):
         start = 'thread 1.1 waits for a notification of m1 since line 50; the last one since, of 2.1 at line 67, woke '
         # the record goes at line 68, and is taken at line 69

@@ -10,7 +10,7 @@ from picture import HEAD, ROW, Picture
 
 FOLDER = os.path.dirname(os.path.abspath(__file__))
 # the room of a mark with its meaning in the legend, in pixels, and how many stand in a row
-MEANING = 170
+MEANING = 180
 MEANINGS = 5
 LINE = 18
 
