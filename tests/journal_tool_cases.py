@@ -19,6 +19,8 @@ STORED = os.path.join(TOP, 'tests', 'journals')
 EXAMPLES = os.path.join(TOP, 'crates', 'run_cases', 'data')
 PROGRAM = os.path.join(TOP, 'crates', 'dsorun', 'out', 'dsorun')
 ORACLE = os.path.join(TOP, '..', 'shared', 'oracle', 'main.py')
+# what of the rules the other reading is asked for: all that dsorun runs
+STAGE = '16'
 # journals of examples, each with the options of its run
 OF_EXAMPLES = {'bounded_buffer': ['--seed', '0'], 'broken_connection': [], 'crossed_locks': [], 'faults': [],
                'handover': [], 'long_list': [], 'lost_client': []}
@@ -86,7 +88,7 @@ class Journals(unittest.TestCase):
                 with self.subTest(name=name, maker=maker), tempfile.TemporaryDirectory() as folder:
                     made = os.path.join(folder, 'journal')
                     subprocess.run([*maker, 'sim', *self.words(name), '--journal', made], stdout=subprocess.DEVNULL,
-                                   env=dict(os.environ, DSO_STAGE='16'), check=False)
+                                   env=dict(os.environ, DSO_STAGE=STAGE), check=False)
                     with open(made, encoding='utf-8') as file:
                         self.assertEqual(file.read().splitlines(), lines_of(name))
 
