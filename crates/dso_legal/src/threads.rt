@@ -148,6 +148,15 @@ impl ThreadState {
     }
 }
 
+/// An act, as an event tells it: whose it is, what was asked, what the answer was, and who was woken.
+#[derive(Clone, Copy)]
+struct ThreadAct {
+    thread: ThreadId,
+    request: Request,
+    reply: Reply,
+    woken: Option<ThreadId>,
+}
+
 /// What is kept of a client: its threads, and the blocks that they ended, in the order of their endings.
 #[derive(Drop)]
 pub(crate) struct ClientState {
@@ -202,26 +211,19 @@ impl ClientState {
     }
 
     /// Takes in an act of a thread.
-    fn act(
-        &mut self,
-        alloc: Global,
-        thread: ThreadId,
-        request: Request,
-        reply: Reply,
-        woken: Option<ThreadId>,
-    ) -> Result<(), NoMemory>
-        requires { CountsFit ((client_state_in self.old).threads thread) }
-        ensures { OnOk result (client_state_in self.new ≡ client_state_after (Act thread request reply woken) (client_state_in self.old)) }
+    fn act(&mut self, alloc: Global, act: ThreadAct) -> Result<(), NoMemory>
+        requires { CountsFit ((client_state_in self.old).threads act.thread) }
+        ensures { OnOk result (client_state_in self.new ≡ client_state_after (Act act.thread act.request act.reply act.woken) (client_state_in self.old)) }
     {
         let event = Event::Act {
-            thread,
-            request,
-            reply,
-            woken,
+            thread: act.thread,
+            request: act.request,
+            reply: act.reply,
+            woken: act.woken,
         };
-        let mut state = self.take_thread(alloc, thread);
-        let ended = state.take(alloc, request, reply, event)?;
-        put(&mut self.threads, thread, state)?;
+        let mut state = self.take_thread(alloc, act.thread);
+        let ended = state.take(alloc, act.request, act.reply, event)?;
+        put(&mut self.threads, act.thread, state)?;
         add_block(&mut self.ended, ended)?;
         Ok(())
     }
@@ -238,7 +240,15 @@ impl ClientState {
                 request,
                 reply,
                 woken,
-            } => self.act(alloc, thread, request, reply, woken),
+            } => {
+                let act = ThreadAct {
+                    thread,
+                    request,
+                    reply,
+                    woken,
+                };
+                self.act(alloc, act)
+            }
             Event::Lost(_) => Ok(()),
         }
     }

@@ -17,6 +17,7 @@ ghost use Rattle.dso_legal.specs.JournalPassTables.{no_server_state, server_stat
 
 use dso_base::{Down, Input, Items, LockName, NoMemory, Sent, ThreadId, Up};
 use dso_lookup::{put, take};
+use dso_plain::is_thread;
 use std::alloc::Global;
 use std::collections::BTreeMap;
 use std::mem::replace;
@@ -56,13 +57,6 @@ fn append(
     list.extend_from_slice(threads)?;
     put(waiters, lock, Items::from_vec(list))?;
     Ok(())
-}
-
-/// Whether the two threads are one.
-fn is_thread(thread: ThreadId, other: ThreadId) -> bool
-    ensures { result ≡ is_thread thread other }
-{
-    other.client == thread.client && other.index == thread.index
 }
 
 /// Takes the thread out of the list.

@@ -227,8 +227,3 @@ module _ (p : Settings) (t : ThreadId) (client : List Entry) (start_state s : Pl
 
   pub may_monitor : (l : LockName) (reply : Reply) → Some (monitor_reply (hold_level (hold_of t l client))) ≡ Some reply → AnswersMonitor t l reply s
   may_monitor l reply e = subst (λ r. AnswersMonitor t l r s) {x = monitor_reply (hold_level (hold_of t l client))} (cc e) (monitor_answers l (hold_level (hold_of t l client)) refl)
-
--- A thread that doesn't wait never asks to resume.
-pub never_resumes : {A : Type 0} (t : ThreadId) (client : List Entry) → locks_of t client ≡ locks_through t (events_in t client) no_locks → (l : LockName) → (locks_of t client).waiting ≡ None
-    → KeepsLocks (Resume l) (locks_through t (events_in t client) no_locks) → A
-never_resumes t client same l awake waits = absurd (subst (λ waiting. IsWaitingOn l waiting) (ap (λ (locks : Locks). locks.waiting) (sym same) ∙ awake) waits)

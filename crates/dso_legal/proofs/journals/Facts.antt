@@ -1,6 +1,6 @@
 -- Small facts that proofs of journals share.
-use Rattle.std.specs.Prelude.{ℕ, suc, ◌≡◌, ◌≢◌, ◌↔◌, true, Option, Some, None, is_some}
-use Rattle.std.proofs.Common.{refl, arith}
+use Rattle.std.specs.Prelude.{ℕ, suc, ◌≡◌, ◌≢◌, true, Option, Some, None, is_some}
+use Rattle.std.proofs.Common.{arith}
 use Rattle.dso_base.specs.declared.lock.Level.TheVariants.{Read, Write}
 use Rattle.dso_base.specs.declared.value.Kind.{Kind}
 use Rattle.dso_base.specs.declared.value.ClassId.TheVariants.{Plain, Array, Roots}
@@ -21,10 +21,6 @@ isnt_roots = λ e. cc
 -- nor is one of arrays
 pub isnt_roots_array : {k : Kind} → Array k ≢ Roots
 isnt_roots_array = λ e. cc
-
--- object 0 is of class Roots
-pub both_roots : (Roots ≡ Roots) ↔ ◌≡◌ {A = ℕ} 0 0
-both_roots = (λ e. refl, λ e. refl)
 
 -- a lease at Write isn't at Read
 pub not_read : {A : Type 0} → Some Write ≡ Some Read → A

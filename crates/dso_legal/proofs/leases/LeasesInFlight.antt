@@ -2,7 +2,6 @@
 -- come.
 use Rattle.std.proofs.Common.{ℕ, ◌≡◌, refl, sym, ◌∙◌, ap, subst, Bool, true, false, cond, Option, None, List, [], ◌∷◌}
 use Rattle.dso_base.specs.declared.journal.Entry.{Entry}
-use Rattle.dso_base.specs.declared.journal.Input.TheVariants as input
 use Rattle.dso_base.specs.declared.journal.Node.TheVariants.{Server, Client}
 use Rattle.dso_base.specs.declared.lock.LockName.{LockName}
 use Rattle.dso_base.specs.declared.lock.ThreadId.{ThreadId}
@@ -14,7 +13,7 @@ use Rattle.dso_plain.specs.KeyTests.{is_lock}
 use Rattle.dso_law.specs.declared.readings.Standing.{Standing}
 use Rattle.dso_law.specs.Settings.{Settings}
 use Rattle.dso_law.specs.Entries.{entries_of}
-use Rattle.dso_law.specs.Channels.{up_in_flight, down_in_flight, IsFirst, TakesFirst}
+use Rattle.dso_law.specs.Channels.{up_in_flight, down_in_flight}
 use Rattle.dso_law.specs.Leases.{standing_up, standing_down, standing}
 use Rattle.dso_law.specs.ServerReadings.{is_lost, counted}
 use Rattle.dso_law.specs.Granting.{standing_with, leased_to}
@@ -51,7 +50,3 @@ unleased_behind p next c l es follow alive none =
 -- what the rule says of a server's entry
 pub server_rule : (p : Settings) (next : ThreadId → List Event → Option Request) (e : Entry) (es : List Entry) → e.node ≡ Server → MayFollow p next e es → ServerFollows p next e es
 server_rule p next e es is h = subst (λ n. NodeFollows p next n e es) is h.rule
-
--- and the message that it takes is the first in flight
-pub server_first : (p : Settings) (next : ThreadId → List Event → Option Request) (d : ℕ) (m : Up) (e : Entry) (es : List Entry) → e.node ≡ Server → MayFollow p next e es → e.input ≡ input.TookUp d m → IsFirst m (up_in_flight d es)
-server_first p next d m e es is h takes = subst (λ i. TakesFirst i Server es) takes (subst (λ n. TakesFirst e.input n es) is h.channels)

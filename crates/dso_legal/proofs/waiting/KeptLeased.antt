@@ -66,11 +66,6 @@ unkept_isnt Away e = absurd (cc e)
 unkept_isnt Kept e = refl
 unkept_isnt Gone e = absurd (cc e)
 
--- either way the same
-same_either_way : {A : Type 0} (b : Bool) (x : A) → cond b x x ≡ x
-same_either_way true x = refl
-same_either_way false x = refl
-
 -- At the server: a client d's message that fits and may come.
 module _ (p : Settings) (d : ℕ) (l : LockName) (t : ThreadId) (server : List Entry) (s : Place) where
   abbrev IsLeased : Standing → Type 0

@@ -10,8 +10,8 @@ take-requires c = subst CountsFit (sym c.take_thread-state.ensures.was) c.requir
 
 pub returns : goal.returns
 returns c =
-    let event = Act c.args.thread c.args.request c.args.reply c.args.woken in
-    let held = c.in_ok-ended.ensures.state ∙ ap (λ state. thread_state_after c.args.request c.args.reply event state) c.take_thread-state.ensures.was in
-    let block = c.in_ok-ended.ensures.ended ∙ ap (λ state. block_ended (ends_block c.args.request c.args.reply state) event state.block) c.take_thread-state.ensures.was in
+    let event = Act c.args.act.thread c.args.act.request c.args.act.reply c.args.act.woken in
+    let held = c.in_ok-ended.ensures.state ∙ ap (λ state. thread_state_after c.args.act.request c.args.act.reply event state) c.take_thread-state.ensures.was in
+    let block = c.in_ok-ended.ensures.ended ∙ ap (λ state. block_ended (ends_block c.args.act.request c.args.act.reply state) event state.block) c.take_thread-state.ensures.was in
     let stands = c.in_ok-add_block.ensures ∙ ap (λ blocks. blocks ++ option_to_list c.in_ok-ended.ended) c.take_thread-state.ensures.ended in
-    act_taken c.args.thread c.args.request c.args.reply c.args.woken c.args.self.now c.take_thread-state.new.self.threads c.put.new.map c.take.new.self c.add_block.new.blocks (option_to_list c.in_ok-ended.ended) c.take_thread-state.ensures.gone c.in_ok-put.ensures held block stands
+    act_taken c.args.act.thread c.args.act.request c.args.act.reply c.args.act.woken c.args.self.now c.take_thread-state.new.self.threads c.put.new.map c.take.new.self c.add_block.new.blocks (option_to_list c.in_ok-ended.ended) c.take_thread-state.ensures.gone c.in_ok-put.ensures held block stands
