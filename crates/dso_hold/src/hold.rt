@@ -112,10 +112,9 @@ impl Hold {
         is_free(&self.tables, lock)
     }
 
-    /// The first other thread that holds the lock in conflict with an entry at the level, for a thread that doesn't hold
-    /// it: the one that [`Hold::enter`] would name. None exactly where there is none. It takes no memory.
+    /// The first other thread that holds the lock in conflict with an entry of this one at the level: the one that
+    /// [`Hold::enter`] would name where the entry is no upgrade. None exactly where there is none. It takes no memory.
     pub fn conflict(&self, thread: ThreadId, lock: LockName, level: Level) -> Option<ThreadId>
-        requires { hold_in self.now (lock, thread) ≡ None }
         ensures none { IfNone result (NoConflict thread lock level (hold_in self.now)) }
         ensures first { IfSome result (λ other. IsFirstInConflict thread lock level (hold_in self.now) other) }
     {

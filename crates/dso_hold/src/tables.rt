@@ -1,7 +1,9 @@
 //! The tables of holds: by lock, and by thread (`specs/Tables.antt`).
-ghost use Rattle.std.specs.Prelude.{◌≡◌, ◌↔◌, true, false, None, Some, is_some, IsTrue, IfNone, IfSome, OnOk, OnErr};
+ghost use Rattle.std.specs.Prelude.{◌≡◌, ◌≢◌, ◌↔◌, true, false, None, Some, is_some, IsTrue, IfNone, IfSome, OnOk, OnErr};
 ghost use Rattle.dso_base.specs.declared.lock.ThreadId.{ThreadId};
 ghost use Rattle.dso_base.specs.declared.lock.LockName.{LockName};
+ghost use Rattle.dso_lookup.specs.Maps.{look};
+ghost use Rattle.dso_lookup.specs.Orders.{thread_order};
 ghost use Rattle.dso_hold.specs.Holds.{hold_in, with_hold, is_before, HoldsSome, IsFree, NoConflict, IsFirstInConflict};
 ghost use Rattle.dso_hold.specs.Tables.{IndexesAgree, HoldsAgree};
 
@@ -40,30 +42,45 @@ pub(crate) fn is_free(tables: &Tables, lock: LockName) -> bool
     is_row_empty(&tables.by_lock, &lock)
 }
 
-/// The first thread that holds the lock, and how, None where nobody does.
-fn first_holder(tables: &Tables, lock: LockName) -> Option<(ThreadId, Held)>
-    ensures nobody { IfNone result (IsFree lock (hold_in tables.now)) }
-    ensures holder { IfSome result (λ first. hold_in tables.now (lock, first.0) ≡ Some first.1) }
-    ensures least { IfSome result (λ first. (u : ThreadId) → is_some (hold_in tables.now (lock, u)) ≡ true → is_before u first.0 ≡ false) }
+/// The first thread of a row but this one, and how it holds, None where there is no other.
+fn first_but(row: &BTreeMap<ThreadId, Held>, thread: ThreadId) -> Option<(ThreadId, Held)>
+    ensures nobody { IfNone result ((u : ThreadId) → u ≢ thread → look thread_order row.now u ≡ None) }
+    ensures other { IfSome result (λ first. first.0 ≢ thread) }
+    ensures holder { IfSome result (λ first. look thread_order row.now first.0 ≡ Some first.1) }
+    ensures least { IfSome result (λ first. (u : ThreadId) → u ≢ thread → is_some (look thread_order row.now u) ≡ true → is_before u first.0 ≡ false) }
 {
-    let row = tables.by_lock.get(&lock)?;
-    let (thread, held) = row.first_key_value()?;
-    Some((*thread, *held))
+    let mut holders = row.iter();
+    let (first, held) = holders.next()?;
+    if *first != thread {
+        return Some((*first, *held));
+    }
+    let (second, held) = holders.next()?;
+    Some((*second, *held))
 }
 
-/// The first other thread that holds the lock in conflict with an entry at the level, for a thread that doesn't hold it.
+/// The first other thread that holds the lock, and how, None where no other does.
+fn first_other(tables: &Tables, lock: LockName, thread: ThreadId) -> Option<(ThreadId, Held)>
+    ensures nobody { IfNone result ((u : ThreadId) → u ≢ thread → hold_in tables.now (lock, u) ≡ None) }
+    ensures other { IfSome result (λ first. first.0 ≢ thread) }
+    ensures holder { IfSome result (λ first. hold_in tables.now (lock, first.0) ≡ Some first.1) }
+    ensures least { IfSome result (λ first. (u : ThreadId) → u ≢ thread → is_some (hold_in tables.now (lock, u)) ≡ true → is_before u first.0 ≡ false) }
+{
+    let row = tables.by_lock.get(&lock)?;
+    first_but(row, thread)
+}
+
+/// The first other thread that holds the lock in conflict with an entry of this one at the level.
 pub(crate) fn first_in_conflict(
     tables: &Tables,
     lock: LockName,
     thread: ThreadId,
     level: Level,
 ) -> Option<ThreadId>
-    requires agree { HoldsAgree tables.now }
-    requires absent { hold_in tables.now (lock, thread) ≡ None }
+    requires { HoldsAgree tables.now }
     ensures none { IfNone result (NoConflict thread lock level (hold_in tables.now)) }
     ensures first { IfSome result (λ other. IsFirstInConflict thread lock level (hold_in tables.now) other) }
 {
-    match first_holder(tables, lock) {
+    match first_other(tables, lock, thread) {
         Some((other, held)) if held.excludes(level) => Some(other),
         _ => None,
     }
