@@ -12,7 +12,7 @@
 //! | `take grant n0 read` | the client takes this message of the server, as the text of a journal writes it: the entry |
 //! | `offer ids 0` | a message comes that doesn't fit: `nothing`, since nothing is sent |
 //! | `flush` | an object is flushed: the entry, or `nothing` |
-//! | `enabled 1`, `is_over 1`, `may_flush`, `alive`, `records` | what that call answers |
+//! | `enabled 1`, `may_flush`, `alive` | what that call answers |
 //!
 //! An entry is printed as its line in the text of a journal. Its clock counts the entries of the client.
 #![tactic(auto)]

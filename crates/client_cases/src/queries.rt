@@ -22,7 +22,6 @@ pub fn answered(
 fn of_thread(alloc: Global, driven: &Driven, word: &str, index: u8) -> Result<String, NoMemory> {
     let text = match word {
         "enabled" => format!(in alloc; "enabled {index}: {}\n", driven.client.enabled(index))?,
-        "is_over" => format!(in alloc; "is_over {index}: {}\n", driven.client.is_over(index))?,
         _ => shown(alloc, "no step\n")?,
     };
     Ok(text)
@@ -33,7 +32,6 @@ fn of_client(alloc: Global, driven: &Driven, word: &str) -> Result<String, NoMem
     let text = match word {
         "may_flush" => format!(in alloc; "may_flush: {}\n", driven.client.may_flush())?,
         "alive" => format!(in alloc; "alive: {}\n", driven.client.alive())?,
-        "records" => format!(in alloc; "records: {}\n", driven.client.records())?,
         _ => shown(alloc, "no step\n")?,
     };
     Ok(text)

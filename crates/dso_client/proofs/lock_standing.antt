@@ -1,3 +1,5 @@
 pub mod LockStands
 pub mod HoldsSome
 pub mod FirstAcked
+pub mod FreeLocks
+pub mod Rivals

@@ -2,3 +2,4 @@
 -- higher bound.
 pub mod Rejoined
 pub mod Bounds
+pub mod Parts

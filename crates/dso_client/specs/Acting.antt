@@ -12,7 +12,6 @@ use Rattle.dso_base.specs.declared.message.Up.{Up}
 use Rattle.dso_base.specs.declared.request.Event.{Event}
 use Rattle.dso_base.specs.declared.request.Request.{Request}
 use Rattle.dso_base.specs.Following.{is_thread}
-use Rattle.dso_hold.specs.Holds.{hold_in, count_at}
 use Rattle.dso_law.specs.Settings.{Settings, threads_of}
 use Rattle.dso_machine.specs.declared.code.Code.{Code}
 use Rattle.dso_client.specs.declared.acted.Acted.{Acted}
@@ -22,6 +21,7 @@ use Rattle.dso_client.specs.declared.kept.Kept.{Kept}
 use Rattle.dso_client.specs.declared.seat.Seat.{Seat}
 use Rattle.dso_client.specs.declared.turn.Turn.{Turn}
 use Rattle.dso_client.specs.ClientStands.{ClientStands, point}
+use Rattle.dso_client.specs.ClientViews.{records_sent, times_held}
 use Rattle.dso_client.specs.Entries.{asked_entry}
 use Rattle.dso_client.specs.Openings.{thread_at}
 use Rattle.dso_client.specs.RunFacts.{SizesAreKept}
@@ -88,11 +88,11 @@ count_again seat = option_map_or (λ seat. option_map_or (λ waiting. waiting.co
 
 -- No lock is held, nor to be held again behind a wait, more often than so.
 pub record HoldsAtMost (most : ℕ) (kept : Kept) : Type 0 where
-  pub held : (t : ThreadId) (l : LockName) → count_at (hold_in kept.locking.holds (l, t)) ≤ most
+  pub held : (t : ThreadId) (l : LockName) → times_held kept t l ≤ most
   pub waiting : (index : ℕ) → count_again (seat_in kept.seats.items index) ≤ most
 
 -- no hold, no count that a waiting thread is to have again, and no record is more or less
 pub record KeepsCounts (old new : Kept) : Type 0 where
   pub holds : new.locking.holds ≡ old.locking.holds
   pub waits : map (λ seat. seat.waiting) new.seats.items ≡ map (λ seat. seat.waiting) old.seats.items
-  pub records : new.ledger.records ≡ old.ledger.records
+  pub records : records_sent new ≡ records_sent old

@@ -1,5 +1,6 @@
 -- The work that a thread has in hand, and the record that hands it in.
 use Rattle.std.specs.List.{list_any}
+use Rattle.std.specs.Option.{option_map}
 use Rattle.std.specs.Prelude.{◌≡◌, ◌||◌, ℕ, zero, suc, Bool, true, cond, eqb, is_some, Option, Some, None}
 use Rattle.std.specs.Prelude.{List, [], ◌∷◌, slice_get, slice_set}
 use Rattle.dso_base.specs.declared.record.Ending.{Ending}
@@ -16,6 +17,7 @@ use Rattle.dso_txn.specs.declared.open_block.OpenBlock.{OpenBlock}
 use Rattle.dso_txn.specs.declared.privates.Privates.{Privates}
 use Rattle.dso_txn.specs.InHand.{bodies_in, news_in, hand_in}
 use Rattle.dso_client.specs.declared.answered.Answered.{Answered}
+use Rattle.dso_client.specs.declared.answered.BlockEnd.{BlockEnd}
 use Rattle.dso_client.specs.declared.kept.Kept.{Kept}
 use Rattle.dso_client.specs.declared.seat.Seat.{Seat}
 use Rattle.dso_client.specs.LedgerStands.{LedgerStands}
@@ -38,6 +40,10 @@ pub record IsActing (at : Point) (shape : Shape) (act : Answered) (ending : Opti
   pub work : HasWork at seat
   pub once : IsOnce (work_of at.settings.shape act.thread at.entries)
   pub ends : ending ≡ ending_by act.request act.reply (locks_of act.thread at.entries)
+
+-- the ending of a block that ends
+abbrev pub ending_in : Option BlockEnd → Option Ending
+ending_in end = option_map (λ end. end.ending) end
 
 -- the seats with another one at a place, if one is there
 abbrev pub replaced_at : ℕ → (Seat → Seat) → Option Seat → List Seat → List Seat

@@ -1,4 +1,5 @@
 pub mod Points
+pub mod ClientViews
 pub mod Spent
 pub mod SeatStands
 pub mod TableStands

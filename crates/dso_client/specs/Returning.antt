@@ -11,11 +11,9 @@ use Rattle.dso_base.specs.declared.record.Txn.{Txn}
 use Rattle.dso_base.specs.declared.request.Request.{Request}
 use Rattle.dso_base.specs.declared.request.Request.TheVariants.{Enter, Exit, Wait, Resume}
 use Rattle.dso_lease.specs.Leases.{standing_in}
-use Rattle.dso_lease.specs.Leases as lease
-use Rattle.dso_lease.specs.declared.standing.Standing.{Standing}
 use Rattle.dso_plain.specs.KeyTests.{is_lock}
 use Rattle.dso_law.specs.ClientStep.{returns, asks_again}
-use Rattle.dso_law.specs.Closing.{is_due, is_read}
+use Rattle.dso_law.specs.Closing.{is_due}
 use Rattle.dso_law.specs.Leases.{leased, is_lock_before}
 use Rattle.dso_law.specs.Settings.{threads_of}
 use Rattle.dso_client.specs.declared.answered.Answered.{Answered}
@@ -76,11 +74,6 @@ is_wanted_by at k t = is_of k (wanted_lock (at.next t))
 abbrev pub OnlyThese : Point → Option LockName → Type 0
 OnlyThese at left = (k : LockName) → is_due_at at k ≡ true
     → (is_of k left || list_any (is_wanted_by at k) (threads_of at.settings at.client)) ≡ true
-
--- there is a lease that was entered, and is closing or of level Read
-abbrev pub is_returnable : Option Standing → Bool
-is_returnable standing = lease.has_lease
-    (λ lease. lease.is_entered && (lease.is_closing || is_read (Some lease.level))) standing
 
 -- the messages that give the leases of the locks back, each with its list
 abbrev pub given_back : Locking → List LockName → List Up

@@ -18,6 +18,11 @@ use Rattle.dso_law.specs.ClientStep.{wants_object}
 use Rattle.dso_client.specs.Points.{Point}
 use Rattle.dso_client.specs.SeatStands.{last_record}
 
+-- a thread that isn't one of the client's holds nothing
+abbrev pub AreOwnHolds : Point → Type 0
+AreOwnHolds at = (t : ThreadId) → list_any (is_thread t) (threads_of at.settings at.client) ≡ false
+    → (locks_of t at.entries).holds ≡ []
+
 -- A lock that is leased isn't asked for; the records that aren't acknowledged have consecutive numbers up to the last
 -- one; a thread is settled where its last record is acknowledged; a thread that isn't one of the client's has no open
 -- block, doesn't wait, wants nothing and holds nothing; who holds a lock entered it once at least, and who waits is to
@@ -35,8 +40,7 @@ pub record RunFacts (at : Point) : Type 0 where
       → (locks_of t at.entries).waiting ≡ None
   pub unwanted : (t : ThreadId) (o : ℕ) → list_any (is_thread t) (threads_of at.settings at.client) ≡ false
       → eqb t.client at.client ≡ true → wants_object o t.index at.entries ≡ false
-  pub holdless : (t : ThreadId) → list_any (is_thread t) (threads_of at.settings at.client) ≡ false
-      → (locks_of t at.entries).holds ≡ []
+  pub holdless : AreOwnHolds at
   pub counted : (t : ThreadId) (l : LockName) → IfSome (hold_of t l at.entries) (λ hold. 1 ≤ hold.count)
   pub owed : (t : ThreadId) → IfSome (locks_of t at.entries).waiting (λ waiting. 1 ≤ waiting.count)
   pub once : (t : ThreadId) → IsOnce (work_of at.settings.shape t at.entries)

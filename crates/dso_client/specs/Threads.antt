@@ -1,6 +1,6 @@
 -- What a client tells of its threads.
 use Rattle.std.specs.List.{list_any}
-use Rattle.std.specs.Prelude.{◌≡◌, ◌↔◌, ℕ, Bool, true, false, IsTrue, is_some, count_by, None, List}
+use Rattle.std.specs.Prelude.{◌≡◌, ℕ, Bool, true, false, is_some, count_by, List}
 use Rattle.dso_base.specs.declared.journal.Entry.{Entry}
 use Rattle.dso_base.specs.Following.{is_thread}
 use Rattle.dso_law.specs.Settings.{Settings, threads_of}
@@ -20,12 +20,6 @@ IsEnabled kept index answer = (code : Code) (p : Settings) (c : ℕ) (es : List 
     → SizesAreKept (point code p c es)
     → list_any (is_thread (thread_at c index)) (threads_of p c) ≡ true
     → answer ≡ may_act p c (next_in (next_request code) es) (thread_at c index) es
-
--- the answer tells whether the thread of this index has no next request
-abbrev pub TellsOver : Kept → ℕ → Bool → Type 0
-TellsOver kept index answer = (code : Code) (p : Settings) (c : ℕ) (es : List Entry) → ClientStands code p c kept es
-    → list_any (is_thread (thread_at c index)) (threads_of p c) ≡ true
-    → IsTrue answer ↔ (next_in (next_request code) es (thread_at c index) ≡ None)
 
 -- the number is that of the client's threads that have a next request
 abbrev pub TellsAlive : Kept → ℕ → Type 0

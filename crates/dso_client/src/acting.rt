@@ -34,7 +34,8 @@ use crate::kept::Kept;
 use crate::living_locking::live_locking;
 use crate::living_objects::live_objects;
 use crate::living_seat::live_seats;
-use crate::returning::{ask_again, is_closing, left_lock, settle_act};
+use crate::locks::is_closing;
+use crate::returning::{Onward, ask_again, left_lock, settle_act};
 use crate::seat::{Waiting, seat_at};
 use crate::sending::send_record;
 use dso_base::{Level, NoMemory, Request, Shape, Shared, Txn, Up};
@@ -94,7 +95,7 @@ fn live(
     let index = act.thread.index;
     let ending = ending_of(&kept.locking, act);
     let waiting = waiting_at(kept, index);
-    let txn = live_objects(alloc, kept, shape, index, act, ending)?;
+    let txn = live_objects(alloc, kept, shape, act, ending)?;
     live_threads(alloc, kept, act, waiting)?;
     Ok(txn)
 }
@@ -187,19 +188,18 @@ fn send_rest(
     alloc: Global,
     kept: &mut Kept,
     act: Answered,
-    next: Option<Request>,
-    was_closing: bool,
+    onward: Onward,
     sent: Vec<Up>,
 ) -> Result<Vec<Up>, NoMemory>
     ensures stands { IfOk result (λ all. (clock : ℕ) (txn : Option txn.Txn) (later : thread.ThreadId → Option request.Request) (at : Point)
         → PartsStand (acting clock act (record_sent txn) later at) kept.old → IsQuiet at → RunFacts at
-        → list_any (is_thread act.thread) (threads_of at.settings at.client) ≡ true → next ≡ later act.thread → TellsClosing at next was_closing
+        → list_any (is_thread act.thread) (threads_of at.settings at.client) ≡ true → onward.next ≡ later act.thread → TellsClosing at onward.next onward.was_closing
         → sent.items ≡ record_sent txn → StandsSent clock at act txn later all.items kept.new) }
     ensures others { kept.new ≡ record kept.old { locking = kept.new.locking } }
     ensures holds { kept.new.locking.holds ≡ kept.old.locking.holds }
 {
     let mut returned = settle_act(alloc, kept, left_lock(act.request))?;
-    let again = ask_again(kept, next, was_closing, returned.as_slice())?;
+    let again = ask_again(kept, onward, returned.as_slice())?;
     let mut all = sent;
     all.append(&mut returned)?;
     if let Some(message) = again {
@@ -232,8 +232,9 @@ pub(crate) fn act_answering(
     let index = act.thread.index;
     let next = go_on_in(alloc, code, kept, act)?;
     let was_closing = closes(kept, next);
+    let onward = Onward { next, was_closing };
     let txn = live(alloc, kept, &code.shape, act)?;
     let sent = hand_in(alloc, kept, index, txn)?;
     set_next_in(kept, index, next);
-    send_rest(alloc, kept, act, next, was_closing, sent)
+    send_rest(alloc, kept, act, onward, sent)
 }

@@ -1,7 +1,8 @@
 //! A request that is answered (`dso_law/specs/Threads.antt`).
-ghost use Rattle.std.specs.Prelude.{◌≡◌};
+ghost use Rattle.std.specs.Prelude.{ℕ, ◌≡◌, IfSome};
 ghost use Rattle.dso_law.specs.Threads.{ending_by, exit_ending, hold_of, locks_of};
 ghost use Rattle.dso_plain.specs.After.{exited};
+ghost use Rattle.dso_client.specs.Committing.{ending_in};
 ghost use Rattle.dso_client.specs.Living.{entered_lock, put_to};
 ghost use Rattle.dso_client.specs.LockingStands.{LockingStands};
 ghost use Rattle.dso_client.specs.Points.{Point};
@@ -58,5 +59,23 @@ pub(crate) fn entered_lock(act: Answered) -> Option<LockName>
     match (act.request, act.reply) {
         (Request::Enter(lock, _), Reply::Done) | (Request::Resume(lock), Reply::Done) => Some(lock),
         _ => None,
+    }
+}
+
+/// How an act ends the block of its thread: the number of the record that it sends, and the ending.
+#[derive(Clone, Copy, Debug, PartialEq, Eq)]
+pub(crate) struct BlockEnd {
+    pub seq: u64,
+    pub ending: Ending,
+}
+
+/// The end of a block by the act, where it is an ending, with the number of the next record.
+pub(crate) fn block_end(seq: u64, ending: Option<Ending>) -> Option<BlockEnd>
+    ensures ending { ending_in result ≡ ending }
+    ensures number { (n : ℕ) → seq ≡ n → IfSome result (λ end. end.seq ≡ n) }
+{
+    match ending {
+        Some(ending) => Some(BlockEnd { seq, ending }),
+        None => None,
     }
 }

@@ -1,20 +1,17 @@
 //! A client (`specs/ClientStands.antt`).
 ghost use Rattle.std.specs.Prelude.{ℕ, ◌≡◌, ◌≤◌, ◌<◌, ◌+◌, ◌-◌, ◌^◌, suc, true, false, List, [], IfNone, IfOk, IfSome, OnErr, OnOk};
 ghost use Rattle.std.specs.Result.{is_err};
-ghost use Rattle.dso_base.specs.declared.journal.Entry.{Entry};
-ghost use Rattle.dso_law.specs.Records.{records};
 ghost use Rattle.dso_law.specs.Settings.{Settings, threads_of};
 ghost use Rattle.dso_machine.specs.declared.code.Code.{Code};
 ghost use Rattle.dso_machine.specs.Sound.{IsSound};
-ghost use Rattle.dso_table.specs.Tables.{state_in};
-ghost use Rattle.dso_table.specs.Victims.{IsVictim};
 ghost use Rattle.dso_client.specs.Acting.{Acts, HoldsAtMost, LeavesAlone};
 ghost use Rattle.dso_client.specs.ClientStands.{ClientStands};
+ghost use Rattle.dso_client.specs.ClientViews.{IsNextVictim, records_sent};
 ghost use Rattle.dso_client.specs.CodeRuns.{RunsCode};
 ghost use Rattle.dso_client.specs.Flushing.{Flushes, IsVictimOf, NoneDue, TellsFlush};
 ghost use Rattle.dso_client.specs.Spent.{WhileWhole, is_spent};
 ghost use Rattle.dso_client.specs.Taking.{Takes};
-ghost use Rattle.dso_client.specs.Threads.{IsEnabled, TellsAlive, TellsOver, WhereAbsent};
+ghost use Rattle.dso_client.specs.Threads.{IsEnabled, TellsAlive, WhereAbsent};
 ghost use Rattle.dso_client.specs.declared.acted.Acted.TheVariants as acted;
 ghost use Rattle.dso_client.specs.Openings.{HasThreads, IsEmptyLedger, IsEmptyLocking, first_threads};
 
@@ -118,7 +115,7 @@ impl Client {
         requires sound { IsSound code.now }
         requires there { HasThreads code.now number threads }
         ensures runs { IfOk result (RunsCode code.now) }
-        ensures records { IfOk result (λ client. client.ledger.records ≡ 0) }
+        ensures records { IfOk result (λ client. records_sent client ≡ 0) }
         ensures holds { IfOk result (HoldsAtMost 0) }
         ensures whole { IfOk result (λ client. is_spent client ≡ false) }
         ensures stands { IfOk result (λ client. (p : Settings) → p.shape ≡ code.now.shape → p.resident ≡ resident
@@ -153,13 +150,13 @@ impl Client {
     ) -> Result<(Acted, Vec<Up>), NoMemory>
         requires sound { IsSound code.now }
         requires runs { WhileWhole self.old (RunsCode code.now self.old) }
-        requires few { WhileWhole self.old (self.old.ledger.records < 2 ^ 62) }
+        requires few { WhileWhole self.old (records_sent self.old < 2 ^ 62) }
         requires counts { WhileWhole self.old (HoldsAtMost (2 ^ 32 - 2) self.old) }
         ensures acts { IfOk result (λ made. Acts code.now index self.old self.new made.0 made.1.items) }
         ensures alone { IfOk result (λ made. LeavesAlone made.0 made.1.items self.old self.new) }
         ensures absent { WhereAbsent self.old index (IfOk result (λ made. made.0 ≡ acted.Over)) }
         ensures runs { OnOk result (RunsCode code.now self.new) }
-        ensures records { OnOk result (self.new.ledger.records ≤ self.old.ledger.records + 1) }
+        ensures records { OnOk result (records_sent self.new ≤ records_sent self.old + 1) }
         ensures holds { OnOk result ((most : ℕ) → HoldsAtMost most self.old → HoldsAtMost (suc most) self.new) }
         ensures whole { OnOk result (is_spent self.new ≡ false) }
         ensures spent { OnErr result (is_spent self.new ≡ true) }
@@ -188,7 +185,7 @@ impl Client {
         ensures takes { IfOk result (λ sent. Takes code.now message.now self.old self.new sent.items) }
         ensures runs { (code : Code) → RunsCode code self.old → RunsCode code self.new }
         ensures holds { (most : ℕ) → HoldsAtMost most self.old → HoldsAtMost most self.new }
-        ensures records { self.new.ledger.records ≡ self.old.ledger.records }
+        ensures records { records_sent self.new ≡ records_sent self.old }
         ensures whole { OnOk result (is_spent self.new ≡ false) }
         ensures spent { OnErr result (is_spent self.new ≡ true) }
         ensures refused { is_spent self.old ≡ true → (is_err result ≡ true) × (self.new ≡ self.old) }
@@ -211,14 +208,14 @@ impl Client {
     ///
     /// None, with nothing changed, exactly where the rule has no flush. It takes no memory.
     pub fn flush(&mut self) -> Option<u64>
-        ensures victim { IfSome result (IsVictim (state_in self.old.table)) }
+        ensures victim { IfSome result (IsNextVictim self.old) }
         ensures named { IfSome result (IsVictimOf self.old) }
         ensures made { IfSome result (Flushes self.old self.new) }
         ensures none { IfNone result (NoneDue self.old) }
         ensures unchanged { IfNone result (self.new ≡ self.old) }
         ensures runs { (code : Code) → RunsCode code self.old → RunsCode code self.new }
         ensures holds { (most : ℕ) → HoldsAtMost most self.old → HoldsAtMost most self.new }
-        ensures records { self.new.ledger.records ≡ self.old.ledger.records }
+        ensures records { records_sent self.new ≡ records_sent self.old }
         ensures spent { is_spent self.new ≡ is_spent self.old }
     {
         flush(&mut self.kept.table)
@@ -241,26 +238,6 @@ impl Client {
             Some(seat) => may_act(&self.kept, seat),
             None => false,
         }
-    }
-
-    /// Whether the thread of this index has ended: it has no next request. True where there is no such thread. It takes
-    /// no memory.
-    pub fn is_over(&self, index: u8) -> bool
-        ensures over { TellsOver self.now index result }
-        ensures absent { WhereAbsent self.now index (result ≡ true) }
-    {
-        match seat_at(&self.kept, index) {
-            Some(seat) => seat.next.is_none(),
-            None => true,
-        }
-    }
-
-    /// How many records the client sent. It takes no memory.
-    pub fn records(&self) -> u64
-        ensures kept { result ≡ self.now.ledger.records }
-        ensures sent { (code : Code) (p : Settings) (c : ℕ) (es : List Entry) → ClientStands code p c self.now es → result ≡ records es }
-    {
-        self.kept.ledger.records
     }
 
     /// How many threads have a next request: those that haven't ended. It takes no memory.

@@ -17,7 +17,7 @@ ghost use Rattle.dso_client.specs.SeatStands.{SeatStands};
 use crate::kept::Kept;
 use crate::known_objects::{class_known, is_resident, is_seen_class};
 use crate::ledger::Ledger;
-use crate::locks::{Entering, admits, first_rival, level_held};
+use crate::locks::{Entering, admits, level_held};
 use crate::seat::Seat;
 use dso_base::{Level, LockName, Request, ThreadId};
 use dso_table::Table;
@@ -100,7 +100,8 @@ fn entry_lack(kept: &Kept, wanted: Entering) -> Option<Lack>
     if !admits(kept, wanted.lock, wanted.level) {
         return Some(Lack::Lease(wanted.lock, wanted.level));
     }
-    match first_rival(&kept.locking, kept.seats.as_slice(), wanted) {
+    let holds = &kept.locking.holds;
+    match holds.conflict(wanted.thread, wanted.lock, wanted.level) {
         Some(other) => Some(Lack::OthersOut(wanted.lock, wanted.level, other)),
         None => None,
     }

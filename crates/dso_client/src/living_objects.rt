@@ -1,17 +1,17 @@
 //! What an answered request makes of the objects, the ids and the work that its thread has in hand
 //! (`specs/Committing.antt`, `dso_law/specs/UseOrder.antt`).
-ghost use Rattle.std.specs.Prelude.{ℕ, ◌≡◌, ◌≢◌, ◌||◌, ◌<◌, ◌^◌, suc, None, IfOk, OnOk};
+ghost use Rattle.std.specs.Prelude.{ℕ, ◌≡◌, ◌≢◌, ◌||◌, ◌<◌, ◌^◌, suc, None, IfOk, IfSome, OnOk};
 ghost use Rattle.dso_law.specs.ClientStep.{commits};
 ghost use Rattle.dso_law.specs.Records.{records};
 ghost use Rattle.dso_law.specs.UseOrder.{object_used};
 ghost use Rattle.dso_table.specs.Tables.{state_in};
-ghost use Rattle.dso_client.specs.Committing.{HasLived, HasWork, IsActing, Lives, WorksAlone, has_in_hand, used_by};
+ghost use Rattle.dso_client.specs.Committing.{HasLived, HasWork, IsActing, Lives, WorksAlone, ending_in, has_in_hand, used_by};
 ghost use Rattle.dso_client.specs.Living.{event_of, lived};
 ghost use Rattle.dso_client.specs.Points.{Point};
 ghost use Rattle.dso_client.specs.Returning.{record_sent};
 ghost use Rattle.dso_client.specs.SeatPlaces.{seat_in};
 
-use crate::answered::Answered;
+use crate::answered::{Answered, BlockEnd, block_end};
 use crate::kept::Kept;
 use crate::living::{live_ledger, live_table};
 use crate::living_hand::{close, live_hand};
@@ -56,7 +56,7 @@ fn live_used(table: &mut Table, seat: &Seat, request: Request) -> Result<(), NoM
 }
 
 /// What an answered request makes of the work that its thread has in hand; where the act is an ending, the block is
-/// closed, which gives the record of this number.
+/// closed, which gives the record.
 ///
 /// It answers `NoMemory` where an allocation was refused.
 fn live_seat(
@@ -64,51 +64,49 @@ fn live_seat(
     shape: &Shape,
     seat: &mut Seat,
     act: Answered,
-    seq: u64,
-    ending: Option<Ending>,
+    end: Option<BlockEnd>,
 ) -> Result<Option<Txn>, NoMemory>
-    ensures work { OnOk result ((clock : ℕ) (at : Point) → IsActing at shape.now act ending seat.old → HasWork (lived clock act at) seat.new) }
-    ensures commits { IfOk result (λ txn. (at : Point) → IsActing at shape.now act ending seat.old → seq ≡ suc (records at.entries)
+    ensures work { OnOk result ((clock : ℕ) (at : Point) → IsActing at shape.now act (ending_in end) seat.old → HasWork (lived clock act at) seat.new) }
+    ensures commits { IfOk result (λ txn. (at : Point) → IsActing at shape.now act (ending_in end) seat.old → IfSome end (λ end. end.seq ≡ suc (records at.entries))
         → record_sent txn ≡ commits at.settings act.thread (event_of act) at.entries) }
     ensures rest { seat.new ≡ record seat.old { privates = seat.new.privates; block = seat.new.block } }
 {
     live_hand(alloc, shape, seat, act)?;
-    match ending {
-        Some(ending) => {
-            let txn = close(alloc, seat, seq, ending)?;
+    match end {
+        Some(end) => {
+            let txn = close(alloc, seat, end.seq, end.ending)?;
             Ok(Some(txn))
         }
         None => Ok(None),
     }
 }
 
-/// What an answered request of the thread of this index makes of the objects, the ids and the work that the thread has
-/// in hand; and the record that is to be sent, where the act is an ending. The seats stay but for that work.
+/// What an answered request makes of the objects, the ids and the work that its thread has in hand; and the record that
+/// is to be sent, where the act is an ending. The seats stay but for that work.
 ///
 /// It answers `NoMemory` where an allocation was refused.
 pub(crate) fn live_objects(
     alloc: Global,
     kept: &mut Kept,
     shape: &Shape,
-    index: u8,
     act: Answered,
     ending: Option<Ending>,
 ) -> Result<Option<Txn>, NoMemory>
     requires few { kept.old.ledger.records < 2 ^ 62 }
-    requires there { seat_in kept.old.seats.items index ≢ None }
-    ensures lived { IfOk result (λ txn. (clock : ℕ) (at : Point) → Lives at shape.now act index ending kept.old → HasLived clock at act index txn kept.new) }
-    ensures alone { OnOk result (WorksAlone index kept.old.seats.items kept.new.seats.items) }
+    requires there { seat_in kept.old.seats.items act.thread.index ≢ None }
+    ensures lived { IfOk result (λ txn. (clock : ℕ) (at : Point) → Lives at shape.now act act.thread.index ending kept.old → HasLived clock at act act.thread.index txn kept.new) }
+    ensures alone { OnOk result (WorksAlone act.thread.index kept.old.seats.items kept.new.seats.items) }
     ensures number { kept.new.number ≡ kept.old.number }
     ensures locking { kept.new.locking ≡ kept.old.locking }
     ensures records { kept.new.ledger.records ≡ kept.old.ledger.records }
     ensures spent { kept.new.spent ≡ kept.old.spent }
 {
-    let at = index as usize - 1;
-    let seq = kept.ledger.records + 1;
+    let at = act.thread.index as usize - 1;
+    let end = block_end(kept.ledger.records + 1, ending);
     let seats = kept.seats.as_mut_slice();
     live_used(&mut kept.table, &seats[at], act.request)?;
     live_table(alloc, &mut kept.table, act, ending.is_some())?;
     live_ledger(&mut kept.ledger, act);
-    let txn = live_seat(alloc, shape, &mut seats[at], act, seq, ending)?;
+    let txn = live_seat(alloc, shape, &mut seats[at], act, end)?;
     Ok(txn)
 }

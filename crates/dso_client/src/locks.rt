@@ -1,20 +1,21 @@
-//! What a client's locks allow a thread that wants to enter one (`dso_law/specs/Closing.antt`).
-ghost use Rattle.std.specs.Prelude.{◌≡◌, ◌&&◌, Some, find, map};
+//! Which of a client's leases let a thread in, and which are to be given back (`dso_law/specs/Closing.antt`).
+ghost use Rattle.std.specs.Prelude.{◌≡◌, ◌&&◌, is_some, map};
 ghost use Rattle.std.specs.List.{AllByRecursion, list_any};
-ghost use Rattle.dso_law.specs.Closing.{admits, is_read, awaits_write, wants_write};
-ghost use Rattle.dso_law.specs.Leases.{leased, is_entered, is_recalled};
-ghost use Rattle.dso_law.specs.RequestNeeds.{is_enough, is_in_conflict, conflicts, hold_level};
+ghost use Rattle.dso_law.specs.Closing.{admits, awaits_write, is_closing, is_due, is_free, is_read, wants_write};
+ghost use Rattle.dso_law.specs.Leases.{is_entered, leased};
+ghost use Rattle.dso_law.specs.RequestNeeds.{is_enough, hold_level};
+ghost use Rattle.dso_law.specs.Settings.{threads_of};
 ghost use Rattle.dso_law.specs.Threads.{hold_of};
 ghost use Rattle.dso_client.specs.Points.{Point};
-ghost use Rattle.dso_client.specs.KeptStands.{KeptStands};
+ghost use Rattle.dso_client.specs.KeptStands.{PartsStand};
 ghost use Rattle.dso_client.specs.LockingStands.{LockingStands};
+ghost use Rattle.dso_client.specs.RunFacts.{AreOwnHolds};
 ghost use Rattle.dso_client.specs.SeatStands.{SeatStands};
 
 use crate::kept::Kept;
 use crate::locking::Locking;
 use crate::seat::Seat;
 use dso_base::{Level, LockName, Request, ThreadId};
-use dso_lease::{Lease, Standing};
 
 /// A thread that wants to enter a lock at a level.
 #[derive(Clone, Copy, Debug, PartialEq, Eq)]
@@ -22,28 +23,6 @@ pub(crate) struct Entering {
     pub thread: ThreadId,
     pub lock: LockName,
     pub level: Level,
-}
-
-/// Whether the lease is of at least the level.
-fn is_enough(level: Level, lease: Option<Level>) -> bool
-    ensures { result ≡ is_enough level lease }
-{
-    match (level, lease) {
-        (_, None) => false,
-        (Level::Write, Some(Level::Read)) => false,
-        _ => true,
-    }
-}
-
-/// Whether there is the other level, and one of the two is `Write`.
-fn conflicts(level: Level, other: Option<Level>) -> bool
-    ensures { result ≡ conflicts level other }
-{
-    match (level, other) {
-        (_, None) => false,
-        (Level::Read, Some(Level::Read)) => false,
-        _ => true,
-    }
 }
 
 /// Whether the request is for the lock at `Write`: an entry, or a resume of a thread that is marked.
@@ -64,28 +43,8 @@ pub(crate) fn level_held(locking: &Locking, thread: ThreadId, lock: LockName) ->
     locking.holds.level_of(thread, lock)
 }
 
-/// Whether the thread of the seat is another one that holds the lock in conflict.
-fn is_rival(locking: &Locking, seat: &Seat, wanted: Entering) -> bool
-    ensures { (at : Point) → LockingStands at locking.now
-        → result ≡ is_in_conflict at.settings at.client at.next wanted.thread wanted.lock wanted.level at.entries seat.now.id }
-{
-    seat.id != wanted.thread && conflicts(wanted.level, level_held(locking, seat.id, wanted.lock))
-}
-
-/// The first other thread that holds the lock in conflict.
-pub(crate) fn first_rival(locking: &Locking, seats: &[Seat], wanted: Entering) -> Option<ThreadId>
-    ensures { (at : Point) → LockingStands at locking.now
-        → result ≡ find (is_in_conflict at.settings at.client at.next wanted.thread wanted.lock wanted.level at.entries) (map (λ seat. seat.id) seats.now) }
-{
-    match seats {
-        [] => None,
-        [seat, ..] if is_rival(locking, seat, wanted) => Some(seat.id),
-        [_, rest @ ..] => first_rival(locking, rest, wanted),
-    }
-}
-
 /// Whether the thread of the seat doesn't hold the lock and wants it at `Write`.
-pub(crate) fn awaits_write(locking: &Locking, seat: &Seat, lock: LockName) -> bool
+fn awaits_write(locking: &Locking, seat: &Seat, lock: LockName) -> bool
     ensures { (at : Point) → LockingStands at locking.now → SeatStands at seat.now
         → result ≡ awaits_write at.settings at.client at.next lock at.entries seat.now.id }
 {
@@ -93,7 +52,7 @@ pub(crate) fn awaits_write(locking: &Locking, seat: &Seat, lock: LockName) -> bo
 }
 
 /// Whether a thread that doesn't hold the lock wants it at `Write`.
-pub(crate) fn is_awaited(locking: &Locking, seats: &[Seat], lock: LockName) -> bool
+fn is_awaited(locking: &Locking, seats: &[Seat], lock: LockName) -> bool
     ensures { (at : Point) → LockingStands at locking.now → AllByRecursion (SeatStands at) seats.now
         → result ≡ list_any (awaits_write at.settings at.client at.next lock at.entries) (map (λ seat. seat.id) seats.now) }
 {
@@ -104,33 +63,56 @@ pub(crate) fn is_awaited(locking: &Locking, seats: &[Seat], lock: LockName) -> b
     }
 }
 
-/// Whether the lease is of level `Read`.
-pub(crate) fn is_read(level: Level) -> bool
-    ensures { result ≡ is_read (Some level) }
+/// Whether there is a lease, of level `Read`.
+fn is_read(lease: Option<Level>) -> bool
+    ensures { result ≡ is_read lease }
 {
-    match level {
-        Level::Read => true,
-        Level::Write => false,
-    }
-}
-
-/// Whether the lease admits an outer entry of the level.
-fn lease_admits(kept: &Kept, lock: LockName, level: Level, lease: Lease) -> bool
-    ensures { (at : Point) → KeptStands at kept.now → leased lock at.entries ≡ Some lease.level → is_entered lock at.entries ≡ lease.is_entered
-        → is_recalled lock at.entries ≡ lease.is_closing
-        → result ≡ (is_enough level (leased lock at.entries) && admits at.settings at.client at.next lock at.entries) }
-{
-    let is_awaited = is_read(lease.level) && is_awaited(&kept.locking, kept.seats.as_slice(), lock);
-    is_enough(level, Some(lease.level)) && (!(lease.is_closing || is_awaited) || !lease.is_entered)
-}
-
-/// Whether there is a lease of at least the level that admits an outer entry.
-pub(crate) fn admits(kept: &Kept, lock: LockName, level: Level) -> bool
-    ensures { (at : Point) → KeptStands at kept.now
-        → result ≡ (is_enough level (leased lock at.entries) && admits at.settings at.client at.next lock at.entries) }
-{
-    match kept.locking.leases.standing(lock) {
-        Some(Standing::Leased(lease)) => lease_admits(kept, lock, level, lease),
+    match lease {
+        Some(Level::Read) => true,
         _ => false,
     }
+}
+
+/// Whether the lease of the lock is of level `Read`, and a thread that doesn't hold the lock wants it at `Write`.
+fn is_outgrown(kept: &Kept, lock: LockName) -> bool
+    ensures { (at : Point) → PartsStand at kept.now
+        → result ≡ (is_read (leased lock at.entries) && list_any (awaits_write at.settings at.client at.next lock at.entries) (threads_of at.settings at.client)) }
+{
+    let locking = &kept.locking;
+    is_read(locking.leases.lease(lock)) && is_awaited(locking, kept.seats.as_slice(), lock)
+}
+
+/// Whether there is a lease of the lock that is closing: it was recalled, or a thread wants more than it gives. It takes
+/// no memory.
+pub(crate) fn is_closing(kept: &Kept, lock: LockName) -> bool
+    ensures { (at : Point) → PartsStand at kept.now
+        → result ≡ (is_some (leased lock at.entries) && is_closing at.settings at.client at.next lock at.entries) }
+{
+    kept.locking.leases.is_closing(lock) || is_outgrown(kept, lock)
+}
+
+/// Whether there is a lease of at least the level that admits an outer entry. It takes no memory.
+pub(crate) fn admits(kept: &Kept, lock: LockName, level: Level) -> bool
+    ensures { (at : Point) → PartsStand at kept.now
+        → result ≡ (is_enough level (leased lock at.entries) && admits at.settings at.client at.next lock at.entries) }
+{
+    let leases = &kept.locking.leases;
+    leases.admits(lock, level, true) && (!leases.is_entered(lock) || !is_closing(kept, lock))
+}
+
+/// Whether there is a lease of the lock that was entered, and no thread of the client holds the lock.
+fn is_left(locking: &Locking, lock: LockName) -> bool
+    ensures { (at : Point) → LockingStands at locking.now → AreOwnHolds at
+        → result ≡ ((is_some (leased lock at.entries) && is_entered lock at.entries) && is_free at.settings at.client at.next lock at.entries) }
+{
+    locking.leases.is_entered(lock) && locking.holds.free(lock)
+}
+
+/// Whether there is a lease of the lock that is to be given back: it is closing and was entered, and no thread of the
+/// client holds the lock. It takes no memory.
+pub(crate) fn is_due(kept: &Kept, lock: LockName) -> bool
+    ensures { (at : Point) → PartsStand at kept.now → AreOwnHolds at
+        → result ≡ (is_some (leased lock at.entries) && is_due at.settings at.client at.next lock at.entries) }
+{
+    is_left(&kept.locking, lock) && is_closing(kept, lock)
 }

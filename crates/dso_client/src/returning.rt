@@ -9,18 +9,18 @@ ghost use Rattle.dso_base.specs.declared.record.Txn.{Txn};
 ghost use Rattle.dso_base.specs.declared.request.Request.{Request};
 ghost use Rattle.dso_base.specs.declared.request.Request.TheVariants.{Enter};
 ghost use Rattle.dso_base.specs.Following.{is_thread};
-ghost use Rattle.dso_lease.specs.Leases.{standing_in};
+ghost use Rattle.dso_lease.specs.Leases.{standing_in, was_entered};
 ghost use Rattle.dso_plain.specs.KeyTests.{is_lock};
 ghost use Rattle.dso_law.specs.ClientStep.{returns};
 ghost use Rattle.dso_law.specs.Closing.{due, is_closing};
-ghost use Rattle.dso_law.specs.Leases.{insert_lock, is_entered, is_lock_before, is_recalled, leased};
+ghost use Rattle.dso_law.specs.Leases.{insert_lock, is_lock_before, leased};
 ghost use Rattle.dso_law.specs.Settings.{threads_of};
 ghost use Rattle.dso_client.specs.KeptStands.{PartsStand};
 ghost use Rattle.dso_client.specs.Living.{acting, lived};
 ghost use Rattle.dso_client.specs.LockingStands.{list_at};
 ghost use Rattle.dso_client.specs.Points.{Point};
-ghost use Rattle.dso_client.specs.Returning.{ActSettles, AddsDue, AreGivenBack, AsksAgain, Distinct, OnlyThese, asked_again, given_back, is_of, is_returnable, is_wanted_by, left_lock, record_sent, returns_lock, wanted_lock};
-ghost use Rattle.dso_client.specs.RunFacts.{RunFacts};
+ghost use Rattle.dso_client.specs.Returning.{ActSettles, AddsDue, AreGivenBack, AsksAgain, Distinct, OnlyThese, asked_again, given_back, is_of, is_wanted_by, left_lock, record_sent, returns_lock, wanted_lock};
+ghost use Rattle.dso_client.specs.RunFacts.{AreOwnHolds, RunFacts};
 ghost use Rattle.dso_client.specs.SeatStands.{SeatStands};
 ghost use Rattle.dso_client.specs.Taking.{IsQuiet};
 
@@ -28,11 +28,10 @@ use crate::answered::Answered;
 use crate::asking::ask_lock;
 use crate::kept::Kept;
 use crate::locking::Locking;
-use crate::locks::{is_awaited, is_read};
+use crate::locks::is_due;
 use crate::seat::Seat;
-use crate::settling::{give_back, is_due};
+use crate::settling::give_back;
 use dso_base::{Items, Level, LockName, NoMemory, Request, Up};
-use dso_lease::{Lease, Standing};
 use std::alloc::Global;
 
 /// The lock that a request leaves, or goes on with after a wait: its lease may be to be given back once it is answered.
@@ -92,7 +91,7 @@ fn place(locks: &[LockName], lock: LockName) -> usize
 
 /// Adds the lock to these, which rise, where its lease is to be given back.
 fn add_due(kept: &Kept, due: &mut Vec<LockName>, lock: LockName) -> Result<(), NoMemory>
-    ensures { OnOk result ((at : Point) → PartsStand at kept.now → AddsDue at (λ k. is_lock k lock) due.old.items due.new.items) }
+    ensures { OnOk result ((at : Point) → PartsStand at kept.now → AreOwnHolds at → AddsDue at (λ k. is_lock k lock) due.old.items due.new.items) }
 {
     if is_among(due.as_slice(), lock) || !is_due(kept, lock) {
         return Ok(());
@@ -104,7 +103,7 @@ fn add_due(kept: &Kept, due: &mut Vec<LockName>, lock: LockName) -> Result<(), N
 
 /// So for a lock that may be there.
 fn add_if_due(kept: &Kept, due: &mut Vec<LockName>, lock: Option<LockName>) -> Result<(), NoMemory>
-    ensures { OnOk result ((at : Point) → PartsStand at kept.now → AddsDue at (λ k. is_of k lock) due.old.items due.new.items) }
+    ensures { OnOk result ((at : Point) → PartsStand at kept.now → AreOwnHolds at → AddsDue at (λ k. is_of k lock) due.old.items due.new.items) }
 {
     match lock {
         Some(lock) => add_due(kept, due, lock),
@@ -114,7 +113,7 @@ fn add_if_due(kept: &Kept, due: &mut Vec<LockName>, lock: Option<LockName>) -> R
 
 /// So for each lock that one of the threads next wants at `Write`.
 fn add_wanted(kept: &Kept, seats: &[Seat], due: &mut Vec<LockName>) -> Result<(), NoMemory>
-    ensures { OnOk result ((at : Point) → PartsStand at kept.now → AllByRecursion (SeatStands at) seats.now
+    ensures { OnOk result ((at : Point) → PartsStand at kept.now → AreOwnHolds at → AllByRecursion (SeatStands at) seats.now
         → AddsDue at (λ k. list_any (is_wanted_by at k) (map (λ seat. seat.id) seats.now)) due.old.items due.new.items) }
 {
     match seats {
@@ -129,22 +128,12 @@ fn add_wanted(kept: &Kept, seats: &[Seat], due: &mut Vec<LockName>) -> Result<()
 /// The locks whose leases are to be given back, rising: of these only the lock that was left, and those that threads
 /// next want at `Write`, can be.
 fn due_locks(alloc: Global, kept: &Kept, left: Option<LockName>) -> Result<Vec<LockName>, NoMemory>
-    ensures { IfOk result (λ locks. (at : Point) → PartsStand at kept.now → OnlyThese at left → locks.items ≡ due at.settings at.client at.next at.entries) }
+    ensures { IfOk result (λ locks. (at : Point) → PartsStand at kept.now → AreOwnHolds at → OnlyThese at left → locks.items ≡ due at.settings at.client at.next at.entries) }
 {
     let mut locks = Vec::new(alloc);
     add_if_due(kept, &mut locks, left)?;
     add_wanted(kept, kept.seats.as_slice(), &mut locks)?;
     Ok(locks)
-}
-
-/// Gives the lease of the lock back, with its list.
-fn return_one(alloc: Global, locking: &mut Locking, lock: LockName) -> Result<Up, NoMemory>
-    ensures message { IfOk result (λ message. message ≡ up.Return lock (list_at locking.old.lists lock)) }
-    ensures given { OnOk result (is_returnable (standing_in locking.old.leases lock) ≡ true → AreGivenBack (lock ∷ []) locking.old locking.new) }
-    ensures holds { locking.new.holds ≡ locking.old.holds }
-{
-    let threads = give_back(alloc, locking, lock)?;
-    Ok(Up::Return(lock, Items::from_vec(threads)))
 }
 
 /// Gives the leases of the locks back, each with its list, in their order.
@@ -154,15 +143,14 @@ fn return_all(
     locks: &[LockName],
     sent: &mut Vec<Up>,
 ) -> Result<(), NoMemory>
-    ensures given { OnOk result (Distinct locks.now → AllByRecursion (λ l. is_returnable (standing_in locking.old.leases l) ≡ true) locks.now
+    ensures given { OnOk result (Distinct locks.now → AllByRecursion (λ l. was_entered (standing_in locking.old.leases l) ≡ true) locks.now
         → (sent.new.items ≡ sent.old.items ++ given_back locking.old locks.now) × AreGivenBack locks.now locking.old locking.new) }
     ensures holds { locking.new.holds ≡ locking.old.holds }
 {
     match locks {
         [] => Ok(()),
         [lock, rest @ ..] => {
-            let message = return_one(alloc, locking, *lock)?;
-            sent.push(message)?;
+            sent.push(give_back(alloc, locking, *lock))?;
             return_all(alloc, locking, rest, sent)
         }
     }
@@ -188,25 +176,6 @@ pub(crate) fn settle_act(
     let mut sent = Vec::new(alloc);
     return_all(alloc, &mut kept.locking, locks.as_slice(), &mut sent)?;
     Ok(sent)
-}
-
-/// Whether a lease of the lock is closing, where there is a lease of it.
-pub(crate) fn is_closing(kept: &Kept, lock: LockName) -> bool
-    ensures { (at : Point) → PartsStand at kept.now → is_some (leased lock at.entries) ≡ true → result ≡ is_closing at.settings at.client at.next lock at.entries }
-{
-    match kept.locking.leases.standing(lock) {
-        Some(Standing::Leased(lease)) => is_lease_closing(kept, lock, lease),
-        _ => false,
-    }
-}
-
-/// Whether this lease of the lock is closing.
-fn is_lease_closing(kept: &Kept, lock: LockName, lease: Lease) -> bool
-    ensures { (at : Point) → PartsStand at kept.now → leased lock at.entries ≡ Some lease.level → is_recalled lock at.entries ≡ lease.is_closing
-        → result ≡ is_closing at.settings at.client at.next lock at.entries }
-{
-    let is_awaited = is_read(lease.level) && is_awaited(&kept.locking, kept.seats.as_slice(), lock);
-    lease.is_closing || is_awaited
 }
 
 /// Whether the message gives the lease of the lock back.
@@ -247,25 +216,32 @@ fn asked_again(next: Option<Request>, was_closing: bool, sent: &[Up]) -> Option<
     }
 }
 
+/// The next request of a thread after its act, None where it has ended; and whether the lease of the lock that it then
+/// enters at `Write` was closing before the act.
+#[derive(Clone, Copy, Debug, PartialEq, Eq)]
+pub(crate) struct Onward {
+    pub next: Option<Request>,
+    pub was_closing: bool,
+}
+
 /// Asks again for the lock that the acting thread next enters, by its next request after the act, where the act gave
 /// its lease back for this thread alone: the lease wasn't closing before the act. What the act gave back is told.
 ///
 /// It answers `NoMemory` where an allocation was refused.
 pub(crate) fn ask_again(
     kept: &mut Kept,
-    next: Option<Request>,
-    was_closing: bool,
+    onward: Onward,
     returned: &[Up],
 ) -> Result<Option<Up>, NoMemory>
     ensures asks { IfOk result (λ message. (clock : ℕ) (act : Answered) (txn : Option Txn) (later : ThreadId → Option Request) (at : Point)
         → PartsStand (acting clock act (record_sent txn ++ returned.now) later at) kept.old → RunFacts at
-        → returned.now ≡ returns at.settings at.client later (lived clock act at).entries → next ≡ later act.thread
-        → ((l : LockName) → next ≡ Some (Enter l Write) → is_some (leased l at.entries) ≡ true → was_closing ≡ is_closing at.settings at.client at.next l at.entries)
+        → returned.now ≡ returns at.settings at.client later (lived clock act at).entries → onward.next ≡ later act.thread
+        → ((l : LockName) → onward.next ≡ Some (Enter l Write) → is_some (leased l at.entries) ≡ true → onward.was_closing ≡ is_closing at.settings at.client at.next l at.entries)
         → AsksAgain clock act (record_sent txn ++ returned.now) later at message kept.new) }
     ensures others { kept.new ≡ record kept.old { locking = kept.new.locking } }
     ensures holds { kept.new.locking.holds ≡ kept.old.locking.holds }
 {
-    match asked_again(next, was_closing, returned) {
+    match asked_again(onward.next, onward.was_closing, returned) {
         Some(lock) => {
             ask_lock(&mut kept.locking, lock, Level::Write)?;
             Ok(Some(Up::Request(lock, Level::Write)))

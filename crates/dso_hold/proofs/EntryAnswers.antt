@@ -5,7 +5,7 @@ use Rattle.dso_base.specs.declared.lock.Level.{Level}
 use Rattle.dso_base.specs.declared.lock.Level.TheVariants.{Read}
 use Rattle.dso_base.specs.declared.lock.LockName.{LockName}
 use Rattle.dso_base.specs.declared.lock.ThreadId.{ThreadId}
-use Rattle.dso_hold.specs.declared.held.Enter.TheVariants.{Entered, LockUpgrade}
+use Rattle.dso_hold.specs.declared.held.Enter.TheVariants.{Entered}
 use Rattle.dso_hold.specs.declared.held.Held.{Held}
 use Rattle.dso_hold.specs.declared.tables.Tables.{Tables}
 use Rattle.dso_hold.specs.Holds.{hold_in, with_hold, excludes, is_lower, is_upgrade, entered, entered_again, NoConflict, IsAnswer}
@@ -24,10 +24,6 @@ module _ (old new : LockName × ThreadId → Option Held) (l : LockName) (t : Th
   -- a thread that holds the lock has entered again
   pub again_answer : (own : Held) (level : Level) (n : ℕ) → IsExclusive old → old (l, t) ≡ Some own → is_lower level own ≡ false → new ≡ with_hold l t (Some (entered_again n own)) old → IsAnswer t l level n old new Entered
   again_answer own level n alone there fits is = (ap (λ held. is_upgrade level held) there ∙ fits, no_conflict_within old alone l t own level there fits, is ∙ ap (λ held. with_hold l t (Some (entered level n held)) old) (sym there))
-
-  -- a thread that holds the lock asks for more
-  pub upgrade_answer : (own : Held) (level : Level) (n : ℕ) → old (l, t) ≡ Some own → is_lower level own ≡ true → new ≡ old → IsAnswer t l level n old new LockUpgrade
-  upgrade_answer own level n there lower same = (ap (λ held. is_upgrade level held) there ∙ lower, same)
 
 -- a hold with another count is as exclusive
 pub exclusive_counted : (holds : LockName × ThreadId → Option Held) (alone : IsExclusive holds) (l : LockName) (t : ThreadId) (own : Held) (n : ℕ) → holds (l, t) ≡ Some own → IsExclusive (with_hold l t (Some (record own { count = n })) holds)

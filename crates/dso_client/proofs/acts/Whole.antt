@@ -42,10 +42,7 @@ use Rattle.dso_client.proofs.acts.Next.{parts_then}
 use Rattle.dso_client.proofs.sent.Parts.{other_thread}
 use Rattle.dso_client.proofs.seats.ChangedSeats.{told_unchanged}
 use Rattle.dso_client.proofs.acts.Step.{acted_stands, later}
-
--- the parts alone
-pub parts_of : (at : Point) (kept : Kept) → KeptStands at kept → PartsStand at kept
-parts_of at kept h = record { number = h.number; places = h.places; numbered = h.numbered; seats = h.seats; table = h.table; locking = h.locking; ledger = h.ledger }
+use Rattle.dso_client.proofs.standing.Parts.{parts_of}
 
 -- a thread with its machine
 abbrev machine : Seat → ThreadId × Thread

@@ -27,6 +27,7 @@ use Rattle.dso_law.specs.Threads.{Held, Waiting, Locks, hold_in, hold_of, locks_
 use Rattle.dso_client.specs.declared.answered.Answered.{Answered}
 use Rattle.dso_client.specs.Living.{acting}
 use Rattle.dso_client.specs.Points.{Point}
+use Rattle.dso_client.specs.RunFacts.{AreOwnHolds}
 use Rattle.dso_client.specs.Returning.{OnlyThese, is_due_at, is_of, is_wanted_by, left_lock, record_sent, wanted_lock}
 
 -- a test that fails where a wider one does
@@ -171,3 +172,12 @@ module _ (clock : ℕ) (act : Answered) (next : ThreadId → Option Request) (at
       by true e b f = ap (λ a. a || list_any (is_wanted_by then k) (threads_of at.settings at.client)) e
       by false e true f = ap (λ a. a || list_any (is_wanted_by then k) (threads_of at.settings at.client)) e ∙ f
       by false e false f = absurd (cc (sym is ∙ (due_same txn k ∙ elsewhere its quiet k e f)))
+
+-- a thread that isn't one of the client's holds nothing still
+pub own_acted : (clock : ℕ) (act : Answered) (next : ThreadId → Option Request) (at : Point) (txn : Option Txn) → list_any (is_thread act.thread) (threads_of at.settings at.client) ≡ true
+    → AreOwnHolds at → AreOwnHolds (acting clock act (record_sent txn) next at)
+own_acted clock act next at txn its own t stranger = by (is_thread t act.thread) refl
+  where
+    by : (b : Bool) → is_thread t act.thread ≡ b → (cond b (locks_by act.request act.reply (locks_of t at.entries)) (locks_of t at.entries)).holds ≡ []
+    by true same = absurd (cc (sym stranger ∙ (ap (λ u. list_any (is_thread u) (threads_of at.settings at.client)) (sym (same_thread t act.thread same)) ∙ its)))
+    by false other = own t stranger

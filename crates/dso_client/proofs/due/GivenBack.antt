@@ -6,55 +6,31 @@ use Rattle.dso_base.specs.declared.lock.LockName.{LockName}
 use Rattle.dso_base.specs.declared.lock.ThreadId.{ThreadId}
 use Rattle.dso_base.specs.declared.message.Up.{Up}
 use Rattle.dso_base.specs.declared.message.Up.TheVariants as up
-use Rattle.dso_lease.specs.declared.standing.Lease.{Lease}
 use Rattle.dso_lease.specs.declared.standing.Standing.{Standing}
-use Rattle.dso_lease.specs.declared.standing.Standing.TheVariants.{Asked, Leased}
-use Rattle.dso_lease.specs.Leases.{standing_in, with_standing}
+use Rattle.dso_lease.specs.Leases.{standing_in, with_standing, was_entered}
 use Rattle.dso_lookup.specs.Maps.{look, writes, written}
 use Rattle.dso_lookup.specs.Orders.{lock_order}
 use Rattle.dso_plain.specs.KeyTests.{is_lock}
 use Rattle.dso_law.proofs.client.ClientLaws.{lock_either_way}
-use Rattle.dso_law.specs.Closing.{is_read}
 use Rattle.dso_client.specs.declared.locking.Locking.{Locking}
 use Rattle.dso_client.specs.LockingStands.{list_at}
-use Rattle.dso_client.specs.Returning.{AreGivenBack, given_back, is_returnable}
+use Rattle.dso_client.specs.Returning.{AreGivenBack, given_back}
 use Rattle.dso_client.proofs.heard.Locks.{at_lock, without_list}
-
--- a lease that may be given back is there
-record IsThere (standing : Option Standing) : Type 0 where
-  pub lease : Lease
-  pub is : standing ≡ Some (Leased lease)
-  pub entered : lease.is_entered ≡ true
-  pub closes : (lease.is_closing || is_read (Some lease.level)) ≡ true
-
-both : (a b : Bool) → (a && b) ≡ true → (a ≡ true) × (b ≡ true)
-both true b e = (refl, e)
-both false b e = absurd (cc e)
-
-lease_there : (standing : Option Standing) → is_returnable standing ≡ true → IsThere standing
-lease_there None e = absurd (cc e)
-lease_there (Some Asked) e = absurd (cc e)
-lease_there (Some (Leased lease)) e =
-    let h = both lease.is_entered (lease.is_closing || is_read (Some lease.level)) e in
-    record { lease = lease; is = refl; entered = h.0; closes = h.1 }
 
 or_none : (b : Bool) → (b || false) ≡ b
 or_none true = refl
 or_none false = refl
 
 -- one lease
-pub one_given : (l : LockName) (old new : Locking) → is_returnable (standing_in old.leases l) ≡ true
-    → ((lease : Lease) → standing_in old.leases l ≡ Some (Leased lease) → lease.is_entered ≡ true → (lease.is_closing || is_read (Some lease.level)) ≡ true
-    → standing_in new.leases ≡ with_standing l None (standing_in old.leases))
-    → look lock_order new.lists ≡ written (writes (is_at (lock_order l)) (λ _. None)) (look lock_order old.lists) → new.holds ≡ old.holds → AreGivenBack (l ∷ []) old new
-one_given l old new returnable gives gone held =
-    let there = lease_there (standing_in old.leases l) returnable in
-    record {
-      holds = held;
-      leases = λ x. ap (λ leases. leases x) (gives there.lease there.is there.entered there.closes)
-          ∙ (at_lock l None (standing_in old.leases) x ∙ ap (λ b. cond b None (standing_in old.leases x)) (sym (or_none (is_lock x l))));
-      lists = λ x. without_list l old.lists new.lists gone x ∙ ap (λ b. cond b [] (list_at old.lists x)) (sym (or_none (is_lock x l)));
-    }
+pub one_given : (l : LockName) (old new : Locking) → (was_entered (standing_in old.leases l) ≡ true → standing_in new.leases ≡ with_standing l None (standing_in old.leases))
+    → look lock_order new.lists ≡ written (writes (is_at (lock_order l)) (λ _. None)) (look lock_order old.lists) → new.holds ≡ old.holds
+    → was_entered (standing_in old.leases l) ≡ true → AreGivenBack (l ∷ []) old new
+one_given l old new gives gone held entered = record {
+  holds = held;
+  leases = λ x. ap (λ leases. leases x) (gives entered)
+      ∙ (at_lock l None (standing_in old.leases) x ∙ ap (λ b. cond b None (standing_in old.leases x)) (sym (or_none (is_lock x l))));
+  lists = λ x. without_list l old.lists new.lists gone x ∙ ap (λ b. cond b [] (list_at old.lists x)) (sym (or_none (is_lock x l)));
+}
 
 -- what was returned, told alike of lists that are the same elsewhere
 told_alike : (l : LockName) (f g : LockName → List ThreadId) → ((k : LockName) → is_lock k l ≡ false → f k ≡ g k) → (locks : List LockName) → list_any (is_lock l) locks ≡ false
@@ -72,14 +48,14 @@ told_alike l f g same (k ∷ locks) none = by (is_lock l k) refl none (told_alik
 
 -- what may be given back elsewhere still may
 still_may : (l : LockName) (old mid : LockName → Option Standing) → ((k : LockName) → is_lock k l ≡ false → mid k ≡ old k) → (locks : List LockName) → list_any (is_lock l) locks ≡ false
-    → AllByRecursion (λ k. is_returnable (old k) ≡ true) locks → AllByRecursion (λ k. is_returnable (mid k) ≡ true) locks
+    → AllByRecursion (λ k. was_entered (old k) ≡ true) locks → AllByRecursion (λ k. was_entered (mid k) ≡ true) locks
 still_may l old mid same [] none may = tt
 still_may l old mid same (k ∷ locks) none may = by (is_lock l k) refl none (λ n. still_may l old mid same locks n may.1)
   where
-    by : (b : Bool) → is_lock l k ≡ b → (b || list_any (is_lock l) locks) ≡ false → (list_any (is_lock l) locks ≡ false → AllByRecursion (λ k. is_returnable (mid k) ≡ true) locks)
-        → AllByRecursion (λ k. is_returnable (mid k) ≡ true) (k ∷ locks)
+    by : (b : Bool) → is_lock l k ≡ b → (b || list_any (is_lock l) locks) ≡ false → (list_any (is_lock l) locks ≡ false → AllByRecursion (λ k. was_entered (mid k) ≡ true) locks)
+        → AllByRecursion (λ k. was_entered (mid k) ≡ true) (k ∷ locks)
     by true e none later = absurd (cc none)
-    by false e none later = (ap is_returnable (same k (lock_either_way k l ∙ e)) ∙ may.0, later none)
+    by false e none later = (ap was_entered (same k (lock_either_way k l ∙ e)) ∙ may.0, later none)
 
 module _ (l : LockName) (rest : List LockName) (old mid : Locking) (first : AreGivenBack (l ∷ []) old mid) where
   lease_elsewhere : (k : LockName) → is_lock k l ≡ false → standing_in mid.leases k ≡ standing_in old.leases k
@@ -106,5 +82,5 @@ module _ (l : LockName) (rest : List LockName) (old mid : Locking) (first : AreG
     },
   )
 
-  pub rest_may : list_any (is_lock l) rest ≡ false → AllByRecursion (λ k. is_returnable (standing_in old.leases k) ≡ true) rest → AllByRecursion (λ k. is_returnable (standing_in mid.leases k) ≡ true) rest
+  pub rest_may : list_any (is_lock l) rest ≡ false → AllByRecursion (λ k. was_entered (standing_in old.leases k) ≡ true) rest → AllByRecursion (λ k. was_entered (standing_in mid.leases k) ≡ true) rest
   rest_may apart may = still_may l (standing_in old.leases) (standing_in mid.leases) lease_elsewhere rest apart may

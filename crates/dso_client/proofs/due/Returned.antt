@@ -5,7 +5,6 @@ use Rattle.std.specs.BTreeMap.{is_at}
 use Rattle.std.specs.Bool.{OnTrue}
 use Rattle.std.specs.Option.{option_map}
 use Rattle.dso_base.specs.declared.lock.Level.{Level}
-use Rattle.dso_base.specs.declared.lock.Level.TheVariants.{Read, Write}
 use Rattle.dso_base.specs.declared.lock.LockName.{LockName}
 use Rattle.dso_base.specs.declared.lock.ThreadId.{ThreadId}
 use Rattle.dso_base.specs.declared.message.Down.{Down}
@@ -13,16 +12,15 @@ use Rattle.dso_base.specs.declared.message.Down.TheVariants as down
 use Rattle.dso_base.specs.declared.message.Up.{Up}
 use Rattle.dso_base.specs.declared.message.Up.TheVariants as up
 use Rattle.dso_hold.specs.Holds.{hold_in}
-use Rattle.dso_lease.specs.declared.standing.Lease.{Lease}
 use Rattle.dso_lease.specs.declared.standing.Standing.{Standing}
-use Rattle.dso_lease.specs.declared.standing.Standing.TheVariants.{Leased}
-use Rattle.dso_lease.specs.Leases.{standing_in, with_standing, after_want, suffices, is_returned}
+use Rattle.dso_lease.specs.declared.standing.Standing.TheVariants.{Asked, Leased}
+use Rattle.dso_lease.specs.Leases.{standing_in, with_standing, is_leased, is_returned, recalled, was_entered}
 use Rattle.dso_lookup.specs.Maps.{look, writes, written}
 use Rattle.dso_lookup.specs.Orders.{lock_order}
 use Rattle.dso_plain.specs.KeyTests.{is_lock}
 use Rattle.dso_plain.proofs.keys.SameKeys.{same_lock}
 use Rattle.dso_law.specs.ClientWaiters.{client_list}
-use Rattle.dso_law.specs.Closing.{is_read, is_closing, is_due, is_free}
+use Rattle.dso_law.specs.Closing.{is_due}
 use Rattle.dso_law.specs.Leases.{standing, leased, is_entered, is_recalled, is_asked_for}
 use Rattle.dso_law.proofs.runs.Quiet.{lock_self}
 use Rattle.dso_client.specs.declared.kept.Kept.{Kept}
@@ -36,52 +34,38 @@ use Rattle.dso_client.specs.SeatStands.{SeatStands}
 use Rattle.dso_client.specs.Taking.{IsQuiet, Settles, settled}
 use Rattle.dso_client.specs.Touching.{touched}
 use Rattle.dso_client.proofs.seats.AtStart.{all_as}
+use Rattle.dso_client.proofs.due.Settled.{due_may}
 use Rattle.dso_client.proofs.due.Touched.{none_due, one_due}
 use Rattle.dso_client.proofs.heard.Locks.{at_lock, without_list, on_true}
 
--- a lease that a thread wants at Write is closing where it was, or is of level Read
-closes_as : (closing : Bool) (level : Level) → (closing || not (suffices level Write)) ≡ (closing || is_read (Some level))
-closes_as true Read = refl
-closes_as true Write = refl
-closes_as false Read = refl
-closes_as false Write = refl
+-- a lease that was entered is there, and is given back once it was recalled
+leased_there : (standing : Option Standing) → was_entered standing ≡ true → is_leased standing ≡ true
+leased_there None e = absurd (cc e)
+leased_there (Some Asked) e = absurd (cc e)
+leased_there (Some (Leased lease)) e = refl
 
-both_true : (a b : Bool) → a ≡ true → b ≡ true → (a && (b && true)) ≡ true
-both_true true true h g = refl
-both_true true false h g = absurd (cc g)
-both_true false b h g = absurd (cc h)
+returned_then : (standing : Option Standing) → was_entered standing ≡ true → is_returned true (option_map recalled standing) ≡ true
+returned_then None e = absurd (cc e)
+returned_then (Some Asked) e = absurd (cc e)
+returned_then (Some (Leased lease)) e = ap (λ entered. entered && true) e
 
-pub given_up : (l : LockName) (old mid new : LockName → Option Standing) (lease : Lease) → old l ≡ Some (Leased lease) → lease.is_entered ≡ true → (lease.is_closing || is_read (Some lease.level)) ≡ true
-    → mid ≡ with_standing l (Some (after_want Write (old l))) old → (done : Bool) → done ≡ is_returned true (mid l) → OnTrue done (new ≡ with_standing l None mid) → new ≡ with_standing l None old
-given_up l old mid new lease is entered closes wanted done due gone =
-    let here : mid l ≡ Some (after_want Write (Some (Leased lease))) = ap (λ f. f l) wanted ∙ (at_lock l (Some (after_want Write (old l))) old l
-    ∙ (ap (λ b. cond b (Some (after_want Write (old l))) (old l)) (lock_self l) ∙ ap (λ s. Some (after_want Write s)) is)) in
-    let it : done ≡ true = due ∙ (ap (is_returned true) here ∙ both_true (lease.is_closing || not (suffices lease.level Write)) lease.is_entered (closes_as lease.is_closing lease.level ∙ closes) entered) in
-    on_true done (new ≡ with_standing l None mid) it gone ∙ fun_ext (λ k. at_lock l None mid k ∙ (ap (λ f. cond (is_lock k l) None (f k)) wanted
-    ∙ (ap (cond (is_lock k l) None) (at_lock l (Some (after_want Write (old l))) old k) ∙ (once k (is_lock k l) ∙ sym (at_lock l None old k)))))
+pub given_up : (l : LockName) (old mid new : LockName → Option Standing) → was_entered (old l) ≡ true → (was_there : Bool) → was_there ≡ is_leased (old l)
+    → OnTrue was_there (mid ≡ with_standing l (option_map recalled (old l)) old) → (done : Bool) → done ≡ is_returned true (mid l) → OnTrue done (new ≡ with_standing l None mid) → new ≡ with_standing l None old
+given_up l old mid new entered was_there there closing done due gone =
+    let then = option_map recalled (old l) in
+    let closed : mid ≡ with_standing l then old = on_true was_there (mid ≡ with_standing l then old) (there ∙ leased_there (old l) entered) closing in
+    let here : mid l ≡ then = ap (λ f. f l) closed ∙ (at_lock l then old l ∙ ap (λ b. cond b then (old l)) (lock_self l)) in
+    let it : done ≡ true = due ∙ (ap (is_returned true) here ∙ returned_then (old l) entered) in
+    on_true done (new ≡ with_standing l None mid) it gone ∙ fun_ext (λ k. at_lock l None mid k ∙ (ap (λ f. cond (is_lock k l) None (f k)) closed
+    ∙ (ap (cond (is_lock k l) None) (at_lock l then old k) ∙ (once k (is_lock k l) ∙ sym (at_lock l None old k)))))
   where
-    once : (k : LockName) (b : Bool) → cond b None (cond b (Some (after_want Write (old l))) (old k)) ≡ cond b None (old k)
+    once : (k : LockName) (b : Bool) → cond b None (cond b (option_map recalled (old l)) (old k)) ≡ cond b None (old k)
     once k true = refl
     once k false = refl
-
--- a lock that is leased stands so
-leased_so : (level : Option Level) (entered recalled asked : Bool) → is_some level ≡ true
-    → (lease : Lease) × (standing_as level entered recalled asked ≡ Some (Leased lease)) × (Some lease.level ≡ level) × (lease.is_entered ≡ entered) × (lease.is_closing ≡ recalled)
-leased_so (Some level) entered recalled asked e = (record { level = level; is_entered = entered; is_closing = recalled }, refl, refl, refl, refl)
-leased_so None entered recalled asked e = absurd (cc e)
 
 first : (a b : Bool) → (a && b) ≡ true → a ≡ true
 first true b h = refl
 first false b h = absurd (cc h)
-
-second : (a b : Bool) → (a && b) ≡ true → b ≡ true
-second true b h = h
-second false b h = absurd (cc h)
-
-closing_by : (recalled read awaited : Bool) → (recalled || (read && awaited)) ≡ true → (recalled || read) ≡ true
-closing_by true read awaited h = refl
-closing_by false true awaited h = refl
-closing_by false false awaited h = absurd (cc h)
 
 -- a lock that is leased isn't asked for, once a message was taken
 apart_heard : (clock : ℕ) (m : Down) (at : Point) (k : LockName) → (is_some (leased k at.entries) ≡ true → is_asked_for k at.entries ≡ false)
@@ -124,22 +108,16 @@ module _ (clock : ℕ) (m : Down) (at : Point) (l : LockName) where
   })
 
   -- the lease that the message made due is given back, alone
-  pub one_settles : (old new : Kept) (sent : List Up) (threads : List ThreadId) → PartsStand (heard clock m at) old → IsQuiet at → RunFacts at → touched at m ≡ Some l
+  pub one_settles : (old new : Kept) (sent : List Up) → PartsStand (heard clock m at) old → IsQuiet at → RunFacts at → touched at m ≡ Some l
       → (is_some (leased l (heard clock m at).entries) && is_due at.settings at.client at.next l (heard clock m at).entries) ≡ true
-      → sent ≡ up.Return l threads ∷ [] → threads ≡ list_at old.locking.lists l → new ≡ record old { locking = new.locking } → new.locking.holds ≡ old.locking.holds
-      → ((lease : Lease) → standing_in old.locking.leases l ≡ Some (Leased lease) → lease.is_entered ≡ true → (lease.is_closing || is_read (Some lease.level)) ≡ true
-      → standing_in new.locking.leases ≡ with_standing l None (standing_in old.locking.leases))
+      → sent ≡ up.Return l (list_at old.locking.lists l) ∷ [] → new ≡ record old { locking = new.locking } → new.locking.holds ≡ old.locking.holds
+      → (was_entered (standing_in old.locking.leases l) ≡ true → standing_in new.locking.leases ≡ with_standing l None (standing_in old.locking.leases))
       → look lock_order new.locking.lists ≡ written (writes (is_at (lock_order l)) (λ _. None)) (look lock_order old.locking.lists) → Settles clock m at sent new
-  one_settles old new sent threads h quiet facts touches is says listed same held gives gone =
+  one_settles old new sent h quiet facts touches is says same held gives gone =
       let mid = (heard clock m at).entries in
       let there = first (is_some (leased l mid)) (is_due at.settings at.client at.next l mid) is in
-      let due_now = second (is_some (leased l mid)) (is_due at.settings at.client at.next l mid) is in
-      let entered = first (is_entered l mid) (is_free at.settings at.client at.next l mid) (second (is_closing at.settings at.client at.next l mid) (is_entered l mid && is_free at.settings at.client at.next l mid) due_now) in
-      let closing = closing_by (is_recalled l mid) (is_read (leased l mid)) _ (first (is_closing at.settings at.client at.next l mid) (is_entered l mid && is_free at.settings at.client at.next l mid) due_now) in
-      let lease = leased_so (leased l mid) (is_entered l mid) (is_recalled l mid) (is_asked_for l mid) there in
-      let given_back = gives lease.0 (h.locking.leases l ∙ lease.1) (lease.3 ∙ entered)
-      (ap (λ r. r || is_read (Some lease.0.level)) lease.4 ∙ (ap (λ level. is_recalled l mid || is_read level) lease.2 ∙ closing)) in
-      let all : sent ≡ up.Return l (client_list l mid) ∷ [] = says ∙ ap (λ ts. up.Return l ts ∷ []) (listed ∙ h.locking.lists l) in
+      let given_back = gives (due_may (heard clock m at) old.locking h.locking l is) in
+      let all : sent ≡ up.Return l (client_list l mid) ∷ [] = says ∙ ap (λ ts. up.Return l ts ∷ []) (h.locking.lists l) in
       record {
         sends = all ∙ ap (map (λ k. up.Return k (client_list k mid))) (sym (one_due clock at quiet m l touches is));
         parts = subst (λ sent. PartsStand (settled clock m sent at) new) (sym all)

@@ -73,11 +73,6 @@ pub among_left : (k : LockName) (test : LockName → Bool) (locks : List LockNam
 among_left k test [] = refl
 among_left k test (l ∷ locks) = by (is_lock k l) refl (test l) refl (among_left k test locks)
   where
-    with_itself : (a b : Bool) → (a || (b && a)) ≡ a
-    with_itself true b = refl
-    with_itself false true = refl
-    with_itself false false = refl
-
     none_left : (b : Bool) → (b && false) ≡ false
     none_left true = refl
     none_left false = refl

@@ -4,7 +4,6 @@ use Rattle.std.proofs.Common.{◌≡◌, ℕ, refl, sym, ◌∙◌, ap, subst, B
 use Rattle.std.proofs.Math.Path.{fun_ext}
 use Rattle.std.specs.Option.{option_map}
 use Rattle.dso_base.specs.declared.journal.Sent.TheVariants.{ToServer}
-use Rattle.dso_base.specs.declared.lock.Level.{Level}
 use Rattle.dso_base.specs.declared.lock.LockName.{LockName}
 use Rattle.dso_base.specs.declared.lock.ThreadId.{ThreadId}
 use Rattle.dso_base.specs.declared.message.Up.{Up}
@@ -12,7 +11,7 @@ use Rattle.dso_base.specs.declared.message.Up.TheVariants as up
 use Rattle.dso_base.specs.declared.record.Txn.{Txn}
 use Rattle.dso_base.specs.declared.request.Request.{Request}
 use Rattle.dso_hold.specs.Holds.{hold_in}
-use Rattle.dso_lease.specs.Leases.{standing_in}
+use Rattle.dso_lease.specs.Leases.{standing_in, was_entered}
 use Rattle.dso_plain.specs.KeyTests.{is_lock}
 use Rattle.dso_plain.proofs.keys.SameKeys.{same_lock}
 use Rattle.dso_law.specs.declared.readings.Standing as law
@@ -20,7 +19,7 @@ use Rattle.dso_law.proofs.runs.Quiet.{lock_self}
 use Rattle.dso_law.specs.Entries.{by_sent_up}
 use Rattle.dso_law.specs.ClientStep.{returns}
 use Rattle.dso_law.specs.ClientWaiters.{list_by_act, list_by_sent, client_list}
-use Rattle.dso_law.specs.Closing.{is_read, is_closing, is_due, is_free, awaits_write, due}
+use Rattle.dso_law.specs.Closing.{is_closing, is_due, is_free, due}
 use Rattle.dso_law.specs.Leases.{granted, insert_lock, leased_locks, standing_up, standing, leased, is_entered, is_recalled, is_asked_for}
 use Rattle.dso_law.specs.Settings.{threads_of}
 use Rattle.dso_client.specs.declared.answered.Answered.{Answered}
@@ -30,8 +29,9 @@ use Rattle.dso_client.specs.KeptStands.{PartsStand}
 use Rattle.dso_client.specs.Living.{acting, lived}
 use Rattle.dso_client.specs.LockingStands.{LockingStands, as_hold, standing_as}
 use Rattle.dso_client.specs.Points.{Point}
-use Rattle.dso_client.specs.Returning.{ActSettles, AddsDue, AreGivenBack, Distinct, OnlyThese, Rising, given_back, is_due_at, is_of, is_returnable, is_wanted_by, record_sent}
+use Rattle.dso_client.specs.Returning.{ActSettles, AddsDue, AreGivenBack, Distinct, OnlyThese, Rising, given_back, is_due_at, is_of, is_wanted_by, record_sent}
 use Rattle.dso_client.specs.RunFacts.{RunFacts}
+use Rattle.dso_client.proofs.lock_standing.LockStands.{entered_told}
 use Rattle.dso_client.proofs.due.Leased.{among_insert, leased_granted}
 use Rattle.dso_client.proofs.due.Rising.{granted_rises, insert_rising, rising_distinct}
 use Rattle.dso_client.proofs.due.SameLocks.{among_left, rising_left, same_rising}
@@ -112,23 +112,12 @@ first_two : (a b : Bool) → (a && b) ≡ true → (a ≡ true) × (b ≡ true)
 first_two true b e = (refl, e)
 first_two false b e = absurd (cc e)
 
-closes : (recalled read awaited : Bool) → (recalled || (read && awaited)) ≡ true → (recalled || read) ≡ true
-closes true read awaited h = refl
-closes false true awaited h = refl
-closes false false awaited h = absurd (cc h)
-
-may_so : (level : Option Level) (entered recalled asked : Bool) → is_some level ≡ true → entered ≡ true → (recalled || is_read level) ≡ true → is_returnable (standing_as level entered recalled asked) ≡ true
-may_so None entered recalled asked there e c = absurd (cc there)
-may_so (Some level) true recalled asked there e c = c
-may_so (Some level) false recalled asked there e c = absurd (cc e)
-
-pub due_may : (at : Point) (old : Locking) → LockingStands at old → (l : LockName) → is_due_at at l ≡ true → is_returnable (standing_in old.leases l) ≡ true
+pub due_may : (at : Point) (old : Locking) → LockingStands at old → (l : LockName) → is_due_at at l ≡ true → was_entered (standing_in old.leases l) ≡ true
 due_may at old h l is =
     let parts = first_two (is_some (leased l at.entries)) (is_due at.settings at.client at.next l at.entries) is in
     let more = first_two (is_closing at.settings at.client at.next l at.entries) (is_entered l at.entries && is_free at.settings at.client at.next l at.entries) parts.1 in
     let entered = first_two (is_entered l at.entries) (is_free at.settings at.client at.next l at.entries) more.1 in
-    ap is_returnable (h.leases l) ∙ may_so (leased l at.entries) (is_entered l at.entries) (is_recalled l at.entries) (is_asked_for l at.entries) parts.0 entered.0
-    (closes (is_recalled l at.entries) (is_read (leased l at.entries)) (list_any (awaits_write at.settings at.client at.next l at.entries) (threads_of at.settings at.client)) more.0)
+    entered_told at old h l ∙ (ap (λ there. there && is_entered l at.entries) parts.0 ∙ entered.0)
 
 lock_self_there : (l : LockName) (locks : List LockName) → list_any (is_lock l) (l ∷ locks) ≡ true
 lock_self_there l locks = ap (λ b. b || list_any (is_lock l) locks) (lock_self l)
@@ -208,13 +197,13 @@ module _ (clock : ℕ) (act : Answered) (next : ThreadId → Option Request) (at
 
   pub act_settles : (txn : Option Txn) (old new : Kept) (locks : List LockName) (sent : List Up) → PartsStand (acting clock act (record_sent txn) next at) old → RunFacts at
       → locks ≡ due at.settings at.client next (acting clock act (record_sent txn) next at).entries
-      → (Distinct locks → AllByRecursion (λ l. is_returnable (standing_in old.locking.leases l) ≡ true) locks → (sent ≡ given_back old.locking locks) × AreGivenBack locks old.locking new.locking)
+      → (Distinct locks → AllByRecursion (λ l. was_entered (standing_in old.locking.leases l) ≡ true) locks → (sent ≡ given_back old.locking locks) × AreGivenBack locks old.locking new.locking)
       → new ≡ record old { locking = new.locking } → ActSettles clock act txn next at sent new
   act_settles txn old new locks sent h facts is gives same =
       let mid = acting clock act (record_sent txn) next at in
       let has : (k : LockName) → list_any (is_lock k) locks ≡ is_due_at mid k = λ k. ap (list_any (is_lock k)) is ∙ due_has mid k in
       let distinct = rising_distinct locks (subst Rising (sym is) (due_rises mid)) in
-      let given = gives distinct (each_may (λ l. is_returnable (standing_in old.locking.leases l)) locks (λ k there. due_may mid old.locking h.locking k (sym (has k) ∙ there))) in
+      let given = gives distinct (each_may (λ l. was_entered (standing_in old.locking.leases l)) locks (λ k there. due_may mid old.locking h.locking k (sym (has k) ∙ there))) in
       let list : LockName → List ThreadId = λ l. client_list l mid.entries in
       let said : sent ≡ map (λ l. up.Return l (list l)) locks = given.0 ∙ ap (λ (lists : LockName → List ThreadId). map (λ l. up.Return l (lists l)) locks) (fun_ext h.locking.lists) in
       let unasked : (x : LockName) → list_any (is_lock x) locks ≡ true → is_asked_for x mid.entries ≡ false =

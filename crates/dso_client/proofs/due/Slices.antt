@@ -5,12 +5,12 @@ use Rattle.std.proofs.lemmas.List.{take_all}
 use Rattle.dso_base.specs.declared.lock.LockName.{LockName}
 use Rattle.dso_base.specs.declared.message.Up.{Up}
 use Rattle.dso_base.specs.declared.message.Up.TheVariants as up
-use Rattle.dso_lease.specs.Leases.{standing_in}
+use Rattle.dso_lease.specs.Leases.{standing_in, was_entered}
 use Rattle.dso_client.specs.declared.locking.Locking.{Locking}
 use Rattle.dso_client.specs.declared.seat.Seat.{Seat}
 use Rattle.dso_client.specs.LockingStands.{list_at}
 use Rattle.dso_client.specs.Points.{Point}
-use Rattle.dso_client.specs.Returning.{AddsDue, AreGivenBack, Distinct, given_back, is_of, is_returnable, is_wanted_by, wanted_lock}
+use Rattle.dso_client.specs.Returning.{AddsDue, AreGivenBack, Distinct, given_back, is_of, is_wanted_by, wanted_lock}
 use Rattle.dso_client.specs.SeatStands.{SeatStands}
 use Rattle.dso_client.proofs.due.GivenBack.{more_given, rest_may}
 use Rattle.dso_client.proofs.due.Settled.{adds_both}
@@ -26,14 +26,14 @@ others_are x xs =
 
 -- one lease that is given back, and then the others
 pub all_given : (locks : List LockName) (other : LockName) (old mid new : Locking) (before sent after : List Up) → 1 ≤ length locks
-    → (is_returnable (standing_in old.leases (get_or locks 0 other)) ≡ true → AreGivenBack (get_or locks 0 other ∷ []) old mid)
+    → (was_entered (standing_in old.leases (get_or locks 0 other)) ≡ true → AreGivenBack (get_or locks 0 other ∷ []) old mid)
     → sent ≡ before ++ up.Return (get_or locks 0 other) (list_at old.lists (get_or locks 0 other)) ∷ []
-    → (Distinct (others locks) → AllByRecursion (λ l. is_returnable (standing_in mid.leases l) ≡ true) (others locks) → (after ≡ sent ++ given_back mid (others locks)) × AreGivenBack (others locks) mid new)
-    → Distinct locks → AllByRecursion (λ l. is_returnable (standing_in old.leases l) ≡ true) locks → (after ≡ before ++ given_back old locks) × AreGivenBack locks old new
+    → (Distinct (others locks) → AllByRecursion (λ l. was_entered (standing_in mid.leases l) ≡ true) (others locks) → (after ≡ sent ++ given_back mid (others locks)) × AreGivenBack (others locks) mid new)
+    → Distinct locks → AllByRecursion (λ l. was_entered (standing_in old.leases l) ≡ true) locks → (after ≡ before ++ given_back old locks) × AreGivenBack locks old new
 all_given [] other old mid new before sent after some one said later distinct may = absurd (omega (arith, some))
 all_given (l ∷ rest) other old mid new before sent after some one said later distinct may =
     let first = one may.0 in
-    let more = subst (λ rest. Distinct rest → AllByRecursion (λ l. is_returnable (standing_in mid.leases l) ≡ true) rest → (after ≡ sent ++ given_back mid rest) × AreGivenBack rest mid new) (others_are l rest) later in
+    let more = subst (λ rest. Distinct rest → AllByRecursion (λ l. was_entered (standing_in mid.leases l) ≡ true) rest → (after ≡ sent ++ given_back mid rest) × AreGivenBack rest mid new) (others_are l rest) later in
     more_given l rest old mid first new before sent after distinct.0 said (more distinct.1 (rest_may l rest old mid first distinct.0 may.1))
 
 -- the lock that one thread wants, and then those of the others

@@ -84,7 +84,7 @@ isnt true e = absurd (cc e)
 isnt false e = refl
 
 -- what a hold excludes it is in conflict with
-excludes_conflicts : (level : Level) (held : Option Held) → option_map_or (hold.excludes level) held false ≡ conflicts level (hold_level (option_map as_hold held))
+pub excludes_conflicts : (level : Level) (held : Option Held) → option_map_or (hold.excludes level) held false ≡ conflicts level (hold_level (option_map as_hold held))
 excludes_conflicts Read None = refl
 excludes_conflicts Write None = refl
 excludes_conflicts Write (Some held) = refl
@@ -94,12 +94,12 @@ excludes_conflicts Read (Some held) = by held.level
     by Read = refl
     by Write = refl
 
-none_conflicts : (level : Level) → conflicts level None ≡ false
+pub none_conflicts : (level : Level) → conflicts level None ≡ false
 none_conflicts Read = refl
 none_conflicts Write = refl
 
 -- one of a list of which none passes doesn't pass
-passes_not : (u : ThreadId) (test : ThreadId → Bool) (threads : List ThreadId) → list_any test threads ≡ false → list_any (is_thread u) threads ≡ true → test u ≡ false
+pub passes_not : (u : ThreadId) (test : ThreadId → Bool) (threads : List ThreadId) → list_any test threads ≡ false → list_any (is_thread u) threads ≡ true → test u ≡ false
 passes_not u test [] none its = absurd (cc its)
 passes_not u test (x ∷ xs) none its = by (is_thread u x) refl its (test x) refl none (passes_not u test xs)
   where

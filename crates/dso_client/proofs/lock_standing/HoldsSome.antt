@@ -13,7 +13,7 @@ use Rattle.dso_client.specs.LockingStands.{LockingStands, as_hold}
 use Rattle.dso_client.specs.Points.{Point}
 
 -- what isn't there isn't there as a hold
-gone : (held : Option Held) → option_map as_hold held ≡ None → held ≡ None
+pub gone : (held : Option Held) → option_map as_hold held ≡ None → held ≡ None
 gone None e = refl
 gone (Some held) e = absurd (cc e)
 

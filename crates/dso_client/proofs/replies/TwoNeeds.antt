@@ -13,3 +13,8 @@ pub second_unmet : (admitted any : Bool) (lease others : Need) → admitted ≡ 
 second_unmet true true lease others a n = refl
 second_unmet true false lease others a n = absurd (cc n)
 second_unmet false any lease others a n = absurd (cc a)
+
+-- the first isn't
+pub lease_unmet : (admitted any : Bool) (lease others : Need) → admitted ≡ false → Some lease ≡ first_unmet (unless admitted lease) (unless (not any) others)
+lease_unmet false any lease others a = refl
+lease_unmet true any lease others a = absurd (cc a)

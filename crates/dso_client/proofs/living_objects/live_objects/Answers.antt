@@ -1,8 +1,9 @@
-use Rattle.std.proofs.Common.{◌≡◌, ◌-◌, refl, sym, ◌∙◌, ap, arith, subst, is_some, Some, length, get_or, slice_set}
+use Rattle.std.proofs.Common.{◌≡◌, ◌-◌, suc, refl, sym, ◌∙◌, ap, arith, subst, is_some, Some, length, get_or, slice_set}
 use Rattle.std.proofs.lemmas.List.{with_items_is}
 use Rattle.dso_base.specs.declared.lock.ThreadId.{ThreadId}
+use Rattle.dso_law.specs.Records.{records}
 use Rattle.dso_law.specs.UseOrder.{use_order}
-use Rattle.dso_client.specs.Committing.{HasWork, changed_seat, with_work}
+use Rattle.dso_client.specs.Committing.{HasWork, IsActing, changed_seat, with_work}
 use Rattle.dso_client.specs.Living.{lived}
 use Rattle.dso_client.specs.SeatPlaces.{seat_in}
 use Rattle.dso_client.proofs.seats.ChangedSeats.{length_unchanged, changed_there, seat_there, changed_at_place}
@@ -13,7 +14,7 @@ pub returns-clause-lived : goal.returns-clause-lived
 returns-clause-lived c = λ clock at h.
     let old = c.args.kept.now in
     let act = c.args.act in
-    let index = c.args.index in
+    let index = c.args.act.thread.index in
     let items = old.seats.items in
     let seat = get_or c.as_mut_slice-seats.result.now (index - 1) c.index-seats-at-2.result in
     let new = c.live_seat.new.seat in
@@ -26,6 +27,7 @@ returns-clause-lived c = λ clock at h.
     let many = ap length changed ∙ (length_unchanged (with_work new.privates new.block) (λ seat. refl) items index ∙ (ap length (sym value) ∙ c.as_mut_slice-seats.ensures.len)) in
     let all = with_items_is old.seats (slice_set c.as_mut_slice-seats.result.now (index - 1) new) many ∙ changed in
     let acting = h.acting seat there in
+    let ends = subst (λ ending. IsActing at c.args.shape.now act ending seat) (sym c.block_end-end.ensures.ending) acting in
     let user = get_or c.as_mut_slice-seats.result.now (index - 1) c.index-seats-at.result in
     let using = h.acting user (subst (λ xs. seat_in items index ≡ Some (get_or xs (index - 1) c.index-seats-at.result)) (sym value)
     (seat_there items index c.index-seats-at.result c.requires.there)) in
@@ -38,14 +40,14 @@ returns-clause-lived c = λ clock at h.
       ledger = c.live_ledger.ensures.stands clock at h.ledger;
       work = λ s found.
           let both : with_work new.privates new.block seat ≡ s = cc (sym (ap (λ xs. seat_in xs index) all ∙ changed_there (with_work new.privates new.block) items index seat there) ∙ found) in
-          subst (HasWork (lived clock act at)) (rest ∙ both) (c.in_ok-txn.ensures.work clock at acting);
-      commits = c.in_ok-txn.ensures.commits at acting (omega (arith, sent));
+          subst (HasWork (lived clock act at)) (rest ∙ both) (c.in_ok-txn.ensures.work clock at ends);
+      commits = c.in_ok-txn.ensures.commits at ends (c.block_end-end.ensures.number (suc (records at.entries)) (omega (arith, sent)));
     }
 
 pub returns-clause-alone : goal.returns-clause-alone
 returns-clause-alone c =
     let old = c.args.kept.now in
-    let index = c.args.index in
+    let index = c.args.act.thread.index in
     let items = old.seats.items in
     let seat = get_or c.as_mut_slice-seats.result.now (index - 1) c.index-seats-at-2.result in
     let new = c.live_seat.new.seat in

@@ -6,9 +6,9 @@ pub returns-in_ok-ask_lock-in-Some-clause-asks : goal.returns-in_ok-ask_lock-in-
 returns-in_ok-ask_lock-in-Some-clause-asks c = λ clock act txn later at h facts is its was.
     let old = c.args.kept.now in
     let new = record old { locking = c.ask_lock.new.locking } in
-    one_asked clock act later at txn c.args.next c.args.was_closing c.args.returned.now c.in-Some.lock old new h facts is its was (sym c.asked_again.ensures ∙ c.in-Some.is)
+    one_asked clock act later at txn c.args.onward.next c.args.onward.was_closing c.args.returned.now c.in-Some.lock old new h facts is its was (sym c.asked_again.ensures ∙ c.in-Some.is)
     c.in_ok-ask_lock-in-Some.ensures.holds c.in_ok-ask_lock-in-Some.ensures.lists c.in_ok-ask_lock-in-Some.ensures.wanted refl
 
 pub returns-in-None-clause-asks : goal.returns-in-None-clause-asks
 returns-in-None-clause-asks c = λ clock act txn later at h facts is its was.
-    none_asked clock act later at txn c.args.next c.args.was_closing c.args.returned.now c.args.kept.now h is its was (sym c.asked_again.ensures ∙ c.in-None.is)
+    none_asked clock act later at txn c.args.onward.next c.args.onward.was_closing c.args.returned.now c.args.kept.now h is its was (sym c.asked_again.ensures ∙ c.in-None.is)

@@ -7,10 +7,10 @@ use Rattle.dso_client.proofs.due.Settled.{all_found}
 use Rattle.dso_client.proofs.returning.due_locks.Goals as goal
 
 pub returns : goal.returns
-returns c = λ at h these.
+returns c = λ at h own these.
     let mid = c.add_if_due.new.due.items in
     let new = c.add_wanted.new.due.items in
-    let first = subst (λ locks. AddsDue at (λ k. is_of k c.args.left) locks mid) c.new-locks.ensures.items (c.in_ok-add_if_due.ensures at h) in
+    let first = subst (λ locks. AddsDue at (λ k. is_of k c.args.left) locks mid) c.new-locks.ensures.items (c.in_ok-add_if_due.ensures at h own) in
     let stand = subst (AllByRecursion (SeatStands at)) (sym c.as_slice.ensures.value) h.seats in
-    let second = subst (λ threads. AddsDue at (λ k. list_any (is_wanted_by at k) threads) mid new) (ap (map (λ (seat : Seat). seat.id)) c.as_slice.ensures.value ∙ h.places) (c.in_ok-add_wanted.ensures at h stand) in
+    let second = subst (λ threads. AddsDue at (λ k. list_any (is_wanted_by at k) threads) mid new) (ap (map (λ (seat : Seat). seat.id)) c.as_slice.ensures.value ∙ h.places) (c.in_ok-add_wanted.ensures at h own stand) in
     all_found at c.args.left mid new these first second

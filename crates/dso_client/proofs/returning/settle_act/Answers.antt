@@ -1,9 +1,9 @@
 use Rattle.std.proofs.Common.{◌≡◌, ◌∙◌, ap, refl, subst, sym, true, ◌++◌}
 use Rattle.std.specs.List.{AllByRecursion}
-use Rattle.dso_lease.specs.Leases.{standing_in}
+use Rattle.dso_lease.specs.Leases.{standing_in, was_entered}
 use Rattle.dso_client.specs.Living.{acting}
-use Rattle.dso_client.specs.Returning.{AreGivenBack, Distinct, OnlyThese, given_back, is_returnable, record_sent}
-use Rattle.dso_client.proofs.due.AfterActs.{only_these}
+use Rattle.dso_client.specs.Returning.{AreGivenBack, Distinct, OnlyThese, given_back, record_sent}
+use Rattle.dso_client.proofs.due.AfterActs.{only_these, own_acted}
 use Rattle.dso_client.proofs.due.Settled.{act_settles}
 use Rattle.dso_client.proofs.returning.settle_act.Goals as goal
 
@@ -15,9 +15,9 @@ returns-clause-settles c = λ clock act txn next at h quiet facts its left.
     let locks = c.in_ok-locks.locks.items in
     let slice = c.as_slice.result.now in
     let sent = c.return_all.new.sent.items in
-    let is = c.in_ok-locks.ensures mid h (subst (OnlyThese mid) (sym left) (only_these clock act next at its quiet txn)) in
+    let is = c.in_ok-locks.ensures mid h (own_acted clock act next at txn its facts.holdless) (subst (OnlyThese mid) (sym left) (only_these clock act next at its quiet txn)) in
     act_settles clock act next at txn old new locks sent h facts is
-    (subst (λ locks. Distinct locks → AllByRecursion (λ l. is_returnable (standing_in old.locking.leases l) ≡ true) locks
+    (subst (λ locks. Distinct locks → AllByRecursion (λ l. was_entered (standing_in old.locking.leases l) ≡ true) locks
     → (sent ≡ given_back old.locking locks) × AreGivenBack locks old.locking new.locking) c.as_slice.ensures.value
     (λ distinct may.
     let given = c.in_ok-return_all.ensures.given distinct may in

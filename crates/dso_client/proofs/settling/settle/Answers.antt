@@ -17,7 +17,7 @@ returns-else-is_due-clause-settles c = λ clock m at h quiet facts touches.
     let mid = (heard clock m at).entries in
     subst (λ items. Settles clock m at items old) (sym c.new.ensures.items)
     (none_settles clock m at old h quiet (λ l e.
-    ap (λ k. is_some (leased k mid) && is_due at.settings at.client at.next k mid) (one l c.in-Some.lock (sym e ∙ (touches ∙ c.in-Some.is))) ∙ sym (c.if-is_due.ensures (heard clock m at) h)))
+    ap (λ k. is_some (leased k mid) && is_due at.settings at.client at.next k mid) (one l c.in-Some.lock (sym e ∙ (touches ∙ c.in-Some.is))) ∙ sym (c.if-is_due.ensures (heard clock m at) h facts.holdless)))
 
 pub returns-in-None-clause-settles : goal.returns-in-None-clause-settles
 returns-in-None-clause-settles c = λ clock m at h quiet facts touches.
