@@ -14,7 +14,7 @@ use crate::fault::{NameFault, NameKind, What};
 use crate::limits::MOST_CLASSES;
 use crate::member::{Class, class_members};
 use crate::tables::Tables;
-use crate::thread::thread;
+use crate::thread::{ThreadHead, thread};
 use dso_base::{ClassShape, Items, Word};
 use dso_config::Config;
 use dso_entries::Interner;
@@ -72,15 +72,14 @@ pub(crate) fn items<'a>(
                 number,
                 number_line,
                 body,
-            } => thread(
-                alloc,
-                setting,
-                resolved,
-                *line,
-                *number,
-                *number_line,
-                body.as_slice(),
-            )?,
+            } => {
+                let head = ThreadHead {
+                    line: *line,
+                    number: *number,
+                    number_line: *number_line,
+                };
+                thread(alloc, setting, resolved, head, body.as_slice())?
+            }
         }
     }
     Ok(())

@@ -16,6 +16,7 @@ ghost use Rattle.dso_class.specs.Numbers.{MeansExpr, MeansExprs};
 ghost use Rattle.dso_class.specs.BodyWalk.{IsMade, MeansField, Walks, bare_used, used};
 ghost use Rattle.dso_entries.specs.Words.{Word};
 
+use crate::environment::Environment;
 use crate::fault::NameFault;
 use crate::place::Place;
 use crate::scope::Scope;
@@ -103,18 +104,17 @@ fn field<'a>(
 
 /// A bare name, a dot and a name: a root, or the field of a variable.
 fn of_name<'a>(
-    alloc: Global,
-    place: &Place<'_, 'a>,
-    scope: &Scope<'a>,
+    environment: Environment<'_, '_, 'a>,
     line: u32,
     owner: &'a Word,
     name: &'a Word,
 ) -> Result<Expr, NameFault>
-    ensures { (texts : List (Bor Word)) → Walks place.now texts scope.now texts scope.now (λ own known. on line (mention.dotted known owner.now name.now) ∷ []) (λ n a. (at : ℕ) (word : Ident) → word.name ≡ name.now → MeansExpr n (grammar.expression at (e.Field (grammar.expression line (e.Name owner.now)) word)) a) result }
+    ensures { (texts : List (Bor Word)) → Walks environment.entry.place.now texts environment.entry.scope.now texts environment.entry.scope.now (λ own known. on line (mention.dotted known owner.now name.now) ∷ []) (λ n a. (at : ℕ) (word : Ident) → word.name ≡ name.now → MeansExpr n (grammar.expression at (e.Field (grammar.expression line (e.Name owner.now)) word)) a) result }
 {
-    match dotted(place, scope, line, owner, name)? {
+    let place = environment.place;
+    match dotted(place, environment.scope, line, owner, name)? {
         Head::Root(number) => Ok(Expr::Root(number)),
-        Head::Variable(number) => field(alloc, place, Expr::Var(number), name),
+        Head::Variable(number) => field(environment.alloc, place, Expr::Var(number), name),
     }
 }
 
@@ -161,39 +161,39 @@ fn binary(alloc: Global, op: Op, left: Expr, right: Expr) -> Result<Expr, NameFa
 /// An expression in numbers.
 #[cycle(expression)]
 pub(crate) fn expression<'a>(
-    alloc: Global,
-    place: &Place<'_, 'a>,
-    scope: &Scope<'a>,
+    environment: Environment<'_, '_, 'a>,
     texts: &mut Interner<&'a [u8]>,
     role: Role,
     tree: &'a ExprTree,
 ) -> Result<Expr, NameFault>
-    ensures { Walks place.now texts.old scope.now texts.new scope.now (λ owner. used role (mention.expression owner tree.now)) (λ n a. MeansExpr n tree.now a) result }
+    ensures { Walks environment.entry.place.now texts.old environment.entry.scope.now texts.new environment.entry.scope.now (λ owner. used role (mention.expression owner tree.now)) (λ n a. MeansExpr n tree.now a) result }
 {
+    let alloc = environment.alloc;
+    let place = environment.place;
     match &tree.form {
         ExprForm::Number(value) => Ok(long(value)),
         ExprForm::Text(content) => literal(texts, tree.line, content),
         ExprForm::Truth(truth) => Ok(Expr::Const(Value::Bool(*truth))),
         ExprForm::Null => Ok(Expr::Const(Value::Null)),
         ExprForm::This => own(place, tree.line),
-        ExprForm::Name(word) => name(place, scope, role, tree.line, word),
-        ExprForm::Paren(inner) => expression(alloc, place, scope, texts, Role::Value, inner.get()),
+        ExprForm::Name(word) => name(place, environment.scope, role, tree.line, word),
+        ExprForm::Paren(inner) => expression(environment, texts, Role::Value, inner.get()),
         ExprForm::NewObject(class) => object(place, tree.line, class),
-        ExprForm::NewArray(kind, size) => new_array(alloc, place, scope, texts, *kind, size.get()),
-        ExprForm::Field(on, word) => of_field(alloc, place, scope, texts, on.get(), word),
+        ExprForm::NewArray(kind, size) => new_array(environment, texts, *kind, size.get()),
+        ExprForm::Field(on, word) => of_field(environment, texts, on.get(), word),
         ExprForm::Call(on, word, trees) => {
-            let on = expression(alloc, place, scope, texts, Role::Object, on.get())?;
-            call_on(alloc, place, scope, texts, word, trees.as_slice(), on)
+            let on = expression(environment, texts, Role::Object, on.get())?;
+            call_on(environment, texts, word, trees.as_slice(), on)
         }
         ExprForm::Elem(on, at) => {
-            let on = expression(alloc, place, scope, texts, Role::Value, on.get())?;
-            let at = expression(alloc, place, scope, texts, Role::Value, at.get())?;
+            let on = expression(environment, texts, Role::Value, on.get())?;
+            let at = expression(environment, texts, Role::Value, at.get())?;
             element(alloc, on, at)
         }
-        ExprForm::Unary(op, operand) => operation(alloc, place, scope, texts, *op, operand.get()),
+        ExprForm::Unary(op, operand) => operation(environment, texts, *op, operand.get()),
         ExprForm::Binary(op, left, right) => {
-            let left = expression(alloc, place, scope, texts, Role::Value, left.get())?;
-            let right = expression(alloc, place, scope, texts, Role::Value, right.get())?;
+            let left = expression(environment, texts, Role::Value, left.get())?;
+            let right = expression(environment, texts, Role::Value, right.get())?;
             binary(alloc, *op, left, right)
         }
     }
@@ -202,20 +202,18 @@ pub(crate) fn expression<'a>(
 /// What stands before a dot and the name of a field, and both together.
 #[cycle(expression)]
 fn of_field<'a>(
-    alloc: Global,
-    place: &Place<'_, 'a>,
-    scope: &Scope<'a>,
+    environment: Environment<'_, '_, 'a>,
     texts: &mut Interner<&'a [u8]>,
     on: &'a ExprTree,
     word: &'a Ident,
 ) -> Result<Expr, NameFault>
-    ensures { Walks place.now texts.old scope.now texts.new scope.now (λ owner. qualifier_mentions (mention.expression owner on.now).bare (mention.expression owner on.now).mentions word.now.name) (λ n a. (line : ℕ) → MeansExpr n (grammar.expression line (e.Field on.now word.now)) a) result }
+    ensures { Walks environment.entry.place.now texts.old environment.entry.scope.now texts.new environment.entry.scope.now (λ owner. qualifier_mentions (mention.expression owner on.now).bare (mention.expression owner on.now).mentions word.now.name) (λ n a. (line : ℕ) → MeansExpr n (grammar.expression line (e.Field on.now word.now)) a) result }
 {
     match bare(on) {
-        Some(owner) => of_name(alloc, place, scope, on.line, owner, &word.name),
+        Some(owner) => of_name(environment, on.line, owner, &word.name),
         None => {
-            let on = expression(alloc, place, scope, texts, Role::Value, on)?;
-            field(alloc, place, on, &word.name)
+            let on = expression(environment, texts, Role::Value, on)?;
+            field(environment.alloc, environment.place, on, &word.name)
         }
     }
 }
@@ -223,67 +221,60 @@ fn of_field<'a>(
 /// A call of the methods of this name on an object.
 #[cycle(expression)]
 fn call_on<'a>(
-    alloc: Global,
-    place: &Place<'_, 'a>,
-    scope: &Scope<'a>,
+    environment: Environment<'_, '_, 'a>,
     texts: &mut Interner<&'a [u8]>,
     word: &'a Ident,
     trees: &'a [ExprTree],
     object: Expr,
 ) -> Result<Expr, NameFault>
-    ensures { Walks place.now texts.old scope.now texts.new scope.now (λ owner known. on word.now.line (mention.call word.now.name (length trees.now)) ∷ all_of (map (mention.expression owner) trees.now) known) (λ n a. (line : ℕ) (tree : ExprTree) → MeansExpr n tree object → MeansExpr n (grammar.expression line (e.Call tree word.now trees.now)) a) result }
+    ensures { Walks environment.entry.place.now texts.old environment.entry.scope.now texts.new environment.entry.scope.now (λ owner known. on word.now.line (mention.call word.now.name (length trees.now)) ∷ all_of (map (mention.expression owner) trees.now) known) (λ n a. (line : ℕ) (tree : ExprTree) → MeansExpr n tree object → MeansExpr n (grammar.expression line (e.Call tree word.now trees.now)) a) result }
 {
-    let methods = call(alloc, place, word, trees.len())?;
-    let arguments = expressions(alloc, place, scope, texts, trees)?;
+    let alloc = environment.alloc;
+    let methods = call(alloc, environment.place, word, trees.len())?;
+    let arguments = expressions(environment, texts, trees)?;
     call_of(alloc, object, methods, arguments)
 }
 
 /// A new array of the size that an expression tells.
 #[cycle(expression)]
 fn new_array<'a>(
-    alloc: Global,
-    place: &Place<'_, 'a>,
-    scope: &Scope<'a>,
+    environment: Environment<'_, '_, 'a>,
     texts: &mut Interner<&'a [u8]>,
     kind: Kind,
     size: &'a ExprTree,
 ) -> Result<Expr, NameFault>
-    ensures { Walks place.now texts.old scope.now texts.new scope.now (λ owner. (mention.expression owner size.now).mentions) (λ n a. (line : ℕ) → MeansExpr n (grammar.expression line (e.NewArray kind size.now)) a) result }
+    ensures { Walks environment.entry.place.now texts.old environment.entry.scope.now texts.new environment.entry.scope.now (λ owner. (mention.expression owner size.now).mentions) (λ n a. (line : ℕ) → MeansExpr n (grammar.expression line (e.NewArray kind size.now)) a) result }
 {
-    let size = expression(alloc, place, scope, texts, Role::Value, size)?;
-    array(alloc, kind, size)
+    let size = expression(environment, texts, Role::Value, size)?;
+    array(environment.alloc, kind, size)
 }
 
 /// An operator and the expression behind it.
 #[cycle(expression)]
 fn operation<'a>(
-    alloc: Global,
-    place: &Place<'_, 'a>,
-    scope: &Scope<'a>,
+    environment: Environment<'_, '_, 'a>,
     texts: &mut Interner<&'a [u8]>,
     op: Op,
     operand: &'a ExprTree,
 ) -> Result<Expr, NameFault>
-    ensures { Walks place.now texts.old scope.now texts.new scope.now (λ owner. (mention.expression owner operand.now).mentions) (λ n a. (line : ℕ) → MeansExpr n (grammar.expression line (e.Unary op operand.now)) a) result }
+    ensures { Walks environment.entry.place.now texts.old environment.entry.scope.now texts.new environment.entry.scope.now (λ owner. (mention.expression owner operand.now).mentions) (λ n a. (line : ℕ) → MeansExpr n (grammar.expression line (e.Unary op operand.now)) a) result }
 {
-    let operand = expression(alloc, place, scope, texts, Role::Value, operand)?;
-    unary(alloc, op, operand)
+    let operand = expression(environment, texts, Role::Value, operand)?;
+    unary(environment.alloc, op, operand)
 }
 
 /// The arguments of a call, one behind the other.
 #[cycle(expression)]
 fn expressions<'a>(
-    alloc: Global,
-    place: &Place<'_, 'a>,
-    scope: &Scope<'a>,
+    environment: Environment<'_, '_, 'a>,
     texts: &mut Interner<&'a [u8]>,
     trees: &'a [ExprTree],
 ) -> Result<Items<Expr>, NameFault>
-    ensures { Walks place.now texts.old scope.now texts.new scope.now (λ owner. all_of (map (mention.expression owner) trees.now)) (λ n all. MeansExprs n trees.now all) result }
+    ensures { Walks environment.entry.place.now texts.old environment.entry.scope.now texts.new environment.entry.scope.now (λ owner. all_of (map (mention.expression owner) trees.now)) (λ n all. MeansExprs n trees.now all) result }
 {
-    let mut all = Items::new(alloc);
+    let mut all = Items::new(environment.alloc);
     for tree in trees {
-        let one = expression(alloc, place, scope, texts, Role::Value, tree)?;
+        let one = expression(environment, texts, Role::Value, tree)?;
         all.push(one)?;
     }
     Ok(all)

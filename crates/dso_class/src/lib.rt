@@ -5,6 +5,7 @@ mod body;
 mod class_item;
 mod clients;
 mod declaration;
+mod environment;
 mod expression;
 mod fault;
 mod gathered_classes;

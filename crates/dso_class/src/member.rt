@@ -79,16 +79,13 @@ fn class_member<'a>(
             body,
         } => {
             let monitor = method_head(setting.config, class, *line, *synced, name)?;
-            let body = method_body(
-                alloc,
-                setting,
-                &mut resolved.texts,
-                class.name,
+            let text = MethodText {
                 name,
-                params.as_slice(),
-                body.as_slice(),
-            )?;
-            let method = method(setting, class, monitor, name, params.as_slice(), body);
+                params: params.as_slice(),
+                statements: body.as_slice(),
+            };
+            let body = method_body(alloc, setting, &mut resolved.texts, class.name, text)?;
+            let method = method(setting, class, monitor, text, body);
             resolved.methods.push(method)?;
             Ok(())
         }
@@ -191,29 +188,35 @@ fn monitor(
     }
 }
 
+/// What the text has of a method behind its head: its name, its parameters and its statements.
+#[derive(Clone, Copy)]
+struct MethodText<'a> {
+    name: &'a Ident,
+    params: &'a [Ident],
+    statements: &'a [StmtTree],
+}
+
 /// The statements of a method.
 fn method_body<'a>(
     alloc: Global,
     setting: &Setting<'_, 'a>,
     texts: &mut Interner<&'a [u8]>,
     class: &'a Word,
-    name: &'a Ident,
-    params: &'a [Ident],
-    statements: &'a [StmtTree],
+    text: MethodText<'a>,
 ) -> Result<Body, NameFault>
-    requires assigns { AreAssignable statements.now }
+    requires assigns { AreAssignable text.statements.now }
     ensures right { (source : Source) (before : List Mention) → IsSetting source setting.now → in_body before ≡ [] → HasTexts before (words_of texts.old)
-        → AnswersBody source (owner_of class.now name.now) before params.now statements.now (words_of texts.old) (words_of texts.new) result }
-    ensures few { OnOk result (length params.now ≤ most_params) }
+        → AnswersBody source (owner_of class.now text.entry.name.now) before text.entry.params.now text.entry.statements.now (words_of texts.old) (words_of texts.new) result }
+    ensures few { OnOk result (length text.entry.params.now ≤ most_params) }
 {
     let place = Place {
         config: setting.config,
         tables: setting.tables,
         class,
-        method: &name.name,
+        method: &text.name.name,
         in_thread: false,
     };
-    body_of(alloc, &place, texts, params, statements)
+    body_of(alloc, &place, texts, text.params, text.statements)
 }
 
 /// A method of the class.
@@ -221,29 +224,28 @@ fn method<'a>(
     setting: &Setting<'_, 'a>,
     class: &Class<'a>,
     synced: Option<Grade>,
-    name: &'a Ident,
-    params: &'a [Ident],
+    text: MethodText<'a>,
     body: Body,
 ) -> Method
     requires setting { IsReady setting.now }
-    requires few { length params.now ≤ most_params }
+    requires few { length text.params.now ≤ most_params }
     ensures class { result.class ≡ class.now.number }
-    ensures params { result.params ≡ length params.now }
+    ensures params { result.params ≡ length text.entry.params.now }
     ensures vars { result.vars ≡ body.vars }
     ensures synced { result.synced ≡ synced }
     ensures body { result.body ≡ body.statements }
-    ensures lock { (source : Source) → IsSetting source setting.now → HasNoFault source.config source.ast → IsNamedLock source class.now.name.now name.now.name result.named }
+    ensures lock { (source : Source) → IsSetting source setting.now → HasNoFault source.config source.ast → IsNamedLock source class.now.name.now text.entry.name.now.name result.named }
 {
     Method {
         class: class.number,
-        params: params.len() as u32,
+        params: text.params.len() as u32,
         vars: body.vars,
         named: named_lock(
             setting.config,
             setting.locks,
             setting.roots,
             class.name,
-            &name.name,
+            &text.name.name,
         ),
         synced,
         body: body.statements,

@@ -17,6 +17,7 @@ ghost use Rattle.dso_class.specs.StatementWalk.{PutsField, PutsNamed};
 ghost use Rattle.dso_class.specs.BodyWalk.{HeadMeans, Walks, known_in};
 ghost use Rattle.dso_entries.specs.Words.{Word};
 
+use crate::environment::Environment;
 use crate::expression::{bare, expression};
 use crate::fault::NameFault;
 use crate::place::Place;
@@ -32,16 +33,21 @@ use std::alloc::Global;
 
 /// The expression of a statement in numbers, in a block of its own.
 fn value_of<'a>(
-    alloc: Global,
-    place: &Place<'_, 'a>,
-    scope: &Scope<'a>,
+    environment: Environment<'_, '_, 'a>,
     texts: &mut Interner<&'a [u8]>,
     tree: &'a ExprTree,
 ) -> Result<Boxed<Expr>, NameFault>
-    ensures { Walks place.now texts.old scope.now texts.new scope.now (λ owner. (mention.expression owner tree.now).mentions) (λ n a. MeansExpr n tree.now a) result }
+    ensures { Walks environment.entry.place.now texts.old environment.entry.scope.now texts.new environment.entry.scope.now (λ owner. (mention.expression owner tree.now).mentions) (λ n a. MeansExpr n tree.now a) result }
 {
-    let value = expression(alloc, place, scope, texts, Role::Value, tree)?;
-    Ok(Boxed::new(alloc, value)?)
+    let value = expression(environment, texts, Role::Value, tree)?;
+    Ok(Boxed::new(environment.alloc, value)?)
+}
+
+/// A variable as it is declared: its name, and the value that it begins with.
+#[derive(Clone, Copy)]
+struct NewVariable<'a> {
+    name: &'a Ident,
+    value: &'a ExprTree,
 }
 
 /// A variable that is declared with its value. It is known from then on.
@@ -50,15 +56,19 @@ fn declared<'a>(
     place: &Place<'_, 'a>,
     scope: &mut Scope<'a>,
     texts: &mut Interner<&'a [u8]>,
-    name: &'a Ident,
-    value: &'a ExprTree,
+    declaration: NewVariable<'a>,
 ) -> Result<Stmt, NameFault>
-    ensures walks { Walks place.now texts.old scope.old texts.new scope.new (λ owner known. mention.on name.now.line (mention.variable name.now.name) ∷ (mention.expression owner value.now).mentions known) (λ n a. (line : ℕ) → MeansStmt n (program.statement line (s.Var name.now value.now)) a) result }
-    ensures known { OnOk result (known_in scope.new ≡ name.now.name ∷ known_in scope.old) }
+    ensures walks { Walks place.now texts.old scope.old texts.new scope.new (λ owner known. mention.on declaration.entry.name.now.line (mention.variable declaration.entry.name.now.name) ∷ (mention.expression owner declaration.entry.value.now).mentions known) (λ n a. (line : ℕ) → MeansStmt n (program.statement line (s.Var declaration.entry.name.now declaration.entry.value.now)) a) result }
+    ensures known { OnOk result (known_in scope.new ≡ declaration.entry.name.now.name ∷ known_in scope.old) }
 {
-    let number = variable(place, scope, name)?;
-    let value = value_of(alloc, place, scope, texts, value)?;
-    know(scope, name)?;
+    let number = variable(place, scope, declaration.name)?;
+    let environment = Environment {
+        alloc,
+        place,
+        scope,
+    };
+    let value = value_of(environment, texts, declaration.value)?;
+    know(scope, declaration.name)?;
     Ok(Stmt::Assign(number, value))
 }
 
@@ -97,161 +107,153 @@ fn named<'a>(
 
 /// An assignment to a variable.
 fn to_variable<'a>(
-    alloc: Global,
-    place: &Place<'_, 'a>,
-    scope: &Scope<'a>,
+    environment: Environment<'_, '_, 'a>,
     texts: &mut Interner<&'a [u8]>,
     line: u32,
     name: &'a Word,
     value: &'a ExprTree,
 ) -> Result<Stmt, NameFault>
-    ensures { Walks place.now texts.old scope.now texts.new scope.now (λ owner known. mention.on line (mention.alone known name.now) ∷ (mention.expression owner value.now).mentions known)
+    ensures { Walks environment.entry.place.now texts.old environment.entry.scope.now texts.new environment.entry.scope.now (λ owner known. mention.on line (mention.alone known name.now) ∷ (mention.expression owner value.now).mentions known)
         (λ n a. (at : ℕ) → MeansStmt n (program.statement at (s.Assign (grammar.expression line (e.Name name.now)) value.now)) a) result }
 {
-    let number = alone(scope, line, name)?;
-    let value = value_of(alloc, place, scope, texts, value)?;
+    let number = alone(environment.scope, line, name)?;
+    let value = value_of(environment, texts, value)?;
     Ok(Stmt::Assign(number, value))
+}
+
+/// A bare name, and its line.
+#[derive(Clone, Copy)]
+struct BareName<'a> {
+    line: u32,
+    word: &'a Word,
 }
 
 /// An assignment to what stands behind a bare name and a dot.
 fn to_named<'a>(
-    alloc: Global,
-    place: &Place<'_, 'a>,
-    scope: &Scope<'a>,
+    environment: Environment<'_, '_, 'a>,
     texts: &mut Interner<&'a [u8]>,
-    line: u32,
-    owner: &'a Word,
+    owner: BareName<'a>,
     name: &'a Ident,
     value: &'a ExprTree,
 ) -> Result<Stmt, NameFault>
-    ensures { Walks place.now texts.old scope.now texts.new scope.now (λ own known. mention.on line (mention.dotted known owner.now name.now.name) ∷ (mention.expression own value.now).mentions known)
-        (λ n a. (at from : ℕ) → MeansStmt n (program.statement at (s.Assign (grammar.expression from (e.Field (grammar.expression line (e.Name owner.now)) name.now)) value.now)) a) result }
+    ensures { Walks environment.entry.place.now texts.old environment.entry.scope.now texts.new environment.entry.scope.now (λ own known. mention.on owner.entry.line (mention.dotted known owner.entry.word.now name.now.name) ∷ (mention.expression own value.now).mentions known)
+        (λ n a. (at from : ℕ) → MeansStmt n (program.statement at (s.Assign (grammar.expression from (e.Field (grammar.expression owner.entry.line (e.Name owner.entry.word.now)) name.now)) value.now)) a) result }
 {
-    let head = dotted(place, scope, line, owner, &name.name)?;
-    let value = value_of(alloc, place, scope, texts, value)?;
-    named(alloc, place, head, &name.name, value)
+    let place = environment.place;
+    let head = dotted(place, environment.scope, owner.line, owner.word, &name.name)?;
+    let value = value_of(environment, texts, value)?;
+    named(environment.alloc, place, head, &name.name, value)
 }
 
 /// An assignment to the field of an object.
 fn to_field<'a>(
-    alloc: Global,
-    place: &Place<'_, 'a>,
-    scope: &Scope<'a>,
+    environment: Environment<'_, '_, 'a>,
     texts: &mut Interner<&'a [u8]>,
     object: &'a ExprTree,
     name: &'a Ident,
     value: &'a ExprTree,
 ) -> Result<Stmt, NameFault>
-    ensures { Walks place.now texts.old scope.now texts.new scope.now (λ owner known. (mention.expression owner object.now).mentions known ++ (mention.expression owner value.now).mentions known)
+    ensures { Walks environment.entry.place.now texts.old environment.entry.scope.now texts.new environment.entry.scope.now (λ owner known. (mention.expression owner object.now).mentions known ++ (mention.expression owner value.now).mentions known)
         (λ n a. (at from : ℕ) → MeansStmt n (program.statement at (s.Assign (grammar.expression from (e.Field object.now name.now)) value.now)) a) result }
 {
-    let object = value_of(alloc, place, scope, texts, object)?;
-    let value = value_of(alloc, place, scope, texts, value)?;
-    field(alloc, place, object, &name.name, value)
+    let object = value_of(environment, texts, object)?;
+    let value = value_of(environment, texts, value)?;
+    field(
+        environment.alloc,
+        environment.place,
+        object,
+        &name.name,
+        value,
+    )
 }
 
 /// An assignment to the element of an array.
 fn to_element<'a>(
-    alloc: Global,
-    place: &Place<'_, 'a>,
-    scope: &Scope<'a>,
+    environment: Environment<'_, '_, 'a>,
     texts: &mut Interner<&'a [u8]>,
     array: &'a ExprTree,
     index: &'a ExprTree,
     value: &'a ExprTree,
 ) -> Result<Stmt, NameFault>
-    ensures { Walks place.now texts.old scope.now texts.new scope.now (λ owner known. (mention.expression owner array.now).mentions known ++ ((mention.expression owner index.now).mentions known ++ (mention.expression owner value.now).mentions known))
+    ensures { Walks environment.entry.place.now texts.old environment.entry.scope.now texts.new environment.entry.scope.now (λ owner known. (mention.expression owner array.now).mentions known ++ ((mention.expression owner index.now).mentions known ++ (mention.expression owner value.now).mentions known))
         (λ n a. (at from : ℕ) → MeansStmt n (program.statement at (s.Assign (grammar.expression from (e.Elem array.now index.now)) value.now)) a) result }
 {
-    let array = value_of(alloc, place, scope, texts, array)?;
-    let index = value_of(alloc, place, scope, texts, index)?;
-    let value = value_of(alloc, place, scope, texts, value)?;
+    let array = value_of(environment, texts, array)?;
+    let index = value_of(environment, texts, index)?;
+    let value = value_of(environment, texts, value)?;
     Ok(Stmt::PutElem(array, index, value))
 }
 
 /// An assignment, by what it assigns to.
 fn assigned<'a>(
-    alloc: Global,
-    place: &Place<'_, 'a>,
-    scope: &Scope<'a>,
+    environment: Environment<'_, '_, 'a>,
     texts: &mut Interner<&'a [u8]>,
     target: &'a ExprTree,
     value: &'a ExprTree,
 ) -> Result<Stmt, NameFault>
     requires { IsTarget target.now }
-    ensures { Walks place.now texts.old scope.now texts.new scope.now (λ owner known. (mention.expression owner target.now).mentions known ++ (mention.expression owner value.now).mentions known)
+    ensures { Walks environment.entry.place.now texts.old environment.entry.scope.now texts.new environment.entry.scope.now (λ owner known. (mention.expression owner target.now).mentions known ++ (mention.expression owner value.now).mentions known)
         (λ n a. (at : ℕ) → MeansStmt n (program.statement at (s.Assign target.now value.now)) a) result }
 {
     match &target.form {
-        ExprForm::Name(name) => to_variable(alloc, place, scope, texts, target.line, name, value),
+        ExprForm::Name(name) => to_variable(environment, texts, target.line, name, value),
         ExprForm::Field(on, name) => match bare(on.get()) {
-            Some(owner) => to_named(
-                alloc,
-                place,
-                scope,
-                texts,
-                on.get().line,
-                owner,
-                name,
-                value,
-            ),
-            None => to_field(alloc, place, scope, texts, on.get(), name, value),
+            Some(word) => {
+                let owner = BareName {
+                    line: on.get().line,
+                    word,
+                };
+                to_named(environment, texts, owner, name, value)
+            }
+            None => to_field(environment, texts, on.get(), name, value),
         },
-        ExprForm::Elem(on, at) => {
-            to_element(alloc, place, scope, texts, on.get(), at.get(), value)
-        }
+        ExprForm::Elem(on, at) => { to_element(environment, texts, on.get(), at.get(), value) }
         _ => unreachable!(),
     }
 }
 
 /// The head of a `synchronized` block: the level at which it locks, and the object.
 fn lock<'a>(
-    alloc: Global,
-    place: &Place<'_, 'a>,
-    scope: &Scope<'a>,
+    environment: Environment<'_, '_, 'a>,
     texts: &mut Interner<&'a [u8]>,
     line: u32,
     on: &'a ExprTree,
 ) -> Result<(Grade, Boxed<Expr>), NameFault>
-    ensures { Walks place.now texts.old scope.now texts.new scope.now (λ owner known. mention.on line (mention.synchronized owner.class owner.method) ∷ (mention.expression owner on.now).mentions known)
+    ensures { Walks environment.entry.place.now texts.old environment.entry.scope.now texts.new environment.entry.scope.now (λ owner known. mention.on line (mention.synchronized owner.class owner.method) ∷ (mention.expression owner on.now).mentions known)
         (λ n pair. (n.grade ≡ Some pair.0) × MeansExpr n on.now pair.1) result }
 {
-    let grade = synchronized(place, line)?;
-    let object = value_of(alloc, place, scope, texts, on)?;
+    let grade = synchronized(environment.place, line)?;
+    let object = value_of(environment, texts, on)?;
     Ok((grade, object))
 }
 
 /// A `wait` for so many ticks at most.
 fn timed_wait<'a>(
-    alloc: Global,
-    place: &Place<'_, 'a>,
-    scope: &Scope<'a>,
+    environment: Environment<'_, '_, 'a>,
     texts: &mut Interner<&'a [u8]>,
     on: &'a ExprTree,
     ticks: &'a ExprTree,
 ) -> Result<Stmt, NameFault>
-    ensures { Walks place.now texts.old scope.now texts.new scope.now (λ owner known. (mention.expression owner on.now).mentions known ++ (mention.expression owner ticks.now).mentions known)
+    ensures { Walks environment.entry.place.now texts.old environment.entry.scope.now texts.new environment.entry.scope.now (λ owner known. (mention.expression owner on.now).mentions known ++ (mention.expression owner ticks.now).mentions known)
         (λ n a. (line : ℕ) → MeansStmt n (program.statement line (s.TimedWait on.now ticks.now)) a) result }
 {
-    let object = value_of(alloc, place, scope, texts, on)?;
-    let ticks = value_of(alloc, place, scope, texts, ticks)?;
+    let object = value_of(environment, texts, on)?;
+    let ticks = value_of(environment, texts, ticks)?;
     Ok(Stmt::TimedWait(object, ticks))
 }
 
 /// A `return` with its value, or without one.
 fn returned<'a>(
-    alloc: Global,
-    place: &Place<'_, 'a>,
-    scope: &Scope<'a>,
+    environment: Environment<'_, '_, 'a>,
     texts: &mut Interner<&'a [u8]>,
     value: &'a Option<ExprTree>,
 ) -> Result<Stmt, NameFault>
-    ensures { Walks place.now texts.old scope.now texts.new scope.now (λ owner. mention.answer owner value.now) (λ n a. (line : ℕ) → MeansStmt n (program.statement line (s.Return value.now)) a) result }
+    ensures { Walks environment.entry.place.now texts.old environment.entry.scope.now texts.new environment.entry.scope.now (λ owner. mention.answer owner value.now) (λ n a. (line : ℕ) → MeansStmt n (program.statement line (s.Return value.now)) a) result }
 {
     match value {
         None => Ok(Stmt::Return(None)),
         Some(value) => {
-            let value = value_of(alloc, place, scope, texts, value)?;
+            let value = value_of(environment, texts, value)?;
             Ok(Stmt::Return(Some(value)))
         }
     }
@@ -281,32 +283,39 @@ pub(crate) fn statement<'a>(
     ensures walks { Walks place.now texts.old scope.old texts.new scope.new (λ owner. (mention.statement owner tree.now).mentions) (λ n a. MeansStmt n tree.now a) result }
     ensures known { (owner : mention.Owner) → OnOk result (known_in scope.new ≡ (mention.statement owner tree.now).names ++ known_in scope.old) }
 {
+    let environment = Environment {
+        alloc,
+        place,
+        scope,
+    };
     match &tree.form {
-        StmtForm::Var(name, value) => declared(alloc, place, scope, texts, name, value),
-        StmtForm::Assign(target, value) => assigned(alloc, place, scope, texts, target, value),
-        StmtForm::Eval(value) => Ok(Stmt::Eval(value_of(alloc, place, scope, texts, value)?)),
+        StmtForm::Var(name, value) => {
+            declared(alloc, place, scope, texts, NewVariable { name, value })
+        }
+        StmtForm::Assign(target, value) => assigned(environment, texts, target, value),
+        StmtForm::Eval(value) => Ok(Stmt::Eval(value_of(environment, texts, value)?)),
         StmtForm::If(test, these, those) => {
-            let test = value_of(alloc, place, scope, texts, test)?;
+            let test = value_of(environment, texts, test)?;
             let these = block(alloc, place, scope, texts, these.as_slice())?;
             let those = block(alloc, place, scope, texts, those.as_slice())?;
             Ok(Stmt::If(test, these, those))
         }
         StmtForm::While(test, these) => {
-            let test = value_of(alloc, place, scope, texts, test)?;
+            let test = value_of(environment, texts, test)?;
             let these = block(alloc, place, scope, texts, these.as_slice())?;
             Ok(Stmt::While(test, these))
         }
         StmtForm::Sync(on, these) => {
-            let (grade, object) = lock(alloc, place, scope, texts, tree.line, on)?;
+            let (grade, object) = lock(environment, texts, tree.line, on)?;
             let these = block(alloc, place, scope, texts, these.as_slice())?;
             Ok(Stmt::Sync(object, grade, these))
         }
-        StmtForm::Wait(on) => Ok(Stmt::Wait(value_of(alloc, place, scope, texts, on)?)),
-        StmtForm::TimedWait(on, ticks) => timed_wait(alloc, place, scope, texts, on, ticks),
-        StmtForm::Notify(on) => Ok(Stmt::Notify(value_of(alloc, place, scope, texts, on)?)),
-        StmtForm::NotifyAll(on) => Ok(Stmt::NotifyAll(value_of(alloc, place, scope, texts, on)?)),
-        StmtForm::Print(value) => Ok(Stmt::Print(value_of(alloc, place, scope, texts, value)?)),
-        StmtForm::Return(value) => returned(alloc, place, scope, texts, value),
+        StmtForm::Wait(on) => Ok(Stmt::Wait(value_of(environment, texts, on)?)),
+        StmtForm::TimedWait(on, ticks) => timed_wait(environment, texts, on, ticks),
+        StmtForm::Notify(on) => Ok(Stmt::Notify(value_of(environment, texts, on)?)),
+        StmtForm::NotifyAll(on) => Ok(Stmt::NotifyAll(value_of(environment, texts, on)?)),
+        StmtForm::Print(value) => Ok(Stmt::Print(value_of(environment, texts, value)?)),
+        StmtForm::Return(value) => returned(environment, texts, value),
     }
 }
 

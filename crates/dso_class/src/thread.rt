@@ -20,26 +20,26 @@ use dso_machine::ThreadBody;
 use dso_syntax::{Item, StmtTree};
 use std::alloc::Global;
 
+/// The head of a thread: its line, the number of its client, and that number's line.
+#[derive(Clone, Copy)]
+pub(crate) struct ThreadHead {
+    pub(crate) line: u32,
+    pub(crate) number: i64,
+    pub(crate) number_line: u32,
+}
+
 /// Resolves a thread.
 pub(crate) fn thread<'a>(
     alloc: Global,
     setting: &Setting<'_, 'a>,
     resolved: &mut Resolved<'a>,
-    line: u32,
-    number: i64,
-    number_line: u32,
+    head: ThreadHead,
     statements: &'a [StmtTree],
 ) -> Result<(), NameFault>
     requires assigns { AreAssignable statements.now }
-    ensures { WalksItems setting.now (of_item (Item.Thread line number number_line statements.now)) (Item.Thread line number number_line statements.now ∷ []) resolved.old resolved.new result }
+    ensures { WalksItems setting.now (of_item (Item.Thread head.line head.number head.number_line statements.now)) (Item.Thread head.line head.number head.number_line statements.now ∷ []) resolved.old resolved.new result }
 {
-    let thread = thread_name(
-        setting.config,
-        resolved.bodies.as_slice(),
-        line,
-        number,
-        number_line,
-    )?;
+    let thread = thread_name(setting.config, resolved.bodies.as_slice(), head)?;
     let place = Place {
         config: setting.config,
         tables: setting.tables,
@@ -60,28 +60,26 @@ pub(crate) fn thread<'a>(
 fn thread_name(
     config: &Config,
     bodies: &[ThreadBody],
-    line: u32,
-    number: i64,
-    number_line: u32,
+    head: ThreadHead,
 ) -> Result<ThreadId, NameFault>
     ensures { (source : Source) (before : List Mention) → source.config ≡ config.now → clients_in bodies.now ≡ reverse (in_text thread_in before)
-        → Gives source before (thread_head line number number_line) (IsThreadNamed source before line number number_line bodies.now) result }
+        → Gives source before (thread_head head.line head.number head.number_line) (IsThreadNamed source before head.line head.number head.number_line bodies.now) result }
 {
-    let count = threads_of_client(bodies, number);
+    let count = threads_of_client(bodies, head.number);
     if count >= MOST_THREADS {
         return Err(NameFault::At {
             kind: NameKind::TooMany(What::Threads),
-            line,
+            line: head.line,
         });
     }
-    match client_of(config, number) {
+    match client_of(config, head.number) {
         Some(client) => Ok(ThreadId {
             client,
             index: count as u8 + 1,
         }),
         None => Err(NameFault::At {
             kind: NameKind::NoSuchClient,
-            line: number_line,
+            line: head.number_line,
         }),
     }
 }

@@ -1,6 +1,6 @@
 -- Words and static fields of a list that grows at its end.
-use Rattle.std.proofs.Common.{◌≡◌, ℕ, ◌+◌, ◌<◌, ◌≤◌, sym, ap, ◌∙◌, List, [], ◌∷◌, ◌++◌, map, flat_map, take, get_or, length, append-nil, append_assoc}
-use Rattle.std.proofs.lemmas.List.{map-append, take_all}
+use Rattle.std.proofs.Common.{◌≡◌, ℕ, ◌+◌, ◌<◌, sym, ap, ◌∙◌, List, [], ◌∷◌, ◌++◌, map, flat_map, take, get_or, length, append-nil, append_assoc}
+use Rattle.std.proofs.lemmas.List.{map-append}
 use Rattle.std.proofs.lemmas.Grind.{flat_map-append}
 use Rattle.dso_config.specs.declared.config.RootEntry.{RootEntry}
 use Rattle.dso_syntax.specs.declared.tree.Item.{Item}
@@ -29,10 +29,6 @@ pushed f joins xs i x old new here below is gives before added = added ∙ ap (�
 pub stays : {A B : Type 0} (f : List A → List B) (joins : (xs ys : List A) → f (xs ++ ys) ≡ f xs ++ f ys) (xs : List A) (i : ℕ) (x : A) (old new : List B) → i < length xs → x ≡ get_or xs i x → f (x ∷ []) ≡ []
     → old ≡ f (take i xs) → new ≡ old → new ≡ f (take (i + 1) xs)
 stays f joins xs i x old new below is gives before same = same ∙ before ∙ sym (append-nil (f (take i xs))) ∙ sym (more f joins xs i x [] below is gives)
-
--- what a list gives, with all items
-pub all : {A B : Type 0} (f : List A → List B) (xs : List A) (i : ℕ) → length xs ≤ i → f (take i xs) ≡ f xs
-all f xs i long = ap f (take_all i xs long)
 
 -- ---- names
 

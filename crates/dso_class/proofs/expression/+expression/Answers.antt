@@ -20,56 +20,56 @@ use Rattle.dso_class.proofs.expression.+expression.Goals as goal
 pub expression-returns-in-Number : goal.expression-returns-in-Number
 expression-returns-in-Number t c source before place has =
     let tree = c.args.tree.now in
-    let owner = owner_in c.args.place.now in
-    let known = known_in c.args.scope.now in
+    let owner = owner_in c.args.environment.place.now in
+    let known = known_in c.args.environment.scope.now in
     let is = in_role c.args.role _ known (at_number owner tree c.in-Number.value c.in-Number.is) in
     none_made c.long.result is refl (λ n. subst (λ a. MeansExpr n tree a) (sym c.long.ensures) (of_form n tree (e.Number c.in-Number.value) _ c.in-Number.is number)) has
 
 pub expression-returns-in-Text : goal.expression-returns-in-Text
 expression-returns-in-Text t c source before place has =
     let tree = c.args.tree.now in
-    let owner = owner_in c.args.place.now in
-    let known = known_in c.args.scope.now in
+    let owner = owner_in c.args.environment.place.now in
+    let known = known_in c.args.environment.scope.now in
     let is = in_role c.args.role _ known (at_text owner tree c.in-Text.content c.in-Text.is) in
-    only_tail c.literal.result is (λ n a. of_form n tree (e.Text c.in-Text.content) a c.in-Text.is) (c.literal.ensures c.args.place.now c.args.scope.now source before place has)
+    only_tail c.literal.result is (λ n a. of_form n tree (e.Text c.in-Text.content) a c.in-Text.is) (c.literal.ensures c.args.environment.place.now c.args.environment.scope.now source before place has)
 
 pub expression-returns-in-Truth : goal.expression-returns-in-Truth
 expression-returns-in-Truth t c source before place has =
     let tree = c.args.tree.now in
-    let owner = owner_in c.args.place.now in
-    let known = known_in c.args.scope.now in
+    let owner = owner_in c.args.environment.place.now in
+    let known = known_in c.args.environment.scope.now in
     let is = in_role c.args.role _ known (at_truth owner tree c.in-Truth.truth c.in-Truth.is) in
     none_made (x.Const (value.Bool c.in-Truth.truth)) is refl (λ n. of_form n tree (e.Truth c.in-Truth.truth) _ c.in-Truth.is truth) has
 
 pub expression-returns-in-Null : goal.expression-returns-in-Null
 expression-returns-in-Null t c source before place has =
     let tree = c.args.tree.now in
-    let owner = owner_in c.args.place.now in
-    let known = known_in c.args.scope.now in
+    let owner = owner_in c.args.environment.place.now in
+    let known = known_in c.args.environment.scope.now in
     let is = in_role c.args.role _ known (at_null owner tree c.in-Null.is) in
     none_made (x.Const value.Null) is refl (λ n. of_form n tree e.Null _ c.in-Null.is null) has
 
 pub expression-returns-in-This : goal.expression-returns-in-This
 expression-returns-in-This t c source before place has =
     let tree = c.args.tree.now in
-    let owner = owner_in c.args.place.now in
-    let known = known_in c.args.scope.now in
+    let owner = owner_in c.args.environment.place.now in
+    let known = known_in c.args.environment.scope.now in
     let is = in_role c.args.role _ known (at_this owner tree c.in-This.is) in
-    only_tail c.own.result is (λ n a. of_form n tree e.This a c.in-This.is) (c.own.ensures c.args.texts.now c.args.scope.now source before place has)
+    only_tail c.own.result is (λ n a. of_form n tree e.This a c.in-This.is) (c.own.ensures c.args.texts.now c.args.environment.scope.now source before place has)
 
 pub expression-returns-in-Name : goal.expression-returns-in-Name
 expression-returns-in-Name t c source before place has =
     let tree = c.args.tree.now in
-    let owner = owner_in c.args.place.now in
-    let known = known_in c.args.scope.now in
+    let owner = owner_in c.args.environment.place.now in
+    let known = known_in c.args.environment.scope.now in
     let is = bare_in_role c.args.role owner tree c.in-Name.word known c.in-Name.is in
     only_tail c.name.result is (λ n a. of_form n tree (e.Name c.in-Name.word) a c.in-Name.is) (c.name.ensures c.args.texts.now source before place has)
 
 pub expression-returns-in-Paren : goal.expression-returns-in-Paren
 expression-returns-in-Paren t c source before place has =
     let tree = c.args.tree.now in
-    let owner = owner_in c.args.place.now in
-    let known = known_in c.args.scope.now in
+    let owner = owner_in c.args.environment.place.now in
+    let known = known_in c.args.environment.scope.now in
     let form : (out-ExprTree tree).form ≡ e.Paren c.get.result.now = c.in-Paren.is ∙ ap e.Paren (sym c.get.ensures) in
     let is = in_role c.args.role _ known (at_paren owner tree c.get.result.now form) in
     only_tail c.expression.result is (λ n a inner. of_form n tree (e.Paren c.get.result.now) a form (parens inner)) (c.expression.ensures source before place has)
@@ -77,16 +77,16 @@ expression-returns-in-Paren t c source before place has =
 pub expression-returns-in-NewObject : goal.expression-returns-in-NewObject
 expression-returns-in-NewObject t c source before place has =
     let tree = c.args.tree.now in
-    let owner = owner_in c.args.place.now in
-    let known = known_in c.args.scope.now in
+    let owner = owner_in c.args.environment.place.now in
+    let known = known_in c.args.environment.scope.now in
     let is = in_role c.args.role _ known (at_new_object owner tree c.in-NewObject.class c.in-NewObject.is) in
-    only_tail c.object.result is (λ n a. of_form n tree (e.NewObject c.in-NewObject.class) a c.in-NewObject.is) (c.object.ensures c.args.texts.now c.args.scope.now source before place has)
+    only_tail c.object.result is (λ n a. of_form n tree (e.NewObject c.in-NewObject.class) a c.in-NewObject.is) (c.object.ensures c.args.texts.now c.args.environment.scope.now source before place has)
 
 pub expression-returns-in_err-left-in-Binary : goal.expression-returns-in_err-left-in-Binary
 expression-returns-in_err-left-in-Binary t c source before place has =
     let tree = c.args.tree.now in
-    let owner = owner_in c.args.place.now in
-    let known = known_in c.args.scope.now in
+    let owner = owner_in c.args.environment.place.now in
+    let known = known_in c.args.environment.scope.now in
     let form : (out-ExprTree tree).form ≡ e.Binary c.in-Binary.op c.get-in-Binary.result.now c.in-Binary.right = c.in-Binary.is ∙ ap (λ one. e.Binary c.in-Binary.op one c.in-Binary.right) (sym c.get-in-Binary.ensures) in
     let is = in_role c.args.role _ known (at_binary owner tree c.in-Binary.op c.get-in-Binary.result.now c.in-Binary.right form) in
     let told : c.from_residual-in_err-left-in-Binary.result ≡ Err c.in_err-left-in-Binary.field-0.0 = search (rules, c.from_residual-in_err-left-in-Binary.ensures) in
@@ -95,8 +95,8 @@ expression-returns-in_err-left-in-Binary t c source before place has =
 pub expression-returns-in_err-right-in-Binary : goal.expression-returns-in_err-right-in-Binary
 expression-returns-in_err-right-in-Binary t c source before place has =
     let tree = c.args.tree.now in
-    let owner = owner_in c.args.place.now in
-    let known = known_in c.args.scope.now in
+    let owner = owner_in c.args.environment.place.now in
+    let known = known_in c.args.environment.scope.now in
     let form : (out-ExprTree tree).form ≡ e.Binary c.in-Binary.op c.get-in-Binary.result.now c.get-in-Binary-2.result.now = c.in-Binary.is ∙ ap (λ one. e.Binary c.in-Binary.op one c.in-Binary.right) (sym c.get-in-Binary.ensures) ∙ ap (e.Binary c.in-Binary.op c.get-in-Binary.result.now) (sym c.get-in-Binary-2.ensures) in
     let is = in_role c.args.role _ known (at_binary owner tree c.in-Binary.op c.get-in-Binary.result.now c.get-in-Binary-2.result.now form) in
     let told : c.from_residual-in_err-right-in-Binary.result ≡ Err c.in_err-right-in-Binary.field-0.0 = search (rules, c.from_residual-in_err-right-in-Binary.ensures) in
@@ -106,8 +106,8 @@ expression-returns-in_err-right-in-Binary t c source before place has =
 pub expression-returns-in_ok-right-in-Binary : goal.expression-returns-in_ok-right-in-Binary
 expression-returns-in_ok-right-in-Binary t c source before place has =
     let tree = c.args.tree.now in
-    let owner = owner_in c.args.place.now in
-    let known = known_in c.args.scope.now in
+    let owner = owner_in c.args.environment.place.now in
+    let known = known_in c.args.environment.scope.now in
     let form : (out-ExprTree tree).form ≡ e.Binary c.in-Binary.op c.get-in-Binary.result.now c.get-in-Binary-2.result.now = c.in-Binary.is ∙ ap (λ one. e.Binary c.in-Binary.op one c.in-Binary.right) (sym c.get-in-Binary.ensures) ∙ ap (e.Binary c.in-Binary.op c.get-in-Binary.result.now) (sym c.get-in-Binary-2.ensures) in
     let is = in_role c.args.role _ known (at_binary owner tree c.in-Binary.op c.get-in-Binary.result.now c.get-in-Binary-2.result.now form) in
     let first = c.in_ok-left-in-Binary.ensures source before place has in
@@ -118,8 +118,8 @@ expression-returns-in_ok-right-in-Binary t c source before place has =
 pub expression-returns-in-Field : goal.expression-returns-in-Field
 expression-returns-in-Field t c source before place has =
     let tree = c.args.tree.now in
-    let owner = owner_in c.args.place.now in
-    let known = known_in c.args.scope.now in
+    let owner = owner_in c.args.environment.place.now in
+    let known = known_in c.args.environment.scope.now in
     let a = c.get-in-Field.result.now in
     let form : (out-ExprTree tree).form ≡ e.Field a c.in-Field.word = c.in-Field.is ∙ ap (λ on. e.Field on c.in-Field.word) (sym c.get-in-Field.ensures) in
     let is = in_role c.args.role _ known (at_field owner tree a c.in-Field.word form) in
@@ -128,8 +128,8 @@ expression-returns-in-Field t c source before place has =
 pub expression-returns-in_err-on-in-Elem : goal.expression-returns-in_err-on-in-Elem
 expression-returns-in_err-on-in-Elem t c source before place has =
     let tree = c.args.tree.now in
-    let owner = owner_in c.args.place.now in
-    let known = known_in c.args.scope.now in
+    let owner = owner_in c.args.environment.place.now in
+    let known = known_in c.args.environment.scope.now in
     let form : (out-ExprTree tree).form ≡ e.Elem c.get-in-Elem.result.now c.in-Elem.at = c.in-Elem.is ∙ ap (λ one. e.Elem one c.in-Elem.at) (sym c.get-in-Elem.ensures) in
     let is = in_role c.args.role _ known (at_elem owner tree c.get-in-Elem.result.now c.in-Elem.at form) in
     let told : c.from_residual-in_err-on-in-Elem.result ≡ Err c.in_err-on-in-Elem.field-0.0 = search (rules, c.from_residual-in_err-on-in-Elem.ensures) in
@@ -138,8 +138,8 @@ expression-returns-in_err-on-in-Elem t c source before place has =
 pub expression-returns-in_err-at-in-Elem : goal.expression-returns-in_err-at-in-Elem
 expression-returns-in_err-at-in-Elem t c source before place has =
     let tree = c.args.tree.now in
-    let owner = owner_in c.args.place.now in
-    let known = known_in c.args.scope.now in
+    let owner = owner_in c.args.environment.place.now in
+    let known = known_in c.args.environment.scope.now in
     let form : (out-ExprTree tree).form ≡ e.Elem c.get-in-Elem.result.now c.get-in-Elem-2.result.now = c.in-Elem.is ∙ ap (λ one. e.Elem one c.in-Elem.at) (sym c.get-in-Elem.ensures) ∙ ap (e.Elem c.get-in-Elem.result.now) (sym c.get-in-Elem-2.ensures) in
     let is = in_role c.args.role _ known (at_elem owner tree c.get-in-Elem.result.now c.get-in-Elem-2.result.now form) in
     let told : c.from_residual-in_err-at-in-Elem.result ≡ Err c.in_err-at-in-Elem.field-0.0 = search (rules, c.from_residual-in_err-at-in-Elem.ensures) in
@@ -149,8 +149,8 @@ expression-returns-in_err-at-in-Elem t c source before place has =
 pub expression-returns-in_ok-at-in-Elem : goal.expression-returns-in_ok-at-in-Elem
 expression-returns-in_ok-at-in-Elem t c source before place has =
     let tree = c.args.tree.now in
-    let owner = owner_in c.args.place.now in
-    let known = known_in c.args.scope.now in
+    let owner = owner_in c.args.environment.place.now in
+    let known = known_in c.args.environment.scope.now in
     let form : (out-ExprTree tree).form ≡ e.Elem c.get-in-Elem.result.now c.get-in-Elem-2.result.now = c.in-Elem.is ∙ ap (λ one. e.Elem one c.in-Elem.at) (sym c.get-in-Elem.ensures) ∙ ap (e.Elem c.get-in-Elem.result.now) (sym c.get-in-Elem-2.ensures) in
     let is = in_role c.args.role _ known (at_elem owner tree c.get-in-Elem.result.now c.get-in-Elem-2.result.now form) in
     let first = c.in_ok-on-in-Elem.ensures source before place has in
@@ -161,8 +161,8 @@ expression-returns-in_ok-at-in-Elem t c source before place has =
 pub expression-returns-in_err-on-in-Call : goal.expression-returns-in_err-on-in-Call
 expression-returns-in_err-on-in-Call t c source before place has =
     let tree = c.args.tree.now in
-    let owner = owner_in c.args.place.now in
-    let known = known_in c.args.scope.now in
+    let owner = owner_in c.args.environment.place.now in
+    let known = known_in c.args.environment.scope.now in
     let a = c.get-in-Call.result.now in
     let args = c.in-Call.trees in
     let form : (out-ExprTree tree).form ≡ e.Call a c.in-Call.word args = c.in-Call.is ∙ ap (λ on. e.Call on c.in-Call.word c.in-Call.trees) (sym c.get-in-Call.ensures) in
@@ -174,8 +174,8 @@ expression-returns-in_err-on-in-Call t c source before place has =
 pub expression-returns-in_ok-on-in-Call : goal.expression-returns-in_ok-on-in-Call
 expression-returns-in_ok-on-in-Call t c source before place has =
     let tree = c.args.tree.now in
-    let owner = owner_in c.args.place.now in
-    let known = known_in c.args.scope.now in
+    let owner = owner_in c.args.environment.place.now in
+    let known = known_in c.args.environment.scope.now in
     let a = c.get-in-Call.result.now in
     let args = c.as_slice.result.now in
     let word = c.in-Call.word in
@@ -188,42 +188,42 @@ expression-returns-in_ok-on-in-Call t c source before place has =
 
 pub call_on-returns-in_err-methods : goal.call_on-returns-in_err-methods
 call_on-returns-in_err-methods t c source before place has =
-    let owner = owner_in c.args.place.now in
-    let known = known_in c.args.scope.now in
+    let owner = owner_in c.args.environment.place.now in
+    let known = known_in c.args.environment.scope.now in
     let trees = c.args.trees.now in
     let word = c.args.word.now in
     let here = on word.line (mention.call word.name (length trees)) in
     let rest = all_of (map (mention.expression owner) trees) known in
     let told : c.from_residual.result ≡ Err c.in_err-methods.field-0.0 = search (rules, c.from_residual.ensures) in
-    first_fails rest c.in_err-methods.field-0.0 refl told (c.in_err-methods.ensures c.args.texts.now c.args.scope.now source before place has)
+    first_fails rest c.in_err-methods.field-0.0 refl told (c.in_err-methods.ensures c.args.texts.now c.args.environment.scope.now source before place has)
 
 pub call_on-returns-in_err-arguments : goal.call_on-returns-in_err-arguments
 call_on-returns-in_err-arguments t c source before place has =
-    let owner = owner_in c.args.place.now in
-    let known = known_in c.args.scope.now in
+    let owner = owner_in c.args.environment.place.now in
+    let known = known_in c.args.environment.scope.now in
     let trees = c.args.trees.now in
     let word = c.args.word.now in
     let here = on word.line (mention.call word.name (length trees)) in
-    let first = c.in_ok-methods.ensures c.args.texts.now c.args.scope.now source before place has in
+    let first = c.in_ok-methods.ensures c.args.texts.now c.args.environment.scope.now source before place has in
     let told : c.from_residual-in_err-arguments.result ≡ Err c.in_err-arguments.field-0.0 = search (rules, c.from_residual-in_err-arguments.ensures) in
     second_fails c.in_err-arguments.field-0.0 refl told first (c.in_err-arguments.ensures source (here ∷ before) place first.answer.met)
 
 pub call_on-returns : goal.call_on-returns
 call_on-returns t c source before place has =
-    let owner = owner_in c.args.place.now in
-    let known = known_in c.args.scope.now in
+    let owner = owner_in c.args.environment.place.now in
+    let known = known_in c.args.environment.scope.now in
     let trees = c.args.trees.now in
     let word = c.args.word.now in
     let here = on word.line (mention.call word.name (length trees)) in
-    let first = c.in_ok-methods.ensures c.args.texts.now c.args.scope.now source before place has in
+    let first = c.in_ok-methods.ensures c.args.texts.now c.args.environment.scope.now source before place has in
     let value = x.Call c.args.object c.in_ok-methods.methods c.in_ok-arguments.arguments in
     both_made value refl c.call_of.ensures (λ n methods arguments line tree one. call one methods arguments) first
     (c.in_ok-arguments.ensures source (here ∷ before) place first.answer.met)
 
 pub of_field-returns-in-Some : goal.of_field-returns-in-Some
 of_field-returns-in-Some t c source before place has =
-    let owner = owner_in c.args.place.now in
-    let known = known_in c.args.scope.now in
+    let owner = owner_in c.args.environment.place.now in
+    let known = known_in c.args.environment.scope.now in
     let a = c.args.on.now in
     let word = c.args.word.now in
     let named : (out-ExprTree a).form ≡ e.Name c.in-Some.owner.now = c.in-Some.ensures.name in
@@ -233,16 +233,16 @@ of_field-returns-in-Some t c source before place has =
 
 pub of_field-returns-in_err-on-in-None : goal.of_field-returns-in_err-on-in-None
 of_field-returns-in_err-on-in-None t c source before place has =
-    let owner = owner_in c.args.place.now in
-    let known = known_in c.args.scope.now in
+    let owner = owner_in c.args.environment.place.now in
+    let known = known_in c.args.environment.scope.now in
     let is = plain_field owner c.args.on.now c.args.word.now known (c.in-None.ensures.other owner) in
     let told : c.from_residual.result ≡ Err c.in_err-on-in-None.field-0.0 = search (rules, c.from_residual.ensures) in
     only_fails c.in_err-on-in-None.field-0.0 is told (c.in_err-on-in-None.ensures source before place has)
 
 pub of_field-returns-in_ok-on-in-None : goal.of_field-returns-in_ok-on-in-None
 of_field-returns-in_ok-on-in-None t c source before place has =
-    let owner = owner_in c.args.place.now in
-    let known = known_in c.args.scope.now in
+    let owner = owner_in c.args.environment.place.now in
+    let known = known_in c.args.environment.scope.now in
     let a = c.args.on.now in
     let word = c.args.word.now in
     let is = plain_field owner a word known (c.in-None.ensures.other owner) in
@@ -250,13 +250,13 @@ of_field-returns-in_ok-on-in-None t c source before place has =
     let mentions = (mention.expression owner a).mentions known in
     second_tail c.field.result (is ∙ sym (append-nil mentions))
     (λ n given means of_object line. subst (λ same. MeansExpr n (grammar.expression line (e.Field a word)) same) (sym of_object.is) (field means of_object.place))
-    first (c.field.ensures c.expression.new.texts c.args.scope.now source (behind before mentions) place first.answer.met)
+    first (c.field.ensures c.expression.new.texts c.args.environment.scope.now source (behind before mentions) place first.answer.met)
 
 pub expression-returns-in-NewArray : goal.expression-returns-in-NewArray
 expression-returns-in-NewArray t c source before place has =
     let tree = c.args.tree.now in
-    let owner = owner_in c.args.place.now in
-    let known = known_in c.args.scope.now in
+    let owner = owner_in c.args.environment.place.now in
+    let known = known_in c.args.environment.scope.now in
     let kind = c.in-NewArray.kind in
     let size = c.get-in-NewArray.result.now in
     let form : (out-ExprTree tree).form ≡ e.NewArray kind size = c.in-NewArray.is ∙ ap (e.NewArray kind) (sym c.get-in-NewArray.ensures) in
@@ -266,8 +266,8 @@ expression-returns-in-NewArray t c source before place has =
 pub expression-returns-in-Unary : goal.expression-returns-in-Unary
 expression-returns-in-Unary t c source before place has =
     let tree = c.args.tree.now in
-    let owner = owner_in c.args.place.now in
-    let known = known_in c.args.scope.now in
+    let owner = owner_in c.args.environment.place.now in
+    let known = known_in c.args.environment.scope.now in
     let op = c.in-Unary.op in
     let operand = c.get-in-Unary.result.now in
     let form : (out-ExprTree tree).form ≡ e.Unary op operand = c.in-Unary.is ∙ ap (e.Unary op) (sym c.get-in-Unary.ensures) in
@@ -295,15 +295,15 @@ operation-returns t c source before place has =
 pub expressions-loop-tree-init : goal.expressions-loop-tree-init
 expressions-loop-tree-init t c source before place has =
     let trees = c.args.trees.now in
-    let owner = owner_in c.args.place.now in
-    let known = known_in c.args.scope.now in
+    let owner = owner_in c.args.environment.place.now in
+    let known = known_in c.args.environment.scope.now in
     none_made c.new-all.result refl refl (λ n. subst (λ all. MeansExprs n [] all) (sym c.new-all.ensures) none) has
 
 pub expressions-returns-in_err-one : goal.expressions-returns-in_err-one
 expressions-returns-in_err-one t c source before place has =
     let trees = c.args.trees.now in
-    let owner = owner_in c.args.place.now in
-    let known = known_in c.args.scope.now in
+    let owner = owner_in c.args.environment.place.now in
+    let known = known_in c.args.environment.scope.now in
     let i = c.loop-tree.tree-index in
     let tree = c.tree-item.result in
     let first = c.loop-tree.invariant source before place has in
@@ -316,8 +316,8 @@ expressions-returns-in_err-one t c source before place has =
 pub expressions-loop-tree-preserved : goal.expressions-loop-tree-preserved
 expressions-loop-tree-preserved t c source before place has =
     let trees = c.args.trees.now in
-    let owner = owner_in c.args.place.now in
-    let known = known_in c.args.scope.now in
+    let owner = owner_in c.args.environment.place.now in
+    let known = known_in c.args.environment.scope.now in
     let i = c.loop-tree.tree-index in
     let tree = c.tree-item.result in
     let first = c.loop-tree.invariant source before place has in
@@ -329,8 +329,8 @@ expressions-loop-tree-preserved t c source before place has =
 pub expressions-returns : goal.expressions-returns
 expressions-returns t c source before place has =
     let trees = c.args.trees.now in
-    let owner = owner_in c.args.place.now in
-    let known = known_in c.args.scope.now in
+    let owner = owner_in c.args.environment.place.now in
+    let known = known_in c.args.environment.scope.now in
     let i = c.loop-tree.tree-index in
     let whole : take i trees ≡ trees = take_all i trees c.loop-tree-test.false in
     one_made c.loop-tree.all (ap (λ all. all_of (map (mention.expression owner) all) known) (sym whole)) refl (λ n. subst (λ all. MeansExprs n all c.loop-tree.all) whole) (c.loop-tree.invariant source before place has)

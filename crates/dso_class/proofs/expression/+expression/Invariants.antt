@@ -7,6 +7,6 @@ use Rattle.dso_class.proofs.expression.+expression.Given as goal
 
 -- the expressions so far are walked
 abbrev pub invariant-expressions-loop-tree : goal.invariant-expressions-loop-tree
-invariant-expressions-loop-tree l = (source : Source) (before : List Mention) → IsPlace source l.place → HasMet before (met_in l.initial.texts l.scope)
-    → IsWalked source (owner_in l.place) before (all_of (map (expression (owner_in l.place)) (take l.tree-index l.trees)) (known_in l.scope)) (met_in l.initial.texts l.scope) (met_in l.texts l.scope)
+invariant-expressions-loop-tree l = (source : Source) (before : List Mention) → IsPlace source l.environment.place.now → HasMet before (met_in l.initial.texts l.environment.scope.now)
+    → IsWalked source (owner_in l.environment.place.now) before (all_of (map (expression (owner_in l.environment.place.now)) (take l.tree-index l.trees)) (known_in l.environment.scope.now)) (met_in l.initial.texts l.environment.scope.now) (met_in l.texts l.environment.scope.now)
     (λ n all. MeansExprs n (take l.tree-index l.trees) all) (Ok l.all)

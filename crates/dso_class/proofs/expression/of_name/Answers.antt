@@ -23,4 +23,4 @@ returns-in-Variable c texts source before is has =
     (λ n given head of_object at word same.
     subst (λ whole. MeansExpr n (grammar.expression at (e.Field (grammar.expression c.args.line (e.Name owner)) word)) whole) (sym of_object.is)
     (field (variable (subst (λ head. HeadMeans owner c.args.name.now n head) c.in-Variable.is head)) (subst (λ name. IsFieldRef n.fields name of_object.field) (sym same) of_object.place)))
-    first (c.field.ensures texts c.args.scope.now source (on c.args.line (dotted (known_in c.args.scope.now) owner c.args.name.now) ∷ before) is first.answer.met)
+    first (c.field.ensures texts c.args.environment.scope.now source (on c.args.line (dotted (known_in c.args.environment.scope.now) owner c.args.name.now) ∷ before) is first.answer.met)

@@ -44,9 +44,9 @@ returns-in_ok-push-in-Method c source before set met class_met =
     let walked : IsWalked source before c.args.member.now class now c.in_ok-monitor-in-Method.monitor =
     record { line = m.line; synced = m.synced; name = m.name; params = m.params; statements = m.body; is = m.is; head = head } in
     let made = c.method-method in
-    let is : IsMade now c.as_slice-in-Method-2.result.now c.in_ok-monitor-in-Method.monitor c.in_ok-body-in-Method.body made.result =
+    let is : IsMade now c.as_slice.result.now c.in_ok-monitor-in-Method.monitor c.in_ok-body-in-Method.body made.result =
     record { class = made.ensures.class; params = made.ensures.params; vars = made.ensures.vars; synced = made.ensures.synced; body = made.ensures.body } in
-    laws.method_there source before c.args.member.now c.args.resolved.now class now c.in_ok-monitor-in-Method.monitor walked c.as_slice.result.now c.as_slice-in-Method-2.result.now c.as_slice-in-Method.result.now
-    c.method_body.new.texts c.in_ok-body-in-Method.body c.push.new.self made.result c.as_slice.ensures c.as_slice-in-Method.ensures c.as_slice-in-Method-2.ensures met
+    laws.method_there source before c.args.member.now c.args.resolved.now class now c.in_ok-monitor-in-Method.monitor walked c.as_slice.result.now c.as_slice.result.now c.as_slice-in-Method.result.now
+    c.method_body.new.texts c.in_ok-body-in-Method.body c.push.new.self made.result c.as_slice.ensures c.as_slice-in-Method.ensures c.as_slice.ensures met
     (c.in_ok-body-in-Method.ensures.right source _ set (laws.body_begins before class.name.now m.line m.synced m.name) (laws.texts_met before class.name.now m.line m.synced m.name met))
     is (λ fine. made.ensures.lock source set fine) c.in_ok-push-in-Method.ensures.ok

@@ -13,8 +13,8 @@ use Rattle.dso_class.proofs.statement.assigned.Goals as goal
 
 pub returns-in-None : goal.returns-in-None
 returns-in-None c source before place has =
-    let owner = owner_in c.args.place.now in
-    let known = known_in c.args.scope.now in
+    let owner = owner_in c.args.environment.place.now in
+    let known = known_in c.args.environment.scope.now in
     let target = c.args.target.now in
     let value = (mention.expression owner c.args.value.now).mentions known in
     let a = c.get-in-None.result.now in
@@ -26,8 +26,8 @@ returns-in-None c source before place has =
 
 pub returns-in-Elem : goal.returns-in-Elem
 returns-in-Elem c source before place has =
-    let owner = owner_in c.args.place.now in
-    let known = known_in c.args.scope.now in
+    let owner = owner_in c.args.environment.place.now in
+    let known = known_in c.args.environment.scope.now in
     let target = c.args.target.now in
     let value = (mention.expression owner c.args.value.now).mentions known in
     let a = c.get-in-Elem.result.now in

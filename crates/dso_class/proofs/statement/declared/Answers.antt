@@ -13,10 +13,10 @@ pub returns-in_err-number-clause-walks : goal.returns-in_err-number-clause-walks
 returns-in_err-number-clause-walks c source before place has =
     let owner = owner_in c.args.place.now in
     let known = known_in c.args.scope.now in
-    let line = c.args.name.now.line in
-    let word = c.args.name.now.name in
+    let line = c.args.declaration.name.now.line in
+    let word = c.args.declaration.name.now.name in
     let here = mention.on line (mention.variable word) in
-    let value = mention.expression owner c.args.value.now in
+    let value = mention.expression owner c.args.declaration.value.now in
     let told : c.from_residual.result ≡ Err c.in_err-number.field-0.0 = search (rules, c.from_residual.ensures) in
     first_fails (value.mentions known) c.in_err-number.field-0.0 refl told (c.in_err-number.ensures.walked c.args.texts.now source before place has)
 
@@ -24,10 +24,10 @@ pub returns-in_err-value-clause-walks : goal.returns-in_err-value-clause-walks
 returns-in_err-value-clause-walks c source before place has =
     let owner = owner_in c.args.place.now in
     let known = known_in c.args.scope.now in
-    let line = c.args.name.now.line in
-    let word = c.args.name.now.name in
+    let line = c.args.declaration.name.now.line in
+    let word = c.args.declaration.name.now.name in
     let here = mention.on line (mention.variable word) in
-    let value = mention.expression owner c.args.value.now in
+    let value = mention.expression owner c.args.declaration.value.now in
     let told : c.from_residual-in_err-value.result ≡ Err c.in_err-value.field-0.0 = search (rules, c.from_residual-in_err-value.ensures) in
     let first = c.in_ok-number.ensures.walked c.args.texts.now source before place has in
     let same : known_in c.variable.new.scope ≡ known = ap (λ names. reverse (words_of names)) c.in_ok-number.ensures.known in
@@ -42,10 +42,10 @@ pub returns-clause-walks : goal.returns-clause-walks
 returns-clause-walks c source before place has =
     let owner = owner_in c.args.place.now in
     let known = known_in c.args.scope.now in
-    let line = c.args.name.now.line in
-    let word = c.args.name.now.name in
+    let line = c.args.declaration.name.now.line in
+    let word = c.args.declaration.name.now.name in
     let here = mention.on line (mention.variable word) in
-    let value = mention.expression owner c.args.value.now in
+    let value = mention.expression owner c.args.declaration.value.now in
     let first = c.in_ok-number.ensures.walked c.args.texts.now source before place has in
     let same : known_in c.variable.new.scope ≡ known = ap (λ names. reverse (words_of names)) c.in_ok-number.ensures.known in
     let second = at_known value.mentions same (c.in_ok-value.ensures source (here ∷ before) place first.answer.met) in

@@ -9,8 +9,8 @@ use Rattle.dso_class.proofs.statement.to_element.Goals as goal
 
 pub returns-in_err-index : goal.returns-in_err-index
 returns-in_err-index c source before place has =
-    let owner = owner_in c.args.place.now in
-    let known = known_in c.args.scope.now in
+    let owner = owner_in c.args.environment.place.now in
+    let known = known_in c.args.environment.scope.now in
     let array = mention.expression owner c.args.array.now in
     let index = mention.expression owner c.args.index.now in
     let value = mention.expression owner c.args.value.now in
@@ -21,8 +21,8 @@ returns-in_err-index c source before place has =
 
 pub returns-in_err-value : goal.returns-in_err-value
 returns-in_err-value c source before place has =
-    let owner = owner_in c.args.place.now in
-    let known = known_in c.args.scope.now in
+    let owner = owner_in c.args.environment.place.now in
+    let known = known_in c.args.environment.scope.now in
     let array = mention.expression owner c.args.array.now in
     let index = mention.expression owner c.args.index.now in
     let value = mention.expression owner c.args.value.now in
@@ -35,8 +35,8 @@ returns-in_err-value c source before place has =
 
 pub returns : goal.returns
 returns c source before place has =
-    let owner = owner_in c.args.place.now in
-    let known = known_in c.args.scope.now in
+    let owner = owner_in c.args.environment.place.now in
+    let known = known_in c.args.environment.scope.now in
     let array = mention.expression owner c.args.array.now in
     let index = mention.expression owner c.args.index.now in
     let value = mention.expression owner c.args.value.now in

@@ -12,8 +12,8 @@ use Rattle.dso_class.proofs.statement.to_field.Goals as goal
 
 pub returns-in_err-value : goal.returns-in_err-value
 returns-in_err-value c source before place has =
-    let owner = owner_in c.args.place.now in
-    let known = known_in c.args.scope.now in
+    let owner = owner_in c.args.environment.place.now in
+    let known = known_in c.args.environment.scope.now in
     let object = mention.expression owner c.args.object.now in
     let value = mention.expression owner c.args.value.now in
     let first = c.in_ok-object.ensures source before place has in
@@ -23,14 +23,14 @@ returns-in_err-value c source before place has =
 
 pub returns : goal.returns
 returns c source before place has =
-    let owner = owner_in c.args.place.now in
-    let known = known_in c.args.scope.now in
+    let owner = owner_in c.args.environment.place.now in
+    let known = known_in c.args.environment.scope.now in
     let object = mention.expression owner c.args.object.now in
     let value = mention.expression owner c.args.value.now in
     let first = c.in_ok-object.ensures source before place has in
     let near = behind before (object.mentions known) in
     let second = c.in_ok-value.ensures source near place first.answer.met in
-    let third = c.field.ensures c.value_of-2.new.texts c.args.scope.now source (behind near (value.mentions known)) place second.answer.met in
+    let third = c.field.ensures c.value_of-2.new.texts c.args.environment.scope.now source (behind near (value.mentions known)) place second.answer.met in
     third_tail c.field.result refl
     (λ n given one two puts at from.
     subst (λ same. MeansStmt n (program.statement at (s.Assign (grammar.expression from (e.Field c.args.object.now c.args.name.now)) c.args.value.now)) same) (sym puts.is) (put_field from one puts.place two))
