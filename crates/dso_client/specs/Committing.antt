@@ -2,7 +2,7 @@
 use Rattle.std.specs.List.{list_any}
 use Rattle.std.specs.Option.{option_map}
 use Rattle.std.specs.Prelude.{◌≡◌, ◌||◌, ℕ, zero, suc, Bool, true, cond, eqb, is_some, Option, Some, None}
-use Rattle.std.specs.Prelude.{List, [], ◌∷◌, slice_get, slice_set}
+use Rattle.std.specs.Prelude.{List, slice_get, slice_set}
 use Rattle.dso_base.specs.declared.record.Ending.{Ending}
 use Rattle.dso_base.specs.declared.record.Txn.{Txn}
 use Rattle.dso_base.specs.declared.shape.Shape.{Shape}

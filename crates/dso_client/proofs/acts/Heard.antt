@@ -1,5 +1,5 @@
 -- The request that is out, where a reply is listed.
-use Rattle.std.proofs.Common.{◌≡◌, ℕ, zero, suc, refl, sym, subst, Option, Some, None, List}
+use Rattle.std.proofs.Common.{◌≡◌, refl, sym, subst, Option, Some, None}
 use Rattle.dso_base.specs.declared.request.Reply.{Reply}
 use Rattle.dso_base.specs.declared.request.Request.{Request}
 use Rattle.dso_base.specs.Following.{IsListedFor}

@@ -1,6 +1,6 @@
 -- One seat of all is another one.
 use Rattle.std.specs.List.{AllByRecursion}
-use Rattle.std.proofs.Common.{◌≡◌, ◌≢◌, ℕ, zero, suc, refl, sym, ◌∙◌, ap, subst, inl, inr, false, Option, Some, List, [], ◌∷◌, map, slice_get, slice_set}
+use Rattle.std.proofs.Common.{◌≡◌, ◌≢◌, ℕ, zero, suc, refl, sym, ◌∙◌, ap, subst, inl, inr, Some, List, [], ◌∷◌, map, slice_get, slice_set}
 use Rattle.dso_client.specs.declared.seat.Seat.{Seat}
 use Rattle.dso_client.specs.Committing.{changed_seat, replaced_at}
 use Rattle.dso_client.specs.GoingOn.{with_seat}

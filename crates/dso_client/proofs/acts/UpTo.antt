@@ -1,5 +1,5 @@
 -- The first seats have gone on, the others stand as they were.
-use Rattle.std.proofs.Common.{◌≡◌, ◌+◌, ℕ, zero, suc, refl, sym, ◌∙◌, subst, arith, Some, List, [], ◌∷◌, length, slice_get, slice_set}
+use Rattle.std.proofs.Common.{◌≡◌, ◌+◌, ℕ, zero, suc, sym, ◌∙◌, subst, arith, Some, List, [], ◌∷◌, length, slice_get, slice_set}
 use Rattle.dso_client.specs.declared.answered.Answered.{Answered}
 use Rattle.dso_client.specs.declared.locking.Locking.{Locking}
 use Rattle.dso_client.specs.declared.seat.Seat.{Seat}

@@ -1,6 +1,5 @@
 -- The entries of a client name one object for the flush.
-use Rattle.std.specs.List.{list_any}
-use Rattle.std.proofs.Common.{◌≡◌, ◌≤◌, ℕ, refl, sym, ◌∙◌, ap, arith, subst, Bool, true, false, eqb, ◌||◌, inl, inr, List, [], ◌∷◌, ◌++◌}
+use Rattle.std.proofs.Common.{◌≡◌, ◌≤◌, ℕ, refl, sym, ◌∙◌, ap, arith, Bool, true, false, eqb, ◌||◌, inl, inr, List, [], ◌∷◌, ◌++◌}
 use Rattle.dso_base.specs.declared.journal.Entry.{Entry}
 use Rattle.dso_plain.proofs.keys.SameKeys.{number_self}
 use Rattle.dso_lookup.specs.Search.{is_listed}

@@ -1,5 +1,5 @@
 -- The first of two needs.
-use Rattle.std.proofs.Common.{◌≡◌, ℕ, refl, Bool, true, false, not, Some, None}
+use Rattle.std.proofs.Common.{◌≡◌, refl, Bool, true, false, not, Some, None}
 use Rattle.dso_law.specs.RequestNeeds.{Need, first_unmet, unless}
 
 -- both are met

@@ -8,7 +8,7 @@ use Rattle.dso_law.specs.Copies.{is_resident}
 use Rattle.dso_law.specs.Records.{records}
 use Rattle.dso_law.specs.RequestNeeds.{Need, first_unmet, unless, unmet}
 use Rattle.dso_law.specs.Threads.{or_else, own, work_of}
-use Rattle.dso_law.specs.UseOrder.{all_but, object_used, use_order, used_by_thread, used_first}
+use Rattle.dso_law.specs.UseOrder.{object_used, use_order, used_by_thread, used_first}
 use Rattle.dso_law.proofs.core.Bodies.{bodies_are_held}
 use Rattle.dso_table.specs.declared.tables.Tables.{Tables}
 use Rattle.dso_table.specs.States as states

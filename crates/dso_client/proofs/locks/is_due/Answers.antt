@@ -1,4 +1,4 @@
-use Rattle.std.proofs.Common.{◌≡◌, refl, sym, ◌∙◌, ap, ◌&&◌, is_some}
+use Rattle.std.proofs.Common.{refl, sym, ◌∙◌, ap, ◌&&◌, is_some}
 use Rattle.dso_law.specs.Closing.{is_closing, is_free}
 use Rattle.dso_law.specs.Leases.{is_entered, leased}
 use Rattle.dso_client.proofs.lock_standing.LockStands.{due_so}

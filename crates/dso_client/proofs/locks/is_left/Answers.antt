@@ -1,4 +1,4 @@
-use Rattle.std.proofs.Common.{◌≡◌, sym, ◌∙◌, ap, ◌&&◌}
+use Rattle.std.proofs.Common.{sym, ◌∙◌, ap, ◌&&◌}
 use Rattle.dso_law.specs.Closing.{is_free}
 use Rattle.dso_client.proofs.lock_standing.FreeLocks.{free_as}
 use Rattle.dso_client.proofs.lock_standing.LockStands.{entered_told}
