@@ -9,4 +9,4 @@ use Rattle.dso_report.proofs.graph_lines.push_elements.Goals as goal
 pub returns-in_err-push_element-clause-missing : goal.returns-in_err-push_element-clause-missing
 returns-in_err-push_element-clause-missing c is =
     let p = err_from_is_err_and c.from_residual.result c.from_residual.ensures.1 in
-    below_lacks (element_text c.args.names.now c.args.order.now.keys (state_of c.args.plain.now) c.args.object) c.args.size c.loop-at.at c.loop-at-test.true (c.in_err-push_element.ensures.missing (ap Err (sym p.2) ∙ sym p.1 ∙ is))
+    below_lacks (element_text c.args.graph.names.now c.args.graph.order.now.keys (state_of c.args.graph.plain.now) c.args.object) c.args.size c.loop-at.at c.loop-at-test.true (c.in_err-push_element.ensures.missing (ap Err (sym p.2) ∙ sym p.1 ∙ is))

@@ -9,10 +9,10 @@ use Rattle.dso_report.proofs.graph_lines.push_fields.Goals as goal
 pub returns-in_err-push_field-clause-missing : goal.returns-in_err-push_field-clause-missing
 returns-in_err-push_field-clause-missing c is =
     let p = err_from_is_err_and c.from_residual.result c.from_residual.ensures.1 in
-    below_lacks (field_text c.args.names.now c.args.order.now.keys (state_of c.args.plain.now) c.args.object c.args.fields.now) c.args.size c.loop-field.field c.loop-field-test.true (c.in_err-push_field.ensures.missing (ap Err (sym p.2) ∙ sym p.1 ∙ is))
+    below_lacks (field_text c.args.graph.names.now c.args.graph.order.now.keys (state_of c.args.graph.plain.now) c.args.object c.args.fields.now) c.args.size c.loop-field.field c.loop-field-test.true (c.in_err-push_field.ensures.missing (ap Err (sym p.2) ∙ sym p.1 ∙ is))
 
 -- a field more
 pub loop-field-preserved : goal.loop-field-preserved
 loop-field-preserved c =
-    below_more (field_text c.args.names.now c.args.order.now.keys (state_of c.args.plain.now) c.args.object c.args.fields.now) c.args.text.now.items c.loop-field.text.items c.push_field.new.text.items c.loop-field.field
+    below_more (field_text c.args.graph.names.now c.args.graph.order.now.keys (state_of c.args.graph.plain.now) c.args.object c.args.fields.now) c.args.text.now.items c.loop-field.text.items c.push_field.new.text.items c.loop-field.field
     c.loop-field.invariant c.in_ok-push_field.ensures.written

@@ -6,4 +6,4 @@ use Rattle.dso_report.specs.Texts.{each_below}
 use Rattle.dso_report.proofs.graph_lines.push_fields.Given as goal
 
 abbrev pub invariant-loop-field : goal.invariant-loop-field
-invariant-loop-field l = Some l.fn.text.items ++? each_below (field_text l.names l.order.keys (state_of l.plain) l.object l.fields) l.field ≡ Some l.text.items
+invariant-loop-field l = Some l.fn.text.items ++? each_below (field_text l.graph.names.now l.graph.order.now.keys (state_of l.graph.plain.now) l.object l.fields) l.field ≡ Some l.text.items
