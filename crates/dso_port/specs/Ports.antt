@@ -103,8 +103,8 @@ module _ {M : Type 0} (as_both : M → Both) (cells : Frame M → List Cell) (Is
     pub is : AllByRecursion Is frames
     pub more : after ≡ before ++ map (λ frame. bytes_of (cells frame)) frames
 
-  -- Why an end stopped giving frames: memory was refused; or behind some frames, which were next, the next one can't be
-  -- spelled.
+  -- Why an end stopped giving frames: memory was refused; or behind some frames, which were next, the next one can't
+  -- be spelled.
   pub record StopsAt (CanGo : Frame M → Type 0) (why : PortFault) (old : End Both) : Type 0 where
     pub frames : List (Frame M)
     pub between : End Both

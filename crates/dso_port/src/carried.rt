@@ -37,7 +37,8 @@ pub trait Carried: Data + Drop {
     fn out_of(both: Both) -> Option<Self>
         ensures { (message : Self) → both ≡ as_both message → result ≡ Some message };
 
-    /// The bytes of the frame. It answers `NoBytes` where the frame has none, and `NoMemory` where an allocation was refused.
+    /// The bytes of the frame. It answers `NoBytes` where the frame has none, and `NoMemory` where an allocation was
+    /// refused.
     fn encode(alloc: Global, frame: &Frame<Self>) -> Result<Vec<u8>, PortFault>
         ensures is { OnOk result (is frame.now) }
         ensures bytes { IfOk result (λ bytes. bytes.items ≡ bytes_of (cells frame.now)) }

@@ -35,8 +35,8 @@ fn lift<T: Carried>(frame: Frame<T>) -> Frame<Both>
     }
 }
 
-/// What the end makes of a frame from the ring; a message at the limit is kept. It answers `Gap` where a message is missing before
-/// the frame.
+/// What the end makes of a frame from the ring; a message at the limit is kept. It answers `Gap` where a message is
+/// missing before the frame.
 pub(crate) fn hear<T: Carried>(
     session: &mut Session<Both>,
     late: &mut Option<Frame<T>>,

@@ -1,7 +1,7 @@
 //! One end of a client's connection, where frames go as bytes through two rings.
 //!
-//! A [`Port`] gives the frames of its session to one ring and takes those of the other end from another. Contracts say what it
-//! gave and took, whatever was sent.
+//! A [`Port`] gives the frames of its session to one ring and takes those of the other end from another. Contracts
+//! say what it gave and took, whatever was sent.
 #![tactic(auto)]
 
 mod arrival;

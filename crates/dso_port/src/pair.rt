@@ -13,8 +13,8 @@ use std::alloc::Global;
 /// How many frames a ring has room for.
 pub const PLACES: usize = 64;
 
-/// The client's end and the server's end of a connection, with a ring up and a ring down between them: nothing was sent. It answers
-/// `NoMemory` where an allocation was refused.
+/// The client's end and the server's end of a connection, with a ring up and a ring down between them: nothing was
+/// sent. It answers `NoMemory` where an allocation was refused.
 pub fn both_ends(alloc: Global) -> Result<(Port<Up, Down>, Port<Down, Up>), NoMemory>
     ensures client { IfOk result (λ made. IsNew role.Client made.0) }
     ensures server { IfOk result (λ made. IsNew role.Server made.1) }

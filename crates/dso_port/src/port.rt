@@ -14,9 +14,11 @@ use rtrb::{Consumer, Producer};
 use std::alloc::Global;
 use std::marker::Model;
 
-/// One end of a client's connection: it gives the frames of its session to one ring, and takes those of the other end from another.
+/// One end of a client's connection: it gives the frames of its session to one ring, and takes those of the other end
+/// from another.
 ///
-/// Contracts see what it has (`PortState`), and that its end of the connection keeps messages of its own way alone (`EndKeeps`).
+/// Contracts see what it has (`PortState`), and that its end of the connection keeps messages of its own way alone
+/// (`EndKeeps`).
 #[derive(Drop)]
 pub struct Port<S: Carried, T: Carried> {
     session: Session<Both>,
@@ -89,7 +91,8 @@ impl<S: Carried, T: Carried> Port<S, T> {
         self.late.is_some()
     }
 
-    /// The connection broke, as the server knows: nothing but a Hello goes until the client has answered that. It takes no memory.
+    /// The connection broke, as the server knows: nothing but a Hello goes until the client has answered that. It
+    /// takes no memory.
     pub fn break_now(&mut self)
         requires { self.old.session.epoch + 1 < 2 ^ 32 }
         ensures { self.new ≡ record self.old { session = broken self.old.session } }
@@ -108,8 +111,9 @@ impl<S: Carried, T: Carried> Port<S, T> {
         self.into.slots_beside(&mut other.out);
     }
 
-    /// Frames go to the ring, as many as are due and places are known to be free. It answers `NoMemory` where an allocation was
-    /// refused, and `NoBytes` where a frame comes that has none; nothing is said of what went to the ring then.
+    /// Frames go to the ring, as many as are due and places are known to be free. It answers `NoMemory` where an
+    /// allocation was refused, and `NoBytes` where a frame comes that has none; nothing is said of what went to the
+    /// ring then.
     pub fn give(&mut self, alloc: Global) -> Result<(), PortFault>
         ensures rings { SameRings self.old self.new }
         ensures into { self.new.into ≡ self.old.into }
@@ -121,9 +125,9 @@ impl<S: Carried, T: Carried> Port<S, T> {
         give_all(alloc, &mut self.session, &mut self.out)
     }
 
+    /// Takes a frame from the ring, where one is known to be there. It answers `NoMemory` where an allocation was
+    /// refused, and `Gap` where a message is missing before the frame.
     #[tactic(auto, using(crate::proofs::ends::Taken::keeps_moved))]
-    /// Takes a frame from the ring, where one is known to be there. It answers `NoMemory` where an allocation was refused, and `Gap`
-    /// where a message is missing before the frame.
     pub fn take(&mut self, alloc: Global) -> Result<Arrival<T>, PortFault>
         ensures taken { IfOk result (λ told. HasTaken T.as_both T.cells T.is told self.old self.new) }
         ensures late { IfOk result (λ told. KeepsLate told self.old.late self.new.late) }
@@ -150,8 +154,8 @@ impl<S: Carried, T: Carried> Port<S, T> {
         Ok(())
     }
 
-    /// Sends these messages, the first of them first, each with the clock of their entry. It answers `NoMemory` where an allocation
-    /// was refused.
+    /// Sends these messages, the first of them first, each with the clock of their entry. It answers `NoMemory` where
+    /// an allocation was refused.
     pub fn send_all(&mut self, messages: &[S], clock: u64) -> Result<(), NoMemory>
         requires { self.old.session.seen < 2 ^ 63 }
         ensures sent { OnOk result (self.new.session ≡ all_posted S.as_both clock messages.now self.old.session) }
