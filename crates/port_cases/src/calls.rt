@@ -54,15 +54,14 @@ pub fn all<S: Carried, T: Carried + Debug>(
 }
 
 /// What the end tells of itself.
-pub fn tells<S: Carried, T: Carried>(
-    alloc: Global,
-    end: &Port<S, T>,
-) -> Result<String, NoMemory> {
+pub fn tells<S: Carried, T: Carried>(alloc: Global, end: &Port<S, T>) -> Result<String, NoMemory> {
     let accepted = end.accepted();
     let sent = end.sent();
     let epoch = end.epoch();
     let ready = end.is_ready();
     let late = end.is_late();
-    let text = format!(in alloc; "accepted {accepted}, sent {sent}, epoch {epoch}, ready {ready}, late {late}")?;
+    let text = format!(in alloc;
+        "accepted {accepted}, sent {sent}, epoch {epoch}, ready {ready}, late {late}"
+    )?;
     Ok(text)
 }
