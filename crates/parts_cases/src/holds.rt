@@ -30,10 +30,17 @@ fn of_thread(alloc: Global, holds: &mut Hold, word: &str, text: &str) -> Result<
     let (first, rest) = first_of(text);
     let (second, rest) = first_of(rest);
     match (thread(first), lock(second)) {
-        (Some(thread), Some(lock)) => of_both(alloc, holds, word, thread, lock, rest),
+        (Some(thread), Some(lock)) => of_both(alloc, holds, word, Asker { thread, lock }, rest),
         (Some(thread), None) if word == "any" => shown(alloc, holds.any(thread)),
         _ => shown(alloc, "no such call"),
     }
+}
+
+/// A thread, and the lock that it asks of.
+#[derive(Clone, Copy)]
+struct Asker {
+    thread: ThreadId,
+    lock: LockName,
 }
 
 /// The answer to a call on a thread and a lock.
@@ -41,17 +48,17 @@ fn of_both(
     alloc: Global,
     holds: &mut Hold,
     word: &str,
-    thread: ThreadId,
-    name: LockName,
+    asker: Asker,
     text: &str,
 ) -> Result<String, NoMemory> {
+    let Asker { thread, lock } = asker;
     let (first, second) = first_of(text);
     match (word, level(first), count(first), count(second)) {
-        ("enter", Some(level), _, Some(count)) => entered(alloc, holds, thread, name, level, count),
-        ("exit", _, Some(count), _) => shown(alloc, holds.exit(thread, name, count)),
-        ("level", _, _, _) => debugged(alloc, holds.level_of(thread, name)),
-        ("count", _, _, _) => shown(alloc, holds.count(thread, name)),
-        ("conflict", Some(level), _, _) => conflict(alloc, holds, thread, name, level),
+        ("enter", Some(level), _, Some(count)) => entered(alloc, holds, asker, level, count),
+        ("exit", _, Some(count), _) => shown(alloc, holds.exit(thread, lock, count)),
+        ("level", _, _, _) => debugged(alloc, holds.level_of(thread, lock)),
+        ("count", _, _, _) => shown(alloc, holds.count(thread, lock)),
+        ("conflict", Some(level), _, _) => conflict(alloc, holds, thread, lock, level),
         _ => shown(alloc, "no such call"),
     }
 }
@@ -60,11 +67,11 @@ fn of_both(
 fn entered(
     alloc: Global,
     holds: &mut Hold,
-    thread: ThreadId,
-    lock: LockName,
+    asker: Asker,
     level: Level,
     count: u32,
 ) -> Result<String, NoMemory> {
+    let Asker { thread, lock } = asker;
     if count == 0 || count > 1000 || holds.count(thread, lock) > 1_000_000 {
         return shown(alloc, "no such count");
     }

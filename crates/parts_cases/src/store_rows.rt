@@ -81,9 +81,16 @@ fn of_object(
             store.unhold(client, object);
             shown(alloc, "dropped")
         }
-        (_, Some(seq)) => of_record(alloc, store, word, client, seq, rest),
+        (_, Some(seq)) => of_record(alloc, store, word, RecordName { client, seq }, rest),
         _ => shown(alloc, "no such number"),
     }
+}
+
+/// A record: whose it is, and its number.
+#[derive(Clone, Copy)]
+struct RecordName {
+    client: u8,
+    seq: u64,
 }
 
 /// The answer to a call on a record.
@@ -91,19 +98,15 @@ fn of_record(
     alloc: Global,
     store: &mut Store,
     word: &str,
-    client: u8,
-    seq: u64,
+    record: RecordName,
     text: &str,
 ) -> Result<String, NoMemory> {
+    let RecordName { client, seq } = record;
     let (first, rest) = first_of(text);
     match (word, number(first), set(text)) {
         ("publish", Some(object), _) if rest.is_empty() => {
-            applied(
-                alloc,
-                store,
-                client,
-                publishing(alloc, client, seq, object)?,
-            )
+            let txn = publishing(alloc, client, seq, object)?;
+            applied(alloc, store, client, txn)
         }
         ("set", _, Some(set)) => applied(alloc, store, client, setting(alloc, client, seq, set)?),
         ("others", _, Some(set)) => others(alloc, store, client, setting(alloc, client, seq, set)?),

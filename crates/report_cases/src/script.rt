@@ -143,11 +143,19 @@ fn act(
         return Ok(false);
     };
     let told = told(&run.plain, run.events.len() as u64 + 1, request);
-    let made = offer(alloc, program, run, thread, request, &[told])?;
+    let asked = Asked { thread, request };
+    let made = offer(alloc, program, run, asked, &[told])?;
     if made {
         return Ok(true);
     }
-    offer(alloc, program, run, thread, request, PLAIN_REPLIES)
+    offer(alloc, program, run, asked, PLAIN_REPLIES)
+}
+
+/// What a thread asks for next.
+#[derive(Clone, Copy)]
+struct Asked {
+    thread: ThreadId,
+    request: Request,
 }
 
 /// Makes the act with the first of these replies that is listed and that the heap takes, and answers whether there is
@@ -156,22 +164,21 @@ fn offer(
     alloc: Global,
     program: &Program,
     run: &mut LegalRun,
-    thread: ThreadId,
-    request: Request,
+    asked: Asked,
     replies: &[Reply],
 ) -> Result<bool, NoMemory>
     requires legal { IsLegalRun program.now run.old }
-    requires asks { next_request program.now.code thread (events_of thread run.old.events.items) ≡ Some request }
+    requires asks { next_request program.now.code asked.thread (events_of asked.thread run.old.events.items) ≡ Some asked.request }
     ensures legal { OnOk result (IsLegalRun program.now run.new) }
-    ensures asks { IfOk result (λ made. made ≡ false → next_request program.now.code thread (events_of thread run.new.events.items) ≡ Some request) }
+    ensures asks { IfOk result (λ made. made ≡ false → next_request program.now.code asked.thread (events_of asked.thread run.new.events.items) ≡ Some asked.request) }
 {
     let [reply, rest @ ..] = replies else {
         return Ok(false);
     };
-    if try_reply(alloc, program, run, thread, request, *reply)? {
+    if try_reply(alloc, program, run, asked, *reply)? {
         return Ok(true);
     }
-    offer(alloc, program, run, thread, request, rest)
+    offer(alloc, program, run, asked, rest)
 }
 
 /// Makes the act with this reply, if it is listed and the heap takes it, and answers whether it does.
@@ -180,21 +187,20 @@ fn try_reply(
     alloc: Global,
     program: &Program,
     run: &mut LegalRun,
-    thread: ThreadId,
-    request: Request,
+    asked: Asked,
     reply: Reply,
 ) -> Result<bool, NoMemory>
     requires legal { IsLegalRun program.now run.old }
-    requires asks { next_request program.now.code thread (events_of thread run.old.events.items) ≡ Some request }
+    requires asks { next_request program.now.code asked.thread (events_of asked.thread run.old.events.items) ≡ Some asked.request }
     ensures legal { OnOk result (IsLegalRun program.now run.new) }
-    ensures asks { IfOk result (λ made. made ≡ false → next_request program.now.code thread (events_of thread run.new.events.items) ≡ Some request) }
+    ensures asks { IfOk result (λ made. made ≡ false → next_request program.now.code asked.thread (events_of asked.thread run.new.events.items) ≡ Some asked.request) }
 {
-    if !is_listed(request, reply) {
+    if !is_listed(asked.request, reply) {
         return Ok(false);
     }
     let act = Event::Act {
-        thread,
-        request,
+        thread: asked.thread,
+        request: asked.request,
         reply,
         woken: None,
     };
