@@ -1,6 +1,7 @@
 -- A client that is driven by hand.
 use Rattle.std.specs.Prelude.{◌≤◌}
 use Rattle.dso_client.specs.Acting.{HoldsAtMost}
+use Rattle.dso_client.specs.ClientViews.{records_sent}
 use Rattle.dso_client.specs.CodeRuns.{RunsCode}
 use Rattle.dso_machine.specs.declared.code.Code.{Code}
 use Rattle.client_cases.specs.declared.driven.Driven.{Driven}
@@ -10,5 +11,5 @@ use Rattle.client_cases.specs.declared.driven.Driven.{Driven}
 pub record Goes (code : Code) (driven : Driven) : Type 0 where
   pub runs : RunsCode code driven.client
   pub holds : HoldsAtMost driven.acts driven.client
-  pub records : driven.client.ledger.records ≤ driven.acts
+  pub records : records_sent driven.client ≤ driven.acts
   pub few : driven.acts ≤ 1000000

@@ -1,15 +1,13 @@
 //! What an answered request makes of the work that a thread has in hand (`dso_base/specs/Block.antt`).
 ghost use Rattle.std.specs.Prelude.{◌≡◌, IfOk, OnOk};
-ghost use Rattle.dso_base.specs.Block.{Work, choice_of, put, start, work_by};
+ghost use Rattle.dso_base.specs.Block.{Work, put, start, work_by};
 ghost use Rattle.dso_change.specs.Hands.{IsOnce, hand_of, record_from};
 ghost use Rattle.dso_txn.specs.InHand.{hand_in};
 
 use crate::answered::Answered;
 use crate::seat::Seat;
-use dso_base::{
-    Choice, Ending, LockName, NoMemory, Note, Reply, Request, Set, Shape, ThreadId, Txn,
-};
-use dso_change::opening_body;
+use dso_base::{Choice, Ending, LockName, NoMemory, Note, Reply, Request, Set, Shape, Txn};
+use dso_change::{choice_of, opening_body};
 use std::alloc::Global;
 
 /// A done put: into a private object it writes that object alone, into a shared one it joins the open block.
@@ -25,16 +23,6 @@ fn live_put(alloc: Global, seat: &mut Seat, set: Set) -> Result<(), NoMemory>
         return Ok(());
     }
     seat.block.put(alloc, &mut seat.privates, set)
-}
-
-/// Whom a done notification woke.
-fn choice_of(woken: Option<ThreadId>) -> Choice
-    ensures { result ≡ choice_of woken }
-{
-    match woken {
-        Some(thread) => Choice::Here(thread),
-        None => Choice::There,
-    }
 }
 
 /// What an answered request makes of the work that its thread has in hand.

@@ -1,6 +1,5 @@
 //! Whether a run that finished has a kept thread that ended by a fault (`specs/RunEnds.antt`).
 ghost use Rattle.std.specs.Prelude.{◌≡◌, reverse};
-ghost use Rattle.dso_base.specs.Following.{is_thread};
 ghost use Rattle.dso_law.specs.Entries.{entries_of};
 ghost use Rattle.dso_law.specs.ServerReadings.{is_lost};
 ghost use Rattle.dso_base.specs.declared.journal.Node.TheVariants as node;
@@ -8,6 +7,7 @@ ghost use Rattle.dso_run.specs.Failing.{fails, fails_kept, is_fault, is_loss, te
 ghost use Rattle.dso_run.specs.RunEnds.{is_faulty};
 
 use dso_base::{Entry, Event, Input, Node, Request, Shared, ThreadId};
+use dso_plain::is_thread;
 
 /// Whether a kept thread of these, one of a client that isn't lost, ended by a fault. It walks the journal once, and
 /// once more for each fault of one of these threads.
@@ -81,13 +81,6 @@ fn fails(entry: &Entry, thread: ThreadId) -> bool
         ) => *client == thread.client && is_thread(thread, *acting),
         _ => false,
     }
-}
-
-/// Whether the two threads are one.
-fn is_thread(thread: ThreadId, other: ThreadId) -> bool
-    ensures { result ≡ is_thread thread other }
-{
-    thread.client == other.client && thread.index == other.index
 }
 
 /// Whether the client was lost.

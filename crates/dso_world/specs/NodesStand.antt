@@ -5,6 +5,7 @@ use Rattle.dso_base.specs.declared.journal.Node.TheVariants as node
 use Rattle.dso_class.specs.declared.program.Program.{Program}
 use Rattle.dso_client.specs.Acting.{HoldsAtMost}
 use Rattle.dso_client.specs.ClientStands.{ClientStands}
+use Rattle.dso_client.specs.ClientViews.{records_sent}
 use Rattle.dso_client.specs.CodeRuns.{RunsCode}
 use Rattle.dso_law.specs.Channels.{last_clock}
 use Rattle.dso_law.specs.Entries.{entries_of}
@@ -28,7 +29,7 @@ module _ (program : Program) where
       (es : List Entry) : Type 0 where
     pub client : ClientStands program.code (settings_of program) c member.client (entries_of (node.Client c) es)
     pub runs : RunsCode program.code member.client
-    pub records : member.client.ledger.records ≤ length es
+    pub records : records_sent member.client ≤ length es
     pub holds : HoldsAtMost (length es) member.client
     pub link : LinkStands course past member.link
     pub clock : member.clock ≡ last_clock (node.Client c) es

@@ -3,6 +3,7 @@ use Rattle.std.specs.List.{list_any}
 use Rattle.std.specs.Prelude.{ℕ, ◌≡◌, ◌<◌, ◌-◌, ◌^◌, ◌↔◌, min, Bool, true, false, Option, Some, None, List, [], ◌∷◌}
 use Rattle.std.specs.Prelude.{◌++◌, is_some, length, map, option_map, reverse, slice_get}
 use Rattle.dso_base.specs.declared.journal.Entry.{Entry}
+use Rattle.dso_base.specs.declared.journal.Journal.{Journal}
 use Rattle.dso_class.specs.declared.program.Program.{Program}
 use Rattle.dso_legal.specs.Lawful.{IsLawful}
 use Rattle.dso_legal.specs.Slots.{is_finished, open_slots, slots, weight}
@@ -16,9 +17,13 @@ use Rattle.dso_world.specs.MemberSteps.{IsJournal, IsOpenAfter}
 use Rattle.dso_world.specs.NodesStand.{NodesStand}
 use Rattle.dso_world.specs.WorldSteps.{settings_of, slot_of}
 
--- the entries of the world's journal, the newest first
+-- the journal of all that the world did
+abbrev pub journal_of : World → Journal
+journal_of world = world.journal
+
+-- its entries, the newest first
 abbrev pub entries_in : World → List Entry
-entries_in world = reverse world.journal.entries
+entries_in world = reverse (journal_of world).entries
 
 -- whether the world is spent: it keeps the refusal of an allocation
 abbrev pub is_spent : World → Bool
@@ -52,14 +57,14 @@ module _ (program : Program) where
 -- one entry more, made at the slot of the step
 pub record MakesEntry (step : Step) (old new : World) : Type 0 where
   pub entry : Entry
-  pub added : new.journal.entries ≡ old.journal.entries ++ entry ∷ []
+  pub added : (journal_of new).entries ≡ (journal_of old).entries ++ entry ∷ []
   pub at : slot_at entry.node entry.input ≡ Some (slot_of step)
 
 -- The step at this place can be made: the world's parts are what they are after its journal, which has room, and the
 -- slot is open.
 pub record IsMakeable (program : Program) (step : Step) (place : ℕ) (world : World) : Type 0 where
   pub journal : IsJournal program (entries_in world)
-  pub few : length world.journal.entries < 2 ^ 28
+  pub few : length (journal_of world).entries < 2 ^ 28
   pub parts : PartsStand program world (entries_in world)
   pub at : slice_get (slots (settings_of program)) place ≡ Some (slot_of step)
   pub opened : IsOpenAfter program (entries_in world) (slot_of step)

@@ -4,7 +4,7 @@ ghost use Rattle.std.specs.Option.{option_copied};
 ghost use Rattle.dso_class.specs.declared.program.Program.{Program};
 ghost use Rattle.dso_class.specs.Sound.{IsSound};
 ghost use Rattle.dso_legal.specs.Slots.{is_finished, weight};
-ghost use Rattle.dso_world.specs.WorldStands.{IsChosenStep, IsMade, IsMakeable, IsStepped, WorldStands, entries_in, is_open_step, is_spent};
+ghost use Rattle.dso_world.specs.WorldStands.{IsChosenStep, IsMade, IsMakeable, IsStepped, WorldStands, entries_in, is_open_step, is_spent, journal_of};
 ghost use Rattle.dso_world.specs.WorldSteps.{settings_of};
 
 use crate::applying::apply;
@@ -39,7 +39,7 @@ impl World {
         requires { IsSound program.now }
         ensures stands { IfOk result (WorldStands program.now) }
         ensures whole { IfOk result (λ world. is_spent world ≡ false) }
-        ensures empty { IfOk result (λ world. world.journal.entries ≡ []) }
+        ensures empty { IfOk result (λ world. (journal_of world).entries ≡ []) }
     {
         let nodes = nodes(alloc, program)?;
         let board = board(alloc, program, &nodes)?;
@@ -62,13 +62,13 @@ impl World {
     pub fn step(&mut self, alloc: Global, program: &Program, step: Step) -> Result<bool, NoMemory>
         requires sound { IsSound program.now }
         requires stands { WorldStands program.now self.old }
-        requires few { length self.old.journal.entries < 2 ^ 28 }
+        requires few { length (journal_of self.old).entries < 2 ^ 28 }
         ensures stands { WorldStands program.now self.new }
         ensures stepped { IfOk result (λ made. IsStepped program.now step made self.old self.new) }
         ensures whole { OnOk result (is_spent self.new ≡ false) }
         ensures spent { OnErr result (is_spent self.new ≡ true) }
         ensures refused { is_spent self.old ≡ true → IsErr result × (self.new ≡ self.old) }
-        ensures journal { OnErr result (self.new.journal ≡ self.old.journal) }
+        ensures journal { OnErr result (journal_of self.new ≡ journal_of self.old) }
     {
         if let Some(refusal) = self.spent {
             return Err(refusal);
@@ -93,7 +93,7 @@ impl World {
     ) -> Result<(), NoMemory>
         requires { IsMakeable program.now step place self.old }
         ensures made { OnOk result (IsMade program.now step self.old self.new) }
-        ensures journal { OnErr result (self.new.journal ≡ self.old.journal) }
+        ensures journal { OnErr result (journal_of self.new ≡ journal_of self.old) }
         ensures spent { self.new.spent ≡ self.old.spent }
     {
         let entry = apply(alloc, program, &mut self.nodes, step)?;
@@ -140,21 +140,21 @@ impl World {
 
     /// The journal of all that was done. It takes no memory.
     pub fn journal(&self) -> &Journal
-        ensures { result.now ≡ self.now.journal }
+        ensures { result.now ≡ journal_of self.now }
     {
         &self.journal
     }
 
     /// The last entry, None where there is none. It takes no memory.
     pub fn last(&self) -> Option<&Entry>
-        ensures { option_copied result ≡ slice_get self.now.journal.entries (length self.now.journal.entries - 1) }
+        ensures { option_copied result ≡ slice_get (journal_of self.now).entries (length (journal_of self.now).entries - 1) }
     {
         self.journal.entries.as_slice().last()
     }
 
     /// Hands the journal over. It takes no memory.
     pub fn into_journal(self) -> Journal
-        ensures { result ≡ self.journal }
+        ensures { result ≡ journal_of self }
     {
         let World {
             journal,
