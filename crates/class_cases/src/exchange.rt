@@ -1,4 +1,4 @@
-//! What the first thread of a text asks, each request with the reply that it is given.
+//! What the first thread of a text asks, each request with the reply that it is given or with what the thread holds there.
 
 ghost use Rattle.dso_config.specs.InRange.{IsInRange};
 ghost use Rattle.dso_machine.specs.Sound as machine;
@@ -9,18 +9,35 @@ use dso_base::{NoMemory, Reply, Request};
 use dso_config::Config;
 use dso_machine::{Code, Thread};
 use std::alloc::{AllocError, Global};
+use std::fmt::Write;
+
+/// What is printed beside each request.
+#[derive(Clone, Copy)]
+pub(crate) enum Beside {
+    /// The reply to it.
+    Reply,
+    /// The objects that the thread holds where it is out.
+    Held,
+}
+
+/// What a thread is answered, with `; ` between the replies, and what is printed beside its requests.
+#[derive(Clone, Copy)]
+pub(crate) struct Answers<'a> {
+    pub(crate) replies: &'a str,
+    pub(crate) beside: Beside,
+}
 
 /// What the first thread of a text asks, by these replies.
 pub(crate) fn exchanges(
     alloc: Global,
     config: &Config,
     text: &str,
-    replies: &str,
+    answers: Answers,
 ) -> Result<String, NoMemory>
     requires { IsInRange config.now }
 {
     match program_of(alloc, config, text.as_bytes()) {
-        Ok(program) => exchanges_of(alloc, &program.code, replies),
+        Ok(program) => exchanges_of(alloc, &program.code, answers),
         Err(refusal) => refusal_line(alloc, refusal),
     }
 }
@@ -51,7 +68,7 @@ impl From<NoMemory> for Stop {
 
 /// What the first thread of the code asks, and whether it ended behind the last reply.
 #[tactic(auto, using(crate::proofs::FirstBody::first_there))]
-fn exchanges_of(alloc: Global, code: &Code, replies: &str) -> Result<String, NoMemory>
+fn exchanges_of(alloc: Global, code: &Code, answers: Answers) -> Result<String, NoMemory>
     requires { machine.IsSound code.now }
 {
     let Some(body) = code.bodies.get(0) else {
@@ -59,9 +76,9 @@ fn exchanges_of(alloc: Global, code: &Code, replies: &str) -> Result<String, NoM
     };
     let mut thread = Thread::new(alloc, code, body.thread)?;
     let mut asked = String::new(alloc);
-    for words in replies.split("; ") {
+    for words in answers.replies.split("; ") {
         match exchange(alloc, code, &mut thread, words) {
-            Ok(line) => asked.push_str(line.as_str())?,
+            Ok(answered) => add_exchange(&mut asked, &answered, answers.beside)?,
             Err(stop) => {
                 let line = stop_line(alloc, stop, words)?;
                 asked.push_str(line.as_str())?;
@@ -89,8 +106,16 @@ fn stop_line(alloc: Global, stop: Stop, words: &str) -> Result<String, NoMemory>
     }
 }
 
-/// What the thread asks next, with its reply.
-fn exchange(alloc: Global, code: &Code, thread: &mut Thread, words: &str) -> Result<String, Stop>
+/// What a thread asked, its reply, and what the thread held where it asked, each object once and in their order.
+#[derive(Drop)]
+struct Answered {
+    request: Request,
+    reply: Reply,
+    held: Vec<u64>,
+}
+
+/// What the thread asks next and what it holds there, with its reply.
+fn exchange(alloc: Global, code: &Code, thread: &mut Thread, words: &str) -> Result<Answered, Stop>
     requires { machine.IsSound code.now }
 {
     if thread.over() {
@@ -101,7 +126,23 @@ fn exchange(alloc: Global, code: &Code, thread: &mut Thread, words: &str) -> Res
     if !is_listed(request, reply) {
         return Err(Stop::Unlisted(request, reply));
     }
-    let line = format!(in alloc; "{request:?} -> {reply:?}\n")?;
+    let mut held = thread.named(alloc)?;
+    held.sort_unstable();
+    held.dedup();
     thread.answer(reply);
-    Ok(line)
+    Ok(Answered {
+        request,
+        reply,
+        held,
+    })
+}
+
+/// Adds the line of an exchange.
+fn add_exchange(words: &mut String, answered: &Answered, beside: Beside) -> Result<(), NoMemory> {
+    let request = answered.request;
+    match beside {
+        Beside::Reply => writeln!(words, "{request:?} -> {:?}", answered.reply)?,
+        Beside::Held => writeln!(words, "{request:?}, held {:?}", answered.held)?,
+    }
+    Ok(())
 }

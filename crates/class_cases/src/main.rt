@@ -8,7 +8,8 @@
 //! - `names` asks what the names of a text answer, `program` which program it is, and `edge` what so many parts of a
 //!   text and one more answer.
 //! - `thread` gives the statements of a thread, or `text` a whole text, and `replies` what it is to be answered, with
-//!   `; ` between them: what it asks is printed with its reply.
+//!   `; ` between them: what it asks is printed with its reply. By `holds`, the same, it is printed with the objects
+//!   that the thread holds where it asks.
 //! - `words` asks what is kept of the configuration, and `laws` that the laws of the names hold.
 //!
 //! In the text of a configuration, and in those that `names` and `edge` ask of, `~` stands before the two hexadecimal

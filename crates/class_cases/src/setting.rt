@@ -2,7 +2,8 @@
 
 ghost use Rattle.dso_config.specs.InRange.{IsInRange};
 
-use crate::{edge, exchange, names, program};
+use crate::exchange::{Answers, Beside, exchanges};
+use crate::{edge, names, program};
 use case_words::unescaped;
 use dso_base::NoMemory;
 use dso_config::{Config, read_config};
@@ -60,16 +61,23 @@ impl Setting {
     ) -> Result<String, NoMemory>
         requires { IsInRange config.now }
     {
+        let text = self.text.as_str();
         match word {
             "names" => names::answer(alloc, config, rest),
             "program" => program::described(alloc, config, rest),
             "edge" => edge::answers(alloc, config, rest),
-            "replies" => exchange::exchanges(alloc, config, self.text.as_str(), rest),
+            "replies" => exchanges(alloc, config, text, given(rest, Beside::Reply)),
+            "holds" => exchanges(alloc, config, text, given(rest, Beside::Held)),
             "words" => program::configuration_words(alloc, config),
             "laws" => names::laws(alloc),
             _ => Ok(format!(in alloc; "no question: {word}\n")?),
         }
     }
+}
+
+/// What a row says a thread is answered.
+fn given(replies: &str, beside: Beside) -> Answers {
+    Answers { replies, beside }
 }
 
 /// The text of a thread of these statements behind the classes.
