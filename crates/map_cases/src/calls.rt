@@ -1,5 +1,6 @@
 //! Calls of a map in words.
 
+use crate::threads::Asked;
 use case_words::{debugged, first_of, value_list};
 use dso_base::{NoMemory, Request, Value};
 use dso_map::{MapCall, MapOp, op_of};
@@ -49,12 +50,44 @@ pub fn told_last(
     Ok(told)
 }
 
+/// What a thread asked.
+pub fn requests_of(alloc: Global, asked: &[Asked]) -> Result<String, NoMemory> {
+    let mut text = String::new(alloc);
+    for asked in asked {
+        text = with_request(alloc, text, asked.request)?;
+    }
+    Ok(String::from_str(alloc, text.trim_end())?)
+}
+
+/// What a thread asked, each request with what it held there.
+pub fn requests_with_held(alloc: Global, asked: &[Asked]) -> Result<String, NoMemory> {
+    let mut text = String::new(alloc);
+    for asked in asked {
+        text = with_request(alloc, text, asked.request)?;
+        text = format!(in alloc; "{}{:?} ", text.trim_end(), asked.held)?;
+    }
+    Ok(String::from_str(alloc, text.trim_end())?)
+}
+
+/// How much a thread asked, and the last of it.
+pub fn last_requests(
+    alloc: Global,
+    asked: &[Asked],
+    most: Option<u32>,
+) -> Result<String, NoMemory> {
+    let number = asked.len();
+    let before = number.saturating_sub(most.unwrap_or(0) as usize);
+    let (_, last) = asked.split_at(before);
+    let text = requests_of(alloc, last)?;
+    Ok(format!(in alloc; "{number} requests, at last {text}")?)
+}
+
 /// The text with a request behind it.
 fn with_request(alloc: Global, text: String, request: Request) -> Result<String, NoMemory> {
     let text = match request {
         Request::Get(_, field) => format!(in alloc; "{text}{field}? ")?,
         Request::Put(_, field, value) => format!(in alloc; "{text}{field}={value:?} ")?,
-        _ => text,
+        _ => format!(in alloc; "{text}{request:?} ")?,
     };
     Ok(text)
 }

@@ -11,11 +11,19 @@
 //! | `begin put 3 r7` | a call that is answered by hand: what it asks, and its result |
 //! | `answer val true` | the reply to what it asks, if it accepts that; then what it asks and its result |
 //! | `call` | whose call is under way, and which |
+//! | `thread put 3 r7` | what a thread asks that prints what this call on a new map gives, whose fields are the map's |
+//! | `holds put 3 r7` | the same, with the objects that the thread holds at each request |
+//! | `ends 4 put 3 r7` | the number of those requests, and the last four alone |
+//! | `null put 3 r7` | what the thread asks where it calls null |
+//!
+//! A reference stands there for a new object, which is 7, and a text for the only one of the thread's code.
 #![tactic(auto)]
 
 mod calls;
 mod fields;
 mod map;
+mod program;
+mod threads;
 
 use case_words::row_answer;
 use map::Map;

@@ -1,14 +1,18 @@
 //! The map of the rows.
 
-use crate::calls::{asked, op_of_words, standing, told_last};
+use crate::calls::{
+    asked, last_requests, op_of_words, requests_of, requests_with_held, standing, told_last,
+};
 use crate::fields::Fields;
-use case_words::{count, debugged, first_of, long, reply};
+use crate::program::{code_of, new_map, no_map};
+use crate::threads::{Asked, asked_by};
+use case_words::{count, debugged, first_of, long, reply, value_list};
 use dso_base::{NoMemory, Reply, Request, Value};
 use dso_map::{MapCall, MapOp};
 use std::alloc::{AllocError, Global};
 
 /// The map's id.
-const MAP: u64 = 1;
+pub const MAP: u64 = 1;
 
 /// A map's fields, and a call that is answered by hand.
 #[derive(Drop)]
@@ -35,6 +39,10 @@ impl Map {
             "begin" => self.begun(alloc, rest),
             "answer" => self.answered(alloc, reply(rest)),
             "call" => debugged(alloc, (self.call.object(), self.call.op())),
+            "thread" => requests_of(alloc, self.thread(alloc, rest)?.as_slice()),
+            "holds" => requests_with_held(alloc, self.thread(alloc, rest)?.as_slice()),
+            "ends" => self.ends(alloc, rest),
+            "null" => requests_of(alloc, self.thread_on_null(alloc, rest)?.as_slice()),
             _ => self.whole(alloc, command),
         }
     }
@@ -100,6 +108,29 @@ impl Map {
             call = on(call, self.fields.reply(request));
         }
         call.result() == Some(Value::Bool(true))
+    }
+
+    /// What a thread asks that prints what the call on a new map gives, whose fields are these.
+    fn thread(&mut self, alloc: Global, words: &str) -> Result<Vec<Asked>, NoMemory> {
+        let (method, rest) = first_of(words);
+        let args = value_list(alloc, rest, ' ')?;
+        let code = code_of(alloc, new_map(), method, args.as_slice())?;
+        asked_by(alloc, &code, &mut self.fields)
+    }
+
+    /// What a thread asks that calls null.
+    fn thread_on_null(&mut self, alloc: Global, words: &str) -> Result<Vec<Asked>, NoMemory> {
+        let (method, rest) = first_of(words);
+        let args = value_list(alloc, rest, ' ')?;
+        let code = code_of(alloc, no_map(), method, args.as_slice())?;
+        asked_by(alloc, &code, &mut self.fields)
+    }
+
+    /// What a thread asks that makes the call, of which the last requests are told.
+    fn ends(&mut self, alloc: Global, words: &str) -> Result<String, NoMemory> {
+        let (most, rest) = first_of(words);
+        let asked = self.thread(alloc, rest)?;
+        last_requests(alloc, asked.as_slice(), count(most))
     }
 
     /// Begins a call that is answered by hand.
