@@ -1,11 +1,10 @@
 -- The log of one node by itself. A log is the entries of one node; they stand with the newest first.
-use Rattle.std.specs.Prelude.{ℕ, suc, ◌≡◌, Bool, true, false, List, [], ◌∷◌}
+use Rattle.std.specs.Prelude.{◌≡◌, false, List, [], ◌∷◌}
 use Rattle.dso_base.specs.declared.journal.Entry.{Entry}
 use Rattle.dso_base.specs.declared.journal.Input.{Input}
 use Rattle.dso_base.specs.declared.journal.Input.TheVariants.{Act, TookUp, TookDown}
 use Rattle.dso_base.specs.declared.journal.Node.{Node}
 use Rattle.dso_base.specs.declared.journal.Node.TheVariants.{Server, Client}
-use Rattle.dso_law.specs.Channels.{Direction, FitsConnection, Letter, posted}
 use Rattle.dso_law.specs.ClientRun.{next_in}
 use Rattle.dso_law.specs.ClientStep.{ClientStep}
 use Rattle.dso_law.specs.FitsDown.{FitsDown}
@@ -18,36 +17,10 @@ use Rattle.dso_machine.specs.Next.{next_request}
 use Rattle.dso_client.specs.ClientStands.{point}
 use Rattle.dso_client.specs.RunFacts.{SizesAreKept}
 
--- the clock of the log's last entry, 0 before its first
-abbrev pub log_clock : List Entry → ℕ
-log_clock [] = 0
-log_clock (e ∷ es) = e.clock
-
--- whether the input is a message taken
-abbrev pub is_taking : Input → Bool
-is_taking (TookUp c m) = true
-is_taking (TookDown m) = true
-is_taking input = false
-
--- the letters that the entries of the sending node post in a direction, the first posted first
-abbrev pub letters_of : {M : Type 0} → Direction M → List Entry → List (Letter M)
-letters_of direction [] = []
-letters_of direction (e ∷ es) = direction.by_sent (posted e.clock) e.sent (letters_of direction es)
-
--- each entry that takes no message has the next clock
-abbrev pub KeepsClock : List Entry → Type 0
-KeepsClock [] = Unit {0}
-KeepsClock (e ∷ es) = KeepsClock es × (is_taking e.input ≡ false → e.clock ≡ suc (log_clock es))
-
--- a message is taken only while the connection isn't broken, and a rejoin comes only while it is
-abbrev pub KeepsConnections : List Entry → Type 0
-KeepsConnections [] = Unit {0}
-KeepsConnections (e ∷ es) = KeepsConnections es × FitsConnection e.input es
-
 -- the code that the threads of the cluster run, and what its nodes know of it
 module _ (code : Code) (p : Settings) where
-  -- What the entry needs of the other nodes: the message that it takes fits, at the server where its client isn't lost;
-  -- and before an act the sizes of all objects that came are kept.
+  -- What the entry needs of the other nodes: the message that it takes fits, at the server where its client isn't
+  -- lost; and before an act the sizes of all objects that came are kept.
   abbrev pub FitsLog : Node → Input → List Entry → Type 0
   FitsLog (Client c) (Act index) es = SizesAreKept (point code p c es)
   FitsLog (Client c) (TookDown m) es = FitsDown p c m es

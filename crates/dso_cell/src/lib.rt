@@ -1,7 +1,4 @@
 //! One node of a cluster whose nodes run in threads: a core with its log and its ends of the rings.
 //!
-//! The definitions in `specs/` say what a log is by itself, and what the two ends of a ring say of each other once they are
-//! together; [`laws`] has what follows.
+//! The definitions in `specs/` say what a log is by itself.
 #![tactic(auto)]
-
-pub mod laws;

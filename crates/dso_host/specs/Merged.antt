@@ -11,8 +11,9 @@ use Rattle.dso_machine.specs.declared.code.Code.{Code}
 use Rattle.dso_machine.specs.Next.{next_request}
 use Rattle.dso_machine.specs.Sound.{IsSound}
 use Rattle.dso_legal.specs.Lawful.{IsLawful}
-use Rattle.dso_cell.specs.Logs.{IsLocalRun, KeepsClock, KeepsConnections, letters_of}
-use Rattle.dso_cell.specs.Ways.{TakesInOrder}
+use Rattle.dso_cell.specs.Logs.{IsLocalRun}
+use Rattle.dso_line.specs.Letters.{KeepsClock, KeepsConnections, letters_of}
+use Rattle.dso_line.specs.Ways.{TakesInOrder}
 
 -- The logs of a cluster: each is a local run with its clocks, and takes the messages that the other end's log sends, in
 -- order and once. The server keeps to its connections, and no connection is taken up more often than it was broken. No

@@ -5,8 +5,9 @@ use Rattle.dso_base.specs.declared.journal.Node.{Node}
 use Rattle.dso_law.specs.Channels.{Direction, Letter}
 use Rattle.dso_law.specs.Settings.{Settings}
 use Rattle.dso_machine.specs.declared.code.Code.{Code}
-use Rattle.dso_cell.specs.Logs.{IsLocalRun, KeepsClock, KeepsConnections}
-use Rattle.dso_cell.specs.Ways.{TakesInOrder}
+use Rattle.dso_cell.specs.Logs.{IsLocalRun}
+use Rattle.dso_line.specs.Letters.{KeepsClock, KeepsConnections}
+use Rattle.dso_line.specs.Ways.{TakesInOrder}
 
 pub runs_behind : (code : Code) (p : Settings) (node : Node) (front es : List Entry) → IsLocalRun code p node (front ++ es) → IsLocalRun code p node es
 runs_behind code p node [] es run = run

@@ -32,8 +32,9 @@ use Rattle.dso_world.proofs.journals.Letters.{letters_are_left}
 use Rattle.dso_world.proofs.premises.OwnRun.{more_next, own_next}
 use Rattle.dso_world.proofs.premises.Sizes.{sizes_are_kept}
 use Rattle.dso_world.proofs.premises.WhatComes.{comes_down, comes_up}
-use Rattle.dso_cell.specs.Logs.{FitsLog, IsLocalRun, KeepsClock, KeepsConnections, is_taking, letters_of, log_clock}
-use Rattle.dso_cell.specs.Ways.{TakesInOrder, TakesNext}
+use Rattle.dso_cell.specs.Logs.{FitsLog, IsLocalRun}
+use Rattle.dso_line.specs.Letters.{KeepsClock, KeepsConnections, is_taking, letters_of, log_clock}
+use Rattle.dso_line.specs.Ways.{TakesInOrder, TakesNext}
 use Rattle.dso_host.specs.Merged.{AreLogs, ClocksRise, MergedIsLawful}
 use Rattle.dso_host.proofs.merging.Fronts.{clocks_behind, connections_behind, runs_behind, takes_behind}
 use Rattle.dso_host.proofs.merging.Order.{in_order}

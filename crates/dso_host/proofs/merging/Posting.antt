@@ -8,7 +8,7 @@ use Rattle.dso_base.specs.declared.journal.Sent.TheVariants.{ToServer, ToClient}
 use Rattle.dso_law.specs.Channels.{Direction, Letter, posted, to_client, to_server}
 use Rattle.dso_law.specs.Entries.{entries_of, if_to, is_node}
 use Rattle.dso_world.specs.PastOf.{letters_posted}
-use Rattle.dso_cell.specs.Logs.{letters_of}
+use Rattle.dso_line.specs.Letters.{letters_of}
 
 -- more letters behind these, none with a clock below the bound
 pub record Later {M : Type 0} (bound : ℕ) (letters all : List (Letter M)) : Type 0 where

@@ -12,9 +12,10 @@ use Rattle.dso_wire.specs.Reading.{down_at, down_frame_at, up_at, up_frame_at}
 use Rattle.dso_wire.specs.Spelling.{IsDown, IsFrame, IsUp, down_cells, down_frame_cells, up_cells, up_frame_cells}
 use Rattle.dso_wire.proofs.Grammar.{down_exact, frame_exact, up_exact}
 use Rattle.dso_wire.proofs.Meaning.{one_spelled}
-use Rattle.dso_cell.specs.Logs.{letters_of, log_clock}
-use Rattle.dso_cell.specs.Ways.{TakesFrame, TakesFrames, TakesInOrder, TakesNext, WayMeets, WaysMeet, hellos, post_of, posts_of}
-use Rattle.dso_cell.proofs.rings.Frames.{all_at, at_front, more_hellos}
+use Rattle.dso_line.specs.Letters.{letters_of, log_clock}
+use Rattle.dso_line.specs.Ways.{TakesFrame, TakesFrames, TakesInOrder, TakesNext, WayMeets, WaysMeet, post_of, posts_of}
+use Rattle.dso_port.specs.Frames.{hellos}
+use Rattle.dso_port.proofs.ends.Lists.{all_at, at_front, more_hellos}
 
 -- the first of these are those
 record First {X : Type 0} (first all : List X) : Type 0 where

@@ -1,22 +1,15 @@
--- What cells gave into a ring and took from one, as bytes, and what their logs say of it. Entries stand with the newest
--- first.
-use Rattle.std.specs.List.{AllByRecursion}
-use Rattle.std.specs.Prelude.{ℕ, suc, max, ◌+◌, ◌≤◌, ◌≡◌, true, Some, List, [], ◌∷◌, ◌++◌, map, slice_get}
+-- What cells gave into a ring and took from one, as bytes, and what their logs say of it. Entries stand with the
+-- newest first.
+use Rattle.std.specs.Prelude.{ℕ, suc, max, ◌≤◌, ◌≡◌, true, Some, List, [], ◌∷◌, ◌++◌, map, slice_get}
 use Rattle.dso_base.specs.declared.journal.Entry.{Entry}
 use Rattle.dso_law.specs.Channels.{Direction, Letter, count_inputs, to_client, to_server}
 use Rattle.dso_session.specs.declared.frame.Frame.{Frame}
-use Rattle.dso_session.specs.declared.frame.Frame.TheVariants.{Carry, Hello}
+use Rattle.dso_session.specs.declared.frame.Frame.TheVariants.{Carry}
 use Rattle.dso_session.specs.declared.session.Posted.{Posted}
-use Rattle.dso_session.specs.Laws.{CarriesSent}
-use Rattle.dso_wire.specs.Cells.{Cell, bytes_of}
+use Rattle.dso_wire.specs.Cells.{Cell}
 use Rattle.dso_wire.specs.Spelling.{IsDown, IsFrame, IsUp, down_frame_cells, up_frame_cells}
-use Rattle.dso_cell.specs.Logs.{letters_of, log_clock}
-
--- how many of the frames are a Hello
-abbrev pub hellos : {M : Type 0} → List (Frame M) → ℕ
-hellos [] = 0
-hellos (Hello epoch seen clock ∷ frames) = suc (hellos frames)
-hellos (Carry epoch number seen clock message ∷ frames) = hellos frames
+use Rattle.dso_port.specs.Frames.{AreSpelled, GaveOf, hellos}
+use Rattle.dso_line.specs.Letters.{letters_of, log_clock}
 
 -- a letter as a message that an end of a connection sends
 abbrev pub post_of : {M : Type 0} → Letter M → Posted M
@@ -58,21 +51,6 @@ module _ {M : Type 0} (direction : Direction M) where
   abbrev pub TakesFrames : List (Frame M) → List Entry → Type 0
   TakesFrames frames [] = Unit {0}
   TakesFrames frames (e ∷ es) = TakesFrames frames es × (direction.takes e.input ≡ true → TakesFrame frames e es)
-
--- the items of a ring are these frames, which have a spelling
-pub record AreSpelled {M : Type 0} (cells : Frame M → List Cell) (Is : Frame M → Type 0) (frames : List (Frame M))
-    (items : List (List ℕ)) : Type 0 where
-  pub grammar : AllByRecursion Is frames
-  pub bytes : items ≡ map (λ frame. bytes_of (cells frame)) frames
-
-module _ {M : Type 0} (cells : Frame M → List Cell) (Is : Frame M → Type 0) where
-  -- What was given to a ring: frames, of which each carries one of these messages; and with those that are owed there
-  -- are no more Hellos than this.
-  pub record GaveOf (posts : List (Posted M)) (owed greetings : ℕ) (items : List (List ℕ)) : Type 0 where
-    pub frames : List (Frame M)
-    pub spelled : AreSpelled cells Is frames items
-    pub carry : AllByRecursion (CarriesSent posts) frames
-    pub greets : hellos frames + owed ≤ greetings
 
 module _ {M : Type 0} (cells : Frame M → List Cell) (Is : Frame M → Type 0) (direction : Direction M) where
   -- what a cell gave to its ring: messages that its log sends, and no more Hellos than this

@@ -1,3 +1,2 @@
 -- What goes through a ring: what was taken at one end is what was given at the other.
-pub mod Frames
 pub mod Meeting

@@ -1,0 +1,2 @@
+pub mod rings
+pub mod standing

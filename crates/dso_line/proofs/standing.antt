@@ -1,0 +1,4 @@
+-- How the end of a connection goes on standing for its log: behind what it sends, takes and gives.
+pub mod Given
+pub mod Posts
+pub mod Taken
