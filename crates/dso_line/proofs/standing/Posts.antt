@@ -1,17 +1,18 @@
 -- What an end sent and gave, once its log has one entry more.
 use Rattle.std.specs.List.{AllByRecursion}
-use Rattle.std.proofs.Common.{ℕ, ◌+◌, ◌≤◌, ◌≡◌, refl, sym, ◌∙◌, ap, subst, List, [], ◌∷◌, ◌++◌, map}
+use Rattle.std.proofs.Common.{ℕ, ◌+◌, ◌≤◌, ◌≡◌, refl, sym, ◌∙◌, ap, subst, Bool, true, false, cond, eqb, List, [], ◌∷◌, ◌++◌, map, arith}
 use Rattle.std.proofs.lemmas.List.{append-nil, append_assoc, map-append}
 use Rattle.dso_base.specs.declared.both.Both.{Both}
 use Rattle.dso_base.specs.declared.journal.Entry.{Entry}
-use Rattle.dso_base.specs.declared.journal.Sent.TheVariants.{ToServer}
+use Rattle.dso_base.specs.declared.journal.Sent.TheVariants.{ToClient, ToServer}
+use Rattle.dso_base.specs.declared.message.Down.{Down}
 use Rattle.dso_base.specs.declared.message.Up.{Up}
-use Rattle.dso_law.specs.Channels.{Letter, posted, to_server}
+use Rattle.dso_law.specs.Channels.{Letter, posted, to_client, to_server}
 use Rattle.dso_session.specs.declared.frame.Frame.{Frame}
 use Rattle.dso_session.specs.declared.session.Posted.{Posted}
 use Rattle.dso_session.specs.declared.session.Role.{Role}
 use Rattle.dso_session.specs.Ends as ends
-use Rattle.dso_session.specs.Laws.{CarriesSent, HasSent, Sends}
+use Rattle.dso_session.specs.Laws.{Breaks, CarriesSent, HasSent, Sends}
 use Rattle.dso_session.proofs.Sent.{keeps_sent}
 use Rattle.dso_wire.specs.Cells.{Cell}
 use Rattle.dso_port.specs.Frames.{hellos}
@@ -42,6 +43,30 @@ posts_up c e es ms is =
     ∙ ap (map post_of) (up_behind c e.clock ms (letters_of (to_server c) es))
     ∙ map-append post_of (letters_of (to_server c) es) (letters_at e.clock ms)
     ∙ ap (λ list. posts_of (to_server c) es ++ list) (letters_are_posts e.clock ms)
+
+-- the messages to a client among those of an entry of the server
+abbrev pub messages_to : ℕ → List (ℕ × Down) → List Down
+messages_to c [] = []
+messages_to c (one ∷ rest) = cond (eqb c one.0) (one.1 ∷ messages_to c rest) (messages_to c rest)
+
+down_behind : (c clock : ℕ) (pairs : List (ℕ × Down)) (letters : List (Letter Down))
+    → (to_client c).by_sent (posted clock) (map (λ one. ToClient one.0 one.1) pairs) letters ≡ letters ++ letters_at clock (messages_to c pairs)
+down_behind c clock [] letters = sym (append-nil letters)
+down_behind c clock (one ∷ rest) letters = by (eqb c one.0) (λ letters. down_behind c clock rest letters)
+  where
+    by : (its : Bool) → ((letters : List (Letter Down)) → (to_client c).by_sent (posted clock) (map (λ one. ToClient one.0 one.1) rest) letters ≡ letters ++ letters_at clock (messages_to c rest))
+        → (to_client c).by_sent (posted clock) (map (λ one. ToClient one.0 one.1) rest) (cond its (posted clock one.1 letters) letters)
+        ≡ letters ++ letters_at clock (cond its (one.1 ∷ messages_to c rest) (messages_to c rest))
+    by false behind = behind letters
+    by true behind = behind (posted clock one.1 letters) ∙ append_assoc letters (record { message = one.1; clock = clock } ∷ []) (letters_at clock (messages_to c rest))
+
+pub posts_down : (c : ℕ) (e : Entry) (es : List Entry) (pairs : List (ℕ × Down)) → e.sent ≡ map (λ one. ToClient one.0 one.1) pairs
+    → posts_of (to_client c) (e ∷ es) ≡ posts_of (to_client c) es ++ posts_at e.clock (messages_to c pairs)
+posts_down c e es pairs is =
+    ap (λ out. map post_of ((to_client c).by_sent (posted e.clock) out (letters_of (to_client c) es))) is
+    ∙ ap (map post_of) (down_behind c e.clock pairs (letters_of (to_client c) es))
+    ∙ map-append post_of (letters_of (to_client c) es) (letters_at e.clock (messages_to c pairs))
+    ∙ ap (λ list. posts_of (to_client c) es ++ list) (letters_are_posts e.clock (messages_to c pairs))
 
 -- ---- an end that sends them
 module _ {M : Type 0} (as_both : M → Both) (clock : ℕ) where
@@ -103,3 +128,21 @@ module _ {S T : Type 0} (own : Way S) (other : Way T) (end : Role) (sent es : Li
             (gave_more own.as_both own.cells own.is e.clock ms (posts_of own.direction sent) greetings old.session (given old.out) stands.sends));
         took = subst (λ x. TookFromRing other.cells other.is other.direction es greeted (taken x)) (sym into) stands.took;
       }
+
+  -- the connection breaks, and the end owes one Hello more
+  pub end_broken : new.session ≡ ends.broken old.session → new.out ≡ old.out → new.into ≡ old.into
+      → EndStands own other end sent es greetings greeted old → EndStands own other end sent es (greetings + 1) greeted new
+  end_broken now out into stands = record {
+    role = ap (λ x. x.role) now ∙ stands.role;
+    accepted = ap (λ x. x.accepted) now ∙ stands.accepted;
+    sends = gives_same own (posts_of own.direction sent) (greetings + 1) (ends.broken old.session) new.session old.out new.out now out (record {
+      sent = keeps_sent.goes_on Breaks (map (lifted_post own.as_both) (posts_of own.direction sent)) old.session stands.sends.sent;
+      gave = record {
+        frames = stands.sends.gave.frames;
+        spelled = stands.sends.gave.spelled;
+        carry = stands.sends.gave.carry;
+        greets = omega (arith, stands.sends.gave.greets);
+      };
+    });
+    took = subst (λ x. TookFromRing other.cells other.is other.direction es greeted (taken x)) (sym into) stands.took;
+  }
