@@ -1,10 +1,15 @@
 -- The clocks of a log and the letters that it posts. A log is the entries of one node; they stand with the newest
 -- first.
-use Rattle.std.specs.Prelude.{ℕ, suc, ◌≡◌, Bool, true, false, List, [], ◌∷◌}
+use Rattle.std.specs.Prelude.{ℕ, suc, ◌≡◌, Bool, true, false, List, [], ◌∷◌, reverse}
 use Rattle.dso_base.specs.declared.journal.Entry.{Entry}
 use Rattle.dso_base.specs.declared.journal.Input.{Input}
 use Rattle.dso_base.specs.declared.journal.Input.TheVariants.{TookUp, TookDown}
+use Rattle.dso_log.specs.Logs.{Log}
 use Rattle.dso_law.specs.Channels.{Direction, FitsConnection, Letter, posted}
+
+-- the entries of a log, the newest first
+abbrev pub newest : Log → List Entry
+newest log = reverse log.entries
 
 -- the clock of the log's last entry, 0 before its first
 abbrev pub log_clock : List Entry → ℕ

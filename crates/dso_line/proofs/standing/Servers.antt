@@ -1,5 +1,5 @@
 -- How the server's end of a client's connection goes on standing for the server's log.
-use Rattle.std.proofs.Common.{ℕ, suc, ◌+◌, ◌≤◌, ◌≡◌, refl, sym, ◌∙◌, ap, subst, Bool, true, false, cond, eqb, ltb, max, not, ◌&&◌, ◌||◌, Some, List, ◌∷◌, map, arith}
+use Rattle.std.proofs.Common.{ℕ, suc, ◌+◌, ◌≡◌, refl, sym, ◌∙◌, ap, subst, Bool, true, false, cond, eqb, ltb, max, not, ◌&&◌, ◌||◌, Some, List, ◌∷◌, map, arith}
 use Rattle.std.proofs.lemmas.Bool.{eqb-true}
 use Rattle.dso_base.specs.declared.both.Both.{Both}
 use Rattle.dso_base.specs.declared.both.Both.TheVariants as both
@@ -10,7 +10,6 @@ use Rattle.dso_base.specs.declared.message.Up.{Up}
 use Rattle.dso_law.specs.Channels.{breaks, count_inputs, is_broken, message_to_server, rejoins, takes_up}
 use Rattle.dso_session.specs.declared.frame.Accepted.{Accepted}
 use Rattle.dso_session.specs.declared.frame.Accepted.TheVariants as accepted
-use Rattle.dso_session.specs.declared.session.Role.{Role}
 use Rattle.dso_session.specs.declared.session.Role.TheVariants as role
 use Rattle.dso_session.specs.Ends.{End, answer, answer_hello, broken, is_new, sent_count}
 use Rattle.dso_wire.specs.Spelling.{IsFrame, IsUp, up_frame_cells}
@@ -114,7 +113,7 @@ module _ (c : ℕ) (es : List Entry) (e : Entry) (pairs : List (ℕ × Down)) (s
         let is : is_broken c (e ∷ es) ≡ false = ap (λ t. cond t true (cond (rejoins c e.input) false (is_broken c es))) breaks_none ∙ ap (λ t. cond t false (is_broken c es)) rejoins_one in
         let hello = greeted_by both.Up old.session told.heard.behind told.frame told.heard.answered in
         let answered : answer_hello hello.epoch hello.seen old.session ≡ accepted.Rejoined told.heard.behind =
-            subst (λ frame. answer (lifted both.Up frame) old.session ≡ accepted.Rejoined told.heard.behind) hello.is told.heard.answered in
+        subst (λ frame. answer (lifted both.Up frame) old.session ≡ accepted.Rejoined told.heard.behind) hello.is told.heard.answered in
         let epoch = server_new hello.epoch hello.seen told.heard.behind old.session stands.end.role answered in
         let owes : owed mid.session ≡ owed old.session = ap (λ x. owed x) told.heard.now ∙ server_owes (lifted both.Up told.frame) old.session stands.end.role in
         let none : count_inputs (breaks c) es + 0 ≡ count_inputs (breaks c) es = omega arith in
