@@ -1,6 +1,6 @@
 //! What is run: the texts of a configuration and of a program.
 ghost use Rattle.std.specs.Prelude.{IfOk, IfSome};
-ghost use Rattle.dso_class.specs.Sound.{IsSound};
+ghost use Rattle.dso_class.specs.Sound.{IsSoundProgram};
 ghost use Rattle.dso_class.specs.ValidInput.{IsValidInput};
 ghost use Rattle.dso_config.specs.InRange.{IsInRange};
 
@@ -34,7 +34,7 @@ impl<'a> Case<'a> {
 
     /// The program that the texts are; None where they are refused.
     pub fn program(self, alloc: Global) -> Result<Option<Program>, NoMemory>
-        ensures { IfOk result (λ answer. IfSome answer IsSound) }
+        ensures { IfOk result (λ answer. IfSome answer IsSoundProgram) }
     {
         let config = unescaped(alloc, self.config)?;
         let program = unescaped(alloc, self.program)?;
@@ -49,7 +49,7 @@ impl<'a> Case<'a> {
 /// The program of a text under a configuration; None where it is refused.
 fn program_under(alloc: Global, config: &Config, text: &[u8]) -> Result<Option<Program>, NoMemory>
     requires { IsInRange config.now }
-    ensures { IfOk result (λ answer. IfSome answer IsSound) }
+    ensures { IfOk result (λ answer. IfSome answer IsSoundProgram) }
 {
     match parse(alloc, text) {
         Ok(tree) => program_of(alloc, config, &tree),
@@ -61,7 +61,7 @@ fn program_under(alloc: Global, config: &Config, text: &[u8]) -> Result<Option<P
 /// The program of a tree under a configuration; None where it is refused.
 fn program_of(alloc: Global, config: &Config, tree: &Ast) -> Result<Option<Program>, NoMemory>
     requires { IsValidInput config.now tree.now }
-    ensures { IfOk result (λ answer. IfSome answer IsSound) }
+    ensures { IfOk result (λ answer. IfSome answer IsSoundProgram) }
 {
     match resolve(alloc, tree, config) {
         Ok(program) => Ok(Some(program)),

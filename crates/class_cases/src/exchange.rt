@@ -69,7 +69,7 @@ impl From<NoMemory> for Stop {
 /// What the first thread of the code asks, and whether it ended behind the last reply.
 #[tactic(auto, using(crate::proofs::FirstBody::first_there))]
 fn exchanges_of(alloc: Global, code: &Code, answers: Answers) -> Result<String, NoMemory>
-    requires { machine.IsSound code.now }
+    requires { machine.IsSoundCode code.now }
 {
     let Some(body) = code.bodies.get(0) else {
         return Ok(String::from_str(alloc, "no thread\n")?);
@@ -116,7 +116,7 @@ struct Answered {
 
 /// What the thread asks next and what it holds there, with its reply.
 fn exchange(alloc: Global, code: &Code, thread: &mut Thread, words: &str) -> Result<Answered, Stop>
-    requires { machine.IsSound code.now }
+    requires { machine.IsSoundCode code.now }
 {
     if thread.over() {
         return Err(Stop::Ended);

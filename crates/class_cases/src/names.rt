@@ -1,7 +1,7 @@
 //! What the names of a text answer.
 
 ghost use Rattle.std.specs.Prelude.{IfOk};
-ghost use Rattle.dso_class.specs.Sound.{IsSound};
+ghost use Rattle.dso_class.specs.Sound.{IsSoundProgram};
 ghost use Rattle.dso_config.specs.InRange.{IsInRange};
 
 use case_words::unescaped;
@@ -35,7 +35,7 @@ impl From<NameFault> for Refusal {
 #[tactic(auto, using(crate::proofs::TextInput::valid_input))]
 pub(crate) fn program_of(alloc: Global, config: &Config, text: &[u8]) -> Result<Program, Refusal>
     requires { IsInRange config.now }
-    ensures { IfOk result IsSound }
+    ensures { IfOk result IsSoundProgram }
 {
     let tree = parse(alloc, text)?;
     Ok(resolve(alloc, &tree, config)?)

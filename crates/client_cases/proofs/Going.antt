@@ -2,15 +2,15 @@
 use Rattle.std.proofs.Common.{◌≡◌, ◌≢◌, ℕ, suc, ◌+◌, ◌≤◌, subst, sym, arith}
 use Rattle.std.specs.Prelude.{Result, Ok, Err, OnOk}
 use Rattle.dso_client.specs.ClientViews.{records_sent}
-use Rattle.dso_client.specs.Acting.{HoldsAtMost}
+use Rattle.dso_client.specs.ThreadActs.{HoldsAtMost}
 use Rattle.dso_client.specs.CodeRuns.{RunsCode}
-use Rattle.dso_client.specs.declared.kept.Kept.{Kept}
+use Rattle.dso_client.specs.declared.client_state.ClientState.{ClientState}
 use Rattle.dso_machine.specs.declared.code.Code.{Code}
 use Rattle.client_cases.specs.Driving.{Goes}
 use Rattle.client_cases.specs.declared.driven.Driven.{Driven}
 
 -- with a client that holds no more and sent no more records
-pub with_client : (code : Code) (driven : Driven) (kept : Kept) → (RunsCode code driven.client → RunsCode code kept)
+pub with_client : (code : Code) (driven : Driven) (kept : ClientState) → (RunsCode code driven.client → RunsCode code kept)
     → ((most : ℕ) → HoldsAtMost most driven.client → HoldsAtMost most kept) → records_sent kept ≡ records_sent driven.client
     → Goes code driven → Goes code (record driven { client = kept })
 with_client code driven kept runs holds same goes = record {
@@ -21,7 +21,7 @@ with_client code driven kept runs holds same goes = record {
 }
 
 -- with one more act
-pub after_act : (code : Code) (driven : Driven) (kept : Kept) → driven.acts ≢ 1000000 → RunsCode code kept
+pub after_act : (code : Code) (driven : Driven) (kept : ClientState) → driven.acts ≢ 1000000 → RunsCode code kept
     → ((most : ℕ) → HoldsAtMost most driven.client → HoldsAtMost (suc most) kept) → records_sent kept ≤ records_sent driven.client + 1
     → Goes code driven → Goes code (record driven { client = kept; acts = driven.acts + 1 })
 after_act code driven kept more runs holds records goes = record {

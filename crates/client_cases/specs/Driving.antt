@@ -1,6 +1,6 @@
 -- A client that is driven by hand.
 use Rattle.std.specs.Prelude.{◌≤◌}
-use Rattle.dso_client.specs.Acting.{HoldsAtMost}
+use Rattle.dso_client.specs.ThreadActs.{HoldsAtMost}
 use Rattle.dso_client.specs.ClientViews.{records_sent}
 use Rattle.dso_client.specs.CodeRuns.{RunsCode}
 use Rattle.dso_machine.specs.declared.code.Code.{Code}

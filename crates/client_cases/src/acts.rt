@@ -1,6 +1,6 @@
 //! The steps that make an entry: a thread acts, a message is taken, an object is flushed.
 ghost use Rattle.std.specs.Prelude.{OnOk};
-ghost use Rattle.dso_machine.specs.Sound.{IsSound};
+ghost use Rattle.dso_machine.specs.Sound.{IsSoundCode};
 ghost use Rattle.dso_machine.specs.declared.code.Code.{Code};
 ghost use Rattle.client_cases.specs.Driving.{Goes};
 
@@ -48,7 +48,7 @@ impl Driven {
 
     /// The thread of this index acts.
     pub fn act(&mut self, alloc: Global, code: &Code, index: u8) -> Result<String, NoMemory>
-        requires sound { IsSound code.now }
+        requires sound { IsSoundCode code.now }
         requires goes { Goes code.now self.old }
         ensures { OnOk result (Goes code.now self.new) }
     {

@@ -1,6 +1,6 @@
 //! A client that is driven by hand.
 ghost use Rattle.std.specs.Prelude.{◌≡◌, IfOk, is_some};
-ghost use Rattle.dso_class.specs.Sound.{IsSound};
+ghost use Rattle.dso_class.specs.Sound.{IsSoundProgram};
 ghost use Rattle.dso_client.specs.Openings.{HasThreads};
 ghost use Rattle.dso_machine.specs.Next.{body_of};
 ghost use Rattle.client_cases.specs.Driving.{Goes};
@@ -50,7 +50,7 @@ fn thread_count(code: &Code, client: u8) -> u8
 impl Driven {
     /// The client of this number of the program, before its first entry.
     pub fn new(alloc: Global, program: &Program, number: u8) -> Result<Driven, NoMemory>
-        requires { IsSound program.now }
+        requires { IsSoundProgram program.now }
         ensures { IfOk result (Goes program.now.code) }
     {
         let threads = thread_count(&program.code, number);

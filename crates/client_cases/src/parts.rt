@@ -1,5 +1,5 @@
 //! The parts of the input: a program, one of its clients, and rows.
-ghost use Rattle.dso_class.specs.Sound.{IsSound};
+ghost use Rattle.dso_class.specs.Sound.{IsSoundProgram};
 
 use crate::driven::Driven;
 use crate::rows::row_told;
@@ -58,7 +58,7 @@ fn part_told(alloc: Global, part: Part<'_>) -> Result<String, NoMemory> {
 
 /// What is printed for the rows of a part, whose program this is.
 fn rows_told(alloc: Global, program: &Program, part: Part<'_>) -> Result<String, NoMemory>
-    requires { IsSound program.now }
+    requires { IsSoundProgram program.now }
 {
     let mut driven = Driven::new(alloc, program, part.number)?;
     let mut text = format!(in alloc; "client {}\n", part.number)?;

@@ -1,6 +1,6 @@
 //! A row: a sentence and steps.
 ghost use Rattle.std.specs.Prelude.{OnOk};
-ghost use Rattle.dso_machine.specs.Sound.{IsSound};
+ghost use Rattle.dso_machine.specs.Sound.{IsSoundCode};
 ghost use Rattle.client_cases.specs.Driving.{Goes};
 
 use crate::driven::Driven;
@@ -18,7 +18,7 @@ pub fn row_told(
     driven: &mut Driven,
     row: &str,
 ) -> Result<String, NoMemory>
-    requires sound { IsSound code.now }
+    requires sound { IsSoundCode code.now }
     requires goes { Goes code.now driven.old }
     ensures { OnOk result (Goes code.now driven.new) }
 {
@@ -39,7 +39,7 @@ fn step_told(
     driven: &mut Driven,
     step: &str,
 ) -> Result<String, NoMemory>
-    requires sound { IsSound code.now }
+    requires sound { IsSoundCode code.now }
     requires goes { Goes code.now driven.old }
     ensures { OnOk result (Goes code.now driven.new) }
 {

@@ -13,17 +13,17 @@ use Rattle.dso_class.specs.declared.uses.Role.{Role}
 use Rattle.dso_class.specs.declared.uses.Role.TheVariants as role
 use Rattle.dso_class.specs.declared.uses.Head.{Head}
 use Rattle.dso_class.specs.declared.uses.Head.TheVariants as head
-use Rattle.dso_entries.specs.Words.{Word}
-use Rattle.dso_entries.specs.LastAndFirst.{AreFirsts}
+use Rattle.dso_config_entries.specs.Words.{Word}
+use Rattle.dso_config_entries.specs.LastAndFirst.{AreFirsts}
 use Rattle.dso_class.specs.Limits.{most_texts, most_vars}
-use Rattle.dso_entries.specs.BorrowedWords.{words_of}
+use Rattle.dso_config_entries.specs.BorrowedWords.{words_of}
 use Rattle.dso_class.specs.Mentions.{Mention, Owner, Part, receiver_mentions, on, alone, called}
 use Rattle.dso_class.specs.PrecedingMentions.{in_text, in_body, text_in, variable_in}
 use Rattle.dso_class.specs.NameFaults.{HasNoFault}
 use Rattle.dso_class.specs.FaultsAmong.{behind, AreFine, IsFaultAmong}
 use Rattle.dso_class.specs.Numbers.{Numbers, IsNumber, IsFieldRef}
 use Rattle.dso_class.specs.TextProgram.{Source, IsAutolock, numbers_of}
-use Rattle.dso_class.specs.Tables.{AreTables}
+use Rattle.dso_class.specs.DeclaredNames.{AreTables}
 
 -- the second list begins with the first
 pub record Begins {A : Type 0} (front whole : List A) : Type 0 where
@@ -69,18 +69,19 @@ pub record IsRight (source : Source) (owner : Owner) (before mentions : List Men
       → Means (numbers_of source words grade)
 
 -- the answer is right for these mentions, behind those before them, or there was no memory
-abbrev pub Answers : {A : Type 0} → Source → Owner → List Mention → List Mention → Met → Met → (Numbers → A → Type 0)
+abbrev pub AnswersWalk : {A : Type 0} → Source → Owner → List Mention → List Mention → Met → Met
+    → (Numbers → A → Type 0)
     → Result A NameFault → Type 0
-Answers source owner before mentions met now Means (Ok value) =
+AnswersWalk source owner before mentions met now Means (Ok value) =
     IsRight source owner before mentions met now (λ n. Means n value)
-Answers source owner before mentions met now Means (Err (fault.At kind line)) =
+AnswersWalk source owner before mentions met now Means (Err (fault.At kind line)) =
     IsFaultAmong source.config source.ast before mentions kind line
-Answers source owner before mentions met now Means (Err (fault.NoMemory refusal)) = Unit {0}
+AnswersWalk source owner before mentions met now Means (Err (fault.NoMemory refusal)) = Unit {0}
 
 -- The answer of a part of the walk is right.
 pub record IsWalked {A : Type 0} (source : Source) (owner : Owner) (before mentions : List Mention) (met now : Met)
     (Means : Numbers → A → Type 0) (result : Result A NameFault) : Type 0 where
-  pub answer : Answers source owner before mentions met now Means result
+  pub answer : AnswersWalk source owner before mentions met now Means result
 
 -- the answer is this value, or there was no memory
 abbrev pub IsMade : {A : Type 0} → Result A NameFault → A → Type 0

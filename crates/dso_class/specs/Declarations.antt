@@ -8,7 +8,7 @@ use Rattle.dso_syntax.specs.declared.tree.Item.TheVariants as item
 use Rattle.dso_syntax.specs.declared.tree.Member.{Member}
 use Rattle.dso_syntax.specs.declared.tree.Member.TheVariants as member
 use Rattle.dso_syntax.specs.declared.tree.StmtTree.{StmtTree}
-use Rattle.dso_entries.specs.Words.{Word}
+use Rattle.dso_config_entries.specs.Words.{Word}
 
 -- a class with its members
 pub record ClassTree : Type 0 where

@@ -3,7 +3,7 @@ use Rattle.std.specs.Prelude.{◌≡◌, ◌≤◌, false, List, length, Contain
 use Rattle.dso_class.specs.declared.fault.NameKind.{NameKind}
 use Rattle.dso_class.specs.declared.fault.NameKind.TheVariants as kind
 use Rattle.dso_class.specs.declared.fault.What.TheVariants as what
-use Rattle.dso_entries.specs.Words.{Word}
+use Rattle.dso_config_entries.specs.Words.{Word}
 use Rattle.dso_class.specs.Limits.{most_vars}
 use Rattle.dso_class.specs.Mentions.{Mention, Mentioned}
 use Rattle.dso_class.specs.PrecedingMentions.{in_text, in_body, text_in, variable_in, begins_body}

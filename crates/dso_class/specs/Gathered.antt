@@ -10,7 +10,7 @@ use Rattle.dso_config.specs.declared.config.RootEntry.{RootEntry}
 use Rattle.dso_syntax.specs.declared.tree.Item.{Item}
 use Rattle.dso_syntax.specs.declared.tree.Member.{Member}
 use Rattle.dso_class.specs.declared.gathered_methods.Declared.{Declared}
-use Rattle.dso_entries.specs.Words.{Word}
+use Rattle.dso_config_entries.specs.Words.{Word}
 use Rattle.dso_class.specs.Declarations.{MethodTree, classes_of, fields_of}
 use Rattle.dso_class.specs.Multimap.{row_of}
 

@@ -11,7 +11,7 @@ use Rattle.dso_class.specs.declared.fault.NameFault.TheVariants as fault
 use Rattle.dso_class.specs.declared.fault.NameKind.TheVariants as kind
 use Rattle.dso_class.specs.declared.fault.What.{What}
 use Rattle.dso_class.specs.declared.member.Class.{Class}
-use Rattle.dso_entries.specs.Words.{Word, thread_word}
+use Rattle.dso_config_entries.specs.Words.{Word, thread_word}
 use Rattle.dso_class.specs.Mentions.{Mention, Owner, on, method, synchronized, thread, client}
 use Rattle.dso_class.specs.FaultsAmong.{behind, AreFine}
 use Rattle.dso_class.specs.TextProgram.{Source, IsSynced}

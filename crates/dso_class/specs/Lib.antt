@@ -9,7 +9,7 @@ pub mod FaultsAmong
 pub mod TextProgram
 pub mod Sound
 pub mod Multimap
-pub mod Tables
+pub mod DeclaredNames
 pub mod BodyWalk
 pub mod Assignable
 pub mod StatementWalk

@@ -11,7 +11,7 @@ use Rattle.dso_syntax.specs.declared.tree.ExprTree.{ExprTree, fold-ExprTree}
 use Rattle.dso_syntax.specs.declared.tree.ExprForm.TheOpen.{ExprForm-F}
 use Rattle.dso_syntax.specs.declared.tree.StmtTree.{StmtTree, fold-StmtTree}
 use Rattle.dso_syntax.specs.declared.tree.StmtForm.TheOpen.{StmtForm-F}
-use Rattle.dso_entries.specs.Words.{Word, thread_word, run_word}
+use Rattle.dso_config_entries.specs.Words.{Word, thread_word, run_word}
 
 -- What a text mentions at one token. The names that are known there stand beside a use.
 pub data Mentioned : Type 0 where

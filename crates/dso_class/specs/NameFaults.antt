@@ -6,8 +6,8 @@ use Rattle.dso_syntax.specs.declared.tree.Ast.{Ast}
 use Rattle.dso_class.specs.declared.fault.NameKind.{NameKind}
 use Rattle.dso_class.specs.declared.fault.NameKind.TheVariants as kind
 use Rattle.dso_class.specs.declared.fault.What.TheVariants as what
-use Rattle.dso_entries.specs.Words.{Word, thread_word}
-use Rattle.dso_entries.specs.LastAndFirst.{LastWith, AreFirsts}
+use Rattle.dso_config_entries.specs.Words.{Word, thread_word}
+use Rattle.dso_config_entries.specs.LastAndFirst.{LastWith, AreFirsts}
 use Rattle.dso_class.specs.Limits.{most_classes, most_fields, most_statics, most_methods, most_params, most_vars}
 use Rattle.dso_class.specs.Limits.{most_texts, most_threads}
 use Rattle.dso_class.specs.Mentions.{Mention, Mentioned, mentions_of, class, field, static, method, parameter, root}
@@ -15,7 +15,7 @@ use Rattle.dso_class.specs.Mentions.{synchronized, thread, client, alone, dotted
 use Rattle.dso_class.specs.PrecedingMentions.{class_in, member_in, field_in, static_in, method_in, parameter_in}
 use Rattle.dso_class.specs.PrecedingMentions.{variable_in, text_in, thread_in, in_text, in_class, in_body}
 use Rattle.dso_class.specs.Declarations.{MethodTree, class_names, all_statics, all_methods}
-use Rattle.dso_entries.specs.ConfigEntries.{Matches, autolocks_of, IsRoot}
+use Rattle.dso_config_entries.specs.ConfigEntries.{Matches, autolocks_of, IsRoot}
 
 -- the text declares a class of this name
 abbrev pub IsClass : Ast → Word → Type 0

@@ -18,8 +18,8 @@ use Rattle.dso_syntax.specs.declared.tree.StmtTree.{StmtTree}
 use Rattle.dso_syntax.specs.declared.tree.StmtForm.TheVariants as s
 use Rattle.dso_syntax.specs.Grammar.{expression}
 use Rattle.dso_syntax.specs.ProgramGrammar.{statement}
-use Rattle.dso_entries.specs.Words.{Word, length_word}
-pub use Rattle.dso_entries.specs.LockNumbers.{IsNumber}
+use Rattle.dso_config_entries.specs.Words.{Word, length_word}
+pub use Rattle.dso_config_entries.specs.LockNumbers.{IsNumber}
 use Rattle.dso_class.specs.Declarations.{MethodTree}
 
 -- What is numbered: each list has at a number's place what the number is of. The classes, the fields of each class,

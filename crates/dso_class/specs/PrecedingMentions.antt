@@ -1,6 +1,6 @@
 -- What was mentioned before a token. The mentions are given with the nearest first.
 use Rattle.std.specs.Prelude.{ℤ, Bool, true, false, not, List, filter_map, take_while, Option, Some, None}
-use Rattle.dso_entries.specs.Words.{Word}
+use Rattle.dso_config_entries.specs.Words.{Word}
 use Rattle.dso_class.specs.Mentions.{Mention, Mentioned, class, field, static, method, parameter, variable, thread}
 use Rattle.dso_class.specs.Mentions.{client, text}
 

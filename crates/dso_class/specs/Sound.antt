@@ -14,8 +14,8 @@ pub record HasNames (program : Program) : Type 0 where
 
 -- The program is sound. Its threads are those of the code, by client and then by index; losses and breaks are of
 -- clients that are there.
-pub record IsSound (program : Program) : Type 0 where
-  pub code : machine.IsSound program.code
+pub record IsSoundProgram (program : Program) : Type 0 where
+  pub code : machine.IsSoundCode program.code
   pub some_client : 1 ≤ program.clients
   pub no_more_clients : program.clients ≤ most_clients
   pub some_resident : 1 ≤ program.resident

@@ -5,7 +5,7 @@ use Rattle.dso_machine.specs.declared.tree.Expr.{Expr}
 use Rattle.dso_machine.specs.declared.tree.Expr.TheVariants as x
 use Rattle.dso_machine.specs.declared.tree.Stmt.{Stmt}
 use Rattle.dso_machine.specs.declared.tree.Stmt.TheVariants as t
-use Rattle.dso_entries.specs.Words.{Word}
+use Rattle.dso_config_entries.specs.Words.{Word}
 use Rattle.dso_class.specs.Mentions.{Step}
 use Rattle.dso_class.specs.Numbers.{Numbers, IsNumber, IsFieldRef}
 

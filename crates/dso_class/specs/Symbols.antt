@@ -2,7 +2,7 @@
 use Rattle.std.specs.Prelude.{◌≡◌, List, map}
 use Rattle.dso_syntax.specs.declared.tree.Item.{Item}
 use Rattle.dso_class.specs.declared.program.Names.{Names}
-use Rattle.dso_entries.specs.Words.{Word}
+use Rattle.dso_config_entries.specs.Words.{Word}
 use Rattle.dso_class.specs.Declarations.{classes_of, fields_of, class_names, all_statics}
 
 -- the names of the fields of each class

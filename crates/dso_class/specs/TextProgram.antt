@@ -22,14 +22,14 @@ use Rattle.dso_syntax.specs.declared.tree.Ident.{Ident}
 use Rattle.dso_syntax.specs.declared.tree.StmtTree.{StmtTree}
 use Rattle.dso_class.specs.declared.program.Names.{Names}
 use Rattle.dso_class.specs.declared.program.Program.{Program}
-use Rattle.dso_entries.specs.Words.{Word}
-use Rattle.dso_entries.specs.LastAndFirst.{LastWith, AreFirsts}
+use Rattle.dso_config_entries.specs.Words.{Word}
+use Rattle.dso_config_entries.specs.LastAndFirst.{LastWith, AreFirsts}
 use Rattle.dso_class.specs.Mentions.{Owner, thread_owner, body, mentions_of}
 use Rattle.dso_class.specs.PrecedingMentions.{variable_in, text_in, in_text}
 use Rattle.dso_class.specs.Declarations.{ClassTree, FieldTree, MethodTree, ThreadTree, classes_of, fields_of}
 use Rattle.dso_class.specs.Declarations.{threads_of, class_names, all_statics, all_methods}
-use Rattle.dso_entries.specs.ConfigEntries.{Matches, Guards, lock_mentions}
-pub use Rattle.dso_entries.specs.ConfigEntries.{IsAutolock}
+use Rattle.dso_config_entries.specs.ConfigEntries.{Matches, Guards, lock_mentions}
+pub use Rattle.dso_config_entries.specs.ConfigEntries.{IsAutolock}
 use Rattle.dso_class.specs.NameFaults.{HasNoFault}
 use Rattle.dso_class.specs.Numbers.{Numbers, IsNumber, MeansBlock}
 

@@ -12,20 +12,20 @@ use Rattle.dso_class.specs.declared.class_item.Resolved.{Resolved}
 use Rattle.dso_class.specs.declared.class_item.Setting.{Setting}
 use Rattle.dso_class.specs.declared.fault.NameFault.{NameFault}
 use Rattle.dso_class.specs.declared.fault.NameFault.TheVariants as fault
-use Rattle.dso_entries.specs.Words.{Word, thread_word, run_word}
-use Rattle.dso_entries.specs.LastAndFirst.{AreFirsts}
-use Rattle.dso_entries.specs.BorrowedWords.{words_of}
+use Rattle.dso_config_entries.specs.Words.{Word, thread_word, run_word}
+use Rattle.dso_config_entries.specs.LastAndFirst.{AreFirsts}
+use Rattle.dso_config_entries.specs.BorrowedWords.{words_of}
 use Rattle.dso_class.specs.Mentions as mention
 use Rattle.dso_class.specs.Mentions.{Mention, Owner}
 use Rattle.dso_class.specs.PrecedingMentions.{in_text, in_class, class_in, static_in, thread_in, member_in, field_in}
 use Rattle.dso_class.specs.PrecedingMentions.{method_in}
 use Rattle.dso_class.specs.Declarations.{ClassTree, FieldTree, MethodTree, ThreadTree, classes_of, fields_of}
 use Rattle.dso_class.specs.Declarations.{methods_of, methods_from, threads_of}
-use Rattle.dso_entries.specs.ConfigEntries.{lock_mentions}
+use Rattle.dso_config_entries.specs.ConfigEntries.{lock_mentions}
 use Rattle.dso_class.specs.NameFaults.{HasNoFault}
 use Rattle.dso_class.specs.FaultsAmong.{behind, AreFine, IsFaultAmong}
 use Rattle.dso_class.specs.TextProgram.{Source, IsBody, IsField, IsClass, IsMethod, IsThread, AreCounted, roots_of}
-use Rattle.dso_class.specs.Tables.{AreTables}
+use Rattle.dso_class.specs.DeclaredNames.{AreTables}
 use Rattle.dso_class.specs.BodyWalk.{Begins, HasTexts}
 
 -- The text with its configuration is that of the setting. The roots and the locks have their numbers where the text

@@ -8,8 +8,8 @@ use Rattle.dso_class.specs.declared.fault.NameFault.{NameFault}
 use Rattle.dso_class.specs.declared.fault.NameFault.TheVariants as fault
 use Rattle.dso_class.specs.declared.program.Names.{Names}
 use Rattle.dso_class.specs.declared.program.Program.{Program}
-use Rattle.dso_entries.specs.LastAndFirst.{AreFirsts}
-use Rattle.dso_entries.specs.BorrowedWords.{words_of}
+use Rattle.dso_config_entries.specs.LastAndFirst.{AreFirsts}
+use Rattle.dso_config_entries.specs.BorrowedWords.{words_of}
 use Rattle.dso_class.specs.Mentions.{mentions_of}
 use Rattle.dso_class.specs.PrecedingMentions.{in_text, text_in}
 use Rattle.dso_class.specs.Declarations.{classes_of, all_methods, threads_of}

@@ -4,7 +4,7 @@
 ghost use Rattle.std.specs.Prelude.{◌≡◌, ◌<◌, ◌≤◌, ℕ, [], ◌∷◌, ◌++◌, flat_map, length, IfErr, IfOk, OnOk};
 ghost use Rattle.dso_class.specs.Assignable.{ItemsAssign, MembersAssign};
 ghost use Rattle.dso_class.specs.Heads.{IsClassTaken, IsRefused};
-ghost use Rattle.dso_entries.specs.BorrowedWords.{words_of};
+ghost use Rattle.dso_config_entries.specs.BorrowedWords.{words_of};
 ghost use Rattle.dso_class.specs.Limits.{most_classes};
 ghost use Rattle.dso_class.specs.Mentions.{of_item};
 ghost use Rattle.dso_class.specs.TextWalk.{IsReady, WalksItems};
@@ -13,11 +13,11 @@ use crate::declaration::declare;
 use crate::fault::{NameFault, NameKind, What};
 use crate::limits::MOST_CLASSES;
 use crate::member::{Class, class_members};
-use crate::tables::Tables;
+use crate::tables::DeclaredNames;
 use crate::thread::{ThreadHead, thread};
 use dso_base::{ClassShape, Items, Word};
 use dso_config::Config;
-use dso_entries::Interner;
+use dso_config_entries::Interner;
 use dso_machine::{Method, ThreadBody};
 use dso_syntax::{Ident, Item, Member};
 use std::alloc::Global;
@@ -30,7 +30,7 @@ use std::alloc::Global;
 pub(crate) struct Setting<'b, 'a> {
     pub(crate) config: &'a Config,
     pub(crate) locks: &'b Interner<&'a [u8]>,
-    pub(crate) tables: &'b Tables<'a>,
+    pub(crate) tables: &'b DeclaredNames<'a>,
     pub(crate) roots: u32,
     pub(crate) thread_class: &'b Word,
     pub(crate) thread_method: &'b Word,

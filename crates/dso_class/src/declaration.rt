@@ -1,11 +1,11 @@
 //! Names that are declared: each once, and not too many of a sort (`specs/Heads.antt`).
 
 ghost use Rattle.std.specs.Prelude.{◌≡◌, ◌<◌, ◌≤◌, ◌∷◌, ◌++◌, [], Contains, IfErr, OnOk};
-ghost use Rattle.dso_entries.specs.BorrowedWords.{words_of};
+ghost use Rattle.dso_config_entries.specs.BorrowedWords.{words_of};
 ghost use Rattle.dso_class.specs.Heads.{IsRefused};
 
 use crate::fault::{NameFault, NameKind, What};
-use dso_entries::Interner;
+use dso_config_entries::Interner;
 use dso_syntax::Ident;
 
 /// Puts the name of what is declared behind the others, of which it is none. Of its sort there are so many, and may be

@@ -14,7 +14,7 @@ ghost use Rattle.dso_class.specs.Mentions as mention;
 ghost use Rattle.dso_class.specs.Mentions.{all_of, qualifier_mentions, on};
 ghost use Rattle.dso_class.specs.Numbers.{MeansExpr, MeansExprs};
 ghost use Rattle.dso_class.specs.BodyWalk.{IsMade, MeansField, Walks, bare_used, used};
-ghost use Rattle.dso_entries.specs.Words.{Word};
+ghost use Rattle.dso_config_entries.specs.Words.{Word};
 
 use crate::environment::Environment;
 use crate::fault::NameFault;
@@ -24,7 +24,7 @@ use crate::tables::field_ref;
 use crate::texts::text;
 use crate::uses::{Head, Role, alone, call, called, dotted, new_object, this};
 use dso_base::{Boxed, Items, Kind, Op, Value, Word};
-use dso_entries::Interner;
+use dso_config_entries::Interner;
 use dso_machine::Expr;
 use dso_syntax::{ExprForm, ExprTree, Ident};
 use std::alloc::Global;

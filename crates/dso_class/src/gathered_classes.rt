@@ -2,11 +2,11 @@
 
 ghost use Rattle.std.specs.Prelude.{IfOk};
 ghost use Rattle.dso_class.specs.Declarations.{class_names};
-ghost use Rattle.dso_entries.specs.BorrowedWords.{words_of};
-ghost use Rattle.dso_entries.specs.LastAndFirst.{AreFirsts};
+ghost use Rattle.dso_config_entries.specs.BorrowedWords.{words_of};
+ghost use Rattle.dso_config_entries.specs.LastAndFirst.{AreFirsts};
 
 use dso_base::NoMemory;
-use dso_entries::{Interner, add};
+use dso_config_entries::{Interner, add};
 use dso_syntax::Item;
 use std::alloc::Global;
 

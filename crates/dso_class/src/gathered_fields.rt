@@ -2,7 +2,7 @@
 
 ghost use Rattle.std.specs.Prelude.{◌≡◌, ◌∷◌, ◌++◌, [], List, IfOk, OnOk, length};
 ghost use Rattle.dso_class.specs.Gathered.{all_fields, named_fields, AreFieldRows};
-ghost use Rattle.dso_entries.specs.Words.{Word};
+ghost use Rattle.dso_config_entries.specs.Words.{Word};
 
 use crate::multimap;
 use dso_base::{Items, NoMemory};

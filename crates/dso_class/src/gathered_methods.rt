@@ -3,7 +3,7 @@
 ghost use Rattle.std.specs.Prelude.{ℕ, ◌≡◌, ◌++◌, List, IfOk, OnOk, length};
 ghost use Rattle.dso_class.specs.Declarations.{MethodTree, all_methods, methods_of};
 ghost use Rattle.dso_class.specs.Gathered.{AreMethodRows, capped};
-ghost use Rattle.dso_entries.specs.Words.{Word};
+ghost use Rattle.dso_config_entries.specs.Words.{Word};
 
 use crate::multimap;
 use crate::narrow::next;

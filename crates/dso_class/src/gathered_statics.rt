@@ -4,11 +4,11 @@ ghost use Rattle.std.specs.Prelude.{◌≡◌, ◌↔◌, ◌∷◌, ◌++◌, [
 ghost use Rattle.dso_config.specs.declared.config.RootEntry.{RootEntry};
 ghost use Rattle.dso_class.specs.Declarations.{all_statics, statics_of};
 ghost use Rattle.dso_class.specs.Gathered.{statics_named};
-ghost use Rattle.dso_entries.specs.LastAndFirst.{AreFirsts};
+ghost use Rattle.dso_config_entries.specs.LastAndFirst.{AreFirsts};
 ghost use Rattle.dso_class.specs.Numbers.{IsNumber};
 
 use dso_base::NoMemory;
-use dso_entries::Interner;
+use dso_config_entries::Interner;
 use dso_syntax::{Item, Member};
 use std::alloc::Global;
 

@@ -2,14 +2,14 @@
 
 ghost use Rattle.std.specs.Prelude.{◌≡◌, ◌+◌, ◌<◌, ◌^◌, length};
 ghost use Rattle.dso_config.specs.InRange.{entries};
-ghost use Rattle.dso_entries.specs.ConfigEntries.{lock_mentions};
-ghost use Rattle.dso_entries.specs.BorrowedWords.{words_of};
-ghost use Rattle.dso_entries.specs.LastAndFirst.{AreFirsts};
+ghost use Rattle.dso_config_entries.specs.ConfigEntries.{lock_mentions};
+ghost use Rattle.dso_config_entries.specs.BorrowedWords.{words_of};
+ghost use Rattle.dso_config_entries.specs.LastAndFirst.{AreFirsts};
 ghost use Rattle.dso_class.specs.TextProgram.{Source, roots_of, IsNamedLock, IsGuard};
 
 use dso_base::{Grade, Guard, Items, Word};
 use dso_config::{Config, NamedEntry};
-use dso_entries::{Interner, last_guard, last_named, lock_number};
+use dso_config_entries::{Interner, last_guard, last_named, lock_number};
 
 /// The entries for named locks, none where there is no such section.
 fn named_entries(named: &Option<Items<NamedEntry>>) -> &[NamedEntry]

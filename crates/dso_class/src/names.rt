@@ -2,7 +2,7 @@
 
 ghost use Rattle.std.specs.Prelude.{◌≡◌, ◌++◌, IfOk, OnOk, map};
 ghost use Rattle.dso_class.specs.Declarations.{all_statics, class_names, fields_of, statics_of};
-ghost use Rattle.dso_entries.specs.BorrowedWords.{words_of};
+ghost use Rattle.dso_config_entries.specs.BorrowedWords.{words_of};
 ghost use Rattle.dso_class.specs.Symbols.{AreWordsOf, field_words};
 
 use crate::program::Names;

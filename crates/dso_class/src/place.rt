@@ -1,6 +1,6 @@
 //! What the names of statements are resolved by.
 
-use crate::tables::Tables;
+use crate::tables::DeclaredNames;
 use dso_base::Word;
 use dso_config::Config;
 
@@ -8,7 +8,7 @@ use dso_config::Config;
 #[derive(Clone, Copy)]
 pub(crate) struct Place<'b, 'a> {
     pub(crate) config: &'b Config,
-    pub(crate) tables: &'b Tables<'a>,
+    pub(crate) tables: &'b DeclaredNames<'a>,
     pub(crate) class: &'b Word,
     pub(crate) method: &'b Word,
     pub(crate) in_thread: bool,

@@ -7,7 +7,7 @@ ghost use Rattle.dso_class.specs.declared.fault.NameKind.{NameKind};
 ghost use Rattle.dso_class.specs.NameFaults.{IsFirstFault};
 ghost use Rattle.dso_class.specs.ValidInput.{IsValidInput};
 ghost use Rattle.dso_class.specs.TextProgram.{IsProgramOf, Source};
-ghost use Rattle.dso_class.specs.Sound.{IsSound};
+ghost use Rattle.dso_class.specs.Sound.{IsSoundProgram};
 ghost use Rattle.dso_class.specs.TextWalk.{IsReady, IsSetting};
 ghost use Rattle.dso_class.specs.WholeProgram.{AnswersWhole, IsMadeOf};
 
@@ -20,7 +20,7 @@ use crate::tables::gather;
 use crate::thread_order::threads;
 use dso_base::{Items, NoMemory, Shape, Word};
 use dso_config::Config;
-use dso_entries::{Interner, lock_names};
+use dso_config_entries::{Interner, lock_names};
 use dso_machine::Code;
 use dso_syntax::{Ast, Item};
 use std::alloc::Global;
@@ -48,7 +48,7 @@ use std::alloc::Global;
 pub fn resolve(alloc: Global, tree: &Ast, config: &Config) -> Result<Program, NameFault>
     requires given { IsValidInput config.now tree.now }
     ensures program { IfOk result (IsProgramOf config.now tree.now) }
-    ensures sound { IfOk result IsSound }
+    ensures sound { IfOk result IsSoundProgram }
     ensures fault { (kind : NameKind) (line : ℕ) → result ≡ Err (fault.At kind line) → IsFirstFault config.now tree.now kind line }
 {
     let items = tree.items.as_slice();

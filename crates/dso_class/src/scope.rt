@@ -1,13 +1,13 @@
 //! The variables of a body (`specs/BodyWalk.antt`).
 
 ghost use Rattle.std.specs.Prelude.{◌↔◌, Contains, IfSome, IsNone, IsTrue};
-ghost use Rattle.dso_entries.specs.BorrowedWords.{words_of};
+ghost use Rattle.dso_config_entries.specs.BorrowedWords.{words_of};
 ghost use Rattle.dso_class.specs.Numbers.{IsNumber};
 ghost use Rattle.dso_class.specs.BodyWalk.{known_in, variables_in};
-ghost use Rattle.dso_entries.specs.Words.{Word};
+ghost use Rattle.dso_config_entries.specs.Words.{Word};
 
 use dso_base::{Items, Same, Word};
-use dso_entries::{Interner, number_of};
+use dso_config_entries::{Interner, number_of};
 
 /// The variables of a body so far, and the names of those that are known, the latest at the end.
 #[derive(Drop)]

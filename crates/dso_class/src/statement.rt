@@ -15,7 +15,7 @@ ghost use Rattle.dso_class.specs.Mentions as mention;
 ghost use Rattle.dso_class.specs.Numbers.{MeansBlock, MeansExpr, MeansStmt};
 ghost use Rattle.dso_class.specs.StatementWalk.{PutsField, PutsNamed};
 ghost use Rattle.dso_class.specs.BodyWalk.{HeadMeans, Walks, known_in};
-ghost use Rattle.dso_entries.specs.Words.{Word};
+ghost use Rattle.dso_config_entries.specs.Words.{Word};
 
 use crate::environment::Environment;
 use crate::expression::{bare, expression};
@@ -26,7 +26,7 @@ use crate::tables::field_ref;
 use crate::uses::{Head, Role, alone, dotted};
 use crate::variables::{know, synchronized, variable};
 use dso_base::{Boxed, Grade, Items, Word};
-use dso_entries::Interner;
+use dso_config_entries::Interner;
 use dso_machine::{Expr, Stmt};
 use dso_syntax::{ExprForm, ExprTree, Ident, StmtForm, StmtTree};
 use std::alloc::Global;

@@ -12,7 +12,7 @@ use crate::fault::{NameFault, NameKind, What};
 use crate::limits::MOST_TEXTS;
 use crate::narrow::narrow;
 use dso_base::Word;
-use dso_entries::{Interner, add, number_of};
+use dso_config_entries::{Interner, add, number_of};
 
 /// The number of a text literal, which is put behind the others where it is new.
 pub(crate) fn text<'a>(

@@ -8,7 +8,7 @@ ghost use Rattle.dso_class.specs.Mentions as mention;
 ghost use Rattle.dso_class.specs.Mentions.{on};
 ghost use Rattle.dso_class.specs.Numbers.{AreThePairs, HasMethod, IsNumber};
 ghost use Rattle.dso_class.specs.BodyWalk.{HeadMeans, Walks};
-ghost use Rattle.dso_entries.specs.Words.{Word};
+ghost use Rattle.dso_config_entries.specs.Words.{Word};
 
 use crate::fault::{NameFault, NameKind};
 use crate::narrow::narrow;

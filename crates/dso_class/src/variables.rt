@@ -12,7 +12,7 @@ ghost use Rattle.dso_class.specs.Mentions as mention;
 ghost use Rattle.dso_class.specs.Mentions.{Mention, Mentioned, Owner, on};
 ghost use Rattle.dso_class.specs.Numbers.{IsNumber};
 ghost use Rattle.dso_class.specs.TextProgram.{Source};
-ghost use Rattle.dso_entries.specs.Words.{Word};
+ghost use Rattle.dso_config_entries.specs.Words.{Word};
 ghost use Rattle.dso_class.specs.BodyWalk.{HasMet, IsMade, IsPlace, IsWalked, Walks, known_in, met_in, owner_in, variables_in};
 
 use crate::fault::{NameFault, NameKind, What};
@@ -22,7 +22,7 @@ use crate::place::Place;
 use crate::scope::Scope;
 use crate::tables::class_number;
 use dso_base::{Grade, Word};
-use dso_entries::{autolock, number_of};
+use dso_config_entries::{autolock, number_of};
 use dso_syntax::Ident;
 
 /// Whether no variable may have the name: it is `Thread`, a class's, or that of another variable of the body.

@@ -1,6 +1,6 @@
 pub mod objects
 pub mod lock_standing
-pub mod seats
+pub mod contexts
 pub mod standing
 pub mod replies
 pub mod flushed
@@ -8,7 +8,7 @@ pub mod facts
 pub mod heard
 pub mod due
 pub mod asked
-pub mod lived
+pub mod applied
 pub mod acts
 pub mod sent
 pub mod worked

@@ -2,7 +2,7 @@
 pub mod Places
 pub mod Heard
 pub mod Machine
-pub mod Seats
+pub mod Contexts
 pub mod Step
 pub mod Next
 pub mod Bounds

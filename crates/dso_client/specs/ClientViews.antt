@@ -3,18 +3,18 @@ use Rattle.std.specs.Prelude.{ℕ}
 use Rattle.dso_base.specs.declared.lock.LockName.{LockName}
 use Rattle.dso_base.specs.declared.lock.ThreadId.{ThreadId}
 use Rattle.dso_hold.specs.Holds.{hold_in, count_at}
-use Rattle.dso_table.specs.Tables.{state_in}
+use Rattle.dso_table.specs.ObjectTables.{state_in}
 use Rattle.dso_table.specs.Victims.{IsVictim}
-use Rattle.dso_client.specs.declared.kept.Kept.{Kept}
+use Rattle.dso_client.specs.declared.client_state.ClientState.{ClientState}
 
 -- how many records the client sent
-abbrev pub records_sent : Kept → ℕ
-records_sent kept = kept.ledger.records
+abbrev pub records_sent : ClientState → ℕ
+records_sent kept = kept.sequences.records
 
 -- how often a thread entered a lock and didn't leave it, 0 where it doesn't hold it
-abbrev pub times_held : Kept → ThreadId → LockName → ℕ
-times_held kept t l = count_at (hold_in kept.locking.holds (l, t))
+abbrev pub times_held : ClientState → ThreadId → LockName → ℕ
+times_held kept t l = count_at (hold_in kept.lock_state.holds (l, t))
 
 -- the object is the one that the client's table flushes next
-abbrev pub IsNextVictim : Kept → ℕ → Type 0
+abbrev pub IsNextVictim : ClientState → ℕ → Type 0
 IsNextVictim kept o = IsVictim (state_in kept.table) o

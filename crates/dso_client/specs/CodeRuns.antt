@@ -8,8 +8,8 @@ use Rattle.dso_machine.specs.declared.code.Code.{Code}
 use Rattle.dso_machine.specs.declared.thread.Thread.{Thread}
 use Rattle.dso_machine.specs.Next.{next_request}
 use Rattle.dso_machine.specs.Standing.{ThreadStands, asked}
-use Rattle.dso_client.specs.declared.kept.Kept.{Kept}
-use Rattle.dso_client.specs.declared.seat.Seat.{Seat}
+use Rattle.dso_client.specs.declared.client_state.ClientState.{ClientState}
+use Rattle.dso_client.specs.declared.thread_context.ThreadContext.{ThreadContext}
 
 -- the thread runs the code, and has this request out
 pub record Runs (code : Code) (t : ThreadId) (thread : Thread) (request : Request) : Type 0 where
@@ -29,10 +29,10 @@ pub record IsNextOf (code : Code) (t : ThreadId) (old new : Thread) (next : Opti
   pub asks : (events : List Event) → ThreadStands code t old events → next ≡ next_request code t events
   pub runs : (request : Request) → next ≡ Some request → Runs code t new request
 
--- so does the thread of a seat that has a next request
-pub record SeatRuns (code : Code) (seat : Seat) : Type 0 where
-  pub runs : (request : Request) → seat.next ≡ Some request → Runs code seat.id seat.thread request
+-- so does the thread of a context that has a next request
+pub record ContextRuns (code : Code) (context : ThreadContext) : Type 0 where
+  pub runs : (request : Request) → context.next ≡ Some request → Runs code context.id context.thread request
 
 -- The code is that of each thread that has a next request.
-abbrev pub RunsCode : Code → Kept → Type 0
-RunsCode code kept = AllByRecursion (SeatRuns code) kept.seats.items
+abbrev pub RunsCode : Code → ClientState → Type 0
+RunsCode code kept = AllByRecursion (ContextRuns code) kept.contexts.items

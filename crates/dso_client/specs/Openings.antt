@@ -13,10 +13,10 @@ use Rattle.dso_txn.specs.InHand.{hand_in}
 use Rattle.dso_hold.specs.Holds.{hold_in}
 use Rattle.dso_lease.specs.Leases.{standing_in}
 use Rattle.dso_txn.specs.Numbers.{numbers_in}
-use Rattle.dso_client.specs.declared.ledger.Ledger.{Ledger}
-use Rattle.dso_client.specs.declared.locking.Locking.{Locking}
-use Rattle.dso_client.specs.declared.seat.Seat.{Seat}
-use Rattle.dso_client.specs.CodeRuns.{Runs, SeatRuns}
+use Rattle.dso_client.specs.declared.sequences.Sequences.{Sequences}
+use Rattle.dso_client.specs.declared.lock_state.LockState.{LockState}
+use Rattle.dso_client.specs.declared.thread_context.ThreadContext.{ThreadContext}
+use Rattle.dso_client.specs.CodeRuns.{Runs, ContextRuns}
 
 -- the client's thread of this index
 abbrev pub thread_at : ℕ → ℕ → ThreadId
@@ -37,25 +37,25 @@ pub record IsAtStart (code : Code) (t : ThreadId) (thread : Thread) (next : Opti
   pub runs : (request : Request) → next ≡ Some request → Runs code t thread request
 
 -- A thread that did nothing yet, with nothing in hand.
-pub record IsOpening (code : Code) (seat : Seat) : Type 0 where
-  pub runs : SeatRuns code seat
-  pub stands : ThreadStands code seat.id seat.thread []
-  pub next : seat.next ≡ next_request code seat.id []
-  pub work : hand_in seat.privates seat.block ≡ hand_of (start [])
-  pub seen : seat.seen ≡ None
-  pub waiting : seat.waiting ≡ None
-  pub unmarked : seat.is_marked ≡ false
-  pub last : seat.last_record ≡ None
+pub record IsOpening (code : Code) (context : ThreadContext) : Type 0 where
+  pub runs : ContextRuns code context
+  pub stands : ThreadStands code context.id context.thread []
+  pub next : context.next ≡ next_request code context.id []
+  pub work : hand_in context.privates context.block ≡ hand_of (start [])
+  pub seen : context.seen ≡ None
+  pub waiting : context.waiting ≡ None
+  pub unmarked : context.is_marked ≡ false
+  pub last : context.last_record ≡ None
 
 -- no lock is held, leased, asked for or waited on
-pub record IsEmptyLocking (locking : Locking) : Type 0 where
-  pub holds : hold_in locking.holds ≡ (λ _. None)
-  pub leases : standing_in locking.leases ≡ (λ _. None)
-  pub lists : locking.lists.entries ≡ []
+pub record IsEmptyLockState (lock_state : LockState) : Type 0 where
+  pub holds : hold_in lock_state.holds ≡ (λ _. None)
+  pub leases : standing_in lock_state.leases ≡ (λ _. None)
+  pub lists : lock_state.lists.entries ≡ []
 
 -- no id is left, none is asked for, and no record was sent
-pub record IsEmptyLedger (ledger : Ledger) : Type 0 where
-  pub pool : ledger.pool ≡ record { next = 1; end = 1 }
-  pub asking : ledger.is_asking ≡ false
-  pub records : ledger.records ≡ 0
-  pub unacked : numbers_in ledger.unacked ≡ (λ _. false)
+pub record AreUnusedSequences (sequences : Sequences) : Type 0 where
+  pub pool : sequences.pool ≡ record { next = 1; end = 1 }
+  pub asking : sequences.is_asking ≡ false
+  pub records : sequences.records ≡ 0
+  pub unacked : numbers_in sequences.unacked ≡ (λ _. false)

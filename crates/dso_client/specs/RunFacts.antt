@@ -15,11 +15,11 @@ use Rattle.dso_law.specs.Leases.{leased, is_asked_for}
 use Rattle.dso_law.specs.Records.{records, unacked, is_settled}
 use Rattle.dso_law.specs.RunLaws.{AreNumbered}
 use Rattle.dso_law.specs.ClientStep.{wants_object}
-use Rattle.dso_client.specs.Points.{Point}
-use Rattle.dso_client.specs.SeatStands.{last_record}
+use Rattle.dso_client.specs.RunPoints.{RunPoint}
+use Rattle.dso_client.specs.ContextStands.{last_record}
 
 -- a thread that isn't one of the client's holds nothing
-abbrev pub AreOwnHolds : Point → Type 0
+abbrev pub AreOwnHolds : RunPoint → Type 0
 AreOwnHolds at = (t : ThreadId) → list_any (is_thread t) (threads_of at.settings at.client) ≡ false
     → (locks_of t at.entries).holds ≡ []
 
@@ -27,7 +27,7 @@ AreOwnHolds at = (t : ThreadId) → list_any (is_thread t) (threads_of at.settin
 -- one; a thread is settled where its last record is acknowledged; a thread that isn't one of the client's has no open
 -- block, doesn't wait, wants nothing and holds nothing; who holds a lock entered it once at least, and who waits is to
 -- have a lock again that it entered so; what a thread has in hand it has once; what its open block sets is resident.
-pub record RunFacts (at : Point) : Type 0 where
+pub record RunFacts (at : RunPoint) : Type 0 where
   pub apart : (l : LockName) → is_some (leased l at.entries) ≡ true → is_asked_for l at.entries ≡ false
   pub settled : (t : ThreadId)
       → is_settled t at.entries
@@ -49,7 +49,7 @@ pub record RunFacts (at : Point) : Type 0 where
       → is_resident o at.entries ≡ true
 
 -- Sizes: a field past the size of a copy has no value, and sizes are told in 32 bits.
-pub record SizesAreKept (at : Point) : Type 0 where
+pub record SizesAreKept (at : RunPoint) : Type 0 where
   pub fields : (o f : ℕ) (body : Body) → held_body o at.entries ≡ Some body → length body.values ≤ f
       → copy_of o f at.entries ≡ None
   pub copies : (o : ℕ) (body : Body) → held_body o at.entries ≡ Some body → length body.values < 2 ^ 32

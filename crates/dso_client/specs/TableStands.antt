@@ -10,15 +10,15 @@ use Rattle.dso_law.specs.ResidentCount.{resident_count}
 use Rattle.dso_law.specs.Records.{records}
 use Rattle.dso_law.specs.UseOrder.{use_order}
 use Rattle.dso_law.specs.ClientStep.{event_puts_to, wants_object}
-use Rattle.dso_table.specs.declared.tables.Tables.{Tables}
+use Rattle.dso_table.specs.declared.tables.ObjectTables.{ObjectTables}
 use Rattle.dso_table.specs.States.{body_of, is_asked}
-use Rattle.dso_table.specs.Tables.{state_in}
-use Rattle.dso_client.specs.Points.{Point}
+use Rattle.dso_table.specs.ObjectTables.{state_in}
+use Rattle.dso_client.specs.RunPoints.{RunPoint}
 
 -- Of each object: its copy, whether it is asked for, and its mark. Of each thread and object: whether the thread's open
 -- block puts to it, and whether the thread wants it. How many objects are to be resident, and how many are. No number
 -- was acknowledged beyond those of the records that were sent. The objects used last are these, in their order.
-pub record TableTells (at : Point) (used : List ℕ) (table : Tables) : Type 0 where
+pub record TableTells (at : RunPoint) (used : List ℕ) (table : ObjectTables) : Type 0 where
   pub bodies : (o : ℕ) → body_of ((state_in table).standing o) ≡ held_body o at.entries
   pub asked : (o : ℕ) → is_asked ((state_in table).standing o) ≡ is_object_asked o at.entries
   pub marks : (o : ℕ) → (state_in table).marks o ≡ change_mark o at.entries
@@ -32,5 +32,5 @@ pub record TableTells (at : Point) (used : List ℕ) (table : Tables) : Type 0 w
   pub order : (state_in table).used ≡ used
 
 -- all that the entries tell, with their order of use
-abbrev pub TableStands : Point → Tables → Type 0
+abbrev pub TableStands : RunPoint → ObjectTables → Type 0
 TableStands at table = TableTells at (use_order at.settings at.entries) table

@@ -8,26 +8,26 @@ use Rattle.dso_law.specs.ClientRun.{next_in}
 use Rattle.dso_law.specs.ClientStep.{may_act}
 use Rattle.dso_machine.specs.declared.code.Code.{Code}
 use Rattle.dso_machine.specs.Next.{next_request}
-use Rattle.dso_client.specs.declared.kept.Kept.{Kept}
+use Rattle.dso_client.specs.declared.client_state.ClientState.{ClientState}
 use Rattle.dso_client.specs.ClientStands.{ClientStands, point}
 use Rattle.dso_client.specs.Openings.{thread_at}
 use Rattle.dso_client.specs.RunFacts.{SizesAreKept}
 
 -- The answer tells, whatever entries the client stands for whose sizes are kept, whether the client rule has an act of
 -- its thread of this index behind them.
-abbrev pub IsEnabled : Kept → ℕ → Bool → Type 0
+abbrev pub IsEnabled : ClientState → ℕ → Bool → Type 0
 IsEnabled kept index answer = (code : Code) (p : Settings) (c : ℕ) (es : List Entry) → ClientStands code p c kept es
     → SizesAreKept (point code p c es)
     → list_any (is_thread (thread_at c index)) (threads_of p c) ≡ true
     → answer ≡ may_act p c (next_in (next_request code) es) (thread_at c index) es
 
 -- the number is that of the client's threads that have a next request
-abbrev pub TellsAlive : Kept → ℕ → Type 0
+abbrev pub TellsAlive : ClientState → ℕ → Type 0
 TellsAlive kept n = (code : Code) (p : Settings) (c : ℕ) (es : List Entry) → ClientStands code p c kept es
     → n ≡ count_by (λ t. is_some (next_in (next_request code) es t)) (threads_of p c)
 
 -- this holds where the client, whatever entries it stands for, has no thread of this index
-abbrev pub WhereAbsent : Kept → ℕ → Type 0 → Type 0
+abbrev pub WhereAbsent : ClientState → ℕ → Type 0 → Type 0
 WhereAbsent kept index claim = (code : Code) (p : Settings) (c : ℕ) (es : List Entry) → ClientStands code p c kept es
     → list_any (is_thread (thread_at c index)) (threads_of p c) ≡ false
     → claim

@@ -2,12 +2,12 @@
 ghost use Rattle.std.specs.Prelude.{ℕ, ◌≡◌, IfSome};
 ghost use Rattle.dso_law.specs.Threads.{ending_by, exit_ending, hold_of, locks_of};
 ghost use Rattle.dso_plain.specs.After.{exited};
-ghost use Rattle.dso_client.specs.Committing.{ending_in};
-ghost use Rattle.dso_client.specs.Living.{entered_lock, put_to};
-ghost use Rattle.dso_client.specs.LockingStands.{LockingStands};
-ghost use Rattle.dso_client.specs.Points.{Point};
+ghost use Rattle.dso_client.specs.SentRecords.{ending_in};
+ghost use Rattle.dso_client.specs.ActEffects.{entered_lock, put_to};
+ghost use Rattle.dso_client.specs.LockStateStands.{LockStateStands};
+ghost use Rattle.dso_client.specs.RunPoints.{RunPoint};
 
-use crate::locking::Locking;
+use crate::lock_state::LockState;
 use dso_base::{Ending, LockName, Reply, Request, ThreadId};
 
 /// A thread, its request, the reply, and the thread that the act wakes.
@@ -30,21 +30,21 @@ pub(crate) fn put_to(act: Answered) -> Option<u64>
 }
 
 /// The ending that an exit is: none where the thread still holds the lock behind it.
-fn exit_ending(locking: &Locking, thread: ThreadId, lock: LockName) -> Option<Ending>
-    ensures { (at : Point) → LockingStands at locking.now → result ≡ exit_ending lock (exited (hold_of thread lock at.entries)) }
+fn exit_ending(lock_state: &LockState, thread: ThreadId, lock: LockName) -> Option<Ending>
+    ensures { (at : RunPoint) → LockStateStands at lock_state.now → result ≡ exit_ending lock (exited (hold_of thread lock at.entries)) }
 {
-    match locking.holds.level_of(thread, lock) {
-        Some(_) if locking.holds.count(thread, lock) != 1 => None,
+    match lock_state.holds.level_of(thread, lock) {
+        Some(_) if lock_state.holds.count(thread, lock) != 1 => None,
         _ => Some(Ending::Exit(lock)),
     }
 }
 
 /// The ending that the act is, where it is one.
-pub(crate) fn ending_of(locking: &Locking, act: Answered) -> Option<Ending>
-    ensures { (at : Point) → LockingStands at locking.now → result ≡ ending_by act.request act.reply (locks_of act.thread at.entries) }
+pub(crate) fn ending_of(lock_state: &LockState, act: Answered) -> Option<Ending>
+    ensures { (at : RunPoint) → LockStateStands at lock_state.now → result ≡ ending_by act.request act.reply (locks_of act.thread at.entries) }
 {
     match (act.request, act.reply) {
-        (Request::Exit(lock), Reply::Done) => exit_ending(locking, act.thread, lock),
+        (Request::Exit(lock), Reply::Done) => exit_ending(lock_state, act.thread, lock),
         (Request::Wait(lock), Reply::Done) => Some(Ending::Wait(lock)),
         (Request::Timeout(lock), Reply::Done) => Some(Ending::Timeout(lock)),
         (Request::End(fault), Reply::Done) => Some(Ending::End(fault)),

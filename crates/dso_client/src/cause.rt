@@ -2,7 +2,7 @@
 ghost use Rattle.std.specs.Prelude.{◌≡◌};
 ghost use Rattle.dso_client.specs.Turns.{cause_of};
 
-use crate::lack::Lack;
+use crate::unmet_need::UnmetNeed;
 use dso_base::{LockName, ThreadId};
 
 /// What keeps a thread from going on, where all was asked for before, or nothing is to be asked.
@@ -23,15 +23,15 @@ pub enum Cause {
 }
 
 /// The cause that is told of what a thread lacks.
-pub(crate) fn cause_of(lack: Lack) -> Cause
-    ensures { result ≡ cause_of lack }
+pub(crate) fn cause_of(unmet_need: UnmetNeed) -> Cause
+    ensures { result ≡ cause_of unmet_need }
 {
-    match lack {
-        Lack::Id => Cause::Ids,
-        Lack::Object(object) | Lack::Class(object) => Cause::Object(object),
-        Lack::Mark(lock) => Cause::Wake(lock),
-        Lack::Lease(lock, _) => Cause::Lease(lock),
-        Lack::OthersOut(_, _, other) => Cause::LocalHolder(other),
-        Lack::Ack(seq) => Cause::Ack(seq),
+    match unmet_need {
+        UnmetNeed::Id => Cause::Ids,
+        UnmetNeed::Object(object) | UnmetNeed::Class(object) => Cause::Object(object),
+        UnmetNeed::Mark(lock) => Cause::Wake(lock),
+        UnmetNeed::Lease(lock, _) => Cause::Lease(lock),
+        UnmetNeed::OthersOut(_, _, other) => Cause::LocalHolder(other),
+        UnmetNeed::Ack(seq) => Cause::Ack(seq),
     }
 }

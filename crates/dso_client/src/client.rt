@@ -3,27 +3,27 @@ ghost use Rattle.std.specs.Prelude.{ℕ, ◌≡◌, ◌≤◌, ◌<◌, ◌+◌,
 ghost use Rattle.std.specs.Result.{is_err};
 ghost use Rattle.dso_law.specs.Settings.{Settings, threads_of};
 ghost use Rattle.dso_machine.specs.declared.code.Code.{Code};
-ghost use Rattle.dso_machine.specs.Sound.{IsSound};
-ghost use Rattle.dso_client.specs.Acting.{Acts, HoldsAtMost, LeavesAlone};
+ghost use Rattle.dso_machine.specs.Sound.{IsSoundCode};
+ghost use Rattle.dso_client.specs.ThreadActs.{Acts, HoldsAtMost, LeavesAlone};
 ghost use Rattle.dso_client.specs.ClientStands.{ClientStands};
 ghost use Rattle.dso_client.specs.ClientViews.{IsNextVictim, records_sent};
 ghost use Rattle.dso_client.specs.CodeRuns.{RunsCode};
-ghost use Rattle.dso_client.specs.Flushing.{Flushes, IsVictimOf, NoneDue, TellsFlush};
+ghost use Rattle.dso_client.specs.ObjectFlushes.{Flushes, IsVictimOf, NoneDue, TellsFlush};
 ghost use Rattle.dso_client.specs.Spent.{WhileWhole, is_spent};
-ghost use Rattle.dso_client.specs.Taking.{Takes};
+ghost use Rattle.dso_client.specs.TakenMessages.{Takes};
 ghost use Rattle.dso_client.specs.Threads.{IsEnabled, TellsAlive, WhereAbsent};
 ghost use Rattle.dso_client.specs.declared.acted.Acted.TheVariants as acted;
-ghost use Rattle.dso_client.specs.Openings.{HasThreads, IsEmptyLedger, IsEmptyLocking, first_threads};
+ghost use Rattle.dso_client.specs.Openings.{HasThreads, AreUnusedSequences, IsEmptyLockState, first_threads};
 
 use crate::acted::Acted;
-use crate::doing::act;
-use crate::flushing::flush;
-use crate::kept::Kept;
-use crate::ledger::Ledger;
-use crate::locking::Locking;
-use crate::opening::seats;
-use crate::seat::{Seat, alive, seat_at};
-use crate::taking::take;
+use crate::client_state::ClientState;
+use crate::lock_state::LockState;
+use crate::object_flush::flush;
+use crate::opening::contexts;
+use crate::sequences::Sequences;
+use crate::taken_message::take;
+use crate::thread_act::act;
+use crate::thread_context::{ThreadContext, alive, context_at};
 use crate::turn::may_act;
 use dso_base::{Down, NoMemory, Up};
 use dso_hold::Hold;
@@ -44,14 +44,14 @@ use std::marker::Model;
 /// is answered `NoMemory`, with the refusal that spent it.
 #[derive(Drop)]
 pub struct Client {
-    kept: Kept,
+    kept: ClientState,
 }
 
 impl Model for Client {
-    ghost use Rattle.dso_client.specs.declared.kept.Kept.{Kept};
-    ghost use Rattle.dso_client.specs.contracts.kept.Kept.{the_row};
+    ghost use Rattle.dso_client.specs.declared.client_state.ClientState.{ClientState};
+    ghost use Rattle.dso_client.specs.contracts.client_state.ClientState.{the_row};
 
-    ghost Value = { Kept };
+    ghost Value = { ClientState };
 
     ghost coded = { the_row.coded };
 
@@ -59,10 +59,10 @@ impl Model for Client {
 }
 
 /// Nothing is known of locks.
-fn opening_locking(alloc: Global) -> Locking
-    ensures { IsEmptyLocking result }
+fn opening_lock_state(alloc: Global) -> LockState
+    ensures { IsEmptyLockState result }
 {
-    Locking {
+    LockState {
         holds: Hold::new(alloc),
         leases: Leases::new(alloc),
         lists: BTreeMap::new(alloc),
@@ -70,10 +70,10 @@ fn opening_locking(alloc: Global) -> Locking
 }
 
 /// No id is there, and no record was sent.
-fn opening_ledger(alloc: Global) -> Ledger
-    ensures { IsEmptyLedger result }
+fn opening_sequences(alloc: Global) -> Sequences
+    ensures { AreUnusedSequences result }
 {
-    Ledger {
+    Sequences {
         pool: IdPool::new(),
         is_asking: false,
         records: 0,
@@ -82,20 +82,25 @@ fn opening_ledger(alloc: Global) -> Ledger
 }
 
 /// What is kept of these threads before the first entry.
-fn opening_kept(alloc: Global, number: u8, seats: Vec<Seat>, table: Table) -> Kept
+fn opening_kept(
+    alloc: Global,
+    number: u8,
+    contexts: Vec<ThreadContext>,
+    table: Table,
+) -> ClientState
     ensures number { result.number ≡ number }
-    ensures seats { result.seats ≡ seats }
+    ensures contexts { result.contexts ≡ contexts }
     ensures table { result.table ≡ table }
-    ensures locking { IsEmptyLocking result.locking }
-    ensures ledger { IsEmptyLedger result.ledger }
+    ensures lock_state { IsEmptyLockState result.lock_state }
+    ensures sequences { AreUnusedSequences result.sequences }
     ensures whole { is_spent result ≡ false }
 {
-    Kept {
+    ClientState {
         number,
-        seats,
+        contexts,
         table,
-        locking: opening_locking(alloc),
-        ledger: opening_ledger(alloc),
+        lock_state: opening_lock_state(alloc),
+        sequences: opening_sequences(alloc),
         spent: None,
     }
 }
@@ -112,7 +117,7 @@ impl Client {
         threads: u8,
         resident: u32,
     ) -> Result<Client, NoMemory>
-        requires sound { IsSound code.now }
+        requires sound { IsSoundCode code.now }
         requires there { HasThreads code.now number threads }
         ensures runs { IfOk result (RunsCode code.now) }
         ensures records { IfOk result (λ client. records_sent client ≡ 0) }
@@ -121,14 +126,14 @@ impl Client {
         ensures stands { IfOk result (λ client. (p : Settings) → p.shape ≡ code.now.shape → p.resident ≡ resident
             → threads_of p number ≡ first_threads number threads → ClientStands code.now p number client []) }
     {
-        let seats = seats(alloc, code, number, threads)?;
+        let contexts = contexts(alloc, code, number, threads)?;
         match Table::new(alloc, resident) {
             Ok(table) => Ok(Client {
-                kept: opening_kept(alloc, number, seats, table),
+                kept: opening_kept(alloc, number, contexts, table),
             }),
             Err(refused) => {
-                // A call, so that the proof of this function doesn't go into the parts of seats.
-                drop(seats);
+                // A call, so that the proof of this function doesn't go into the parts of contexts.
+                drop(contexts);
                 Err(refused)
             }
         }
@@ -148,7 +153,7 @@ impl Client {
         code: &Code,
         index: u8,
     ) -> Result<(Acted, Vec<Up>), NoMemory>
-        requires sound { IsSound code.now }
+        requires sound { IsSoundCode code.now }
         requires runs { WhileWhole self.old (RunsCode code.now self.old) }
         requires few { WhileWhole self.old (records_sent self.old < 2 ^ 62) }
         requires counts { WhileWhole self.old (HoldsAtMost (2 ^ 32 - 2) self.old) }
@@ -234,8 +239,8 @@ impl Client {
         ensures enabled { IsEnabled self.now index result }
         ensures absent { WhereAbsent self.now index (result ≡ false) }
     {
-        match seat_at(&self.kept, index) {
-            Some(seat) => may_act(&self.kept, seat),
+        match context_at(&self.kept, index) {
+            Some(context) => may_act(&self.kept, context),
             None => false,
         }
     }
@@ -244,6 +249,6 @@ impl Client {
     pub fn alive(&self) -> usize
         ensures { TellsAlive self.now result }
     {
-        alive(self.kept.seats.as_slice())
+        alive(self.kept.contexts.as_slice())
     }
 }

@@ -5,12 +5,12 @@ ghost use Rattle.dso_law.specs.Threads.{own};
 ghost use Rattle.dso_law.specs.Copies.{is_resident, class_held, copy_of};
 ghost use Rattle.dso_law.specs.RequestNeeds.{is_kind, is_class, is_seen_class};
 ghost use Rattle.dso_law.specs.Replies.{class_known, value_in, value_seen};
-ghost use Rattle.dso_client.specs.Points.{Point};
+ghost use Rattle.dso_client.specs.RunPoints.{RunPoint};
 ghost use Rattle.dso_client.specs.RunFacts.{SizesAreKept};
 ghost use Rattle.dso_client.specs.TableStands.{TableStands};
 ghost use Rattle.dso_client.specs.KnownObjects.{KnowsObject, KnowsObjects};
 
-use crate::seat::Seat;
+use crate::thread_context::ThreadContext;
 use dso_base::{ClassId, Kind, Value};
 use dso_table::Table;
 
@@ -52,18 +52,22 @@ fn is_kind(kind: Kind, other: Kind) -> bool
 
 /// Whether the object is resident.
 pub(crate) fn is_resident(table: &Table, object: u64) -> bool
-    ensures { (at : Point) → TableStands at table.now → result ≡ is_resident object at.entries }
+    ensures { (at : RunPoint) → TableStands at table.now → result ≡ is_resident object at.entries }
 {
     table.get(object).is_some()
 }
 
 /// The class and size of the thread's own object, else of the copy.
-pub(crate) fn class_known(table: &Table, seat: &Seat, object: u64) -> Option<(ClassId, usize)>
-    ensures there { (at : Point) → KnowsObjects at table.now seat.now
-        → is_some result ≡ (is_some (own at.settings.shape seat.now.id object at.entries) || is_resident object at.entries) }
-    ensures known { (at : Point) → KnowsObject at table.now seat.now object → result ≡ class_known at.settings seat.now.id object at.entries }
+pub(crate) fn class_known(
+    table: &Table,
+    context: &ThreadContext,
+    object: u64,
+) -> Option<(ClassId, usize)>
+    ensures there { (at : RunPoint) → KnowsObjects at table.now context.now
+        → is_some result ≡ (is_some (own at.settings.shape context.now.id object at.entries) || is_resident object at.entries) }
+    ensures known { (at : RunPoint) → KnowsObject at table.now context.now object → result ≡ class_known at.settings context.now.id object at.entries }
 {
-    match seat.own(object) {
+    match context.own(object) {
         Some(body) => Some((body.class, body.values.len())),
         None => match table.get(object) {
             Some(body) => Some((body.class, body.values.len())),
@@ -74,7 +78,7 @@ pub(crate) fn class_known(table: &Table, seat: &Seat, object: u64) -> Option<(Cl
 
 /// The copy's value of a field.
 fn copy(table: &Table, object: u64, field: u32) -> Option<Value>
-    ensures { (at : Point) → TableStands at table.now → SizesAreKept at → is_resident object at.entries ≡ true → result ≡ copy_of object field at.entries }
+    ensures { (at : RunPoint) → TableStands at table.now → SizesAreKept at → is_resident object at.entries ≡ true → result ≡ copy_of object field at.entries }
 {
     match table.get(object) {
         Some(body) => body.values.get(field as usize).copied(),
@@ -83,13 +87,18 @@ fn copy(table: &Table, object: u64, field: u32) -> Option<Value>
 }
 
 /// The value of a field of the thread's own object, else the latest one that its open block put, else the copy's.
-pub(crate) fn field_value(table: &Table, seat: &Seat, object: u64, field: u32) -> Option<Value>
-    ensures { (at : Point) → KnowsObject at table.now seat.now object → SizesAreKept at
-        → result ≡ value_in at.settings (own at.settings.shape seat.now.id object at.entries) field (value_seen at.settings seat.now.id object field at.entries) }
+pub(crate) fn field_value(
+    table: &Table,
+    context: &ThreadContext,
+    object: u64,
+    field: u32,
+) -> Option<Value>
+    ensures { (at : RunPoint) → KnowsObject at table.now context.now object → SizesAreKept at
+        → result ≡ value_in at.settings (own at.settings.shape context.now.id object at.entries) field (value_seen at.settings context.now.id object field at.entries) }
 {
-    match seat.own(object) {
+    match context.own(object) {
         Some(body) => body.values.get(field as usize).copied(),
-        None => match seat.block.value(object, field) {
+        None => match context.block.value(object, field) {
             Some(value) => Some(value),
             None => copy(table, object, field),
         },

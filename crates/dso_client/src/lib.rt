@@ -7,7 +7,7 @@
 //!
 //! ```rust
 //! ghost use Rattle.dso_client.specs.Openings.{HasThreads};
-//! ghost use Rattle.dso_machine.specs.Sound.{IsSound};
+//! ghost use Rattle.dso_machine.specs.Sound.{IsSoundCode};
 //!
 //! use dso_base::{Down, NoMemory};
 //! use dso_client::{Acted, Client};
@@ -16,7 +16,7 @@
 //!
 //! /// What the one thread of client 1 does, where it first makes an object: it asks for ids, and has them.
 //! fn first_object(alloc: Global, code: &Code) -> Result<Acted, NoMemory>
-//!     requires sound { IsSound code.now }
+//!     requires sound { IsSoundCode code.now }
 //!     requires there { HasThreads code.now 1 1 }
 //! {
 //!     let mut client = Client::new(alloc, code, 1, 1, 4096)?;
@@ -31,38 +31,38 @@
 //! ```
 #![tactic(auto)]
 
+mod act_effect;
 mod acted;
-mod acting;
 mod answered;
-mod asking;
+mod answered_act;
+mod asked_act;
 mod cause;
 mod client;
-mod doing;
-mod fitting;
-mod flushing;
-mod going;
-mod hearing;
-mod kept;
+mod client_state;
+mod context_effect;
+mod due_lease;
+mod hand_effect;
+mod hold_effect;
 mod known_objects;
-mod lack;
 pub mod laws;
-mod ledger;
-mod living;
-mod living_hand;
-mod living_holds;
-mod living_locking;
-mod living_objects;
-mod living_seat;
-mod locking;
+mod lease_return;
+mod lock_state;
+mod lock_state_effect;
 mod locks;
+mod message_effect;
+mod message_fit;
+mod object_effect;
+mod object_flush;
 mod opening;
 mod reply;
-mod returning;
-mod seat;
-mod sending;
-mod settling;
-mod taking;
+mod sent_record;
+mod sequences;
+mod taken_message;
+mod thread_act;
+mod thread_context;
+mod thread_progress;
 mod turn;
+mod unmet_need;
 
 pub use acted::Acted;
 pub use cause::Cause;

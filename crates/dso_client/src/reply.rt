@@ -11,32 +11,32 @@ ghost use Rattle.dso_law.specs.Records.{next_id};
 ghost use Rattle.dso_law.specs.Replies.{class_known, answer_put, put_reply, enter_reply, monitor_reply, timeout_reply, first_of_list, reply_of, woken_by};
 ghost use Rattle.dso_law.specs.RequestNeeds.{hold_level, unmet};
 ghost use Rattle.dso_law.specs.Threads.{Held, is_private, hold_of, locks_of, own};
-ghost use Rattle.dso_client.specs.KeptStands.{KeptStands};
+ghost use Rattle.dso_client.specs.StateStands.{StateStands};
 ghost use Rattle.dso_client.specs.KnownObjects.{KnowsObject, KnowsObjects};
-ghost use Rattle.dso_client.specs.LedgerStands.{LedgerStands};
-ghost use Rattle.dso_client.specs.LockingStands.{LockingStands};
-ghost use Rattle.dso_client.specs.Points.{Point};
+ghost use Rattle.dso_client.specs.SequencesStand.{SequencesStand};
+ghost use Rattle.dso_client.specs.LockStateStands.{LockStateStands};
+ghost use Rattle.dso_client.specs.RunPoints.{RunPoint};
 ghost use Rattle.dso_client.specs.RunFacts.{SizesAreKept};
-ghost use Rattle.dso_client.specs.SeatStands.{SeatStands};
+ghost use Rattle.dso_client.specs.ContextStands.{ContextStands};
 ghost use Rattle.dso_client.specs.Turns.{is_of_object};
 
-use crate::kept::Kept;
+use crate::client_state::ClientState;
 use crate::known_objects::{class_known, field_value};
-use crate::ledger::Ledger;
-use crate::locking::Locking;
+use crate::lock_state::LockState;
 use crate::locks::level_held;
-use crate::seat::Seat;
+use crate::sequences::Sequences;
+use crate::thread_context::ThreadContext;
 use dso_base::{Fault, Level, LockName, Reply, Request, Shape, ThreadId, Value};
 use dso_law::guard_at;
 use dso_table::Table;
 
 /// The id of the next object, None where none is left.
-pub(crate) fn new_reply(ledger: &Ledger) -> Option<Reply>
+pub(crate) fn new_reply(sequences: &Sequences) -> Option<Reply>
     ensures listed { IfSome result (λ reply. (class : ClassId) (n : ℕ) → IsListed (request.New class n) reply) }
-    ensures next { (at : Point) → LedgerStands at ledger.now → result ≡ option_map reply.Made (next_id at.entries) }
+    ensures next { (at : RunPoint) → SequencesStand at sequences.now → result ≡ option_map reply.Made (next_id at.entries) }
 {
-    if ledger.pool.next() < ledger.pool.end() {
-        Some(Reply::Made(ledger.pool.next()))
+    if sequences.pool.next() < sequences.pool.end() {
+        Some(Reply::Made(sequences.pool.next()))
     } else {
         None
     }
@@ -50,24 +50,29 @@ fn told_size(size: usize) -> u32
 }
 
 /// The class and size of an object that is there, None where it isn't.
-pub(crate) fn look_reply(table: &Table, seat: &Seat, object: u64) -> Option<Reply>
+pub(crate) fn look_reply(table: &Table, context: &ThreadContext, object: u64) -> Option<Reply>
     ensures listed { IfSome result (IsListed (request.Look object)) }
-    ensures there { (at : Point) → KnowsObjects at table.now seat.now
-        → is_some result ≡ (is_some (own at.settings.shape seat.now.id object at.entries) || is_resident object at.entries) }
-    ensures known { (at : Point) → KnowsObject at table.now seat.now object → SizesAreKept at
-        → result ≡ option_map (λ class. reply.Seen class.0 class.1) (class_known at.settings seat.now.id object at.entries) }
+    ensures there { (at : RunPoint) → KnowsObjects at table.now context.now
+        → is_some result ≡ (is_some (own at.settings.shape context.now.id object at.entries) || is_resident object at.entries) }
+    ensures known { (at : RunPoint) → KnowsObject at table.now context.now object → SizesAreKept at
+        → result ≡ option_map (λ class. reply.Seen class.0 class.1) (class_known at.settings context.now.id object at.entries) }
 {
-    let (class, size) = class_known(table, seat, object)?;
+    let (class, size) = class_known(table, context, object)?;
     Some(Reply::Seen(class, told_size(size)))
 }
 
 /// The value of a field of an object that is there.
-pub(crate) fn get_reply(table: &Table, seat: &Seat, object: u64, field: u32) -> Option<Reply>
+pub(crate) fn get_reply(
+    table: &Table,
+    context: &ThreadContext,
+    object: u64,
+    field: u32,
+) -> Option<Reply>
     ensures listed { IfSome result (IsListed (request.Get object field)) }
-    ensures told { (at : Point) → KnowsObject at table.now seat.now object → SizesAreKept at
-        → result ≡ reply_of at.settings seat.now.id (request.Get object field) at.entries }
+    ensures told { (at : RunPoint) → KnowsObject at table.now context.now object → SizesAreKept at
+        → result ≡ reply_of at.settings context.now.id (request.Get object field) at.entries }
 {
-    match field_value(table, seat, object, field) {
+    match field_value(table, context, object, field) {
         Some(value) => Some(Reply::Val(value)),
         None => None,
     }
@@ -87,18 +92,23 @@ fn shared_put(held: Option<Level>, holds_some: bool) -> Reply
 }
 
 /// A put in a field of an object whose guard this is: done where the object is private, else by the locks.
-fn put_answer(locking: &Locking, seat: &Seat, object: u64, guard: LockName) -> Reply
+fn put_answer(
+    lock_state: &LockState,
+    context: &ThreadContext,
+    object: u64,
+    guard: LockName,
+) -> Reply
     ensures listed { (o f : ℕ) (v : Value) → IsListed (request.Put o f v) result }
-    ensures told { (at : Point) → LockingStands at locking.now → SeatStands at seat.now
-        → result ≡ cond (is_private at.settings.shape seat.now.id object at.entries) reply.Done
-        (put_reply (hold_level (hold_of seat.now.id guard at.entries)) (locks_of seat.now.id at.entries).holds) }
+    ensures told { (at : RunPoint) → LockStateStands at lock_state.now → ContextStands at context.now
+        → result ≡ cond (is_private at.settings.shape context.now.id object at.entries) reply.Done
+        (put_reply (hold_level (hold_of context.now.id guard at.entries)) (locks_of context.now.id at.entries).holds) }
 {
-    if seat.is_private(object) {
+    if context.is_private(object) {
         return Reply::Done;
     }
     shared_put(
-        level_held(locking, seat.id, guard),
-        locking.holds.any(seat.id),
+        level_held(lock_state, context.id, guard),
+        lock_state.holds.any(context.id),
     )
 }
 
@@ -135,94 +145,99 @@ fn timeout_reply(is_marked: bool) -> Reply
 
 /// A put in a field of an object that is there, None where the object has no such field.
 pub(crate) fn put_reply(
-    kept: &Kept,
+    kept: &ClientState,
     shape: &Shape,
-    seat: &Seat,
+    context: &ThreadContext,
     object: u64,
     field: u32,
 ) -> Option<Reply>
     ensures listed { IfSome result (λ reply. (v : Value) → IsListed (request.Put object field v) reply) }
-    ensures told { (at : Point) → KeptStands at kept.now → KnowsObject at kept.now.table seat.now object → at.settings.shape ≡ shape.now
-        → result ≡ answer_put at.settings seat.now.id object field (class_known at.settings seat.now.id object at.entries) at.entries }
+    ensures told { (at : RunPoint) → StateStands at kept.now → KnowsObject at kept.now.table context.now object → at.settings.shape ≡ shape.now
+        → result ≡ answer_put at.settings context.now.id object field (class_known at.settings context.now.id object at.entries) at.entries }
 {
-    let (class, size) = class_known(&kept.table, seat, object)?;
+    let (class, size) = class_known(&kept.table, context, object)?;
     if (field as usize) < size {
         let guard = guard_at(shape, class, object, field);
-        Some(put_answer(&kept.locking, seat, object, guard))
+        Some(put_answer(&kept.lock_state, context, object, guard))
     } else {
         None
     }
 }
 
 /// The answer to a request that neither makes nor looks at, reads or writes an object.
-pub(crate) fn reply(kept: &Kept, seat: &Seat, request: Request) -> Reply
+pub(crate) fn reply(kept: &ClientState, context: &ThreadContext, request: Request) -> Reply
     ensures listed { is_of_object request ≡ false → IsListed request result }
-    ensures told { (at : Point) → KeptStands at kept.now → SeatStands at seat.now → is_of_object request ≡ false
-        → reply_of at.settings seat.now.id request at.entries ≡ Some result }
+    ensures told { (at : RunPoint) → StateStands at kept.now → ContextStands at context.now → is_of_object request ≡ false
+        → reply_of at.settings context.now.id request at.entries ≡ Some result }
 {
     match request {
-        Request::Enter(lock, level) => entering_reply(&kept.locking, seat, lock, level),
+        Request::Enter(lock, level) => entering_reply(&kept.lock_state, context, lock, level),
         Request::Wait(lock) | Request::Notify(lock) | Request::NotifyAll(lock) => {
-            monitor_reply(level_held(&kept.locking, seat.id, lock))
+            monitor_reply(level_held(&kept.lock_state, context.id, lock))
         }
-        Request::Tick(_) => Reply::Val(Value::Bool(seat.is_marked)),
-        Request::Timeout(_) => timeout_reply(seat.is_marked),
+        Request::Tick(_) => Reply::Val(Value::Bool(context.is_marked)),
+        Request::Timeout(_) => timeout_reply(context.is_marked),
         _ => Reply::Done,
     }
 }
 
 /// Whether there is an answer to the request of a thread, whose needs are met.
-pub(crate) fn has_reply(kept: &Kept, seat: &Seat, request: Request) -> bool
-    ensures { (at : Point) → KeptStands at kept.now → SeatStands at seat.now → SizesAreKept at
-        → unmet at.settings at.client at.next seat.now.id request at.entries ≡ None → result ≡ is_some (reply_of at.settings seat.now.id request at.entries) }
+pub(crate) fn has_reply(kept: &ClientState, context: &ThreadContext, request: Request) -> bool
+    ensures { (at : RunPoint) → StateStands at kept.now → ContextStands at context.now → SizesAreKept at
+        → unmet at.settings at.client at.next context.now.id request at.entries ≡ None → result ≡ is_some (reply_of at.settings context.now.id request at.entries) }
 {
     match request {
-        Request::New(..) => new_reply(&kept.ledger).is_some(),
-        Request::Look(object) => look_reply(&kept.table, seat, object).is_some(),
-        Request::Get(object, field) => get_reply(&kept.table, seat, object, field).is_some(),
-        Request::Put(object, field, _) => has_field(&kept.table, seat, object, field),
+        Request::New(..) => new_reply(&kept.sequences).is_some(),
+        Request::Look(object) => look_reply(&kept.table, context, object).is_some(),
+        Request::Get(object, field) => get_reply(&kept.table, context, object, field).is_some(),
+        Request::Put(object, field, _) => has_field(&kept.table, context, object, field),
         _ => true,
     }
 }
 
 /// Whether an object that is there has the field.
-fn has_field(table: &Table, seat: &Seat, object: u64, field: u32) -> bool
-    ensures { (at : Point) → KnowsObject at table.now seat.now object
-        → result ≡ is_some (answer_put at.settings seat.now.id object field (class_known at.settings seat.now.id object at.entries) at.entries) }
+fn has_field(table: &Table, context: &ThreadContext, object: u64, field: u32) -> bool
+    ensures { (at : RunPoint) → KnowsObject at table.now context.now object
+        → result ≡ is_some (answer_put at.settings context.now.id object field (class_known at.settings context.now.id object at.entries) at.entries) }
 {
-    match class_known(table, seat, object) {
+    match class_known(table, context, object) {
         Some((_, size)) => (field as usize) < size,
         None => false,
     }
 }
 
 /// An entry is local at the monitor of a private object, and else as the lock is held.
-fn entering_reply(locking: &Locking, seat: &Seat, lock: LockName, level: Level) -> Reply
+fn entering_reply(
+    lock_state: &LockState,
+    context: &ThreadContext,
+    lock: LockName,
+    level: Level,
+) -> Reply
     ensures listed { IsListed (request.Enter lock level) result }
-    ensures told { (at : Point) → LockingStands at locking.now → SeatStands at seat.now
-        → Some result ≡ reply_of at.settings seat.now.id (request.Enter lock level) at.entries }
+    ensures told { (at : RunPoint) → LockStateStands at lock_state.now → ContextStands at context.now
+        → Some result ≡ reply_of at.settings context.now.id (request.Enter lock level) at.entries }
 {
-    if seat.is_local(lock) {
+    if context.is_local(lock) {
         Reply::Local
     } else {
-        enter_reply(level, level_held(locking, seat.id, lock))
+        enter_reply(level, level_held(lock_state, context.id, lock))
     }
 }
 
 /// Whom a thread wakes: a notification that is done wakes the first of the lock's list.
-pub(crate) fn woken(locking: &Locking, request: Request, reply: Reply) -> Option<ThreadId>
-    ensures { (at : Point) → LockingStands at locking.now → result ≡ woken_by request reply at.entries }
+pub(crate) fn woken(lock_state: &LockState, request: Request, reply: Reply) -> Option<ThreadId>
+    ensures { (at : RunPoint) → LockStateStands at lock_state.now → result ≡ woken_by request reply at.entries }
 {
     match (request, reply) {
-        (Request::Notify(lock), Reply::Done) => first_listed(locking, lock),
+        (Request::Notify(lock), Reply::Done) => first_listed(lock_state, lock),
         _ => None,
     }
 }
 
 /// The first thread in the list of the lock.
-fn first_listed(locking: &Locking, lock: LockName) -> Option<ThreadId>
-    ensures { (at : Point) → LockingStands at locking.now → result ≡ first_of_list (client_list lock at.entries) }
+fn first_listed(lock_state: &LockState, lock: LockName) -> Option<ThreadId>
+    ensures { (at : RunPoint) → LockStateStands at lock_state.now → result ≡ first_of_list (client_list lock at.entries) }
 {
-    let list = locking.lists.get(&lock)?;
+    let list = lock_state.lists.get(&lock)?;
     list.all().first().copied()
 }

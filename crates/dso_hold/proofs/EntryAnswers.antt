@@ -7,13 +7,13 @@ use Rattle.dso_base.specs.declared.lock.LockName.{LockName}
 use Rattle.dso_base.specs.declared.lock.ThreadId.{ThreadId}
 use Rattle.dso_hold.specs.declared.held.Enter.TheVariants.{Entered}
 use Rattle.dso_hold.specs.declared.held.Held.{Held}
-use Rattle.dso_hold.specs.declared.tables.Tables.{Tables}
+use Rattle.dso_hold.specs.declared.tables.HoldTables.{HoldTables}
 use Rattle.dso_hold.specs.Holds.{hold_in, with_hold, excludes, is_lower, is_upgrade, entered, entered_again, NoConflict, IsAnswer}
-use Rattle.dso_hold.specs.Tables.{IndexesAgree, IsExclusive, HoldsAgree}
+use Rattle.dso_hold.specs.HoldTables.{IndexesAgree, IsExclusive, HoldsAgree}
 use Rattle.dso_hold.proofs.Exclusion.{exclusive_changed, no_conflict_within}
 
 -- tables that list by thread what they have by lock, where that is exclusive
-pub agree_as : (new : Tables) (holds : LockName × ThreadId → Option Held) → hold_in new ≡ holds → IsExclusive holds → IndexesAgree new → HoldsAgree new
+pub agree_as : (new : HoldTables) (holds : LockName × ThreadId → Option Held) → hold_in new ≡ holds → IsExclusive holds → IndexesAgree new → HoldsAgree new
 agree_as new holds is alone indexes = record { indexes = indexes; exclusive = subst (λ h. IsExclusive h) (sym is) alone }
 
 module _ (old new : LockName × ThreadId → Option Held) (l : LockName) (t : ThreadId) where

@@ -7,7 +7,7 @@ use Rattle.dso_base.specs.declared.lock.LockName.{LockName}
 use Rattle.dso_base.specs.declared.lock.ThreadId.{ThreadId}
 use Rattle.dso_hold.specs.declared.held.Held.{Held}
 use Rattle.dso_hold.specs.Holds.{is_place, with_hold, is_lower, excludes, NoConflict}
-use Rattle.dso_hold.specs.Tables.{IsExclusive}
+use Rattle.dso_hold.specs.HoldTables.{IsExclusive}
 use Rattle.dso_hold.proofs.Places.{same_place, one_written}
 use Rattle.dso_lookup.specs.Maps.{or_old}
 

@@ -5,10 +5,10 @@ use Rattle.std.specs.BTreeMap.{BTreeMap, is_at}
 use Rattle.dso_base.specs.declared.lock.LockName.{LockName}
 use Rattle.dso_base.specs.declared.lock.ThreadId.{ThreadId}
 use Rattle.dso_hold.specs.declared.held.Held.{Held}
-use Rattle.dso_hold.specs.declared.tables.Tables.{Tables}
+use Rattle.dso_hold.specs.declared.tables.HoldTables.{HoldTables}
 use Rattle.dso_lookup.specs.Orders.{lock_order, thread_order}
 use Rattle.dso_hold.specs.Holds.{hold_in, is_place, with_hold}
-use Rattle.dso_hold.specs.Tables.{IndexesAgree}
+use Rattle.dso_hold.specs.HoldTables.{IndexesAgree}
 use Rattle.dso_hold.proofs.Places.{one_written, written_again}
 use Rattle.dso_lookup.specs.Maps.{writes, or_old, written}
 use Rattle.dso_lookup.specs.Rows.{look_in, is_at_pair}
@@ -32,7 +32,7 @@ both_changed l t lock held f f' g g' alike first second same m u = ap (λ h. is_
     by true = alike
     by false = same m u
 
-module _ (old new : Tables) (agree : IndexesAgree old) (l : LockName) (t : ThreadId) where
+module _ (old new : HoldTables) (agree : IndexesAgree old) (l : LockName) (t : ThreadId) where
   -- nothing changed
   pub agree_same : look_in thread_order lock_order new.by_thread ≡ look_in thread_order lock_order old.by_thread → hold_in new ≡ hold_in old → IndexesAgree new
   agree_same threads locks = record { listed = λ m u. ap (λ f. is_some (f (u, m))) threads ∙ (agree.listed m u ∙ sym (ap (λ g. is_some (g (m, u))) locks)) }

@@ -9,7 +9,7 @@ use Rattle.dso_base.specs.declared.lock.ThreadId.{ThreadId}
 use Rattle.dso_hold.specs.declared.held.Enter.{Enter}
 use Rattle.dso_hold.specs.declared.held.Enter.TheVariants.{Entered, LockUpgrade, Blocked}
 use Rattle.dso_hold.specs.declared.held.Held.{Held}
-use Rattle.dso_hold.specs.declared.tables.Tables.{Tables}
+use Rattle.dso_hold.specs.declared.tables.HoldTables.{HoldTables}
 use Rattle.dso_lookup.specs.Maps.{writes, written}
 use Rattle.dso_lookup.specs.Orders.{lock_order, thread_order}
 use Rattle.dso_lookup.specs.Rows.{look_in, is_at_pair}
@@ -19,7 +19,7 @@ abbrev pub is_before : ThreadId → ThreadId → Bool
 is_before t u = is_lt (thread_order t u)
 
 -- how the thread holds the lock, None where it doesn't
-abbrev pub hold_in : Tables → LockName × ThreadId → Option Held
+abbrev pub hold_in : HoldTables → LockName × ThreadId → Option Held
 hold_in tables = look_in lock_order thread_order tables.by_lock
 
 -- the key is this lock with this thread

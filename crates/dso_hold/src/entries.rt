@@ -2,17 +2,17 @@
 ghost use Rattle.std.specs.Prelude.{◌≡◌, ◌+◌, ◌^◌, ◌<◌, false, None, IfOk, OnErr, Some};
 ghost use Rattle.dso_hold.specs.declared.held.Enter.TheVariants.{Entered};
 ghost use Rattle.dso_hold.specs.Holds.{hold_in, with_hold, count_at, exited, is_lower, HoldsEnough, IsAnswer};
-ghost use Rattle.dso_hold.specs.Tables.{HoldsAgree};
+ghost use Rattle.dso_hold.specs.HoldTables.{HoldsAgree};
 
 use crate::held::{Enter, Held};
-use crate::tables::{Tables, add, change, first_in_conflict, held, take_out};
+use crate::tables::{HoldTables, add, change, first_in_conflict, held, take_out};
 use dso_base::{Level, LockName, NoMemory, ThreadId};
 use std::alloc::Global;
 
 /// The first entry of a thread that doesn't hold the lock.
 fn enter_first(
     alloc: Global,
-    tables: &mut Tables,
+    tables: &mut HoldTables,
     thread: ThreadId,
     lock: LockName,
     own: Held,
@@ -32,7 +32,7 @@ fn enter_first(
 
 /// An entry of a thread that holds the lock.
 fn enter_again(
-    tables: &mut Tables,
+    tables: &mut HoldTables,
     thread: ThreadId,
     lock: LockName,
     own: Held,
@@ -55,7 +55,7 @@ fn enter_again(
 /// The entry of a thread, so many times and at the level that it wants.
 pub(crate) fn enter(
     alloc: Global,
-    tables: &mut Tables,
+    tables: &mut HoldTables,
     thread: ThreadId,
     lock: LockName,
     wanted: Held,
@@ -74,7 +74,7 @@ pub(crate) fn enter(
 }
 
 /// The exit of a thread, so many times.
-pub(crate) fn exit(tables: &mut Tables, thread: ThreadId, lock: LockName, count: u32) -> u32
+pub(crate) fn exit(tables: &mut HoldTables, thread: ThreadId, lock: LockName, count: u32) -> u32
     requires { HoldsAgree tables.old }
     ensures left { result ≡ count_at (exited count (hold_in tables.old (lock, thread))) }
     ensures holds { hold_in tables.new ≡ with_hold lock thread (exited count (hold_in tables.old (lock, thread))) (hold_in tables.old) }

@@ -5,7 +5,7 @@ ghost use Rattle.dso_hold.specs.Holds.{hold_in, with_hold, level_at, count_at, e
 
 use crate::entries::{enter, exit};
 use crate::held::{Enter, Held};
-use crate::tables::{Tables, first_in_conflict, held, holds_some, is_free};
+use crate::tables::{HoldTables, first_in_conflict, held, holds_some, is_free};
 use dso_base::{Level, LockName, NoMemory, ThreadId};
 use std::alloc::Global;
 use std::collections::BTreeMap;
@@ -17,15 +17,15 @@ use std::marker::Model;
 /// holds stand by lock, monitors before names, and then by thread. Each call costs the logarithm of their number.
 #[derive(Drop)]
 pub struct Hold {
-    tables: Tables,
+    tables: HoldTables,
 }
 
 impl Model for Hold {
-    ghost use Rattle.dso_hold.specs.declared.tables.Tables.{Tables};
-    ghost use Rattle.dso_hold.specs.contracts.tables.Tables.{the_row};
-    ghost use Rattle.dso_hold.specs.Tables.{HoldsAgree};
+    ghost use Rattle.dso_hold.specs.declared.tables.HoldTables.{HoldTables};
+    ghost use Rattle.dso_hold.specs.contracts.tables.HoldTables.{the_row};
+    ghost use Rattle.dso_hold.specs.HoldTables.{HoldsAgree};
 
-    ghost Value = { Tables };
+    ghost Value = { HoldTables };
 
     ghost coded = { the_row.coded };
 
@@ -39,7 +39,7 @@ impl Hold {
     pub fn new(alloc: Global) -> Hold
         ensures { hold_in result ≡ (λ _. None) }
     {
-        let tables = Tables {
+        let tables = HoldTables {
             by_lock: BTreeMap::new(alloc),
             by_thread: BTreeMap::new(alloc),
         };

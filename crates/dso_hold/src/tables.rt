@@ -1,11 +1,11 @@
-//! The tables of holds: by lock, and by thread (`specs/Tables.antt`).
+//! The tables of holds: by lock, and by thread (`specs/HoldTables.antt`).
 ghost use Rattle.std.specs.Prelude.{◌≡◌, ◌≢◌, ◌↔◌, true, false, None, Some, is_some, IsTrue, IfNone, IfSome, OnOk, OnErr};
 ghost use Rattle.dso_base.specs.declared.lock.ThreadId.{ThreadId};
 ghost use Rattle.dso_base.specs.declared.lock.LockName.{LockName};
 ghost use Rattle.dso_lookup.specs.Maps.{look};
 ghost use Rattle.dso_lookup.specs.Orders.{thread_order};
 ghost use Rattle.dso_hold.specs.Holds.{hold_in, with_hold, is_before, HoldsSome, IsFree, NoConflict, IsFirstInConflict};
-ghost use Rattle.dso_hold.specs.Tables.{IndexesAgree, HoldsAgree};
+ghost use Rattle.dso_hold.specs.HoldTables.{IndexesAgree, HoldsAgree};
 
 use crate::held::Held;
 use dso_base::{Level, LockName, NoMemory, ThreadId};
@@ -15,20 +15,20 @@ use std::collections::BTreeMap;
 
 /// The holds stand by lock and then by thread; `by_thread` tells the locks that a thread holds.
 #[derive(Drop)]
-pub struct Tables {
+pub struct HoldTables {
     pub by_lock: BTreeMap<LockName, BTreeMap<ThreadId, Held>>,
     pub by_thread: BTreeMap<ThreadId, BTreeMap<LockName, ()>>,
 }
 
 /// How the thread holds the lock, None where it doesn't.
-pub(crate) fn held(tables: &Tables, lock: LockName, thread: ThreadId) -> Option<Held>
+pub(crate) fn held(tables: &HoldTables, lock: LockName, thread: ThreadId) -> Option<Held>
     ensures { result ≡ hold_in tables.now (lock, thread) }
 {
     find_in(&tables.by_lock, &lock, &thread).copied()
 }
 
 /// Whether the thread holds some lock.
-pub(crate) fn holds_some(tables: &Tables, thread: ThreadId) -> bool
+pub(crate) fn holds_some(tables: &HoldTables, thread: ThreadId) -> bool
     requires { IndexesAgree tables.now }
     ensures { IsTrue result ↔ HoldsSome thread (hold_in tables.now) }
 {
@@ -36,7 +36,7 @@ pub(crate) fn holds_some(tables: &Tables, thread: ThreadId) -> bool
 }
 
 /// Whether nobody holds the lock.
-pub(crate) fn is_free(tables: &Tables, lock: LockName) -> bool
+pub(crate) fn is_free(tables: &HoldTables, lock: LockName) -> bool
     ensures { IsTrue result ↔ IsFree lock (hold_in tables.now) }
 {
     is_row_empty(&tables.by_lock, &lock)
@@ -59,7 +59,7 @@ fn first_but(row: &BTreeMap<ThreadId, Held>, thread: ThreadId) -> Option<(Thread
 }
 
 /// The first other thread that holds the lock, and how, None where no other does.
-fn first_other(tables: &Tables, lock: LockName, thread: ThreadId) -> Option<(ThreadId, Held)>
+fn first_other(tables: &HoldTables, lock: LockName, thread: ThreadId) -> Option<(ThreadId, Held)>
     ensures nobody { IfNone result ((u : ThreadId) → u ≢ thread → hold_in tables.now (lock, u) ≡ None) }
     ensures other { IfSome result (λ first. first.0 ≢ thread) }
     ensures holder { IfSome result (λ first. hold_in tables.now (lock, first.0) ≡ Some first.1) }
@@ -71,7 +71,7 @@ fn first_other(tables: &Tables, lock: LockName, thread: ThreadId) -> Option<(Thr
 
 /// The first other thread that holds the lock in conflict with an entry of this one at the level.
 pub(crate) fn first_in_conflict(
-    tables: &Tables,
+    tables: &HoldTables,
     lock: LockName,
     thread: ThreadId,
     level: Level,
@@ -89,7 +89,7 @@ pub(crate) fn first_in_conflict(
 /// Adds a hold. It answers `NoMemory` where an allocation was refused, and the holds are then as before.
 pub(crate) fn add(
     alloc: Global,
-    tables: &mut Tables,
+    tables: &mut HoldTables,
     lock: LockName,
     thread: ThreadId,
     held: Held,
@@ -111,7 +111,7 @@ pub(crate) fn add(
 }
 
 /// Changes a hold that is there. It takes no memory.
-pub(crate) fn change(tables: &mut Tables, lock: LockName, thread: ThreadId, held: Held)
+pub(crate) fn change(tables: &mut HoldTables, lock: LockName, thread: ThreadId, held: Held)
     requires agree { IndexesAgree tables.old }
     requires there { is_some (hold_in tables.old (lock, thread)) ≡ true }
     ensures holds { hold_in tables.new ≡ with_hold lock thread (Some held) (hold_in tables.old) }
@@ -121,7 +121,7 @@ pub(crate) fn change(tables: &mut Tables, lock: LockName, thread: ThreadId, held
 }
 
 /// Takes a hold out. It takes no memory.
-pub(crate) fn take_out(tables: &mut Tables, lock: LockName, thread: ThreadId)
+pub(crate) fn take_out(tables: &mut HoldTables, lock: LockName, thread: ThreadId)
     requires agree { IndexesAgree tables.old }
     ensures holds { hold_in tables.new ≡ with_hold lock thread None (hold_in tables.old) }
     ensures agree { IndexesAgree tables.new }

@@ -9,7 +9,7 @@ use Rattle.dso_law.specs.Entries.{entries_of}
 use Rattle.dso_law.specs.Settings.{Settings, clients_of}
 use Rattle.dso_machine.specs.declared.code.Code.{Code}
 use Rattle.dso_machine.specs.Next.{next_request}
-use Rattle.dso_machine.specs.Sound.{IsSound}
+use Rattle.dso_machine.specs.Sound.{IsSoundCode}
 use Rattle.dso_legal.specs.Lawful.{IsLawful}
 use Rattle.dso_cell.specs.Logs.{IsLocalRun}
 use Rattle.dso_line.specs.Letters.{KeepsClock, KeepsConnections, letters_of}
@@ -41,6 +41,6 @@ pub record AreMerged (log : Node → List Entry) (es : List Entry) : Type 0 wher
 -- Merged logs: the journal that the logs of a cluster make, by their clocks, is lawful for sound code, where there are
 -- fewer than 2 ^ 54 entries.
 abbrev pub MergedIsLawful : Type 0
-MergedIsLawful = (code : Code) (p : Settings) → IsSound code → p.shape ≡ code.shape
+MergedIsLawful = (code : Code) (p : Settings) → IsSoundCode code → p.shape ≡ code.shape
     → (log : Node → List Entry) (es : List Entry) → AreLogs code p log → AreMerged log es → length es < 2 ^ 54
     → IsLawful p (next_request code) es

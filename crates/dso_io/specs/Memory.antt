@@ -39,13 +39,13 @@ after_put sink bytes =
     else record sink { calls = counted sink.calls; bytes = sink.bytes ++ take (room_for sink (length bytes)) bytes }
 
 -- a put of these bytes is answered so: it fails, or takes what there is room for
-abbrev pub Answers : MemorySink → List ℕ → Result ℕ Failed → Type 0
-Answers sink bytes (Ok count) = (fails_put sink bytes ≡ false) × (count ≡ room_for sink (length bytes))
-Answers sink bytes (Err fault) = fails_put sink bytes ≡ true
+abbrev pub AnswersWrite : MemorySink → List ℕ → Result ℕ Failed → Type 0
+AnswersWrite sink bytes (Ok count) = (fails_put sink bytes ≡ false) × (count ≡ room_for sink (length bytes))
+AnswersWrite sink bytes (Err fault) = fails_put sink bytes ≡ true
 
 -- what is told of a put: all of it
 abbrev pub IsPut : MemorySink → List ℕ → Result ℕ Failed → MemorySink → Type 0
-IsPut sink bytes answer next = Answers sink bytes answer × (next ≡ after_put sink bytes)
+IsPut sink bytes answer next = AnswersWrite sink bytes answer × (next ≡ after_put sink bytes)
 
 -- The files: names with bytes, the one written last first; the numbers of the calls that are to fail, and how many
 -- calls there were; the names of the files whose reads failed, the latest first, and how many writes failed.

@@ -61,9 +61,9 @@ module _ (p : Settings) (c : ℕ) (next : ThreadId → Option Request) where
   is_free l es = not (list_any (λ t. not (is_none (hold_of t l es))) (threads_of p c))
 
   -- a lease is to be given back where it is closing and entered and no thread of the client holds the lock
-  abbrev pub is_due : LockName → List Entry → Bool
-  is_due l es = is_closing l es && (is_entered l es && is_free l es)
+  abbrev pub is_lease_due : LockName → List Entry → Bool
+  is_lease_due l es = is_closing l es && (is_entered l es && is_free l es)
 
   -- the locks whose leases are to be given back, rising, monitors first
   abbrev pub due : List Entry → List LockName
-  due es = filter (λ l. is_due l es) (leased_locks es)
+  due es = filter (λ l. is_lease_due l es) (leased_locks es)

@@ -14,7 +14,7 @@ use Rattle.dso_law.specs.Records.{id_at, next_id, unacked}
 use Rattle.dso_law.specs.Replies.{class_of_body}
 use Rattle.dso_law.specs.Leases.{leased}
 use Rattle.dso_law.specs.Threads.{is_local}
-use Rattle.dso_law.specs.Closing.{is_read, awaits_write, is_closing, admits, is_free, is_due}
+use Rattle.dso_law.specs.Closing.{is_read, awaits_write, is_closing, admits, is_free, is_lease_due}
 use Rattle.dso_law.specs.ClientStep.{changes_object}
 use Rattle.dso_law.specs.HeldBody.{held_body}
 use Rattle.dso_law.specs.ChangeMarks.{change_mark, last_change, AcksInOrder}
@@ -50,7 +50,7 @@ pub record TellsLease (p : Settings) (c : ℕ) (next : ThreadId → Option Reque
   pub level : option_map (λ lease. lease.level) (lease_of p c next l es) ≡ leased l es
   pub admits_so : (lease : Lease) → lease_of p c next l es ≡ Some lease
       → admits p c next l es ≡ (not lease.is_closing || not lease.is_entered)
-  pub due_so : (is_some (leased l es) && is_due p c next l es) ≡ option_map_or
+  pub due_so : (is_some (leased l es) && is_lease_due p c next l es) ≡ option_map_or
       (λ lease. lease.is_closing && (lease.is_entered && is_free p c next l es)) (lease_of p c next l es) false
 
 -- Leases: so of each lock, whatever the entries are.

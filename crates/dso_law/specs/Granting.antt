@@ -14,24 +14,24 @@ use Rattle.dso_base.specs.declared.message.Down.TheVariants as down
 use Rattle.dso_base.specs.declared.message.Up.{Up}
 use Rattle.dso_base.specs.declared.message.Up.TheVariants as up
 use Rattle.dso_plain.specs.KeyTests.{is_lock}
-use Rattle.dso_law.specs.declared.readings.Standing.{Standing}
+use Rattle.dso_law.specs.declared.readings.LockStanding.{LockStanding}
 use Rattle.dso_law.specs.Settings.{Settings, clients_of}
 use Rattle.dso_law.specs.Entries.{by_sent_down}
 use Rattle.dso_law.specs.Leases.{idle, standing_up, standing_down, insert_lock}
 use Rattle.dso_law.specs.RequestNeeds.{conflicts}
 
 -- what an input makes of how a lock stands with client c: its messages, as they are taken, and its loss
-abbrev pub standing_by : ℕ → LockName → Input → Standing → Standing
+abbrev pub standing_by : ℕ → LockName → Input → LockStanding → LockStanding
 standing_by c l (TookUp d m) s = cond (eqb c d) (standing_up l m s) s
 standing_by c l (Lose d) s = cond (eqb c d) idle s
 standing_by c l input s = s
 
 -- what a message to client d makes of how a lock stands with client c, as it is sent
-abbrev pub standing_by_sent : ℕ → LockName → ℕ → Down → Standing → Standing
+abbrev pub standing_by_sent : ℕ → LockName → ℕ → Down → LockStanding → LockStanding
 standing_by_sent c l d m s = cond (eqb c d) (standing_down l m s) s
 
 -- how the lock stands with the client, as the server sees it
-abbrev pub standing_with : ℕ → LockName → List Entry → Standing
+abbrev pub standing_with : ℕ → LockName → List Entry → LockStanding
 standing_with c l [] = idle
 standing_with c l (e ∷ es) = by_sent_down (standing_by_sent c l) e.sent (standing_by c l e.input (standing_with c l es))
 

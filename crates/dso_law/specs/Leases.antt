@@ -17,30 +17,30 @@ use Rattle.dso_base.specs.declared.request.Request.{Request}
 use Rattle.dso_base.specs.declared.request.Request.TheVariants.{New, Look, Get, Put, Enter, Exit, Wait, Tick, Timeout}
 use Rattle.dso_base.specs.declared.request.Request.TheVariants.{Resume, Notify, NotifyAll, Print, End, Pause, Settle}
 use Rattle.dso_plain.specs.KeyTests.{is_lock}
-use Rattle.dso_law.specs.declared.readings.Standing.{Standing}
+use Rattle.dso_law.specs.declared.readings.LockStanding.{LockStanding}
 use Rattle.dso_law.specs.Entries.{by_taken_down, by_sent_up, by_event}
 
 -- neither leased nor asked for
-abbrev pub idle : Standing
+abbrev pub idle : LockStanding
 idle = record { lease = None; is_asked = false }
 
 -- a request asks for the lock, a return gives its lease up
-abbrev pub standing_up : LockName → Up → Standing → Standing
+abbrev pub standing_up : LockName → Up → LockStanding → LockStanding
 standing_up l (up.Request k level) s = cond (is_lock l k) (record s { is_asked = true }) s
 standing_up l (up.Return k threads) s = cond (is_lock l k) (record s { lease = None }) s
 standing_up l m s = s
 
 -- a grant gives the lease, and the lock is no longer asked for
-abbrev pub standing_down : LockName → Down → Standing → Standing
+abbrev pub standing_down : LockName → Down → LockStanding → LockStanding
 standing_down l (down.Grant k level) s = cond (is_lock l k) (record { lease = Some level; is_asked = false }) s
 standing_down l m s = s
 
 -- what an entry of the client makes of it
-abbrev pub standing_after : LockName → Entry → Standing → Standing
+abbrev pub standing_after : LockName → Entry → LockStanding → LockStanding
 standing_after l e s = by_sent_up (standing_up l) e.sent (by_taken_down (standing_down l) e.input s)
 
 -- how the lock stands, as the client sees it
-abbrev pub standing : LockName → List Entry → Standing
+abbrev pub standing : LockName → List Entry → LockStanding
 standing l [] = idle
 standing l (e ∷ es) = standing_after l e (standing l es)
 

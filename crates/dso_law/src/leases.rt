@@ -5,7 +5,7 @@ ghost use Rattle.dso_plain.specs.KeyTests.{is_lock};
 ghost use Rattle.dso_law.specs.Entries.{newest_first, entries_of, by_taken_down, one_sent_up};
 ghost use Rattle.dso_law.specs.Leases.{leased, standing, standing_up, standing_down, standing_after};
 
-use crate::Standing;
+use crate::LockStanding;
 use crate::entries::Entries;
 use crate::readings::is_client;
 use dso_base::{Down, Entry, Input, Journal, Level, LockName, Sent, Up};
@@ -18,10 +18,10 @@ pub fn leased(journal: &Journal, client: u8, lock: LockName) -> Option<Level>
 }
 
 /// How the lock stands with the client after these entries.
-fn standing(entries: &Entries<'_>, client: u8, lock: LockName) -> Standing
+fn standing(entries: &Entries<'_>, client: u8, lock: LockName) -> LockStanding
     ensures { result ≡ standing lock (entries_of (Client client) entries.now) }
 {
-    let mut standing = Standing {
+    let mut standing = LockStanding {
         lease: None,
         is_asked: false,
     };
@@ -45,7 +45,7 @@ fn is_lock(lock: LockName, other: LockName) -> bool
 }
 
 /// How the lock stands after one more entry of the client.
-fn standing_after(entry: &Entry, lock: LockName, before: Standing) -> Standing
+fn standing_after(entry: &Entry, lock: LockName, before: LockStanding) -> LockStanding
     ensures { result ≡ standing_after lock entry.now before }
 {
     let mut standing = standing_by_taken(&entry.input, lock, before);
@@ -56,12 +56,12 @@ fn standing_after(entry: &Entry, lock: LockName, before: Standing) -> Standing
 }
 
 /// What the message that an entry takes makes of how the lock stands.
-fn standing_by_taken(input: &Input, lock: LockName, before: Standing) -> Standing
+fn standing_by_taken(input: &Input, lock: LockName, before: LockStanding) -> LockStanding
     ensures { result ≡ by_taken_down (standing_down lock) input.now before }
 {
     match input {
         Input::TookDown(Down::Grant(name, level)) => if is_lock(lock, *name) {
-            Standing {
+            LockStanding {
                 lease: Some(*level),
                 is_asked: false,
             }
@@ -73,12 +73,12 @@ fn standing_by_taken(input: &Input, lock: LockName, before: Standing) -> Standin
 }
 
 /// What a message sent makes of how the lock stands.
-fn standing_by_sent(sent: &Sent, lock: LockName, before: Standing) -> Standing
+fn standing_by_sent(sent: &Sent, lock: LockName, before: LockStanding) -> LockStanding
     ensures { result ≡ one_sent_up (standing_up lock) before sent.now }
 {
     match sent {
         Sent::ToServer(Up::Request(name, _)) => if is_lock(lock, *name) {
-            Standing {
+            LockStanding {
                 lease: before.lease,
                 is_asked: true,
             }
@@ -86,7 +86,7 @@ fn standing_by_sent(sent: &Sent, lock: LockName, before: Standing) -> Standing
             before
         },
         Sent::ToServer(Up::Return(name, _)) => if is_lock(lock, *name) {
-            Standing {
+            LockStanding {
                 lease: None,
                 is_asked: before.is_asked,
             }

@@ -14,5 +14,5 @@ mod shapes;
 
 pub use copies::copy_of;
 pub use leases::leased;
-pub use readings::Standing;
+pub use readings::LockStanding;
 pub use shapes::{fits_shape, guard_at, kind_at};

@@ -7,7 +7,7 @@ use dso_base::{Level, Node};
 
 /// How a lock stands with a client: its lease, and whether one is asked for.
 #[derive(Clone, Copy, Debug, PartialEq, Eq)]
-pub struct Standing {
+pub struct LockStanding {
     pub lease: Option<Level>,
     pub is_asked: bool,
 }

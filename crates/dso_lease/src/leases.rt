@@ -6,7 +6,7 @@ ghost use Rattle.dso_lookup.specs.Maps.{look};
 ghost use Rattle.dso_lookup.specs.Orders.{lock_order};
 ghost use Rattle.dso_lease.specs.Leases.{standing_in, with_standing, answer, after_want, entered, recalled, granted_at, is_asked, is_leased, is_returned, level_of, was_entered, is_closing, is_admitted};
 
-use crate::standing::{Lease, Standing, Want};
+use crate::standing::{Lease, LeaseStanding, Want};
 use dso_base::{Level, LockName, NoMemory};
 use std::alloc::Global;
 use std::collections::BTreeMap;
@@ -17,11 +17,11 @@ use std::collections::BTreeMap;
 /// Each call costs the logarithm of the number of these locks.
 #[derive(Drop)]
 pub struct Leases {
-    locks: BTreeMap<LockName, Standing>,
+    locks: BTreeMap<LockName, LeaseStanding>,
 }
 
 /// Changes how a lock stands that is not idle. It takes no memory.
-fn stand(locks: &mut BTreeMap<LockName, Standing>, lock: LockName, standing: Standing)
+fn stand(locks: &mut BTreeMap<LockName, LeaseStanding>, lock: LockName, standing: LeaseStanding)
     requires { is_some (look lock_order locks.old lock) ≡ true }
     ensures { look lock_order locks.new ≡ with_standing lock (Some standing) (look lock_order locks.old) }
 {
@@ -57,7 +57,7 @@ impl Leases {
     {
         match self.standing(lock) {
             None => {
-                self.locks.insert(lock, Standing::Asked)?;
+                self.locks.insert(lock, LeaseStanding::Asked)?;
                 Ok(Want::Ask(level))
             }
             Some(standing) => {
@@ -91,7 +91,7 @@ impl Leases {
             is_entered: false,
             is_closing: false,
         };
-        stand(&mut self.locks, lock, Standing::Leased(lease));
+        stand(&mut self.locks, lock, LeaseStanding::Leased(lease));
         true
     }
 
@@ -103,7 +103,7 @@ impl Leases {
         ensures unchanged { OnFalse result (standing_in self.new ≡ standing_in self.old) }
     {
         match self.standing(lock) {
-            Some(standing @ Standing::Leased(_)) => {
+            Some(standing @ LeaseStanding::Leased(_)) => {
                 stand(&mut self.locks, lock, standing.recalled());
                 true
             }
@@ -128,7 +128,7 @@ impl Leases {
     }
 
     /// How the lock stands, None where it is neither leased nor asked for. It takes no memory.
-    pub fn standing(&self, lock: LockName) -> Option<Standing>
+    pub fn standing(&self, lock: LockName) -> Option<LeaseStanding>
         ensures { result ≡ standing_in self.now lock }
     {
         self.locks.get(&lock).copied()
@@ -139,7 +139,7 @@ impl Leases {
         ensures { result ≡ level_of (standing_in self.now lock) }
     {
         match self.standing(lock) {
-            Some(Standing::Leased(lease)) => Some(lease.level),
+            Some(LeaseStanding::Leased(lease)) => Some(lease.level),
             _ => None,
         }
     }
@@ -149,7 +149,7 @@ impl Leases {
         ensures { result ≡ is_asked (standing_in self.now lock) }
     {
         match self.standing(lock) {
-            Some(Standing::Asked) => true,
+            Some(LeaseStanding::Asked) => true,
             _ => false,
         }
     }
@@ -159,7 +159,7 @@ impl Leases {
         ensures { result ≡ was_entered (standing_in self.now lock) }
     {
         match self.standing(lock) {
-            Some(Standing::Leased(lease)) => lease.is_entered,
+            Some(LeaseStanding::Leased(lease)) => lease.is_entered,
             _ => false,
         }
     }
@@ -169,7 +169,7 @@ impl Leases {
         ensures { result ≡ is_closing (standing_in self.now lock) }
     {
         match self.standing(lock) {
-            Some(Standing::Leased(lease)) => lease.is_closing,
+            Some(LeaseStanding::Leased(lease)) => lease.is_closing,
             _ => false,
         }
     }
@@ -179,7 +179,7 @@ impl Leases {
         ensures { result ≡ is_admitted level inner (standing_in self.now lock) }
     {
         match self.standing(lock) {
-            Some(Standing::Leased(lease)) => lease.admits(level, inner),
+            Some(LeaseStanding::Leased(lease)) => lease.admits(level, inner),
             _ => false,
         }
     }

@@ -5,4 +5,4 @@ mod leases;
 mod standing;
 
 pub use leases::Leases;
-pub use standing::{Lease, Standing, Want};
+pub use standing::{Lease, LeaseStanding, Want};

@@ -14,7 +14,7 @@ pub struct Lease {
 
 /// How a lock stands that is not idle: it was asked for, or it is leased.
 #[derive(Clone, Copy, Debug, PartialEq, Eq)]
-pub enum Standing {
+pub enum LeaseStanding {
     Asked,
     Leased(Lease),
 }
@@ -51,25 +51,25 @@ impl Lease {
     }
 }
 
-impl Standing {
+impl LeaseStanding {
     /// What a thread is told that wants to enter, where the lock stands so.
     pub(crate) fn answer(self, level: Level, inner: bool) -> Want
         ensures { result ≡ answer_of level inner self }
     {
         match self {
-            Standing::Asked => Want::Waiting,
-            Standing::Leased(lease) if lease.admits(level, inner) => Want::Held,
-            Standing::Leased(_) => Want::Closing,
+            LeaseStanding::Asked => Want::Waiting,
+            LeaseStanding::Leased(lease) if lease.admits(level, inner) => Want::Held,
+            LeaseStanding::Leased(_) => Want::Closing,
         }
     }
 
     /// How the lock stands once a thread wants to enter it at the level: a lease of a lower level is closing.
-    pub(crate) fn wanted(self, level: Level) -> Standing
+    pub(crate) fn wanted(self, level: Level) -> LeaseStanding
         ensures { result ≡ wanted level self }
     {
         match self {
-            Standing::Asked => self,
-            Standing::Leased(lease) => Standing::Leased(Lease {
+            LeaseStanding::Asked => self,
+            LeaseStanding::Leased(lease) => LeaseStanding::Leased(Lease {
                 is_closing: lease.is_closing || !lease.suffices(level),
                 ..lease
             }),
@@ -77,12 +77,12 @@ impl Standing {
     }
 
     /// How the lock stands once a thread entered it.
-    pub(crate) fn entered(self) -> Standing
+    pub(crate) fn entered(self) -> LeaseStanding
         ensures { result ≡ entered self }
     {
         match self {
-            Standing::Asked => self,
-            Standing::Leased(lease) => Standing::Leased(Lease {
+            LeaseStanding::Asked => self,
+            LeaseStanding::Leased(lease) => LeaseStanding::Leased(Lease {
                 is_entered: true,
                 ..lease
             }),
@@ -90,12 +90,12 @@ impl Standing {
     }
 
     /// How the lock stands once its lease was recalled.
-    pub(crate) fn recalled(self) -> Standing
+    pub(crate) fn recalled(self) -> LeaseStanding
         ensures { result ≡ recalled self }
     {
         match self {
-            Standing::Asked => self,
-            Standing::Leased(lease) => Standing::Leased(Lease {
+            LeaseStanding::Asked => self,
+            LeaseStanding::Leased(lease) => LeaseStanding::Leased(Lease {
                 is_closing: true,
                 ..lease
             }),
@@ -107,8 +107,8 @@ impl Standing {
         ensures { result ≡ is_due is_free self }
     {
         match self {
-            Standing::Asked => false,
-            Standing::Leased(lease) => lease.is_closing && lease.is_entered && is_free,
+            LeaseStanding::Asked => false,
+            LeaseStanding::Leased(lease) => lease.is_closing && lease.is_entered && is_free,
         }
     }
 }

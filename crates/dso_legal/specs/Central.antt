@@ -24,14 +24,14 @@ use Rattle.dso_legal.specs.Committed.{committed}
 use Rattle.dso_legal.specs.Resolved.{AreResolved, IsPrefixResolved}
 use Rattle.dso_legal.specs.Slots.{is_finished}
 use Rattle.dso_legal.specs.WithoutWaits.{WithoutWaits}
-use Rattle.dso_legal.specs.SoundProgram.{IsSound}
+use Rattle.dso_legal.specs.SoundProgram.{AsksSoundly}
 use Rattle.dso_legal.specs.PendingBlocks.{pending}
 use Rattle.dso_legal.specs.Line.{Line}
 use Rattle.dso_legal.specs.CopiesStand.{state_at, CopiesStand}
 
 -- What a client did and the server didn't take in yet can still be done, whatever is marked: its messages in flight
 -- from the history as made on, and each thread's open block, by itself, from where they end; and its copies stand.
-pub record ClientStands (p : Settings) (c : ℕ) (es : List Entry) : Type 0 where
+pub record ClientCanGoOn (p : Settings) (c : ℕ) (es : List Entry) : Type 0 where
   pub line : Line p.shape c (messages (up_in_flight c es)) (pending c es)
       (λ l. standing_with c l (counted (entries_of Server es))) (last_state p.shape (as_made es))
   pub opens : (t : ThreadId) → t.client ≡ c
@@ -41,7 +41,7 @@ pub record ClientStands (p : Settings) (c : ℕ) (es : List Entry) : Type 0 wher
 -- The history as made runs, whatever is marked, and each client that isn't lost stands.
 pub record ClusterStands (p : Settings) (es : List Entry) : Type 0 where
   pub made : RunsButMarks p.shape (as_made es) (opening p.shape)
-  pub client : (c : ℕ) → is_lost c (entries_of Server es) ≡ false → ClientStands p c es
+  pub client : (c : ℕ) → is_lost c (entries_of Server es) ≡ false → ClientCanGoOn p c es
 
 -- What is committed of a journal: a legal history in which each thread follows the program; of each client, a lost one
 -- too, the blocks of its first endings, in order and nothing else; of each thread a prefix of its events, each once and
@@ -67,15 +67,16 @@ pub record CommitsAsMade (p : Settings) (es : List Entry) : Type 0 where
 
 -- The central law: where the program is sound, a lawful journal commits so, whatever clients it loses.
 abbrev pub CentralLaw : Type 0
-CentralLaw = (p : Settings) (next : ThreadId → List Event → Option Request) → IsSound p.shape next
+CentralLaw = (p : Settings) (next : ThreadId → List Event → Option Request) → AsksSoundly p.shape next
     → (es : List Entry) → IsLawful p next es → CommitsLegally p next es
 
 -- And without waits its history has each thread's events just as the thread made them.
 abbrev pub CommitsWhatWasMade : Type 0
-CommitsWhatWasMade = (p : Settings) (next : ThreadId → List Event → Option Request) → IsSound p.shape next
+CommitsWhatWasMade = (p : Settings) (next : ThreadId → List Event → Option Request) → AsksSoundly p.shape next
     → (es : List Entry) → IsLawful p next es → WithoutWaits es → CommitsAsMade p es
 
 -- All clients that aren't lost stand after a lawful journal of a sound program.
 abbrev pub ClientsStand : Type 0
-ClientsStand = (p : Settings) (next : ThreadId → List Event → Option Request) → IsSound p.shape next → (es : List Entry)
+ClientsStand = (p : Settings) (next : ThreadId → List Event → Option Request) → AsksSoundly p.shape next
+    → (es : List Entry)
     → IsLawful p next es → ClusterStands p es

@@ -14,7 +14,7 @@ use Rattle.dso_plain.specs.State.{PlainState, IsShared, is_shared, guard_in}
 use Rattle.dso_plain.specs.Possible.{StandsFrom, IsOf}
 use Rattle.dso_plain.specs.History.{end_of, last_state}
 use Rattle.dso_law.specs.Settings.{Settings}
-use Rattle.dso_law.specs.declared.readings.Standing.{Standing}
+use Rattle.dso_law.specs.declared.readings.LockStanding.{LockStanding}
 use Rattle.dso_law.specs.Leases.{standing, standing_down}
 use Rattle.dso_law.specs.Copies.{is_resident, resident_by_taken, value_held, value_by_taken, class_held}
 use Rattle.dso_law.specs.Copies.{class_by_taken, is_set_of}
@@ -53,7 +53,7 @@ IsPastValue c o f s v = (t : ThreadId) → t.client ≡ c → StandsFrom (s.seen
 pub record FieldCopy : Type 0 where
   pub resident : Bool
   pub value : Option Value
-  pub guard : Standing
+  pub guard : LockStanding
 
 -- what a message taken makes of it
 abbrev pub field_by_taken : LockName → ℕ → ℕ → Down → FieldCopy → FieldCopy

@@ -11,13 +11,13 @@ use Rattle.dso_base.specs.declared.shape.Shape.{Shape}
 use Rattle.dso_plain.specs.State.{PlainState, level_of}
 use Rattle.dso_plain.specs.History.{RunsButMarks, end_of}
 use Rattle.dso_plain.specs.Touches.{AreActsOf, TouchesIn}
-use Rattle.dso_law.specs.declared.readings.Standing.{Standing}
+use Rattle.dso_law.specs.declared.readings.LockStanding.{LockStanding}
 use Rattle.dso_law.specs.Leases.{standing_up}
 use Rattle.dso_law.specs.RequestNeeds.{is_enough}
 
 -- how each lock stands with a client
 abbrev pub Standings : Type 0
-Standings = LockName → Standing
+Standings = LockName → LockStanding
 
 -- and after a message of the client
 abbrev pub standings_up : Up → Standings → Standings

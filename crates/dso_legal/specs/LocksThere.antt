@@ -14,14 +14,14 @@ use Rattle.dso_law.specs.Channels.{up_in_flight, IsFirst}
 use Rattle.dso_law.specs.FitsUp.{IsLock}
 use Rattle.dso_law.specs.ServerReadings.{counted}
 use Rattle.dso_legal.specs.Lawful.{AllFollow}
-use Rattle.dso_legal.specs.SoundProgram.{IsSound, GivesKnownTexts}
+use Rattle.dso_legal.specs.SoundProgram.{AsksSoundly, GivesKnownTexts}
 use Rattle.dso_legal.specs.WithinShape.{StaysWithinShape}
 
 -- Locks are there: after entries each of which follows those before it, of a sound program that gives only known
 -- texts and stays within its shape, a request that comes is of a name that the shape has, or of the monitor of an
 -- id that was given out, from each client, a lost one too.
 abbrev pub LocksAreThere : Type 0
-LocksAreThere = (p : Settings) (next : ThreadId → List Event → Option Request) → IsSound p.shape next
+LocksAreThere = (p : Settings) (next : ThreadId → List Event → Option Request) → AsksSoundly p.shape next
     → GivesKnownTexts p.shape next → StaysWithinShape p.shape next
     → (es : List Entry) → AllFollow p next es → (c : ℕ) (l : LockName) (level : Level)
     → IsFirst (RequestOf l level) (up_in_flight c es) → IsLock p l (counted (entries_of Server es))

@@ -30,7 +30,7 @@ use Rattle.dso_legal.specs.Committed.{lists_after_act, committed}
 use Rattle.dso_legal.specs.Lawful.{IsLawful}
 use Rattle.dso_legal.specs.Places.{Place, Away, Kept, Gone, place_with}
 use Rattle.dso_legal.specs.Resolved.{WaiterLists}
-use Rattle.dso_legal.specs.SoundProgram.{IsSound}
+use Rattle.dso_legal.specs.SoundProgram.{AsksSoundly}
 
 -- who is kept in its client's list of each lock
 abbrev pub KeptThreads : Type 0
@@ -168,5 +168,5 @@ pub record KnowsWaiters (p : Settings) (es : List Entry) : Type 0 where
 -- The waiters are known: so it is after a lawful journal of a sound program. The unmarked waiters of a
 -- lock are those that the client with the lock at Write keeps, and those of the server's list.
 abbrev pub WaitersAreKnown : Type 0
-WaitersAreKnown = (p : Settings) (next : ThreadId → List Event → Option Request) → IsSound p.shape next
+WaitersAreKnown = (p : Settings) (next : ThreadId → List Event → Option Request) → AsksSoundly p.shape next
     → (es : List Entry) → IsLawful p next es → KnowsWaiters p es

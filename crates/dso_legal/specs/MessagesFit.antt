@@ -14,7 +14,7 @@ use Rattle.dso_law.specs.FitsUp.{FitsUp}
 use Rattle.dso_law.specs.ServerReadings.{counted, is_lost}
 use Rattle.dso_law.specs.Settings.{Settings}
 use Rattle.dso_legal.specs.Lawful.{AllFollow}
-use Rattle.dso_legal.specs.SoundProgram.{GivesKnownTexts, IsSound}
+use Rattle.dso_legal.specs.SoundProgram.{GivesKnownTexts, AsksSoundly}
 use Rattle.dso_legal.specs.WithinShape.{StaysWithinShape}
 
 -- The first message in flight of a client that isn't lost fits at the server, and the first to any client fits there.
@@ -28,5 +28,5 @@ pub record FirstsFit (p : Settings) (c : ℕ) (es : List Entry) : Type 0 where
 -- client fits.
 abbrev pub MessagesFit : Type 0
 MessagesFit = (p : Settings) (next : ThreadId → List Event → Option Request)
-    → IsSound p.shape next → GivesKnownTexts p.shape next → StaysWithinShape p.shape next
+    → AsksSoundly p.shape next → GivesKnownTexts p.shape next → StaysWithinShape p.shape next
     → (es : List Entry) → AllFollow p next es → length es < 2 ^ 54 → (c : ℕ) → FirstsFit p c es

@@ -18,7 +18,7 @@ use Rattle.dso_law.specs.ServerReadings.{counted, is_lost}
 use Rattle.dso_law.specs.Settings.{Settings}
 use Rattle.dso_law.specs.Store.{stored}
 use Rattle.dso_legal.specs.Lawful.{AllFollow}
-use Rattle.dso_legal.specs.SoundProgram.{GivesKnownTexts, IsSound}
+use Rattle.dso_legal.specs.SoundProgram.{GivesKnownTexts, AsksSoundly}
 use Rattle.dso_legal.specs.WithinShape.{StaysWithinShape}
 
 -- the object that a fault asks for is in the graph; each object that a record names in what it publishes and sets
@@ -44,5 +44,5 @@ pub record KeepsNamesOut (p : Settings) (es : List Entry) : Type 0 where
 -- texts and stays within its shape.
 abbrev pub NamesAreOut : Type 0
 NamesAreOut = (p : Settings) (next : ThreadId → List Event → Option Request)
-    → IsSound p.shape next → GivesKnownTexts p.shape next → StaysWithinShape p.shape next
+    → AsksSoundly p.shape next → GivesKnownTexts p.shape next → StaysWithinShape p.shape next
     → (es : List Entry) → AllFollow p next es → KeepsNamesOut p es

@@ -25,7 +25,7 @@ use Rattle.dso_law.specs.ServerReadings.{counted, is_lost}
 use Rattle.dso_law.specs.Settings.{Settings}
 use Rattle.dso_legal.specs.Agreement.{messages, Agree}
 use Rattle.dso_legal.specs.Lawful.{AllFollow}
-use Rattle.dso_legal.specs.SoundProgram.{IsSound}
+use Rattle.dso_legal.specs.SoundProgram.{AsksSoundly}
 
 -- Where a thread stands among the waiters of a lock: in no list, since it is awake or waits and is marked; kept in its
 -- client's list; gone to the server, where it stands in the list, or on its way there or back.
@@ -124,6 +124,6 @@ AgreeOnWaiter c l t es = Agree (MayPlaceUp l t) (place_up l t) (MayPlaceDown l t
 -- Waiters are tokens: after entries each of which follows those before it, of a sound program, each client that isn't
 -- lost and the server agree on each of its threads, for each lock.
 abbrev pub WaitersAreTokens : Type 0
-WaitersAreTokens = (p : Settings) (next : ThreadId → List Event → Option Request) → IsSound p.shape next
+WaitersAreTokens = (p : Settings) (next : ThreadId → List Event → Option Request) → AsksSoundly p.shape next
     → (es : List Entry) → AllFollow p next es
     → (l : LockName) (t : ThreadId) → is_lost t.client (entries_of Server es) ≡ false → AgreeOnWaiter t.client l t es

@@ -23,7 +23,7 @@ use Rattle.dso_law.specs.ServerReadings.{counted, is_lost}
 use Rattle.dso_law.specs.Settings.{Settings}
 use Rattle.dso_law.specs.Store.{stored}
 use Rattle.dso_legal.specs.Lawful.{AllFollow}
-use Rattle.dso_legal.specs.SoundProgram.{GivesKnownTexts, IsSound}
+use Rattle.dso_legal.specs.SoundProgram.{GivesKnownTexts, AsksSoundly}
 use Rattle.dso_legal.specs.WithinShape.{StaysWithinShape}
 
 -- where the object is stored, the guard of the field that is set is leased to the client at Write
@@ -52,6 +52,6 @@ pub record IsRecordLeased (p : Settings) (c : ℕ) (server : List Entry) (txn : 
 -- texts and stays within its shape, a record that comes of a client that isn't lost is.
 abbrev pub RecordsAreLeased : Type 0
 RecordsAreLeased = (p : Settings) (next : ThreadId → List Event → Option Request)
-    → IsSound p.shape next → GivesKnownTexts p.shape next → StaysWithinShape p.shape next
+    → AsksSoundly p.shape next → GivesKnownTexts p.shape next → StaysWithinShape p.shape next
     → (es : List Entry) → AllFollow p next es → (c : ℕ) → is_lost c (entries_of Server es) ≡ false
     → (txn : Txn) → IsFirst (Commit txn) (up_in_flight c es) → IsRecordLeased p c (counted (entries_of Server es)) txn

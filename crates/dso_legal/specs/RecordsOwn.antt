@@ -17,7 +17,7 @@ use Rattle.dso_law.specs.ServerReadings.{counted, is_ended, is_lost}
 use Rattle.dso_law.specs.Settings.{Settings, threads_of}
 use Rattle.dso_law.specs.Store.{holds_object, stored}
 use Rattle.dso_legal.specs.Lawful.{AllFollow}
-use Rattle.dso_legal.specs.SoundProgram.{IsSound}
+use Rattle.dso_legal.specs.SoundProgram.{AsksSoundly}
 
 -- the thread is one of the client's, and no record taken before ended it; and whom its notifications woke there are
 -- threads of the client
@@ -30,7 +30,7 @@ pub record IsOwnRecord (p : Settings) (c : ℕ) (server : List Entry) (txn : Txn
 -- client that isn't lost is.
 abbrev pub RecordsAreOwn : Type 0
 RecordsAreOwn = (p : Settings) (next : ThreadId → List Event → Option Request)
-    → IsSound p.shape next → (es : List Entry) → AllFollow p next es → (c : ℕ)
+    → AsksSoundly p.shape next → (es : List Entry) → AllFollow p next es → (c : ℕ)
     → is_lost c (entries_of Server es) ≡ false
     → (txn : Txn) → IsFirst (Commit txn) (up_in_flight c es) → IsOwnRecord p c (counted (entries_of Server es)) txn
 

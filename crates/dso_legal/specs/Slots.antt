@@ -48,8 +48,8 @@ has_ended t es = list_any ends (events_in t (entries_of (Client t.client) es))
 
 module _ (p : Settings) where
   -- whether a loss of the client or a break of its connection is due
-  abbrev pub is_due : ℕ → List Entry → Bool
-  is_due c es = is_loss_due p c (entries_of Server es) || is_break_due p c (entries_of Server es)
+  abbrev pub is_loss_or_break_due : ℕ → List Entry → Bool
+  is_loss_or_break_due c es = is_loss_due p c (entries_of Server es) || is_break_due p c (entries_of Server es)
 
   -- whether the client took its broken connection up as often as it was broken
   abbrev pub has_rejoined : ℕ → List Entry → Bool
@@ -65,7 +65,7 @@ module _ (p : Settings) where
   -- The server can take of a client: never where its loss or a break is due; else, while the connection isn't broken,
   -- where a message is in flight to the server; while it is broken, where the client has taken it up.
   abbrev pub can_take_up : ℕ → List Entry → Bool
-  can_take_up c es = not (is_due c es)
+  can_take_up c es = not (is_loss_or_break_due c es)
       && cond (is_broken c (entries_of Server es)) (has_rejoined c es) (is_any (up_in_flight c es))
 
   -- the slots of a client: its threads' acts, taking a message, flushing
@@ -90,7 +90,8 @@ module _ (p : Settings) where
   -- in flight, and no trigger is due.
   abbrev pub is_finished : List Entry → Bool
   is_finished es = not (list_any (λ t. not (is_over es t)) p.threads)
-      && (not (list_any (λ c. not (is_quiet c es)) (clients_of p)) && not (list_any (λ c. is_due c es) (clients_of p)))
+      && (not (list_any (λ c. not (is_quiet c es)) (clients_of p)) && not (list_any (λ c. is_loss_or_break_due c es)
+      (clients_of p)))
 
   module _ (next : ThreadId → List Event → Option Request) where
     -- whether a slot is open: the client rule has such an act or flush, the message can be taken, the trigger is due

@@ -175,7 +175,7 @@ WaitsAreHeld t (event ∷ events) locks = WaitIsHeld event locks × WaitsAreHeld
 -- Sound: wherever events of a thread follow the program, none told it of object 0, and it waited only on locks that it
 -- held at Write, its next request keeps to this; and it goes by requests and replies alone: after the same acts it asks
 -- the same, whomever they woke.
-pub record IsSound (shape : Shape) (next : ThreadId → List Event → Option Request) : Type 0 where
+pub record AsksSoundly (shape : Shape) (next : ThreadId → List Event → Option Request) : Type 0 where
   pub keeps : (t : ThreadId) (events : List Event) (request : Request) → AreActsOf t events
       → list_any (event_tells 0) events ≡ false
       → WaitsAreHeld t events no_locks → FollowsProgram next (Listed next) t events → next t events ≡ Some request

@@ -15,7 +15,7 @@ use Rattle.dso_law.specs.Settings.{Settings}
 use Rattle.dso_law.specs.Store.{stored}
 use Rattle.dso_legal.specs.Committed.{committed}
 use Rattle.dso_legal.specs.Lawful.{IsLawful}
-use Rattle.dso_legal.specs.SoundProgram.{IsSound}
+use Rattle.dso_legal.specs.SoundProgram.{AsksSoundly}
 
 -- the object is shared, and the body has its class, size and values
 pub record IsHeapBody (o : ℕ) (body : Body) (s : PlainState) : Type 0 where
@@ -31,6 +31,6 @@ pub record IsHeapOf (o : ℕ) (at : Option Body) (s : PlainState) : Type 0 where
 -- The store is the heap: in a lawful journal of a sound program, the server has a body of exactly the
 -- objects that are shared after the history, with the values that they have there.
 abbrev pub StoreIsHeap : Type 0
-StoreIsHeap = (p : Settings) (next : ThreadId → List Event → Option Request) → IsSound p.shape next
+StoreIsHeap = (p : Settings) (next : ThreadId → List Event → Option Request) → AsksSoundly p.shape next
     → (es : List Entry) → IsLawful p next es
     → (o : ℕ) → IsHeapOf o (stored p.shape o (counted (entries_of Server es))) (last_state p.shape (committed es))

@@ -13,7 +13,7 @@ use Rattle.dso_base.specs.declared.message.Up.TheVariants as up
 use Rattle.dso_base.specs.declared.request.Event.{Event}
 use Rattle.dso_base.specs.declared.request.Request.{Request}
 use Rattle.dso_plain.specs.KeyTests.{is_lock}
-use Rattle.dso_law.specs.declared.readings.Standing.{Standing}
+use Rattle.dso_law.specs.declared.readings.LockStanding.{LockStanding}
 use Rattle.dso_law.specs.Settings.{Settings}
 use Rattle.dso_law.specs.Entries.{entries_of}
 use Rattle.dso_law.specs.Channels.{up_in_flight, down_in_flight, IsFirst}
@@ -25,22 +25,22 @@ use Rattle.dso_legal.specs.Agreement.{messages, Agree}
 use Rattle.dso_legal.specs.Lawful.{IsLawful}
 
 -- asked for and not leased
-abbrev pub asked : Standing
+abbrev pub asked : LockStanding
 asked = record { lease = None; is_asked = true }
 
 -- leased and not asked for
-pub record IsLeased (s : Standing) : Type 0 where
+pub record IsLeased (s : LockStanding) : Type 0 where
   pub leased : s.lease ≢ None
   pub unasked : s.is_asked ≡ false
 
 -- a request of the lock may come where it is idle, a return where it is leased
-abbrev pub MayGoUp : LockName → Up → Standing → Type 0
+abbrev pub MayGoUp : LockName → Up → LockStanding → Type 0
 MayGoUp l (up.Request k level) s = is_lock l k ≡ true → s ≡ idle
 MayGoUp l (up.Return k threads) s = is_lock l k ≡ true → IsLeased s
 MayGoUp l m s = Unit {0}
 
 -- a grant of the lock may come where it is asked for
-abbrev pub MayGoDown : LockName → Down → Standing → Type 0
+abbrev pub MayGoDown : LockName → Down → LockStanding → Type 0
 MayGoDown l (down.Grant k level) s = is_lock l k ≡ true → s ≡ asked
 MayGoDown l m s = Unit {0}
 

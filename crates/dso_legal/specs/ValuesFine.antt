@@ -35,7 +35,7 @@ use Rattle.dso_law.specs.Threads.{work_of}
 use Rattle.dso_legal.specs.Agreement.{messages}
 use Rattle.dso_legal.specs.ClassesKept.{class_made}
 use Rattle.dso_legal.specs.Lawful.{AllFollow}
-use Rattle.dso_legal.specs.SoundProgram.{IsSound, GivesKnownTexts}
+use Rattle.dso_legal.specs.SoundProgram.{AsksSoundly, GivesKnownTexts}
 use Rattle.dso_legal.specs.WithinShape.{HasPlace, StaysWithinShape}
 
 -- the value is fine: an object that it names was made and is not object 0, a text is one of the program's
@@ -109,6 +109,6 @@ pub record KeepsValues (shape : Shape) (es : List Entry) : Type 0 where
 -- Values are fine: after entries each of which follows those before it, of a sound program that gives only known
 -- texts and stays within its shape, for lost clients too.
 abbrev pub ValuesAreFine : Type 0
-ValuesAreFine = (p : Settings) (next : ThreadId → List Event → Option Request) → IsSound p.shape next
+ValuesAreFine = (p : Settings) (next : ThreadId → List Event → Option Request) → AsksSoundly p.shape next
     → GivesKnownTexts p.shape next → StaysWithinShape p.shape next
     → (es : List Entry) → AllFollow p next es → KeepsValues p.shape es

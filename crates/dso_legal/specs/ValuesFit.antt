@@ -25,7 +25,7 @@ use Rattle.dso_law.specs.FitsUp.{IsPrinted, IsLiteral, stored_values}
 use Rattle.dso_law.specs.ServerReadings.{counted}
 use Rattle.dso_law.specs.Store.{stored}
 use Rattle.dso_legal.specs.Lawful.{AllFollow}
-use Rattle.dso_legal.specs.SoundProgram.{IsSound, GivesKnownTexts}
+use Rattle.dso_legal.specs.SoundProgram.{AsksSoundly, GivesKnownTexts}
 use Rattle.dso_legal.specs.WithinShape.{StaysWithinShape}
 
 -- a body published is of no roots, and its class and values fit the shape
@@ -63,6 +63,6 @@ pub record ValuesFirst (p : Settings) (c : ℕ) (es : List Entry) : Type 0 where
 -- Values fit: after entries each of which follows those before it, of a sound program that gives only known texts
 -- and stays within its shape, what comes fits the shape, of each client and to each, a lost one too.
 abbrev pub ValuesFit : Type 0
-ValuesFit = (p : Settings) (next : ThreadId → List Event → Option Request) → IsSound p.shape next
+ValuesFit = (p : Settings) (next : ThreadId → List Event → Option Request) → AsksSoundly p.shape next
     → GivesKnownTexts p.shape next → StaysWithinShape p.shape next
     → (es : List Entry) → AllFollow p next es → (c : ℕ) → ValuesFirst p c es

@@ -10,7 +10,7 @@ use Rattle.dso_base.specs.declared.message.Down.{Down}
 use Rattle.dso_base.specs.declared.message.Down.TheVariants as down
 use Rattle.dso_base.specs.declared.message.Up.{Up}
 use Rattle.dso_base.specs.declared.message.Up.TheVariants as up
-use Rattle.dso_law.specs.declared.readings.Standing.{Standing}
+use Rattle.dso_law.specs.declared.readings.LockStanding.{LockStanding}
 use Rattle.dso_law.specs.Entries.{by_sent_down}
 use Rattle.dso_law.specs.Granting.{Waiter, standing_by, standing_by_sent, standing_with, leased_to, recalled_by_sent, is_recalled_from, queue_by, queue_by_sent, queue_of, without_client}
 use Rattle.dso_law.specs.Leases.{idle}
@@ -20,7 +20,7 @@ use Rattle.dso_plain.specs.KeyTests.{is_lock}
 
 module _ (l : LockName) where
   -- the lease of a client, as one message is told
-  lease_told : (c d : ℕ) (m : Down) (st : Standing) (s : LockState) → st.lease ≡ s.leases.lease c → (standing_by_sent c l d m st).lease ≡ (told_to l d m s).leases.lease c
+  lease_told : (c d : ℕ) (m : Down) (st : LockStanding) (s : LockState) → st.lease ≡ s.leases.lease c → (standing_by_sent c l d m st).lease ≡ (told_to l d m s).leases.lease c
   lease_told c d (down.Ids first) st s e = by (eqb c d)
     where
       by : (b : Bool) → (cond b st st).lease ≡ s.leases.lease c
@@ -62,7 +62,7 @@ module _ (l : LockName) where
       by false = e
 
   -- as all that is sent is told
-  lease_sent : (c : ℕ) (sent : List Sent) (st : Standing) (s : LockState) → st.lease ≡ s.leases.lease c → (by_sent_down (standing_by_sent c l) sent st).lease ≡ (by_sent_down (told_to l) sent s).leases.lease c
+  lease_sent : (c : ℕ) (sent : List Sent) (st : LockStanding) (s : LockState) → st.lease ≡ s.leases.lease c → (by_sent_down (standing_by_sent c l) sent st).lease ≡ (by_sent_down (told_to l) sent s).leases.lease c
   lease_sent c [] st s e = e
   lease_sent c (ToServer m ∷ sent) st s e = lease_sent c sent st s e
   lease_sent c (ToClient d m ∷ sent) st s e = lease_sent c sent (standing_by_sent c l d m st) (told_to l d m s) (lease_told c d m st s e)
@@ -118,7 +118,7 @@ module _ (l : LockName) where
   queue_sent (ToClient d m ∷ sent) queue s e = queue_sent sent (queue_by_sent l d m queue) (told_to l d m s) (queue_told d m queue s e)
 
   -- the lease of a client, as a message is heard
-  lease_heard : (c d : ℕ) (m : Up) (st : Standing) (s : LockState) → st.lease ≡ s.leases.lease c → (standing_by c l (input.TookUp d m) st).lease ≡ (heard_from l d m s).leases.lease c
+  lease_heard : (c d : ℕ) (m : Up) (st : LockStanding) (s : LockState) → st.lease ≡ s.leases.lease c → (standing_by c l (input.TookUp d m) st).lease ≡ (heard_from l d m s).leases.lease c
   lease_heard c d up.IdAsk st s e = by (eqb c d)
     where
       by : (b : Bool) → (cond b st st).lease ≡ s.leases.lease c
@@ -155,7 +155,7 @@ module _ (l : LockName) where
       by false = e
 
   -- the lease, as an input is
-  lease_in : (c : ℕ) (i : Input) (st : Standing) (s : LockState) → st.lease ≡ s.leases.lease c → (standing_by c l i st).lease ≡ (heard_in l i s).leases.lease c
+  lease_in : (c : ℕ) (i : Input) (st : LockStanding) (s : LockState) → st.lease ≡ s.leases.lease c → (standing_by c l i st).lease ≡ (heard_in l i s).leases.lease c
   lease_in c (input.Act index) st s e = e
   lease_in c (input.TookUp d m) st s e = lease_heard c d m st s e
   lease_in c (input.TookDown m) st s e = e

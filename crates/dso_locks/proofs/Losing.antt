@@ -15,7 +15,7 @@ use Rattle.dso_law.specs.Settings.{Settings}
 use Rattle.dso_locks.specs.declared.lock.Lock.{Lock}
 use Rattle.dso_locks.specs.declared.told.Told.{Told}
 use Rattle.dso_locks.specs.Locks.{LockState, unused, told_to, messages_of, IsWithin, serves, AllTold}
-use Rattle.dso_locks.specs.Tables.{placed_state, states_by, name_at}
+use Rattle.dso_locks.specs.LockRows.{placed_state, states_by, name_at}
 use Rattle.dso_locks.proofs.Telling.{Changes}
 use Rattle.dso_locks.proofs.Names.{none_found, none_before}
 use Rattle.dso_lookup.specs.Maps.{look}

@@ -5,7 +5,7 @@ use Rattle.std.specs.BTreeMap.{BTreeMap, is_at, IsOrdered}
 use Rattle.std.specs.Option.{option_map}
 use Rattle.dso_base.specs.declared.lock.LockName.{LockName}
 use Rattle.dso_locks.specs.declared.lock.Lock.{Lock}
-use Rattle.dso_locks.specs.Tables.{state_of, placed_state, states_by, name_at, ArePlaced, ChangesAt}
+use Rattle.dso_locks.specs.LockRows.{state_of, placed_state, states_by, name_at, ArePlaced, ChangesAt}
 use Rattle.dso_lookup.specs.Maps.{look}
 use Rattle.dso_lookup.specs.Orders.{lock_order}
 use Rattle.dso_law.proofs.client.TimedOut.{lock_self}

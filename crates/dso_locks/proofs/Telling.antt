@@ -13,7 +13,7 @@ use Rattle.dso_locks.specs.declared.lock.Lock.{Lock}
 use Rattle.dso_locks.specs.declared.told.Told.{Told}
 use Rattle.dso_locks.specs.Locks.{LockState, unused, told_to, messages_of, without_lease, lost_by, IsTold}
 use Rattle.dso_locks.specs.Serving.{state_in, IsServed}
-use Rattle.dso_locks.specs.Tables.{state_of, placed_state, states_by, ArePlaced, ChangesAt}
+use Rattle.dso_locks.specs.LockRows.{state_of, placed_state, states_by, ArePlaced, ChangesAt}
 use Rattle.dso_locks.proofs.Placing.{others_stay}
 use Rattle.dso_lookup.specs.Maps.{look}
 use Rattle.dso_lookup.specs.Orders.{lock_order}

@@ -2,4 +2,4 @@ pub mod Laws
 pub mod Locks
 pub mod Requests
 pub mod Serving
-pub mod Tables
+pub mod LockRows

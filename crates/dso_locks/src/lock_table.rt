@@ -4,9 +4,9 @@ ghost use Rattle.dso_law.specs.Leases.{insert_lock};
 ghost use Rattle.dso_law.specs.Settings.{Settings};
 ghost use Rattle.dso_base.specs.declared.lock.LockName.{LockName};
 ghost use Rattle.dso_locks.specs.Locks.{unused, lease_of, waits, requested_by, returned_by, lost_by, at_lock, after_told, messages_of, IsWithin, serves};
-ghost use Rattle.dso_locks.specs.Tables.{locks_in, requested_in};
+ghost use Rattle.dso_locks.specs.LockRows.{locks_in, requested_in};
 
-use crate::tables::{Tables, lose, request, returned, standing_lease, standing_request};
+use crate::tables::{LockRows, lose, request, returned, standing_lease, standing_request};
 use crate::told::Told;
 use dso_base::{Level, LockName, NoMemory};
 use slab::Slab;
@@ -21,15 +21,15 @@ use std::marker::Model;
 /// `NoMemory` the table is spent: how its locks stand is not told.
 #[derive(Drop)]
 pub struct LockTable {
-    tables: Tables,
+    tables: LockRows,
 }
 
 impl Model for LockTable {
-    ghost use Rattle.dso_locks.specs.declared.tables.Tables.{Tables};
-    ghost use Rattle.dso_locks.specs.contracts.tables.Tables.{the_row};
-    ghost use Rattle.dso_locks.specs.Tables.{ArePlaced};
+    ghost use Rattle.dso_locks.specs.declared.tables.LockRows.{LockRows};
+    ghost use Rattle.dso_locks.specs.contracts.tables.LockRows.{the_row};
+    ghost use Rattle.dso_locks.specs.LockRows.{ArePlaced};
 
-    ghost Value = { Tables };
+    ghost Value = { LockRows };
 
     ghost coded = { the_row.coded };
 
@@ -44,7 +44,7 @@ impl LockTable {
         ensures locks { locks_in result ≡ (λ _. unused) }
         ensures requested { requested_in result ≡ [] }
     {
-        let tables = Tables {
+        let tables = LockRows {
             index: BTreeMap::new(alloc),
             locks: Slab::new(alloc),
         };

@@ -1,4 +1,4 @@
-//! The locks by place, and the place of each lock (`specs/Tables.antt`).
+//! The locks by place, and the place of each lock (`specs/LockRows.antt`).
 ghost use Rattle.slab.specs.Slab as slab;
 ghost use Rattle.std.specs.Prelude.{◌≡◌, false, [], Some, OnOk, IfOk};
 ghost use Rattle.std.specs.BTreeMap.{keys};
@@ -7,7 +7,7 @@ ghost use Rattle.dso_law.specs.Leases.{insert_lock};
 ghost use Rattle.dso_locks.specs.declared.lock.Lock.{Lock};
 ghost use Rattle.dso_locks.specs.Locks.{messages_of, lease_of, waits, requested_by, returned_by, lost_by, IsTold, AllTold};
 ghost use Rattle.dso_locks.specs.Serving.{state_in, IsServed};
-ghost use Rattle.dso_locks.specs.Tables.{state_of, states_by, locks_in, requested_in, heard, FitsNews, ArePlaced, ChangesAt};
+ghost use Rattle.dso_locks.specs.LockRows.{state_of, states_by, locks_in, requested_in, heard, FitsNews, ArePlaced, ChangesAt};
 ghost use Rattle.dso_lookup.specs.Maps.{look};
 ghost use Rattle.dso_lookup.specs.Orders.{lock_order};
 
@@ -22,13 +22,13 @@ use std::collections::BTreeMap;
 
 /// The locks that were ever requested: each has a place, and keeps it.
 #[derive(Drop)]
-pub struct Tables {
+pub struct LockRows {
     pub index: BTreeMap<LockName, usize>,
     pub locks: Slab<Lock>,
 }
 
 /// The place of the lock, a new one where it was never requested before.
-fn place_of(alloc: Global, tables: &mut Tables, lock: LockName) -> Result<usize, NoMemory>
+fn place_of(alloc: Global, tables: &mut LockRows, lock: LockName) -> Result<usize, NoMemory>
     requires { ArePlaced tables.old.index tables.old.locks }
     ensures placed { ArePlaced tables.new.index tables.new.locks }
     ensures place { IfOk result (λ place. look lock_order tables.new.index lock ≡ Some place) }
@@ -44,7 +44,7 @@ fn place_of(alloc: Global, tables: &mut Tables, lock: LockName) -> Result<usize,
 }
 
 /// The lock, None where it was never requested.
-fn lock_of(tables: &Tables, lock: LockName) -> Option<&Lock>
+fn lock_of(tables: &LockRows, lock: LockName) -> Option<&Lock>
     ensures { state_of (option_copied result) ≡ locks_in tables.now lock }
 {
     let place = tables.index.get(&lock)?;
@@ -52,7 +52,7 @@ fn lock_of(tables: &Tables, lock: LockName) -> Option<&Lock>
 }
 
 /// The level of the client's lease of the lock, None where it has none.
-pub(crate) fn standing_lease(tables: &Tables, client: u8, lock: LockName) -> Option<Level>
+pub(crate) fn standing_lease(tables: &LockRows, client: u8, lock: LockName) -> Option<Level>
     ensures { result ≡ lease_of client (locks_in tables.now lock) }
 {
     match lock_of(tables, lock) {
@@ -62,7 +62,7 @@ pub(crate) fn standing_lease(tables: &Tables, client: u8, lock: LockName) -> Opt
 }
 
 /// Whether the client has a request of the lock.
-pub(crate) fn standing_request(tables: &Tables, client: u8, lock: LockName) -> bool
+pub(crate) fn standing_request(tables: &LockRows, client: u8, lock: LockName) -> bool
     ensures { result ≡ waits client (locks_in tables.now lock) }
 {
     match lock_of(tables, lock) {
@@ -113,7 +113,7 @@ fn change_at(
 /// The lock hears that the client requests it, and is served.
 pub(crate) fn request(
     alloc: Global,
-    tables: &mut Tables,
+    tables: &mut LockRows,
     client: u8,
     lock: LockName,
     level: Level,
@@ -137,7 +137,7 @@ pub(crate) fn request(
 /// The lock hears that the client gives it back, and is served.
 pub(crate) fn returned(
     alloc: Global,
-    tables: &mut Tables,
+    tables: &mut LockRows,
     client: u8,
     lock: LockName,
 ) -> Result<Vec<Told>, NoMemory>

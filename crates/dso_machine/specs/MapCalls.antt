@@ -21,7 +21,7 @@ use Rattle.dso_machine.specs.declared.code.Code.{Code}
 use Rattle.dso_machine.specs.Maps.{grade_of}
 use Rattle.dso_machine.specs.Next.{next_request, replies_in}
 use Rattle.dso_machine.specs.Outcome.{level_of}
-use Rattle.dso_machine.specs.Sound.{IsSound}
+use Rattle.dso_machine.specs.Sound.{IsSoundCode}
 use Rattle.dso_machine.specs.Unwinding.{FollowsCode}
 
 -- ---- what a call asks
@@ -133,5 +133,5 @@ module _ (shape : Shape) (next : ThreadId → List Event → Option Request) whe
 -- A thread of sound code goes from call to call of maps, and touches no map's field outside of them, whatever it is
 -- answered of what is listed.
 abbrev pub MapsAreCalled : Type 0
-MapsAreCalled = (code : Code) → IsSound code → (t : ThreadId) (events : List Event) → FollowsCode code t events
+MapsAreCalled = (code : Code) → IsSoundCode code → (t : ThreadId) (events : List Event) → FollowsCode code t events
     → (last : Phase) × Walks code.shape (next_request code) t [] Outside events last

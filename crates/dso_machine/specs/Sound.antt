@@ -183,7 +183,7 @@ HasNoGap threads = (client index lower : ℕ) → Contains threads (record { cli
     Contains threads (record { client = client; index = lower })
 
 -- The code is sound.
-pub record IsSound (code : Code) : Type 0 where
+pub record IsSoundCode (code : Code) : Type 0 where
   pub few_classes : length code.shape.classes ≤ most_classes
   pub few_roots : code.shape.roots ≤ most_roots
   pub few_locks : code.shape.names ≤ most_locks

@@ -3,7 +3,7 @@ ghost use Rattle.std.specs.Prelude.{◌<◌, ◌≡◌, length, slice_index_or};
 ghost use Rattle.dso_base.specs.Shape.{fields_at};
 ghost use Rattle.dso_machine.specs.declared.continuation.Now.{Now};
 ghost use Rattle.dso_machine.specs.Continuation.{Opens};
-ghost use Rattle.dso_machine.specs.Sound.{IsSound};
+ghost use Rattle.dso_machine.specs.Sound.{IsSoundCode};
 ghost use Rattle.dso_machine.specs.Weight.{expr_weight, step_weight};
 
 use crate::continuation::{Frame, Locked, OnReply, OnValue, Step};
@@ -26,7 +26,7 @@ impl Frame {
 
 /// How many fields a class has.
 fn count_of_fields(code: &Code, class: u32) -> u32
-    requires sound { IsSound code.now }
+    requires sound { IsSoundCode code.now }
     ensures { result ≡ length (fields_at code.now.shape class) }
 {
     match code.shape.classes.get(class as usize) {
@@ -38,7 +38,7 @@ fn count_of_fields(code: &Code, class: u32) -> u32
 /// The evaluation of an expression begins.
 #[tactic(auto, using(crate::proofs::forms::Beginnings::evaluating, crate::proofs::forms::Weights::weights))]
 pub(crate) fn evaluate(code: &Code, frame: &Frame, expr: Expr) -> Step
-    requires sound { IsSound code.now }
+    requires sound { IsSoundCode code.now }
     ensures opens { Opens code.now (Now.Evaluate expr) frame.now result }
     ensures lighter { step_weight result < expr_weight expr }
 {

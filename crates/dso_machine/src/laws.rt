@@ -14,7 +14,7 @@ ghost use Rattle.dso_machine.specs.declared.code.ThreadBody.{ThreadBody};
 ghost use Rattle.dso_machine.specs.Frames.{KeepsFrames, frames_after};
 ghost use Rattle.dso_machine.specs.MapCalls.{MapsAreCalled};
 ghost use Rattle.dso_machine.specs.Next.{body_of, next_request, replies_in};
-ghost use Rattle.dso_machine.specs.Sound.{IsSound};
+ghost use Rattle.dso_machine.specs.Sound.{IsSoundCode};
 ghost use Rattle.dso_machine.specs.Unwinding.{AreBehindExit, FailsAfter, FollowsCode, SettlesAsEntered, Unwinds, locks_after, outer};
 ghost use Rattle.dso_machine.specs.WaitingThreads.{AsksAsItWaits, Awake, waiting_after};
 
@@ -78,5 +78,5 @@ pub fn maps_are_called()
 /// `frames_after` is what the frames hold: in the body that runs its object and its variables, the values that were evaluated and aren't
 /// used yet, the objects whose blocks are still to be left, and so those of the callers.
 pub fn frames_are_kept()
-    ensures { (code : Code) → IsSound code → KeepsFrames (next_request code) (frames_after code) }
+    ensures { (code : Code) → IsSoundCode code → KeepsFrames (next_request code) (frames_after code) }
 {}

@@ -8,7 +8,7 @@ ghost use Rattle.dso_machine.specs.declared.continuation.Task.{Task};
 ghost use Rattle.dso_machine.specs.declared.code.Code.{Code};
 ghost use Rattle.dso_machine.specs.Continuation.{IsAsk, IsSuspended, Keeps, Leads, MakesMove, with_then};
 ghost use Rattle.dso_machine.specs.Limits.{most_moves};
-ghost use Rattle.dso_machine.specs.Sound.{IsSound};
+ghost use Rattle.dso_machine.specs.Sound.{IsSoundCode};
 ghost use Rattle.dso_machine.specs.Statements.{statements_of};
 ghost use Rattle.dso_machine.specs.Weight.{step_weight, task_weight, tasks_weight, then_weight, use_weight, weigh};
 
@@ -187,7 +187,7 @@ impl Core {
     /// The evaluation of an expression begins.
     #[tactic(auto, using(crate::proofs::steps::Goes::goes))]
     fn begin_expr(&mut self, alloc: Global, code: &Code, expr: Expr) -> Result<Now, NoMemory>
-        requires sound { IsSound code.now }
+        requires sound { IsSoundCode code.now }
         ensures keeps { IfOk result (λ then. Keeps code.now (Now.Evaluate expr) self.old then self.new) }
         ensures lighter { IfOk result (λ then. weigh then self.new < weigh (Now.Evaluate expr) self.old) }
         ensures calm { IfOk result (λ then. self.new.moves ≡ self.old.moves) }
@@ -241,7 +241,7 @@ impl Core {
 
     /// One step, which makes no move.
     fn step(&mut self, alloc: Global, code: &Code, now: Now) -> Result<Now, NoMemory>
-        requires sound { IsSound code.now }
+        requires sound { IsSoundCode code.now }
         requires local { ¬ IsSuspended now }
         ensures keeps { IfOk result (λ then. Keeps code.now now self.old then self.new) }
         ensures lighter { IfOk result (λ then. weigh then self.new < weigh now self.old) }
@@ -261,7 +261,7 @@ impl Core {
 
     /// Makes steps up to a request, a move or the end.
     fn settle(&mut self, alloc: Global, code: &Code, begun: Now) -> Result<Now, NoMemory>
-        requires sound { IsSound code.now }
+        requires sound { IsSoundCode code.now }
         ensures keeps { IfOk result (λ then. Keeps code.now begun self.old then self.new) }
         ensures rests { IfOk result (λ then. IsSuspended then) }
         ensures calm { IfOk result (λ then. self.new.moves ≡ self.old.moves) }
@@ -325,7 +325,7 @@ impl Core {
 
     /// Goes on up to a request or the end.
     pub(crate) fn go(&mut self, alloc: Global, code: &Code, begun: Now) -> Result<Now, NoMemory>
-        requires sound { IsSound code.now }
+        requires sound { IsSoundCode code.now }
         ensures leads { IfOk result (λ then. Leads code.now begun self.old then self.new) }
         ensures asks { IfOk result (λ then. IsAsk then) }
     {

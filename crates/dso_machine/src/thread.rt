@@ -10,7 +10,7 @@ ghost use Rattle.dso_machine.specs.declared.thread.Due.{Due};
 ghost use Rattle.dso_machine.specs.Frames.{IsAtRest, frames_after, holds_then, is_listed};
 ghost use Rattle.dso_machine.specs.Next.{body_of, next_request};
 ghost use Rattle.dso_machine.specs.Continuation.{IsAsk, StandsAt};
-ghost use Rattle.dso_machine.specs.Sound.{IsSound};
+ghost use Rattle.dso_machine.specs.Sound.{IsSoundCode};
 ghost use Rattle.dso_machine.specs.Standing.{IsAnswered, IsOver, Resumes, ThreadStands, StandsFor, asked, asked_at, asked_by, is_over};
 
 use crate::call::variables;
@@ -82,7 +82,7 @@ impl Thread {
     /// makes at most 1,000 moves and what lies between them. It answers NoMemory where an allocation was refused; the thread
     /// stands for no known events afterwards.
     pub fn next(&mut self, alloc: Global, code: &Code) -> Result<Request, NoMemory>
-        requires sound { IsSound code.now }
+        requires sound { IsSoundCode code.now }
         requires goes { IsOver self.old → ⊥ }
         ensures stands { IfOk result (λ request. (t : ThreadId) (events : List Event) → ThreadStands code.now t self.old events → ThreadStands code.now t self.new events) }
         ensures asks { IfOk result (λ request. (t : ThreadId) (events : List Event) → ThreadStands code.now t self.old events → next_request code.now t events ≡ Some request) }

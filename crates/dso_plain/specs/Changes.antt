@@ -6,8 +6,8 @@ use Rattle.dso_base.specs.Following.{is_thread}
 use Rattle.dso_plain.specs.KeyTests.{is_lock, is_place}
 use Rattle.dso_lookup.specs.Maps.{writes, written}
 use Rattle.dso_lookup.specs.Orders.{lock_order, thread_order}
-use Rattle.dso_plain.specs.Tables.{either, state_of}
-use Rattle.dso_plain.specs.declared.tables.Tables.{Tables}
+use Rattle.dso_plain.specs.HeapTables.{either, state_of}
+use Rattle.dso_plain.specs.declared.tables.HeapTables.{HeapTables}
 use Rattle.dso_lookup.specs.Rows.{look_in}
 use Rattle.dso_plain.specs.State.{Hold, PlainState}
 
@@ -41,7 +41,7 @@ without test s = record s {
 
 -- The tables by thread list exactly the locks that the thread holds, and those on which it waits, and no wait is both
 -- marked and not.
-pub record Mirrors (tables : Tables) : Type 0 where
+pub record Mirrors (tables : HeapTables) : Type 0 where
   pub held : (l : LockName) (t : ThreadId)
       → is_some (look_in thread_order lock_order tables.held (t, l)) ≡ is_some ((state_of tables).monitors (l, t))
   pub waiting : (l : LockName) (t : ThreadId)
@@ -51,7 +51,7 @@ pub record Mirrors (tables : Tables) : Type 0 where
       && is_some (look_in lock_order thread_order tables.marked (l, t))) ≡ false
 
 -- The threads of a row that are the client's have left all monitors and waits, and no thread of another client.
-pub record ClearsRow (client : ℕ) (row : ThreadId → Option (Unit {0})) (old new : Tables) : Type 0 where
+pub record ClearsRow (client : ℕ) (row : ThreadId → Option (Unit {0})) (old new : HeapTables) : Type 0 where
   pub marks : ThreadId → Bool
   pub is : state_of new ≡ without marks (state_of old)
   pub only : (u : ThreadId) → marks u ≡ true → eqb u.client client ≡ true

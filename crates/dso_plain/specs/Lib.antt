@@ -12,7 +12,7 @@ pub mod Monitors
 pub mod SameActs
 pub mod Own
 pub mod Laws
-pub mod Tables
+pub mod HeapTables
 pub mod TableInvariants
 pub mod Changes
 pub mod Publishing

@@ -168,23 +168,23 @@ AnswersEnd t Done s = HoldsNothing t s
 AnswersEnd t reply s = ⊥
 
 -- the reply is possible for the request, whatever is marked: the lines above, one for each kind of request
-abbrev pub Answers : Shape → ThreadId → Request → Reply → PlainState → Type 0
-Answers shape t (New class n) reply s = AnswersNew shape class n reply s
-Answers shape t (Look o) reply s = AnswersLook t o reply s
-Answers shape t (Get o f) reply s = AnswersGet shape t o f reply s
-Answers shape t (Put o f v) reply s = AnswersPut shape t o f reply s
-Answers shape t (Enter l level) reply s = AnswersEnter t l level reply s
-Answers shape t (Exit l) reply s = AnswersExit t l reply s
-Answers shape t (Wait l) reply s = AnswersMonitor t l reply s
-Answers shape t (Tick l) reply s = AnswersTick t l reply s
-Answers shape t (Timeout l) reply s = AnswersTimeout t l reply s
-Answers shape t (Resume l) reply s = AnswersResume t l reply s
-Answers shape t (Notify l) reply s = AnswersMonitor t l reply s
-Answers shape t (NotifyAll l) reply s = AnswersMonitor t l reply s
-Answers shape t (Print v) reply s = AnswersDone reply
-Answers shape t (End fault) reply s = AnswersEnd t reply s
-Answers shape t Pause reply s = AnswersDone reply
-Answers shape t Settle reply s = AnswersDone reply
+abbrev pub AnswersRequest : Shape → ThreadId → Request → Reply → PlainState → Type 0
+AnswersRequest shape t (New class n) reply s = AnswersNew shape class n reply s
+AnswersRequest shape t (Look o) reply s = AnswersLook t o reply s
+AnswersRequest shape t (Get o f) reply s = AnswersGet shape t o f reply s
+AnswersRequest shape t (Put o f v) reply s = AnswersPut shape t o f reply s
+AnswersRequest shape t (Enter l level) reply s = AnswersEnter t l level reply s
+AnswersRequest shape t (Exit l) reply s = AnswersExit t l reply s
+AnswersRequest shape t (Wait l) reply s = AnswersMonitor t l reply s
+AnswersRequest shape t (Tick l) reply s = AnswersTick t l reply s
+AnswersRequest shape t (Timeout l) reply s = AnswersTimeout t l reply s
+AnswersRequest shape t (Resume l) reply s = AnswersResume t l reply s
+AnswersRequest shape t (Notify l) reply s = AnswersMonitor t l reply s
+AnswersRequest shape t (NotifyAll l) reply s = AnswersMonitor t l reply s
+AnswersRequest shape t (Print v) reply s = AnswersDone reply
+AnswersRequest shape t (End fault) reply s = AnswersEnd t reply s
+AnswersRequest shape t Pause reply s = AnswersDone reply
+AnswersRequest shape t Settle reply s = AnswersDone reply
 
 -- the thread waits on the lock and is not marked there: it was not notified and has not timed out
 abbrev pub IsUnmarkedWaiter : LockName → ThreadId → PlainState → Type 0
@@ -264,7 +264,7 @@ pub record IsPossibleButMarks (shape : Shape) (t : ThreadId) (request : Request)
   pub connected : s.lost t.client ≡ false
   pub going : s.ended t ≡ None
   pub awake : IsAwakeFor request t s
-  pub answers : Answers shape t request reply s
+  pub answers : AnswersRequest shape t request reply s
 
 -- What an act needs: all this, its thread's mark where it asks for one, and that it wakes whom it says.
 pub record IsPossible (shape : Shape) (t : ThreadId) (request : Request) (reply : Reply) (woken : Option ThreadId)
@@ -272,7 +272,7 @@ pub record IsPossible (shape : Shape) (t : ThreadId) (request : Request) (reply 
   pub connected : s.lost t.client ≡ false
   pub going : s.ended t ≡ None
   pub awake : IsAwakeFor request t s
-  pub answers : Answers shape t request reply s
+  pub answers : AnswersRequest shape t request reply s
   pub finds : FindsMark request reply t s
   pub wakes : Wakes request reply woken s
 

@@ -7,7 +7,7 @@ use Rattle.dso_base.specs.Reach.{Reached}
 use Rattle.dso_lookup.specs.Maps.{writes, written}
 use Rattle.dso_lookup.specs.Reaching.{ListsEach}
 use Rattle.dso_plain.specs.declared.tables.Object as table
-use Rattle.dso_plain.specs.Tables.{object_of}
+use Rattle.dso_plain.specs.HeapTables.{object_of}
 use Rattle.dso_plain.specs.State.{PlainState, is_mine, is_private_to, size_of}
 use Rattle.dso_plain.specs.After.{shared, present, published, names}
 

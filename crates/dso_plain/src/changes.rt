@@ -4,11 +4,11 @@ ghost use Rattle.std.specs.Option.{option_map};
 ghost use Rattle.dso_plain.specs.After as After;
 ghost use Rattle.dso_plain.specs.TableInvariants.{IndexesAgree};
 ghost use Rattle.dso_plain.specs.Changes.{with_hold, with_wait};
-ghost use Rattle.dso_plain.specs.Tables.{state_of, hold_of};
+ghost use Rattle.dso_plain.specs.HeapTables.{state_of, hold_of};
 
 use crate::count::Count;
 use crate::holds::{drop_hold, drop_wait, set_hold, set_wait};
-use crate::tables::{Hold, Tables};
+use crate::tables::{HeapTables, Hold};
 use dso_base::{Level, LockName, NoMemory, ThreadId};
 use std::alloc::Global;
 
@@ -36,7 +36,7 @@ fn entered(alloc: Global, wanted: Level, hold: Option<Hold>) -> Result<Hold, NoM
 /// The thread enters the lock.
 pub(crate) fn enter(
     alloc: Global,
-    tables: &mut Tables,
+    tables: &mut HeapTables,
     thread: ThreadId,
     lock: LockName,
     wanted: Level,
@@ -72,7 +72,7 @@ fn exited(hold: Option<Hold>) -> Option<Hold>
 /// The thread leaves the lock once.
 pub(crate) fn exit(
     alloc: Global,
-    tables: &mut Tables,
+    tables: &mut HeapTables,
     thread: ThreadId,
     lock: LockName,
 ) -> Result<(), NoMemory>
@@ -103,7 +103,7 @@ fn count_of(alloc: Global, hold: Option<Hold>) -> Count
 /// The thread gives up its hold and waits on the lock.
 pub(crate) fn wait(
     alloc: Global,
-    tables: &mut Tables,
+    tables: &mut HeapTables,
     thread: ThreadId,
     lock: LockName,
 ) -> Result<(), NoMemory>
@@ -121,7 +121,7 @@ pub(crate) fn wait(
 /// The thread goes on after its wait: it has its hold again.
 pub(crate) fn resume(
     alloc: Global,
-    tables: &mut Tables,
+    tables: &mut HeapTables,
     thread: ThreadId,
     lock: LockName,
 ) -> Result<(), NoMemory>

@@ -7,9 +7,9 @@ ghost use Rattle.dso_plain.specs.Changes.{dropped, without, Mirrors, ClearsRow};
 ghost use Rattle.dso_lookup.specs.Maps.{look};
 ghost use Rattle.dso_lookup.specs.Rows.{look_in};
 ghost use Rattle.dso_lookup.specs.Orders.{lock_order, thread_order};
-ghost use Rattle.dso_plain.specs.Tables.{state_of};
+ghost use Rattle.dso_plain.specs.HeapTables.{state_of};
 
-use crate::tables::Tables;
+use crate::tables::HeapTables;
 use dso_base::{LockName, NoMemory, ThreadId};
 use dso_lookup::{discard_in, put, take_row};
 use std::alloc::Global;
@@ -49,7 +49,7 @@ fn drop_rows<V: Drop>(
 }
 
 /// The thread leaves all monitors and waits.
-fn clear(alloc: Global, tables: &mut Tables, thread: ThreadId) -> Result<(), NoMemory>
+fn clear(alloc: Global, tables: &mut HeapTables, thread: ThreadId) -> Result<(), NoMemory>
     requires { Mirrors tables.old }
     ensures state { OnOk result (state_of tables.new ≡ without (is_thread thread) (state_of tables.old)) }
     ensures mirrors { OnOk result (Mirrors tables.new) }
@@ -71,7 +71,7 @@ fn clear(alloc: Global, tables: &mut Tables, thread: ThreadId) -> Result<(), NoM
 /// The thread leaves all monitors and waits, where it is one of the client.
 fn clear_of(
     alloc: Global,
-    tables: &mut Tables,
+    tables: &mut HeapTables,
     thread: ThreadId,
     client: u8,
 ) -> Result<(), NoMemory>
@@ -90,7 +90,7 @@ fn clear_of(
 /// The threads of a row leave all monitors and waits, as far as they are of the client.
 fn clear_all(
     alloc: Global,
-    tables: &mut Tables,
+    tables: &mut HeapTables,
     mut row: BTreeMap<ThreadId, ()>,
     client: u8,
 ) -> Result<(), NoMemory>
@@ -104,7 +104,7 @@ fn clear_all(
 }
 
 /// The client is lost.
-pub(crate) fn lose(alloc: Global, tables: &mut Tables, client: u8) -> Result<(), NoMemory>
+pub(crate) fn lose(alloc: Global, tables: &mut HeapTables, client: u8) -> Result<(), NoMemory>
     requires { IndexesAgree tables.old }
     ensures state { OnOk result (state_of tables.new ≡ After.apply (After.loses client) (state_of tables.old)) }
     ensures agrees { OnOk result (IndexesAgree tables.new) }

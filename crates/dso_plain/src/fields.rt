@@ -1,11 +1,11 @@
-//! The fields of an object in the tables: what they begin as, and their pasts (`specs/Tables.antt`).
+//! The fields of an object in the tables: what they begin as, and their pasts (`specs/HeapTables.antt`).
 ghost use Rattle.std.specs.Prelude.{◌≡◌, Some, OnOk, IfOk, [], ◌∷◌};
 ghost use Rattle.dso_base.specs.Block.{opening_value};
 ghost use Rattle.dso_base.specs.Shape.{kind_of};
 ghost use Rattle.dso_plain.specs.KeyTests.{is_field};
 ghost use Rattle.dso_lookup.specs.Maps.{writes, written, look};
 ghost use Rattle.dso_plain.specs.After.{present};
-ghost use Rattle.dso_plain.specs.Tables.{field_order, pasts_of, is_below};
+ghost use Rattle.dso_plain.specs.HeapTables.{field_order, pasts_of, is_below};
 
 use dso_base::{ClassId, Items, NoMemory, Shape, Value};
 use dso_lookup::{put, take};

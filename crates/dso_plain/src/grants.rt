@@ -1,11 +1,11 @@
 //! When a reply is possible for a request, of monitors and waits, and when an event is possible
 //! (`specs/Possible.antt`).
 ghost use Rattle.std.specs.Prelude.{◌≡◌, ◌≢◌, ◌↔◌, ◌⊎◌, IsTrue, None};
-ghost use Rattle.dso_plain.specs.Possible.{IsPrivateMonitor, IsClusterLock, IsUpgrade, NoConflict, AnswersEnter, AnswersExit, AnswersMonitor, AnswersTick, AnswersTimeout, AnswersResume, AnswersDone, AnswersEnd, Answers, FindsMark, Wakes, IsAwakeFor, IsPossible, May};
+ghost use Rattle.dso_plain.specs.Possible.{IsPrivateMonitor, IsClusterLock, IsUpgrade, NoConflict, AnswersEnter, AnswersExit, AnswersMonitor, AnswersTick, AnswersTimeout, AnswersResume, AnswersDone, AnswersEnd, AnswersRequest, FindsMark, Wakes, IsAwakeFor, IsPossible, May};
 ghost use Rattle.dso_plain.specs.TableInvariants.{IndexesAgree, TablesInvariant};
 ghost use Rattle.dso_plain.specs.StepInvariants.{MonitorInvariant};
 ghost use Rattle.dso_plain.specs.State.{level_of};
-ghost use Rattle.dso_plain.specs.Tables.{state_of};
+ghost use Rattle.dso_plain.specs.HeapTables.{state_of};
 
 use crate::possible::{Asker, answers_get, answers_look, answers_new, answers_put};
 use crate::publish::is_owner;
@@ -13,11 +13,11 @@ use crate::reads::{
     first_level, has_no_unmarked, holds_nothing, is_awake, is_free, is_going, is_lost, is_marked,
     is_unmarked, is_waiting, level, object,
 };
-use crate::tables::Tables;
+use crate::tables::HeapTables;
 use dso_base::{Event, Fault, Level, LockName, Reply, Request, Shape, ThreadId, Value};
 
 /// Whether the lock is the monitor of a private object of the thread.
-fn is_private_monitor(tables: &Tables, thread: ThreadId, lock: LockName) -> bool
+fn is_private_monitor(tables: &HeapTables, thread: ThreadId, lock: LockName) -> bool
     ensures { IsTrue result ↔ IsPrivateMonitor thread lock (state_of tables.now) }
 {
     match lock {
@@ -30,7 +30,7 @@ fn is_private_monitor(tables: &Tables, thread: ThreadId, lock: LockName) -> bool
 }
 
 /// Whether the lock is one of the cluster.
-fn is_cluster_lock(tables: &Tables, lock: LockName) -> bool
+fn is_cluster_lock(tables: &HeapTables, lock: LockName) -> bool
     ensures { IsTrue result ↔ IsClusterLock lock (state_of tables.now) }
 {
     match lock {
@@ -43,7 +43,7 @@ fn is_cluster_lock(tables: &Tables, lock: LockName) -> bool
 }
 
 /// Whether the level is Write and the hold's Read.
-fn is_upgrade(tables: &Tables, thread: ThreadId, lock: LockName, wanted: Level) -> bool
+fn is_upgrade(tables: &HeapTables, thread: ThreadId, lock: LockName, wanted: Level) -> bool
     ensures { IsTrue result ↔ IsUpgrade wanted ((state_of tables.now).monitors (lock, thread)) }
 {
     match (wanted, level(tables, lock, thread)) {
@@ -53,7 +53,7 @@ fn is_upgrade(tables: &Tables, thread: ThreadId, lock: LockName, wanted: Level) 
 }
 
 /// Whether no other thread holds the lock in conflict, for a thread that does not hold it.
-fn has_no_conflict(tables: &Tables, thread: ThreadId, lock: LockName, wanted: Level) -> bool
+fn has_no_conflict(tables: &HeapTables, thread: ThreadId, lock: LockName, wanted: Level) -> bool
     requires kept { MonitorInvariant (state_of tables.now) }
     requires absent { (state_of tables.now).monitors (lock, thread) ≡ None }
     ensures { IsTrue result ↔ NoConflict thread lock wanted (state_of tables.now) }
@@ -66,7 +66,7 @@ fn has_no_conflict(tables: &Tables, thread: ThreadId, lock: LockName, wanted: Le
 }
 
 /// Whether the thread can enter the lock as far as holds go.
-fn is_admitted(tables: &Tables, thread: ThreadId, lock: LockName, wanted: Level) -> bool
+fn is_admitted(tables: &HeapTables, thread: ThreadId, lock: LockName, wanted: Level) -> bool
     requires { MonitorInvariant (state_of tables.now) }
     ensures { IsTrue result ↔ (((state_of tables.now).monitors (lock, thread) ≢ None) ⊎ NoConflict thread lock wanted (state_of tables.now)) }
 {
@@ -78,7 +78,7 @@ fn is_admitted(tables: &Tables, thread: ThreadId, lock: LockName, wanted: Level)
 
 /// Whether the reply is possible for Enter.
 fn answers_enter(
-    tables: &Tables,
+    tables: &HeapTables,
     thread: ThreadId,
     lock: LockName,
     wanted: Level,
@@ -98,7 +98,7 @@ fn answers_enter(
 }
 
 /// Whether the reply is possible for Exit.
-fn answers_exit(tables: &Tables, thread: ThreadId, lock: LockName, reply: Reply) -> bool
+fn answers_exit(tables: &HeapTables, thread: ThreadId, lock: LockName, reply: Reply) -> bool
     ensures { IsTrue result ↔ AnswersExit thread lock reply (state_of tables.now) }
 {
     match (reply, level(tables, lock, thread)) {
@@ -108,7 +108,7 @@ fn answers_exit(tables: &Tables, thread: ThreadId, lock: LockName, reply: Reply)
 }
 
 /// Whether the reply is possible for Wait, Notify and NotifyAll.
-fn answers_monitor(tables: &Tables, thread: ThreadId, lock: LockName, reply: Reply) -> bool
+fn answers_monitor(tables: &HeapTables, thread: ThreadId, lock: LockName, reply: Reply) -> bool
     ensures { IsTrue result ↔ AnswersMonitor thread lock reply (state_of tables.now) }
 {
     match (reply, level(tables, lock, thread)) {
@@ -119,7 +119,7 @@ fn answers_monitor(tables: &Tables, thread: ThreadId, lock: LockName, reply: Rep
 }
 
 /// Whether the reply is possible for Tick, whatever is marked.
-fn answers_tick(tables: &Tables, thread: ThreadId, lock: LockName, reply: Reply) -> bool
+fn answers_tick(tables: &HeapTables, thread: ThreadId, lock: LockName, reply: Reply) -> bool
     requires { IndexesAgree tables.now }
     ensures { IsTrue result ↔ AnswersTick thread lock reply (state_of tables.now) }
 {
@@ -130,7 +130,7 @@ fn answers_tick(tables: &Tables, thread: ThreadId, lock: LockName, reply: Reply)
 }
 
 /// Whether the reply is possible for Timeout, whatever is marked.
-fn answers_timeout(tables: &Tables, thread: ThreadId, lock: LockName, reply: Reply) -> bool
+fn answers_timeout(tables: &HeapTables, thread: ThreadId, lock: LockName, reply: Reply) -> bool
     requires { IndexesAgree tables.now }
     ensures { IsTrue result ↔ AnswersTimeout thread lock reply (state_of tables.now) }
 {
@@ -141,7 +141,7 @@ fn answers_timeout(tables: &Tables, thread: ThreadId, lock: LockName, reply: Rep
 }
 
 /// Whether the reply is possible for Resume, whatever is marked.
-fn answers_resume(tables: &Tables, thread: ThreadId, lock: LockName, reply: Reply) -> bool
+fn answers_resume(tables: &HeapTables, thread: ThreadId, lock: LockName, reply: Reply) -> bool
     requires { IndexesAgree tables.now }
     ensures { IsTrue result ↔ AnswersResume thread lock reply (state_of tables.now) }
 {
@@ -162,7 +162,7 @@ fn is_done(reply: Reply) -> bool
 }
 
 /// Whether the reply is possible for End.
-fn answers_end(tables: &Tables, thread: ThreadId, reply: Reply) -> bool
+fn answers_end(tables: &HeapTables, thread: ThreadId, reply: Reply) -> bool
     requires { IndexesAgree tables.now }
     ensures { IsTrue result ↔ AnswersEnd thread reply (state_of tables.now) }
 {
@@ -175,7 +175,7 @@ fn answers_end(tables: &Tables, thread: ThreadId, reply: Reply) -> bool
 /// Whether the reply is possible for the request, whatever is marked.
 fn answers(asker: Asker<'_>, request: Request, reply: Reply) -> bool
     requires { TablesInvariant asker.tables.now }
-    ensures { IsTrue result ↔ Answers asker.entry.shape.now asker.entry.thread request reply (state_of asker.entry.tables.now) }
+    ensures { IsTrue result ↔ AnswersRequest asker.entry.shape.now asker.entry.thread request reply (state_of asker.entry.tables.now) }
 {
     let tables = asker.tables;
     let thread = asker.thread;
@@ -198,7 +198,7 @@ fn answers(asker: Asker<'_>, request: Request, reply: Reply) -> bool
 }
 
 /// Whether the thread's mark is there, where the act asks for it.
-fn finds_mark(tables: &Tables, request: Request, reply: Reply, thread: ThreadId) -> bool
+fn finds_mark(tables: &HeapTables, request: Request, reply: Reply, thread: ThreadId) -> bool
     ensures { IsTrue result ↔ FindsMark request reply thread (state_of tables.now) }
 {
     match (request, reply) {
@@ -209,7 +209,7 @@ fn finds_mark(tables: &Tables, request: Request, reply: Reply, thread: ThreadId)
 }
 
 /// Whether the act wakes whom it says.
-fn wakes(tables: &Tables, request: Request, reply: Reply, woken: Option<ThreadId>) -> bool
+fn wakes(tables: &HeapTables, request: Request, reply: Reply, woken: Option<ThreadId>) -> bool
     requires { IndexesAgree tables.now }
     ensures { IsTrue result ↔ Wakes request reply woken (state_of tables.now) }
 {
@@ -221,7 +221,7 @@ fn wakes(tables: &Tables, request: Request, reply: Reply, woken: Option<ThreadId
 }
 
 /// Whether the thread is awake, as far as the request needs it.
-fn is_awake_for(tables: &Tables, request: Request, thread: ThreadId) -> bool
+fn is_awake_for(tables: &HeapTables, request: Request, thread: ThreadId) -> bool
     requires { IndexesAgree tables.now }
     ensures { IsTrue result ↔ IsAwakeFor request thread (state_of tables.now) }
 {
@@ -247,7 +247,7 @@ fn is_possible(asker: Asker<'_>, request: Request, reply: Reply, woken: Option<T
 }
 
 /// Whether the event is possible.
-pub(crate) fn may(tables: &Tables, shape: &Shape, event: &Event) -> bool
+pub(crate) fn may(tables: &HeapTables, shape: &Shape, event: &Event) -> bool
     requires { TablesInvariant tables.now }
     ensures { IsTrue result ↔ May shape.now event.now (state_of tables.now) }
 {

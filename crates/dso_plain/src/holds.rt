@@ -4,10 +4,10 @@ ghost use Rattle.dso_plain.specs.TableInvariants.{IndexesAgree};
 ghost use Rattle.dso_lookup.specs.Rows.{look_in};
 ghost use Rattle.dso_plain.specs.Changes.{with_hold, with_wait};
 ghost use Rattle.dso_lookup.specs.Orders.{lock_order, thread_order};
-ghost use Rattle.dso_plain.specs.Tables.{state_of, hold_of};
+ghost use Rattle.dso_plain.specs.HeapTables.{state_of, hold_of};
 
 use crate::count::Count;
-use crate::tables::{Hold, Tables};
+use crate::tables::{HeapTables, Hold};
 use dso_base::{LockName, NoMemory, ThreadId};
 use dso_lookup::{put_in, take_in};
 use std::alloc::Global;
@@ -15,7 +15,7 @@ use std::alloc::Global;
 /// Gives the thread a hold on the lock.
 pub(crate) fn set_hold(
     alloc: Global,
-    tables: &mut Tables,
+    tables: &mut HeapTables,
     lock: LockName,
     thread: ThreadId,
     hold: Hold,
@@ -33,7 +33,7 @@ pub(crate) fn set_hold(
 /// Takes the thread's hold on the lock.
 pub(crate) fn drop_hold(
     alloc: Global,
-    tables: &mut Tables,
+    tables: &mut HeapTables,
     lock: LockName,
     thread: ThreadId,
 ) -> Result<Option<Hold>, NoMemory>
@@ -50,7 +50,7 @@ pub(crate) fn drop_hold(
 /// Lets the thread wait on the lock, not marked.
 pub(crate) fn set_wait(
     alloc: Global,
-    tables: &mut Tables,
+    tables: &mut HeapTables,
     lock: LockName,
     thread: ThreadId,
     count: Count,
@@ -69,7 +69,7 @@ pub(crate) fn set_wait(
 /// Ends a wait of the thread on the lock, be it marked or not. None where it is not marked there.
 pub(crate) fn drop_wait(
     alloc: Global,
-    tables: &mut Tables,
+    tables: &mut HeapTables,
     lock: LockName,
     thread: ThreadId,
 ) -> Result<Option<Count>, NoMemory>

@@ -23,5 +23,5 @@ mod writes;
 pub use count::Count;
 pub use plain::Plain;
 pub use possible::can_be_made;
-pub use tables::{Hold, Object, Tables};
+pub use tables::{HeapTables, Hold, Object};
 pub use threads::is_thread;

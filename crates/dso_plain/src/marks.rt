@@ -6,10 +6,10 @@ ghost use Rattle.dso_plain.specs.Changes.{moved};
 ghost use Rattle.dso_lookup.specs.Maps.{look};
 ghost use Rattle.dso_lookup.specs.Rows.{look_in};
 ghost use Rattle.dso_lookup.specs.Orders.{lock_order, thread_order};
-ghost use Rattle.dso_plain.specs.Tables.{state_of};
+ghost use Rattle.dso_plain.specs.HeapTables.{state_of};
 
 use crate::count::Count;
-use crate::tables::Tables;
+use crate::tables::HeapTables;
 use dso_base::{LockName, NoMemory, ThreadId};
 use dso_lookup::{put_in, take_in, take_row};
 use std::alloc::Global;
@@ -18,7 +18,7 @@ use std::collections::BTreeMap;
 /// Marks a waiter: it was notified, or it times out. One that is marked stays so.
 pub(crate) fn mark(
     alloc: Global,
-    tables: &mut Tables,
+    tables: &mut HeapTables,
     lock: LockName,
     thread: ThreadId,
 ) -> Result<(), NoMemory>
@@ -52,7 +52,11 @@ fn move_row(
 }
 
 /// Notifies all waiters of a lock.
-pub(crate) fn mark_all(alloc: Global, tables: &mut Tables, lock: LockName) -> Result<(), NoMemory>
+pub(crate) fn mark_all(
+    alloc: Global,
+    tables: &mut HeapTables,
+    lock: LockName,
+) -> Result<(), NoMemory>
     requires { IndexesAgree tables.old }
     ensures state { OnOk result (state_of tables.new ≡ After.apply (After.notifies_all lock (state_of tables.old)) (state_of tables.old)) }
     ensures agrees { OnOk result (IndexesAgree tables.new) }

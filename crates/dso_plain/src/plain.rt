@@ -3,14 +3,14 @@ ghost use Rattle.std.specs.Prelude.{◌≡◌, ◌↔◌, true, false, None, IfO
 ghost use Rattle.dso_plain.specs.After.{after};
 ghost use Rattle.dso_plain.specs.Possible.{May};
 ghost use Rattle.dso_plain.specs.State.{opening};
-ghost use Rattle.dso_plain.specs.Tables.{state_of, object_of};
+ghost use Rattle.dso_plain.specs.HeapTables.{state_of, object_of};
 ghost use Rattle.dso_base.specs.declared.lock.LockName.{LockName};
 ghost use Rattle.std.specs.Option.{option_map};
 
 use crate::fields::{make_fields, open_fields};
 use crate::reads;
 use crate::steps::step;
-use crate::tables::{Object, Tables};
+use crate::tables::{HeapTables, Object};
 use dso_base::{ClassId, Event, Fault, NoMemory, Shape, ThreadId, Value};
 use dso_lookup::put;
 use std::alloc::Global;
@@ -19,14 +19,14 @@ use std::marker::Model;
 /// One heap with plain monitors. Contracts see its tables, and the plain state that they stand for.
 #[derive(Drop)]
 pub struct Plain {
-    tables: Tables,
+    tables: HeapTables,
 }
 
 impl Model for Plain {
-    ghost use Rattle.dso_plain.specs.declared.tables.Tables.{Tables};
-    ghost use Rattle.dso_plain.specs.contracts.tables.Tables.{the_row};
+    ghost use Rattle.dso_plain.specs.declared.tables.HeapTables.{HeapTables};
+    ghost use Rattle.dso_plain.specs.contracts.tables.HeapTables.{the_row};
 
-    ghost Value = { Tables };
+    ghost Value = { HeapTables };
 
     ghost coded = { the_row.coded };
 
@@ -42,7 +42,7 @@ impl Plain {
     pub fn new(alloc: Global, shape: &Shape) -> Result<Plain, NoMemory>
         ensures { IfOk result (λ plain. state_of plain ≡ opening shape.now) }
     {
-        let mut tables = Tables::blank(alloc);
+        let mut tables = HeapTables::blank(alloc);
         let roots = Object {
             class: ClassId::Roots,
             size: shape.roots,
@@ -64,7 +64,7 @@ impl Plain {
         match step(alloc, &mut self.tables, shape, event) {
             Ok(made) => Ok(made),
             Err(refused) => {
-                self.tables = Tables::blank(alloc);
+                self.tables = HeapTables::blank(alloc);
                 Err(refused)
             }
         }

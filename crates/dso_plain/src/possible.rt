@@ -7,17 +7,17 @@ ghost use Rattle.dso_plain.specs.State as State;
 ghost use Rattle.dso_plain.specs.Possible.{CanBeMade, AnswersNew, AnswersLook, AnswersGet, MayPut, AnswersPut};
 ghost use Rattle.dso_plain.specs.TableInvariants.{IndexesAgree};
 ghost use Rattle.dso_plain.specs.State.{level_of, hold_on_guard};
-ghost use Rattle.dso_plain.specs.Tables.{state_of};
+ghost use Rattle.dso_plain.specs.HeapTables.{state_of};
 
 use crate::publish::is_owner;
 use crate::reads::{holds_nothing, holds_something, level, object, seen, stands_from, value};
-use crate::tables::{Object, Tables};
+use crate::tables::{HeapTables, Object};
 use dso_base::{ClassId, Fault, Level, Reply, Same, Shape, ThreadId, Value};
 
 /// A thread that asks, and what it is judged by: the tables as they stand, and the program's shape.
 #[derive(Clone, Copy)]
 pub(crate) struct Asker<'a> {
-    pub(crate) tables: &'a Tables,
+    pub(crate) tables: &'a HeapTables,
     pub(crate) shape: &'a Shape,
     pub(crate) thread: ThreadId,
 }
@@ -41,7 +41,7 @@ pub fn can_be_made(shape: &Shape, class: ClassId, size: usize) -> bool
 
 /// Whether the reply is possible for New.
 pub(crate) fn answers_new(
-    tables: &Tables,
+    tables: &HeapTables,
     shape: &Shape,
     class: ClassId,
     size: u32,
@@ -65,7 +65,7 @@ fn is_seen_by(thread: ThreadId, object: Object) -> bool
 }
 
 /// Whether the reply is possible for Look.
-pub(crate) fn answers_look(tables: &Tables, thread: ThreadId, id: u64, reply: Reply) -> bool
+pub(crate) fn answers_look(tables: &HeapTables, thread: ThreadId, id: u64, reply: Reply) -> bool
     ensures { IsTrue result ↔ AnswersLook thread id reply (state_of tables.now) }
 {
     match reply {
@@ -89,7 +89,7 @@ pub(crate) fn guard_level(asker: Asker<'_>, id: u64, field: u32, object: Object)
 }
 
 /// Whether the field of an object has the value.
-fn has_value(tables: &Tables, id: u64, field: u32, wanted: Value) -> bool
+fn has_value(tables: &HeapTables, id: u64, field: u32, wanted: Value) -> bool
     ensures { IsTrue result ↔ ((state_of tables.now).heap (id, field) ≡ Some wanted) }
 {
     match value(tables, id, field) {

@@ -10,11 +10,11 @@ ghost use Rattle.dso_plain.specs.StepInvariants.{PastInvariant};
 ghost use Rattle.dso_plain.specs.State as State;
 ghost use Rattle.dso_plain.specs.State.{is_mine};
 ghost use Rattle.dso_plain.specs.After.{published, names, names_below, holds_reference};
-ghost use Rattle.dso_plain.specs.Tables.{state_of, field_order};
+ghost use Rattle.dso_plain.specs.HeapTables.{state_of, field_order};
 ghost use Rattle.dso_plain.specs.Publishing.{with_shared, HasItsFields, private_is_there};
 
 use crate::fields::open_fields;
-use crate::tables::{Object, Tables};
+use crate::tables::{HeapTables, Object};
 use crate::threads::is_thread;
 use dso_base::{NoMemory, ThreadId, Value};
 use dso_lookup::{PrivateObjects, put, reached_from};
@@ -35,7 +35,7 @@ pub(crate) fn is_owner(thread: ThreadId, owner: Option<ThreadId>) -> bool
 #[derive(Drop)]
 struct PrivatesOf<'a> {
     thread: ThreadId,
-    tables: &'a Tables,
+    tables: &'a HeapTables,
 }
 
 impl PrivateObjects for PrivatesOf<'_> {
@@ -94,7 +94,7 @@ fn add_named(
 }
 
 /// Makes an object shared.
-fn share(alloc: Global, tables: &mut Tables, object: u64) -> Result<(), NoMemory>
+fn share(alloc: Global, tables: &mut HeapTables, object: u64) -> Result<(), NoMemory>
     requires { HasItsFields object (state_of tables.old) }
     ensures state { OnOk result (state_of tables.new ≡ with_shared (λ x. eqb x object) (state_of tables.old)) }
     ensures agrees { OnOk result (IndexesAgree tables.old → IndexesAgree tables.new) }
@@ -115,7 +115,7 @@ fn share(alloc: Global, tables: &mut Tables, object: u64) -> Result<(), NoMemory
 /// Makes shared what is found from a value through the private objects of a thread.
 pub(crate) fn publish(
     alloc: Global,
-    tables: &mut Tables,
+    tables: &mut HeapTables,
     thread: ThreadId,
     value: Value,
 ) -> Result<(), NoMemory>

@@ -1,4 +1,4 @@
-//! What the tables tell of threads, locks and objects (`specs/Tables.antt`). Nothing here takes memory.
+//! What the tables tell of threads, locks and objects (`specs/HeapTables.antt`). Nothing here takes memory.
 ghost use Rattle.std.specs.Prelude.{◌≡◌, ◌≢◌, ◌↔◌, true, false, None, Some, IsTrue, MatchOption, length, reverse, slice_get};
 ghost use Rattle.std.specs.Option.{option_map, option_copied};
 ghost use Rattle.std.specs.Ordering.{nat_cmp};
@@ -9,14 +9,14 @@ ghost use Rattle.dso_lookup.specs.Maps.{look};
 ghost use Rattle.dso_plain.specs.TableInvariants.{IndexesAgree};
 ghost use Rattle.dso_plain.specs.State.{HoldsNothing, level_of};
 ghost use Rattle.dso_plain.specs.Possible.{StandsFrom, IsUnmarkedWaiter};
-ghost use Rattle.dso_plain.specs.Tables.{state_of, field_order};
+ghost use Rattle.dso_plain.specs.HeapTables.{state_of, field_order};
 
-use crate::tables::{Object, Tables};
+use crate::tables::{HeapTables, Object};
 use dso_base::{Items, Level, LockName, Same, ThreadId, Value};
 use dso_lookup::{find_in, first_in, is_row_empty, is_row_taken};
 
 /// Whether the client is lost.
-pub(crate) fn is_lost(tables: &Tables, client: u8) -> bool
+pub(crate) fn is_lost(tables: &HeapTables, client: u8) -> bool
     ensures { result ≡ (state_of tables.now).lost client }
 {
     match tables.lost.get(&client) {
@@ -26,14 +26,14 @@ pub(crate) fn is_lost(tables: &Tables, client: u8) -> bool
 }
 
 /// Whether the thread has not ended.
-pub(crate) fn is_going(tables: &Tables, thread: ThreadId) -> bool
+pub(crate) fn is_going(tables: &HeapTables, thread: ThreadId) -> bool
     ensures { IsTrue result ↔ ((state_of tables.now).ended thread ≡ None) }
 {
     tables.ended.get(&thread).is_none()
 }
 
 /// Whether the thread waits on no lock.
-pub(crate) fn is_awake(tables: &Tables, thread: ThreadId) -> bool
+pub(crate) fn is_awake(tables: &HeapTables, thread: ThreadId) -> bool
     requires { IndexesAgree tables.now }
     ensures { IsTrue result ↔ ((l : LockName) → (state_of tables.now).asleep (l, thread) ≡ None) }
 {
@@ -41,7 +41,7 @@ pub(crate) fn is_awake(tables: &Tables, thread: ThreadId) -> bool
 }
 
 /// Whether the thread holds no lock.
-pub(crate) fn holds_nothing(tables: &Tables, thread: ThreadId) -> bool
+pub(crate) fn holds_nothing(tables: &HeapTables, thread: ThreadId) -> bool
     requires { IndexesAgree tables.now }
     ensures { IsTrue result ↔ HoldsNothing thread (state_of tables.now) }
 {
@@ -49,7 +49,7 @@ pub(crate) fn holds_nothing(tables: &Tables, thread: ThreadId) -> bool
 }
 
 /// Whether the thread holds some lock.
-pub(crate) fn holds_something(tables: &Tables, thread: ThreadId) -> bool
+pub(crate) fn holds_something(tables: &HeapTables, thread: ThreadId) -> bool
     requires { IndexesAgree tables.now }
     ensures { IsTrue result ↔ ((l : LockName) × ((state_of tables.now).monitors (l, thread) ≢ None)) }
 {
@@ -57,7 +57,7 @@ pub(crate) fn holds_something(tables: &Tables, thread: ThreadId) -> bool
 }
 
 /// The level at which somebody holds the lock, None where nobody does.
-pub(crate) fn first_level(tables: &Tables, lock: LockName) -> Option<Level>
+pub(crate) fn first_level(tables: &HeapTables, lock: LockName) -> Option<Level>
     ensures { MatchOption result ((w : ThreadId) → (state_of tables.now).monitors (lock, w) ≡ None) (λ level. (w : ThreadId) × (level_of ((state_of tables.now).monitors (lock, w)) ≡ Some level)) }
 {
     match first_in(&tables.holds, &lock) {
@@ -67,7 +67,7 @@ pub(crate) fn first_level(tables: &Tables, lock: LockName) -> Option<Level>
 }
 
 /// The level at which the thread holds the lock, None where it does not.
-pub(crate) fn level(tables: &Tables, lock: LockName, thread: ThreadId) -> Option<Level>
+pub(crate) fn level(tables: &HeapTables, lock: LockName, thread: ThreadId) -> Option<Level>
     ensures { result ≡ level_of ((state_of tables.now).monitors (lock, thread)) }
 {
     match find_in(&tables.holds, &lock, &thread) {
@@ -77,14 +77,14 @@ pub(crate) fn level(tables: &Tables, lock: LockName, thread: ThreadId) -> Option
 }
 
 /// Whether nobody holds the lock.
-pub(crate) fn is_free(tables: &Tables, lock: LockName) -> bool
+pub(crate) fn is_free(tables: &HeapTables, lock: LockName) -> bool
     ensures { IsTrue result ↔ ((other : ThreadId) → (state_of tables.now).monitors (lock, other) ≡ None) }
 {
     is_row_empty(&tables.holds, &lock)
 }
 
 /// Whether the thread waits on the lock.
-pub(crate) fn is_waiting(tables: &Tables, lock: LockName, thread: ThreadId) -> bool
+pub(crate) fn is_waiting(tables: &HeapTables, lock: LockName, thread: ThreadId) -> bool
     requires { IndexesAgree tables.now }
     ensures { IsTrue result ↔ ((state_of tables.now).asleep (lock, thread) ≢ None) }
 {
@@ -92,7 +92,7 @@ pub(crate) fn is_waiting(tables: &Tables, lock: LockName, thread: ThreadId) -> b
 }
 
 /// Whether the thread waits on the lock and is not marked there.
-pub(crate) fn is_unmarked(tables: &Tables, lock: LockName, thread: ThreadId) -> bool
+pub(crate) fn is_unmarked(tables: &HeapTables, lock: LockName, thread: ThreadId) -> bool
     requires { IndexesAgree tables.now }
     ensures { IsTrue result ↔ IsUnmarkedWaiter lock thread (state_of tables.now) }
 {
@@ -100,14 +100,14 @@ pub(crate) fn is_unmarked(tables: &Tables, lock: LockName, thread: ThreadId) -> 
 }
 
 /// Whether the thread waits on the lock and is marked there: it was notified or has timed out.
-pub(crate) fn is_marked(tables: &Tables, lock: LockName, thread: ThreadId) -> bool
+pub(crate) fn is_marked(tables: &HeapTables, lock: LockName, thread: ThreadId) -> bool
     ensures { result ≡ (state_of tables.now).marked (lock, thread) }
 {
     find_in(&tables.marked, &lock, &thread).is_some()
 }
 
 /// Whether no thread waits on the lock that is not marked there.
-pub(crate) fn has_no_unmarked(tables: &Tables, lock: LockName) -> bool
+pub(crate) fn has_no_unmarked(tables: &HeapTables, lock: LockName) -> bool
     requires { IndexesAgree tables.now }
     ensures { IsTrue result ↔ ((w : ThreadId) → IsUnmarkedWaiter lock w (state_of tables.now) → ⊥) }
 {
@@ -115,21 +115,21 @@ pub(crate) fn has_no_unmarked(tables: &Tables, lock: LockName) -> bool
 }
 
 /// The object of an id.
-pub(crate) fn object(tables: &Tables, id: u64) -> Option<Object>
+pub(crate) fn object(tables: &HeapTables, id: u64) -> Option<Object>
     ensures { result ≡ look nat_cmp tables.now.objects id }
 {
     tables.objects.get(&id).copied()
 }
 
 /// The value of a field.
-pub(crate) fn value(tables: &Tables, object: u64, field: u32) -> Option<Value>
+pub(crate) fn value(tables: &HeapTables, object: u64, field: u32) -> Option<Value>
     ensures { result ≡ (state_of tables.now).heap (object, field) }
 {
     tables.heap.get(&(object, field)).copied()
 }
 
 /// The place in a field's past that the thread has seen.
-pub(crate) fn seen(tables: &Tables, thread: ThreadId, object: u64, field: u32) -> usize
+pub(crate) fn seen(tables: &HeapTables, thread: ThreadId, object: u64, field: u32) -> usize
     ensures { result ≡ (state_of tables.now).seen (thread, object, field) }
 {
     match tables.seen.get(&(thread, object, field)) {
@@ -155,7 +155,7 @@ fn stands_in(items: &[Value], place: usize, value: Value) -> bool
 
 /// Whether the value stands in a field's past at or after a place.
 pub(crate) fn stands_from(
-    tables: &Tables,
+    tables: &HeapTables,
     object: u64,
     field: u32,
     place: usize,
@@ -170,7 +170,7 @@ pub(crate) fn stands_from(
 }
 
 /// How many values the thread printed.
-pub(crate) fn printed(tables: &Tables, thread: ThreadId) -> usize
+pub(crate) fn printed(tables: &HeapTables, thread: ThreadId) -> usize
     ensures { result ≡ length ((state_of tables.now).output thread) }
 {
     match tables.output.get(&thread) {
@@ -180,7 +180,7 @@ pub(crate) fn printed(tables: &Tables, thread: ThreadId) -> usize
 }
 
 /// What the thread printed at a place, counted from its first value.
-pub(crate) fn output(tables: &Tables, thread: ThreadId, at: usize) -> Option<Value>
+pub(crate) fn output(tables: &HeapTables, thread: ThreadId, at: usize) -> Option<Value>
     ensures { result ≡ slice_get (reverse ((state_of tables.now).output thread)) at }
 {
     match tables.output.get(&thread) {

@@ -7,7 +7,7 @@ ghost use Rattle.dso_plain.specs.TableInvariants.{IndexesAgree, TablesInvariant}
 ghost use Rattle.dso_plain.specs.StepInvariants.{PastInvariant};
 ghost use Rattle.dso_plain.specs.Possible.{IsPossible, IsUnmarkedWaiter, AnswersPut, May};
 ghost use Rattle.dso_plain.specs.State.{is_shared};
-ghost use Rattle.dso_plain.specs.Tables.{state_of};
+ghost use Rattle.dso_plain.specs.HeapTables.{state_of};
 
 use crate::changes::{enter, exit, resume, wait};
 use crate::clears::lose;
@@ -15,14 +15,14 @@ use crate::grants::may;
 use crate::marks::{mark, mark_all};
 use crate::possible::{Asker, guard_level};
 use crate::reads::object;
-use crate::tables::Tables;
+use crate::tables::HeapTables;
 use crate::writes::{NewObject, count_read, end, make_object, print, put_own, put_shared, see};
 use dso_base::{Event, LockName, NoMemory, Reply, Request, Set, Shape, ThreadId};
 use std::alloc::Global;
 
 /// A read: under the guard the thread has seen the last place, without it the read is counted.
 fn read(
-    tables: &mut Tables,
+    tables: &mut HeapTables,
     shape: &Shape,
     thread: ThreadId,
     id: u64,
@@ -50,7 +50,12 @@ fn read(
 }
 
 /// A put that may be done.
-fn put_field(alloc: Global, tables: &mut Tables, thread: ThreadId, set: Set) -> Result<(), NoMemory>
+fn put_field(
+    alloc: Global,
+    tables: &mut HeapTables,
+    thread: ThreadId,
+    set: Set,
+) -> Result<(), NoMemory>
     requires agrees { IndexesAgree tables.old }
     requires past { PastInvariant (state_of tables.old) }
     ensures state { OnOk result (state_of tables.new ≡ After.apply (After.put thread set.object set.field set.value (is_shared ((state_of tables.old).objects set.object)) (state_of tables.old)) (state_of tables.old)) }
@@ -71,7 +76,7 @@ fn put_field(alloc: Global, tables: &mut Tables, thread: ThreadId, set: Set) -> 
 /// A notification of one waiter, or of nobody.
 fn notify(
     alloc: Global,
-    tables: &mut Tables,
+    tables: &mut HeapTables,
     lock: LockName,
     woken: Option<ThreadId>,
 ) -> Result<(), NoMemory>
@@ -96,7 +101,7 @@ struct Act {
 }
 
 /// An act that is possible is made.
-fn make_act(alloc: Global, tables: &mut Tables, shape: &Shape, act: Act) -> Result<(), NoMemory>
+fn make_act(alloc: Global, tables: &mut HeapTables, shape: &Shape, act: Act) -> Result<(), NoMemory>
     requires kept { TablesInvariant tables.old }
     requires possible { IsPossible shape.now act.thread act.request act.reply act.woken (state_of tables.old) }
     ensures state { OnOk result (state_of tables.new ≡ After.apply (After.change_of shape.now act.thread act.request act.reply act.woken (state_of tables.old)) (state_of tables.old)) }
@@ -134,7 +139,12 @@ fn make_act(alloc: Global, tables: &mut Tables, shape: &Shape, act: Act) -> Resu
 }
 
 /// An event that is possible is made.
-fn make(alloc: Global, tables: &mut Tables, shape: &Shape, event: &Event) -> Result<(), NoMemory>
+fn make(
+    alloc: Global,
+    tables: &mut HeapTables,
+    shape: &Shape,
+    event: &Event,
+) -> Result<(), NoMemory>
     requires kept { TablesInvariant tables.old }
     requires possible { May shape.now event.now (state_of tables.old) }
     ensures state { OnOk result (state_of tables.new ≡ After.after shape.now event.now (state_of tables.old)) }
@@ -162,7 +172,7 @@ fn make(alloc: Global, tables: &mut Tables, shape: &Shape, event: &Event) -> Res
 /// Makes the event where it is possible, and answers whether it was.
 pub(crate) fn step(
     alloc: Global,
-    tables: &mut Tables,
+    tables: &mut HeapTables,
     shape: &Shape,
     event: &Event,
 ) -> Result<bool, NoMemory>

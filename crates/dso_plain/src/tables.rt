@@ -1,5 +1,5 @@
-//! The tables that keep one heap with plain monitors (`specs/Tables.antt`).
-ghost use Rattle.dso_plain.specs.Tables.{IsBlank};
+//! The tables that keep one heap with plain monitors (`specs/HeapTables.antt`).
+ghost use Rattle.dso_plain.specs.HeapTables.{IsBlank};
 
 use crate::count::Count;
 use dso_base::{ClassId, Fault, Items, Level, LockName, ThreadId, Value};
@@ -28,7 +28,7 @@ pub struct Hold {
 /// question about a thread looks through the locks, nor one about a lock through the threads; `threads` tells, by client,
 /// the threads that have entered a lock.
 #[derive(Drop)]
-pub struct Tables {
+pub struct HeapTables {
     pub objects: BTreeMap<u64, Object>,
     pub made: BTreeMap<ThreadId, Items<u64>>,
     pub heap: BTreeMap<(u64, u32), Value>,
@@ -46,12 +46,12 @@ pub struct Tables {
     pub unguarded: Count,
 }
 
-impl Tables {
-    /// Tables in which nothing stands. It takes no memory.
-    pub(crate) fn blank(alloc: Global) -> Tables
+impl HeapTables {
+    /// HeapTables in which nothing stands. It takes no memory.
+    pub(crate) fn blank(alloc: Global) -> HeapTables
         ensures { IsBlank result }
     {
-        Tables {
+        HeapTables {
             objects: BTreeMap::new(alloc),
             made: BTreeMap::new(alloc),
             heap: BTreeMap::new(alloc),

@@ -7,11 +7,11 @@ ghost use Rattle.dso_plain.specs.StepInvariants.{PastInvariant};
 ghost use Rattle.dso_plain.specs.State.{IsShared};
 ghost use Rattle.dso_plain.specs.KeyTests.{is_view};
 ghost use Rattle.dso_lookup.specs.Maps.{writes, written};
-ghost use Rattle.dso_plain.specs.Tables.{state_of};
+ghost use Rattle.dso_plain.specs.HeapTables.{state_of};
 
 use crate::fields::make_fields;
 use crate::publish::publish;
-use crate::tables::{Object, Tables};
+use crate::tables::{HeapTables, Object};
 use dso_base::{ClassId, Fault, NoMemory, Set, Shape, ThreadId, Value};
 use dso_lookup::{push_at, put};
 use std::alloc::Global;
@@ -19,7 +19,7 @@ use std::alloc::Global;
 /// The thread prints a value.
 pub(crate) fn print(
     alloc: Global,
-    tables: &mut Tables,
+    tables: &mut HeapTables,
     thread: ThreadId,
     value: Value,
 ) -> Result<(), NoMemory>
@@ -33,7 +33,7 @@ pub(crate) fn print(
 
 /// The thread ends.
 pub(crate) fn end(
-    tables: &mut Tables,
+    tables: &mut HeapTables,
     thread: ThreadId,
     fault: Option<Fault>,
 ) -> Result<(), NoMemory>
@@ -46,7 +46,7 @@ pub(crate) fn end(
 }
 
 /// The length of a field's past.
-fn past_length(tables: &Tables, id: u64, field: u32) -> usize
+fn past_length(tables: &HeapTables, id: u64, field: u32) -> usize
     ensures { result ≡ length ((state_of tables.now).past (id, field)) }
 {
     match tables.past.get(&(id, field)) {
@@ -57,7 +57,7 @@ fn past_length(tables: &Tables, id: u64, field: u32) -> usize
 
 /// The thread has seen the last place of a field's past.
 pub(crate) fn see(
-    tables: &mut Tables,
+    tables: &mut HeapTables,
     thread: ThreadId,
     id: u64,
     field: u32,
@@ -72,7 +72,7 @@ pub(crate) fn see(
 }
 
 /// An unguarded read is counted.
-pub(crate) fn count_read(tables: &mut Tables) -> Result<(), NoMemory>
+pub(crate) fn count_read(tables: &mut HeapTables) -> Result<(), NoMemory>
     requires { IndexesAgree tables.old }
     ensures state { OnOk result (state_of tables.new ≡ record (state_of tables.old) { unguarded = suc (state_of tables.old).unguarded }) }
     ensures agrees { OnOk result (IndexesAgree tables.new) }
@@ -92,7 +92,7 @@ pub(crate) struct NewObject {
 /// The thread makes an object, private to it.
 pub(crate) fn make_object(
     alloc: Global,
-    tables: &mut Tables,
+    tables: &mut HeapTables,
     shape: &Shape,
     thread: ThreadId,
     made: NewObject,
@@ -115,7 +115,7 @@ pub(crate) fn make_object(
 }
 
 /// A put into a private object.
-pub(crate) fn put_own(tables: &mut Tables, thread: ThreadId, set: Set) -> Result<(), NoMemory>
+pub(crate) fn put_own(tables: &mut HeapTables, thread: ThreadId, set: Set) -> Result<(), NoMemory>
     requires { IndexesAgree tables.old }
     ensures state { OnOk result (state_of tables.new ≡ After.apply (After.put thread set.object set.field set.value false (state_of tables.old)) (state_of tables.old)) }
     ensures agrees { OnOk result (IndexesAgree tables.new) }
@@ -127,7 +127,7 @@ pub(crate) fn put_own(tables: &mut Tables, thread: ThreadId, set: Set) -> Result
 /// A put into a shared object, which publishes what is found from the value.
 pub(crate) fn put_shared(
     alloc: Global,
-    tables: &mut Tables,
+    tables: &mut HeapTables,
     thread: ThreadId,
     set: Set,
 ) -> Result<(), NoMemory>

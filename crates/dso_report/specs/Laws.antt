@@ -3,7 +3,7 @@ use Rattle.std.specs.Prelude.{ℕ, ◌≡◌, List}
 use Rattle.dso_base.specs.declared.lock.ThreadId.{ThreadId}
 use Rattle.dso_class.specs.declared.program.Names.{Names}
 use Rattle.dso_class.specs.declared.program.Program.{Program}
-use Rattle.dso_class.specs.Sound.{IsSound}
+use Rattle.dso_class.specs.Sound.{IsSoundProgram}
 use Rattle.dso_plain.specs.State.{PlainState}
 use Rattle.dso_report.specs.HistoryState.{IsLastStateOf}
 use Rattle.dso_report.specs.Numbering.{IsOrder}
@@ -17,7 +17,7 @@ OneReport = (names : Names) (threads : List ThreadId) (s : PlainState) (a b : Li
 
 -- In each state that a run of a sound program leads to, nothing is missing that its report names.
 abbrev pub StatesAreWhole : Type 0
-StatesAreWhole = (p : Program) (s : PlainState) → IsSound p → IsLastStateOf p s → IsWholeState p.names s
+StatesAreWhole = (p : Program) (s : PlainState) → IsSoundProgram p → IsLastStateOf p s → IsWholeState p.names s
 
 -- Each object that is shown has a number.
 abbrev pub OrdersAreClosed : Type 0

@@ -14,8 +14,8 @@ use Rattle.dso_base.specs.declared.value.Value.{Value}
 use Rattle.dso_class.specs.declared.program.Names.{Names}
 use Rattle.dso_config.specs.declared.config.RootEntry.{RootEntry}
 use Rattle.dso_plain.specs.State.{PlainState, Object}
-use Rattle.dso_report.specs.declared.thread_lines.Standing.{Standing}
-use Rattle.dso_report.specs.declared.thread_lines.Standing.TheVariants.{Ended, Faulted, Lost, Waiting, Open}
+use Rattle.dso_report.specs.declared.thread_lines.ThreadStanding.{ThreadStanding}
+use Rattle.dso_report.specs.declared.thread_lines.ThreadStanding.TheVariants.{Ended, Faulted, Lost, Waiting, Open}
 use Rattle.dso_report.specs.Numbering.{IsOrder, fields_of}
 use Rattle.dso_report.specs.Texts.{each_below, each_of, printed, shown_in, numbered, kind_text}
 
@@ -24,7 +24,7 @@ abbrev pub Waits : PlainState → ThreadId → Type 0
 Waits s t = ((l : LockName) → s.asleep (l, t) ≡ None) → ⊥
 
 -- How a thread stands: it has ended, or its client is lost, or it waits, or none of these.
-abbrev pub HasStanding : PlainState → ThreadId → Standing → Type 0
+abbrev pub HasStanding : PlainState → ThreadId → ThreadStanding → Type 0
 HasStanding s t Ended = s.ended t ≡ Some None
 HasStanding s t (Faulted fault) = s.ended t ≡ Some (Some fault)
 HasStanding s t Lost = (s.ended t ≡ None) × (s.lost t.client ≡ true)
@@ -47,7 +47,7 @@ fault_text fault.LockUpgrade = codes "LockUpgrade"
 fault_text fault.IllegalMonitor = codes "IllegalMonitor"
 
 -- how a thread stands, in words
-abbrev pub standing_text : Standing → List ℕ
+abbrev pub standing_text : ThreadStanding → List ℕ
 standing_text Ended = codes "ended"
 standing_text (Faulted fault) = codes "fault " ++ fault_text fault
 standing_text Lost = codes "lost"
@@ -55,7 +55,7 @@ standing_text Waiting = codes "waiting"
 standing_text Open = codes "open"
 
 -- the line of a thread
-abbrev pub thread_line : ThreadId → Standing → List ℕ
+abbrev pub thread_line : ThreadId → ThreadStanding → List ℕ
 thread_line t standing = codes "thread "
     ++ (decimal t.client ++ (codes "." ++ (decimal t.index ++ (codes " " ++ (standing_text standing ++ codes "\n")))))
 
@@ -64,13 +64,13 @@ abbrev pub output_line : List (List ℕ) → Value → Option (List ℕ)
 output_line texts v = Some (codes "| ") ++? printed texts v ++? Some (codes "\n")
 
 -- the line of a thread, and a line for each value that it printed, the oldest first
-abbrev pub thread_text : Names → PlainState → ThreadId → Standing → Option (List ℕ)
+abbrev pub thread_text : Names → PlainState → ThreadId → ThreadStanding → Option (List ℕ)
 thread_text names s t standing = Some (thread_line t standing) ++? each_of (output_line names.texts)
     (reverse (s.output t))
 
 -- the text is that of the threads in their order, each as it stands
 pub record IsThreadsText (names : Names) (s : PlainState) (threads : List ThreadId) (text : List ℕ) : Type 0 where
-  pub standings : List (ThreadId × Standing)
+  pub standings : List (ThreadId × ThreadStanding)
   pub in_order : map (λ p. p.0) standings ≡ threads
   pub stand : All (λ p. HasStanding s p.0 p.1) standings
   pub written : each_of (λ p. thread_text names s p.0 p.1) standings ≡ Some text

@@ -16,7 +16,7 @@ use Rattle.dso_base.specs.declared.value.Value.TheVariants as value
 use Rattle.dso_base.specs.Following.{FollowsProgram, Listed}
 use Rattle.dso_machine.specs.declared.code.Code.{Code}
 use Rattle.dso_machine.specs.Next.{next_request}
-use Rattle.dso_machine.specs.Sound.{IsSound}
+use Rattle.dso_machine.specs.Sound.{IsSoundCode}
 
 -- the reply tells of the value: it is what was read, or the object that was made
 abbrev pub Tells : Value → Reply → Type 0
@@ -73,6 +73,6 @@ IsObjectOf events object = WasTold events (value.Ref object)
 -- Wherever a thread of sound code follows its program with listed replies, its next request names only texts of the
 -- program, and texts and objects that it was told of.
 abbrev pub ThreadsNameWhatTheyWereTold : Type 0
-ThreadsNameWhatTheyWereTold = (code : Code) (t : ThreadId) (events : List Event) (request : Request) → IsSound code
+ThreadsNameWhatTheyWereTold = (code : Code) (t : ThreadId) (events : List Event) (request : Request) → IsSoundCode code
     → FollowsProgram (next_request code) (Listed (next_request code)) t events
     → next_request code t events ≡ Some request → NamesOnlyKnown (IsTextOf code events) (IsObjectOf events) request

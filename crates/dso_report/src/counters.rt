@@ -1,7 +1,7 @@
 //! What the counters of the graph come to (`specs/CounterTotal.antt`).
 ghost use Rattle.std.specs.Prelude.{◌≡◌, IfOk, bytes_eq, codes};
 ghost use Rattle.std.specs.List.{position};
-ghost use Rattle.dso_plain.specs.Tables.{state_of};
+ghost use Rattle.dso_plain.specs.HeapTables.{state_of};
 ghost use Rattle.dso_report.specs.CounterTotal.{IsCounterTotal, count_in, count_of, count_place, is_counter, number_at, number_in, sum_of};
 
 use crate::numbering::{fields_of, order_of};

@@ -2,7 +2,7 @@
 ghost use Rattle.std.specs.Prelude.{◌≡◌, Some, None, slice_get, OnOk, IsErrOf};
 ghost use Rattle.std.specs.Fmt.{◌++?◌};
 ghost use Rattle.std.specs.Option.{option_map};
-ghost use Rattle.dso_plain.specs.Tables.{state_of};
+ghost use Rattle.dso_plain.specs.HeapTables.{state_of};
 ghost use Rattle.dso_report.specs.declared.unwritten.Unwritten.TheVariants as unwritten;
 ghost use Rattle.dso_report.specs.Report.{graph_text, root_line, root_name, object_line, object_text, body_text, field_text, element_text};
 ghost use Rattle.dso_report.specs.Texts.{each_below};

@@ -5,7 +5,7 @@
 //!
 //! ```rust
 //! ghost use Rattle.dso_base.specs.Following.{Listed};
-//! ghost use Rattle.dso_class.specs.Sound.{IsSound};
+//! ghost use Rattle.dso_class.specs.Sound.{IsSoundProgram};
 //! ghost use Rattle.dso_machine.specs.Next.{next_request};
 //! ghost use Rattle.dso_plain.specs.History.{IsLegal};
 //!
@@ -17,7 +17,7 @@
 //!
 //! /// The report of the heap that a legal history of the program leads to.
 //! fn report_after(alloc: Global, program: &Program, history: &[Event]) -> Result<Vec<u8>, NoMemory>
-//!     requires sound { IsSound program.now }
+//!     requires sound { IsSoundProgram program.now }
 //!     requires legal { IsLegal (next_request program.now.code) (Listed (next_request program.now.code))
 //!         program.now.code.shape history.now }
 //! {

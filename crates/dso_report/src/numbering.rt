@@ -1,6 +1,6 @@
 //! The numbering of the graph's objects, breadth first from the roots (`specs/Numbering.antt`).
 ghost use Rattle.std.specs.Prelude.{◌≡◌, IfOk, OnOk};
-ghost use Rattle.dso_plain.specs.Tables.{state_of};
+ghost use Rattle.dso_plain.specs.HeapTables.{state_of};
 ghost use Rattle.dso_report.specs.Numbering.{IsOrder, add_fields, add_named, fields_of};
 
 use dso_base::Value;

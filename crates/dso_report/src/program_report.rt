@@ -1,7 +1,7 @@
 //! The report of a program's run (`specs/Report.antt`).
 ghost use Rattle.std.specs.Prelude.{IfOk};
-ghost use Rattle.dso_class.specs.Sound.{IsSound};
-ghost use Rattle.dso_plain.specs.Tables.{state_of};
+ghost use Rattle.dso_class.specs.Sound.{IsSoundProgram};
+ghost use Rattle.dso_plain.specs.HeapTables.{state_of};
 ghost use Rattle.dso_report.specs.HistoryState.{IsLastStateOf};
 ghost use Rattle.dso_report.specs.Report.{IsReport};
 
@@ -19,7 +19,7 @@ use std::alloc::Global;
 /// the report names. It takes time in the measure of the graph and of what was printed. `NoMemory` is answered where an allocation
 /// was refused, and then there is no text.
 pub fn report(alloc: Global, program: &Program, plain: &Plain) -> Result<Vec<u8>, NoMemory>
-    requires sound { IsSound program.now }
+    requires sound { IsSoundProgram program.now }
     requires legal { IsLastStateOf program.now (state_of plain.now) }
     ensures { IfOk result (λ bytes. IsReport program.now.names program.now.threads (state_of plain.now) bytes.items) }
 {

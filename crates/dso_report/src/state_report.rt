@@ -1,6 +1,6 @@
 //! The report of a history, from the plain state that it leads to (`specs/Report.antt`).
 ghost use Rattle.std.specs.Prelude.{◌≡◌, ◌++◌, IfOk, OnOk, IsErrOf};
-ghost use Rattle.dso_plain.specs.Tables.{state_of};
+ghost use Rattle.dso_plain.specs.HeapTables.{state_of};
 ghost use Rattle.dso_report.specs.declared.unwritten.Unwritten.TheVariants as unwritten;
 ghost use Rattle.dso_report.specs.MissingText.{IsReportTextMissing};
 ghost use Rattle.dso_report.specs.Report.{IsReport, unguarded_line};

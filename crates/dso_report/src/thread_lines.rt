@@ -1,7 +1,7 @@
 //! The report's lines of threads and of what they printed (`specs/Report.antt`).
 ghost use Rattle.std.specs.Prelude.{◌≡◌, ◌++◌, Some, None, reverse, IfOk, OnOk, IsErrOf};
 ghost use Rattle.std.specs.Fmt.{◌++?◌};
-ghost use Rattle.dso_plain.specs.Tables.{state_of};
+ghost use Rattle.dso_plain.specs.HeapTables.{state_of};
 ghost use Rattle.dso_report.specs.declared.unwritten.Unwritten.TheVariants as unwritten;
 ghost use Rattle.dso_report.specs.MissingText.{IsThreadTextMissing};
 ghost use Rattle.dso_report.specs.Report.{HasStanding, IsThreadsText, fault_text, standing_text, thread_line, output_line, thread_text};
@@ -17,7 +17,7 @@ use std::alloc::{AllocError, Global};
 /// How a thread stands: it has ended, with a fault or without one, or its client is lost, or it waits, or none of
 /// these.
 #[derive(Clone, Copy, Debug, PartialEq, Eq)]
-pub(crate) enum Standing {
+pub(crate) enum ThreadStanding {
     Ended,
     Faulted(Fault),
     Lost,
@@ -44,19 +44,19 @@ pub(crate) fn threads_text(
 }
 
 /// How a thread stands. It takes no memory.
-fn standing_of(plain: &Plain, thread: ThreadId) -> Standing
+fn standing_of(plain: &Plain, thread: ThreadId) -> ThreadStanding
     ensures { HasStanding (state_of plain.now) thread result }
 {
     match plain.ended(thread) {
-        Some(None) => Standing::Ended,
-        Some(Some(fault)) => Standing::Faulted(fault),
+        Some(None) => ThreadStanding::Ended,
+        Some(Some(fault)) => ThreadStanding::Faulted(fault),
         None => {
             if plain.is_lost(thread.client) {
-                Standing::Lost
+                ThreadStanding::Lost
             } else if plain.waits(thread) {
-                Standing::Waiting
+                ThreadStanding::Waiting
             } else {
-                Standing::Open
+                ThreadStanding::Open
             }
         }
     }
@@ -68,7 +68,7 @@ fn push_thread(
     names: &Names,
     plain: &Plain,
     thread: ThreadId,
-    standing: Standing,
+    standing: ThreadStanding,
 ) -> Result<(), Unwritten>
     ensures written { OnOk result (Some text.old.items ++? thread_text names.now (state_of plain.now) thread standing ≡ Some text.new.items) }
     ensures missing { IsErrOf result unwritten.Missing → thread_text names.now (state_of plain.now) thread standing ≡ None }
@@ -81,7 +81,7 @@ fn push_thread(
 fn push_thread_line(
     text: &mut Vec<u8>,
     thread: ThreadId,
-    standing: Standing,
+    standing: ThreadStanding,
 ) -> Result<(), AllocError>
     ensures { OnOk result (text.new.items ≡ text.old.items ++ thread_line thread standing) }
 {
@@ -95,18 +95,18 @@ fn push_thread_line(
 }
 
 /// Puts at the end how a thread stands.
-fn push_standing(text: &mut Vec<u8>, standing: Standing) -> Result<(), AllocError>
+fn push_standing(text: &mut Vec<u8>, standing: ThreadStanding) -> Result<(), AllocError>
     ensures { OnOk result (text.new.items ≡ text.old.items ++ standing_text standing) }
 {
     match standing {
-        Standing::Ended => text.extend_from_slice(b"ended"),
-        Standing::Faulted(fault) => {
+        ThreadStanding::Ended => text.extend_from_slice(b"ended"),
+        ThreadStanding::Faulted(fault) => {
             text.extend_from_slice(b"fault ")?;
             text.extend_from_slice(name_of(fault))
         }
-        Standing::Lost => text.extend_from_slice(b"lost"),
-        Standing::Waiting => text.extend_from_slice(b"waiting"),
-        Standing::Open => text.extend_from_slice(b"open"),
+        ThreadStanding::Lost => text.extend_from_slice(b"lost"),
+        ThreadStanding::Waiting => text.extend_from_slice(b"waiting"),
+        ThreadStanding::Open => text.extend_from_slice(b"open"),
     }
 }
 

@@ -21,8 +21,8 @@ use Rattle.dso_run.specs.declared.running.Outcome.{Outcome}
 use Rattle.dso_run.specs.declared.running.Outcome.TheVariants as outcome
 use Rattle.dso_run.specs.Completeness.{Completeness, IsDecided, IsOfRun, MayRun, MayRunRuns, NothingFailed, RanTo, TakenIsNotRefused}
 use Rattle.dso_run.specs.Headline.{CallInput, CallOutput, IsConfigRefused, IsProgramRefused, IsReportDue, ReadFailed, RoseOf, StatusMeans, WereRead, WroteWhole}
-use Rattle.dso_words.specs.Words.{AreLawful, Command, Sim, Run, Big, Show, Lint}
-use Rattle.dso_words.proofs.reading_words.Asking.{asks-once}
+use Rattle.dso_command_line.specs.Words.{AreLawful, Command, Sim, Run, Big, Show, Lint}
+use Rattle.dso_command_line.proofs.reading_words.Asking.{asks-once}
 
 -- a configuration that is taken isn't refused
 config_taken : (config program : List ℕ) (p : Program) (wrong : ConfigFault) → AreTaken config program p → IsConfigRefusal config program wrong → ⊥

@@ -17,7 +17,7 @@ use Rattle.dso_run.specs.Accepted.{IsConfigRefusal}
 use Rattle.dso_run.specs.Files.{AreAsBefore}
 use Rattle.dso_run.specs.Headline.{CallInput, FilesGive, Gives, HasCause, IsAccepted, RoseOf, most_read}
 use Rattle.dso_run.specs.Verdict.{IsVerdictBy, IsVerdictOn, IsVerdictOnGiven, IsVerdictOnTexts}
-use Rattle.dso_words.specs.Words.{AreLawful, Command}
+use Rattle.dso_command_line.specs.Words.{AreLawful, Command}
 
 -- A configuration that has a fault is refused for it.
 pub fault_refused : (config program : List ℕ) (wrong : ConfigFault) → (IsOfText wrong → IsFaultOf config wrong) → (IsOfText wrong → IsConfigRefusal config program wrong)

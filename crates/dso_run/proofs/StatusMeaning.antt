@@ -22,7 +22,7 @@ use Rattle.dso_run.specs.Headline.{CallInput, CallOutput, HasCause, IsAccepted, 
 use Rattle.dso_run.specs.declared.verdict.Verdict.TheVariants.{Refused}
 use Rattle.dso_run.specs.Verdict.{IsVerdictBy}
 use Rattle.dso_run.specs.Status.{HasLine, line_of, status_of}
-use Rattle.dso_words.specs.Words.{Command, journal_of}
+use Rattle.dso_command_line.specs.Words.{Command, journal_of}
 use Rattle.dso_run.specs.Writing.{Ran, ToldRun, ToldWhole, Wrote}
 
 -- what is written over files that are as before is written over those from before

@@ -8,7 +8,7 @@ use Rattle.dso_run.specs.declared.status.Status.{Status}
 use Rattle.dso_run.specs.Headline.{CallOutput, IsKept, IsRunText}
 use Rattle.dso_run.specs.Status.{status_of_run}
 use Rattle.dso_run.specs.Writing.{Ran, ToldRun, ToldWhole, Wrote}
-use Rattle.dso_words.specs.Words.{Command}
+use Rattle.dso_command_line.specs.Words.{Command}
 
 module _ (command : Command) (p : Program) (before : List ℕ → Told) (output : CallOutput) where
   -- all of it was told

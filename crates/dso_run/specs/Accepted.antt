@@ -4,7 +4,7 @@ use Rattle.dso_class.specs.declared.fault.NameFault.TheVariants as name
 use Rattle.dso_class.specs.declared.program.Program.{Program}
 use Rattle.dso_class.specs.NameFaults.{IsFirstFault}
 use Rattle.dso_class.specs.TextProgram.{IsProgramOf}
-use Rattle.dso_class.specs.Sound.{IsSound}
+use Rattle.dso_class.specs.Sound.{IsSoundProgram}
 use Rattle.dso_config.specs.declared.config.Config.{Config}
 use Rattle.dso_config.specs.declared.fault.ConfigFault.{ConfigFault}
 use Rattle.dso_config.specs.declared.fault.ConfigFault.TheVariants as config_fault
@@ -26,7 +26,7 @@ pub record HasTree (text : List ℕ) (tree : Ast) : Type 0 where
 -- The tree is this program under this configuration.
 pub record IsResolved (config : Config) (tree : Ast) (p : Program) : Type 0 where
   pub program : IsProgramOf config tree p
-  pub sound : IsSound p
+  pub sound : IsSoundProgram p
 
 -- UNDER A CONFIGURATION
 module _ (config : Config) where

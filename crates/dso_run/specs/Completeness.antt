@@ -12,7 +12,7 @@ use Rattle.dso_run.specs.declared.status.Status.TheVariants.{ReadFault, WriteFau
 use Rattle.dso_run.specs.Accepted.{AreTaken, IsConfigRefusal, IsProgramRefusal}
 use Rattle.dso_run.specs.Headline.{CallInput, CallOutput, HasRunOf, IsConfigRefused, IsProgramRefused, RoseOf}
 use Rattle.dso_run.specs.Headline.{StatusMeans, WereRead}
-use Rattle.dso_words.specs.Words.{AreLawful, AreUnlawful, Command}
+use Rattle.dso_command_line.specs.Words.{AreLawful, AreUnlawful, Command}
 
 module _ (input : CallInput) (output : CallOutput) where
   -- No count of faults rose in the call.

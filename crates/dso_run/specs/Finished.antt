@@ -19,7 +19,7 @@ use Rattle.dso_run.specs.declared.status.Status.TheVariants.{Finished}
 use Rattle.dso_run.specs.Accepted.{settings_of, AreTaken}
 use Rattle.dso_run.specs.Headline.{CallInput, CallOutput, Gives, IsKept, IsRunText, StatusMeans}
 use Rattle.dso_run.specs.RunEnds.{has_failed}
-use Rattle.dso_words.specs.Words.{AreLawful, Command}
+use Rattle.dso_command_line.specs.Words.{AreLawful, Command}
 
 -- Of a program and the entries of a run that finished, the newest first: what became of one of its threads, whose
 -- client wasn't lost. It ended without a fault, and the history has all of its events, in order, as the server resolved them.

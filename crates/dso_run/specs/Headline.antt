@@ -32,7 +32,7 @@ use Rattle.dso_io.specs.Environment.{Told, MayGive, Rose, taken_after, TookPrefi
 use Rattle.dso_run.specs.Files.{AreAsBefore, IsWritten}
 use Rattle.dso_run.specs.RunEnds.{EndsFinished, EndsStuck, EndsOverBudget}
 use Rattle.dso_run.specs.Status.{line_of}
-use Rattle.dso_words.specs.Words.{AreLawful, AreUnlawful, Command, Sim, Run, Big, Show, Lint, journal_of, seed_of, steps_of}
+use Rattle.dso_command_line.specs.Words.{AreLawful, AreUnlawful, Command, Sim, Run, Big, Show, Lint, journal_of, seed_of, steps_of}
 
 -- how many bytes are read of a file at most: one more than a program's text may have
 abbrev pub most_read : ℕ

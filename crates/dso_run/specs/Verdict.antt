@@ -9,7 +9,7 @@ use Rattle.dso_run.specs.Accepted.{AreTaken, IsConfigRefusal, IsProgramRefusal, 
 use Rattle.dso_run.specs.Accepted.{IsTakenText, IsTextFault, IsTreeFault}
 use Rattle.dso_io.specs.Environment.{Told}
 use Rattle.dso_run.specs.Headline.{Gives, ReadFailed}
-use Rattle.dso_words.specs.Words.{Command}
+use Rattle.dso_command_line.specs.Words.{Command}
 
 -- UNDER A CONFIGURATION
 module _ (config : Config) where

@@ -9,7 +9,7 @@ use Rattle.dso_run.specs.declared.status.Status.TheVariants.{NoMemory}
 use Rattle.dso_io.specs.Environment.{Told, Rose, taken_after, TookPrefix}
 use Rattle.dso_run.specs.Files.{AreAsBefore}
 use Rattle.dso_run.specs.Headline.{CallOutput, IsKept, IsRunOf, IsRunText}
-use Rattle.dso_words.specs.Words.{Command, journal_of, seed_of, steps_of}
+use Rattle.dso_command_line.specs.Words.{Command, journal_of, seed_of, steps_of}
 
 -- The sink took the whole text, its count of faults is as before and the answer is this status; or it took a prefix and
 -- counted a fault, and the answer is WriteFault.

@@ -3,7 +3,7 @@ ghost use Rattle.std.specs.Prelude.{◌≡◌, ℕ, List, Some, OnOk, OnErr, IsE
 ghost use Rattle.dso_io.specs.Environment.{Rose};
 ghost use Rattle.dso_report.specs.JournalText.{journal_text};
 ghost use Rattle.dso_run.specs.Files.{AreAsBefore, IsWritten};
-ghost use Rattle.dso_words.specs.Given.{told};
+ghost use Rattle.dso_command_line.specs.Given.{told};
 
 use dso_base::Journal;
 use dso_io::{FileFault, Files};

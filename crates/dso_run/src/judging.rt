@@ -3,15 +3,15 @@ ghost use Rattle.std.specs.Prelude.{◌≡◌, ◌⊎◌, IfOk};
 ghost use Rattle.dso_run.specs.Files.{AreAsBefore};
 ghost use Rattle.dso_run.specs.Headline.{FilesGive, LoadGives, RoseOf};
 ghost use Rattle.dso_run.specs.Verdict.{IsVerdictBy, IsVerdictOn};
-ghost use Rattle.dso_words.specs.Said.{said};
-ghost use Rattle.dso_words.specs.Words.{CanBeAsked};
+ghost use Rattle.dso_command_line.specs.Said.{said};
+ghost use Rattle.dso_command_line.specs.Words.{CanBeAsked};
 
 use crate::status::Refusal;
 use crate::verdict::{Verdict, judge_texts};
 use dso_base::NoMemory;
+use dso_command_line::Command;
 use dso_gen::generate;
 use dso_io::{FileFault, Files};
-use dso_words::Command;
 use std::alloc::Global;
 
 /// The most bytes that are read of a file: one more than a text may have.

@@ -3,7 +3,7 @@
 ghost use Rattle.dso_run.specs.Completeness.{Completeness, MayRunRuns, TakenIsNotRefused};
 ghost use Rattle.dso_run.specs.Finished.{FinishedMeans};
 
-pub use dso_words::words_ask_once;
+pub use dso_command_line::words_ask_once;
 
 /// What exit 0 means, in one place: the words, the bytes of both files, the lawful journal, the legal history that it
 /// commits, each thread's events, the report, and what the sink took.

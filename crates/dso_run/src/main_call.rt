@@ -1,13 +1,13 @@
 //! The top call, and what each status means: `specs/Headline.antt`.
 ghost use Rattle.std.specs.Prelude.{◌≡◌, ◌≢◌, ℕ, List, [], Some, map, IfOk};
 ghost use Rattle.std.specs.String.{string_bytes};
-ghost use Rattle.dso_class.specs.Sound.{IsSound};
+ghost use Rattle.dso_class.specs.Sound.{IsSoundProgram};
 ghost use Rattle.dso_run.specs.Headline.{IsRunOf, IsRunText, IsUsage, StatusMeans, left_by, read_by};
 ghost use Rattle.dso_run.specs.Status.{HasLine, line_of, status_of, status_of_run};
 ghost use Rattle.dso_run.specs.Writing.{ToldRun, Wrote};
-ghost use Rattle.dso_words.specs.Said.{said};
-ghost use Rattle.dso_words.specs.Words.{AreLawful, AreUnlawful, CanBeAsked, journal_of, seed_of, steps_of};
-ghost use Rattle.dso_words.specs.Words as asked;
+ghost use Rattle.dso_command_line.specs.Said.{said};
+ghost use Rattle.dso_command_line.specs.Words.{AreLawful, AreUnlawful, CanBeAsked, journal_of, seed_of, steps_of};
+ghost use Rattle.dso_command_line.specs.Words as asked;
 
 use crate::journal_file::keep_journal;
 use crate::judging::judge;
@@ -19,8 +19,8 @@ use crate::verdict::Verdict;
 use crate::{Done, Status};
 use dso_base::{Items, Journal, NoMemory};
 use dso_class::Program;
+use dso_command_line::{Command, command_of};
 use dso_io::{FileFault, Files, Sink, write_text};
-use dso_words::{Command, command_of};
 use std::alloc::Global;
 
 /// Writes a text. The answer is this status, or WriteFault where the sink failed. It takes no memory.
@@ -48,7 +48,7 @@ fn run_and_tell(
     program: &Program,
     command: Command<'_>,
 ) -> Result<(Run, Vec<u8>), NoMemory>
-    requires sound { IsSound program.now }
+    requires sound { IsSoundProgram program.now }
     requires asked { CanBeAsked (said command) }
     ensures run { IfOk result (λ told. IsRunOf program.now (seed_of (said command.entry)) (steps_of (said command.entry)) told.0.outcome told.0.journal.entries) }
     ensures text { IfOk result (λ told. IsRunText (said command.entry) program.now told.0.journal.entries told.1.items) }
@@ -72,7 +72,7 @@ fn run_and_write<F: Files, K: Sink>(
     files: &mut F,
     out: &mut K,
 ) -> Done
-    requires sound { IsSound program.now }
+    requires sound { IsSoundProgram program.now }
     requires asked { CanBeAsked (said command) }
     ensures told { ToldRun (said command.entry) program.now (F.content files.old)
         (left_by F.content F.write_faults K.taken K.faults files.old files.new out.old out.new result.journal.entries)

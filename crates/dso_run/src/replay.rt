@@ -4,7 +4,7 @@ ghost use Rattle.dso_plain.specs.After.{after};
 ghost use Rattle.dso_plain.specs.History.{Runs, last_state};
 ghost use Rattle.dso_plain.specs.Possible.{May};
 ghost use Rattle.dso_plain.specs.State.{opening};
-ghost use Rattle.dso_plain.specs.Tables.{state_of};
+ghost use Rattle.dso_plain.specs.HeapTables.{state_of};
 ghost use Rattle.dso_legal.specs.Committed.{committed_of};
 
 use dso_base::{Event, Journal, NoMemory, Shape};

@@ -1,6 +1,6 @@
 //! The run of a program over the simulated cluster, step by step (`specs/RunEnds.antt`).
 ghost use Rattle.std.specs.Prelude.{◌≡◌, ◌≤◌, ◌<◌, false, reverse, IfOk, OnOk};
-ghost use Rattle.dso_class.specs.Sound.{IsSound};
+ghost use Rattle.dso_class.specs.Sound.{IsSoundProgram};
 ghost use Rattle.dso_legal.specs.Slots.{weight};
 ghost use Rattle.dso_run.specs.Headline.{IsRunOf};
 ghost use Rattle.dso_run.specs.RunEnds.{is_faulty};
@@ -10,7 +10,7 @@ ghost use Rattle.dso_world.specs.WorldStands.{WorldStands, entries_in, is_spent}
 use crate::failing::is_faulty;
 use dso_base::{Journal, NoMemory};
 use dso_class::Program;
-use dso_words::BUDGET;
+use dso_command_line::BUDGET;
 use dso_world::World;
 use std::alloc::Global;
 
@@ -44,7 +44,7 @@ pub(crate) fn run_program(
     program: &Program,
     schedule: Schedule,
 ) -> Result<Run, NoMemory>
-    requires sound { IsSound program.now }
+    requires sound { IsSoundProgram program.now }
     requires steps { schedule.steps ≤ BUDGET }
     ensures { IfOk result (λ run. IsRunOf program.now schedule.seed schedule.steps run.outcome run.journal.entries) }
 {
@@ -64,7 +64,7 @@ fn run_on(
     world: &mut World,
     schedule: Schedule,
 ) -> Result<Outcome, NoMemory>
-    requires sound { IsSound program.now }
+    requires sound { IsSoundProgram program.now }
     requires steps { schedule.steps ≤ BUDGET }
     requires runs { RunsOn program.now schedule.seed schedule.steps world.old }
     ensures { IfOk result (λ outcome. IsRunOf program.now schedule.seed schedule.steps outcome world.new.journal.entries) }
@@ -99,7 +99,7 @@ fn take_step(
     world: &mut World,
     schedule: Schedule,
 ) -> Result<bool, NoMemory>
-    requires sound { IsSound program.now }
+    requires sound { IsSoundProgram program.now }
     requires stands { WorldStands program.now world.old }
     requires whole { is_spent world.old ≡ false }
     requires light { weight (entries_in world.old) < BUDGET }

@@ -30,8 +30,8 @@ pub record IsAnswered (p : Settings) (c : ℕ) (m : Up) (messages : List (ℕ ×
   pub lacks : (clock o : ℕ) → Lacks p new (took clock c m (sent_of messages) ∷ es) o → Lacks p old es o
 
 -- the message of a client that isn't lost is answered where it fits and the server has what it names
-abbrev pub Answers : ℕ → Up → List (ℕ × Down) → Server → Server → Type 0
-Answers c m messages old new = (p : Settings) (es : List Entry) → ServerStands p old es → IsClient p c
+abbrev pub AnswersMessage : ℕ → Up → List (ℕ × Down) → Server → Server → Type 0
+AnswersMessage c m messages old new = (p : Settings) (es : List Entry) → ServerStands p old es → IsClient p c
     → is_lost c es ≡ false → FitsUp p c m (counted es) → KnowsNamed p old c m es → IsAnswered p c m messages old new es
 
 -- nothing is sent and nothing changed
@@ -40,7 +40,8 @@ ChangesNothing messages old new = (messages ≡ []) × (new ≡ old)
 
 -- A client lost: the messages are those that the queues' serving makes, and the server stands for the entries with the
 -- one in which it lost the client, at any clock. What it lacks of these it lacked before.
-pub record IsLost (p : Settings) (c : ℕ) (messages : List (ℕ × Down)) (old new : Server) (es : List Entry) : Type 0 where
+pub record IsLost (p : Settings) (c : ℕ) (messages : List (ℕ
+    × Down)) (old new : Server) (es : List Entry) : Type 0 where
   pub sends : (clock : ℕ) → sent_of messages ≡ serves_all p (lost clock c [] ∷ counted es)
   pub stands : (clock : ℕ) → ServerStands p new (lost clock c (sent_of messages) ∷ es)
   pub lacks : (clock o : ℕ) → Lacks p new (lost clock c (sent_of messages) ∷ es) o → Lacks p old es o

@@ -8,7 +8,7 @@ use Rattle.dso_base.specs.declared.shape.Shape.{Shape}
 use Rattle.dso_law.specs.ServerReadings.{counted}
 use Rattle.dso_law.specs.Settings.{Settings}
 use Rattle.dso_locks.specs.Locks.{waits}
-use Rattle.dso_locks.specs.Tables.{locks_in}
+use Rattle.dso_locks.specs.LockRows.{locks_in}
 use Rattle.dso_server.specs.declared.server.Server.{Server}
 use Rattle.dso_server.specs.ServerStands.{ServerStands}
 use Rattle.dso_store.specs.Graph.{body_in}

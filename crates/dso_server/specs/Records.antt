@@ -55,7 +55,8 @@ FitsObjects graph p c txn es = AllByRecursion (FitsNewsBy graph p c es) txn.news
 
 -- the values that the record would put in the graph, and those printed, fit
 abbrev pub FitsValues : Shape → (ℕ → Option Body) → Txn → List Entry → Type 0
-FitsValues shape graph txn es = AllByRecursion (λ body. AllByRecursion (FitsValue shape graph txn.news) body.values) txn.news
+FitsValues shape graph txn es = AllByRecursion (λ body. AllByRecursion
+    (FitsValue shape graph txn.news) body.values) txn.news
     × AllByRecursion (λ set. FitsValue shape graph txn.news set.value) txn.sets
     × AllByRecursion (FitsOut shape es) txn.outs
 

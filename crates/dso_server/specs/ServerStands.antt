@@ -15,10 +15,10 @@ use Rattle.dso_law.specs.ServerReadings.{batches_given, counted, is_ended, is_lo
 use Rattle.dso_law.specs.ServerWaiters.{waiters_of}
 use Rattle.dso_law.specs.Settings.{Settings}
 use Rattle.dso_law.specs.Store.{holds_object, stored}
-use Rattle.dso_locks.specs.declared.tables.Tables.{Tables}
+use Rattle.dso_locks.specs.declared.tables.LockRows.{LockRows}
 use Rattle.dso_locks.specs.Laws.{stands_after}
 use Rattle.dso_locks.specs.Locks.{IsWithin}
-use Rattle.dso_locks.specs.Tables.{locks_in, requested_in}
+use Rattle.dso_locks.specs.LockRows.{locks_in, requested_in}
 use Rattle.dso_server.specs.declared.server.Server.{Server}
 use Rattle.dso_server.specs.Batches.{batches_to}
 use Rattle.dso_server.specs.Threads.{ends_there, known_in, last_in}
@@ -36,7 +36,7 @@ pub record GraphStands (p : Settings) (store : Store) (es : List Entry) : Type 0
   pub within : AreClients p (holds_in store)
 
 -- The locks: how each stands, and which were ever requested. All leases and requests are of clients of the cluster.
-pub record LocksStand (p : Settings) (table : Tables) (es : List Entry) : Type 0 where
+pub record LocksStand (p : Settings) (table : LockRows) (es : List Entry) : Type 0 where
   pub locks : locks_in table ≡ (λ l. stands_after l es)
   pub requested : requested_in table ≡ requested es
   pub within : (l : LockName) → IsWithin p (locks_in table l)

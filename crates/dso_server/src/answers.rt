@@ -4,10 +4,10 @@ ghost use Rattle.std.specs.Prelude.{ℕ, ◌≡◌, ◌≤◌, ◌<◌, ◌+◌,
 ghost use Rattle.dso_base.specs.declared.message.Up.TheVariants as up;
 ghost use Rattle.dso_ids.specs.Ids.{first_of_batch};
 ghost use Rattle.dso_locks.specs.Locks.{waits};
-ghost use Rattle.dso_locks.specs.Tables.{locks_in};
+ghost use Rattle.dso_locks.specs.LockRows.{locks_in};
 ghost use Rattle.dso_law.specs.Settings.{Settings};
 ghost use Rattle.dso_base.specs.declared.journal.Entry.{Entry};
-ghost use Rattle.dso_server.specs.Answering.{Answers, IsLost, given_by};
+ghost use Rattle.dso_server.specs.Answering.{AnswersMessage, IsLost, given_by};
 ghost use Rattle.dso_server.specs.Fitting.{IsFree};
 ghost use Rattle.dso_server.specs.ServerStands.{ServerStands};
 
@@ -24,7 +24,7 @@ pub(crate) fn give_ids(
     client: u8,
 ) -> Result<Vec<(u8, Down)>, NoMemory>
     requires { first_of_batch (length server.old.ids) < 2 ^ 63 }
-    ensures answers { IfOk result (λ messages. Answers client up.IdAsk messages.items server.old server.new) }
+    ensures answers { IfOk result (λ messages. AnswersMessage client up.IdAsk messages.items server.old server.new) }
     ensures given { OnOk result (given_by server.new ≤ given_by server.old + 1) }
 {
     let first = server.ids.give(client)?;
@@ -38,7 +38,7 @@ pub(crate) fn give_object(
     client: u8,
     object: u64,
 ) -> Result<Vec<(u8, Down)>, NoMemory>
-    ensures answers { IfOk result (λ messages. Answers client (up.Fault object) messages.items server.old server.new) }
+    ensures answers { IfOk result (λ messages. AnswersMessage client (up.Fault object) messages.items server.old server.new) }
     ensures given { OnOk result (given_by server.new ≤ given_by server.old + 1) }
 {
     let messages = object_to(alloc, client, server.store.object(object))?;
@@ -48,7 +48,7 @@ pub(crate) fn give_object(
 
 /// The client flushed the object, and doesn't hold it any longer.
 pub(crate) fn flush(alloc: Global, server: &mut Server, client: u8, object: u64) -> Vec<(u8, Down)>
-    ensures answers { Answers client (up.Flushed object) result.items server.old server.new }
+    ensures answers { AnswersMessage client (up.Flushed object) result.items server.old server.new }
     ensures given { given_by server.new ≡ given_by server.old }
 {
     server.store.unhold(client, object);
@@ -64,7 +64,7 @@ pub(crate) fn request(
     level: Level,
 ) -> Result<Vec<(u8, Down)>, NoMemory>
     requires { waits client (locks_in server.old.locks lock) ≡ false }
-    ensures answers { IfOk result (λ messages. Answers client (up.Request lock level) messages.items server.old server.new) }
+    ensures answers { IfOk result (λ messages. AnswersMessage client (up.Request lock level) messages.items server.old server.new) }
     ensures given { OnOk result (given_by server.new ≤ given_by server.old + 1) }
 {
     let told = server.locks.request(alloc, client, lock, level)?;
@@ -79,7 +79,7 @@ pub(crate) fn take_back(
     lock: LockName,
     threads: &[ThreadId],
 ) -> Result<Vec<(u8, Down)>, NoMemory>
-    ensures answers { IfOk result (λ messages. Answers client (up.Return lock threads.now) messages.items server.old server.new) }
+    ensures answers { IfOk result (λ messages. AnswersMessage client (up.Return lock threads.now) messages.items server.old server.new) }
     ensures given { OnOk result (given_by server.new ≤ given_by server.old + 1) }
 {
     waiters::add_all(alloc, &mut server.waiters, lock, threads)?;
@@ -95,7 +95,7 @@ pub(crate) fn commit(
     client: u8,
     txn: &Txn,
 ) -> Result<Vec<(u8, Down)>, NoMemory>
-    ensures answers { IfOk result (λ messages. Answers client (up.Commit txn.now) messages.items server.old server.new) }
+    ensures answers { IfOk result (λ messages. AnswersMessage client (up.Commit txn.now) messages.items server.old server.new) }
     ensures given { OnOk result (given_by server.new ≤ given_by server.old + 1) }
 {
     server.store.apply(alloc, client, txn)?;
@@ -109,7 +109,7 @@ pub(crate) fn commit(
     Ok(messages)
 }
 
-/// Answers the message of the client by its row.
+/// AnswersMessage the message of the client by its row.
 pub(crate) fn answer(
     alloc: Global,
     server: &mut Server,
@@ -118,7 +118,7 @@ pub(crate) fn answer(
 ) -> Result<Vec<(u8, Down)>, NoMemory>
     requires room { given_by server.old < 2 ^ 54 }
     requires free { IsFree client message.now server.old }
-    ensures answers { IfOk result (λ messages. Answers client message.now messages.items server.old server.new) }
+    ensures answers { IfOk result (λ messages. AnswersMessage client message.now messages.items server.old server.new) }
     ensures given { OnOk result (given_by server.new ≤ given_by server.old + 1) }
 {
     match message {

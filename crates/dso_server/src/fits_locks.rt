@@ -6,7 +6,7 @@ ghost use Rattle.dso_base.specs.Following.{is_thread};
 ghost use Rattle.dso_law.specs.FitsUp.{AreDistinct, FitsRequest, FitsReturn, IsLock, IsNewWaiter};
 ghost use Rattle.dso_law.specs.ServerReadings.{is_given};
 ghost use Rattle.dso_locks.specs.Locks.{waits};
-ghost use Rattle.dso_locks.specs.Tables.{locks_in};
+ghost use Rattle.dso_locks.specs.LockRows.{locks_in};
 ghost use Rattle.dso_server.specs.Fitting.{Tells, TellsIn};
 
 use crate::reads::{is_given, is_thread_of, is_waiter, lease, waits};

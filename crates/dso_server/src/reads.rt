@@ -11,7 +11,7 @@ ghost use Rattle.dso_law.specs.ServerWaiters.{waiters_of};
 ghost use Rattle.dso_law.specs.Settings.{threads_of};
 ghost use Rattle.dso_law.specs.Store.{holds_object};
 ghost use Rattle.dso_locks.specs.Locks.{waits};
-ghost use Rattle.dso_locks.specs.Tables.{locks_in};
+ghost use Rattle.dso_locks.specs.LockRows.{locks_in};
 ghost use Rattle.dso_server.specs.Fitting.{Knows, Tells, graph_in};
 ghost use Rattle.dso_server.specs.Threads.{ends_there};
 

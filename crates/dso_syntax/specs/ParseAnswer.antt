@@ -57,9 +57,9 @@ fault_of (stop.TooWide tokens) end = fault_by too_wide (place_of tokens.now) end
 fault_of (stop.TooDeep tokens) end = fault_by too_deep (place_of tokens.now) end
 
 -- A result is this answer, unless memory ran out.
-abbrev pub Answers : Result Ast SyntaxFault → Result Ast SyntaxFault → Type 0
-Answers (Err (fault.NoMemory refused)) answer = Unit {0}
-Answers result answer = result ≡ answer
+abbrev pub AnswersAs : Result Ast SyntaxFault → Result Ast SyntaxFault → Type 0
+AnswersAs (Err (fault.NoMemory refused)) answer = Unit {0}
+AnswersAs result answer = result ≡ answer
 
 -- What a refusal says of a text: nothing where memory ran out; that it is too long; else that it is the program of no
 -- tree, and that this is its fault.

@@ -58,7 +58,7 @@ fn fault_of(stop: Stop<'_>, ending: Ending) -> SyntaxFault
 /// The tree of a text by its tokens, or its fault.
 #[tactic(auto, using(crate::proofs::faults::AnswerOfText::tree_answered, crate::proofs::faults::AnswerOfText::end_answered, crate::proofs::faults::AnswerOfText::stop_answered))]
 fn tree_of(alloc: Global, lexed: &Lexed) -> Result<Ast, SyntaxFault>
-    ensures { answer.Answers result (answer.answer_of lexed.now.tokens lexed.now.ending) }
+    ensures { answer.AnswersAs result (answer.answer_of lexed.now.tokens lexed.now.ending) }
 {
     let rest = Rest {
         tokens: lexed.tokens.as_slice(),

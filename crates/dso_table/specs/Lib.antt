@@ -1,4 +1,4 @@
 pub mod States
 pub mod Slots
-pub mod Tables
+pub mod ObjectTables
 pub mod Victims

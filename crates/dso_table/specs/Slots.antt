@@ -3,11 +3,11 @@ use Rattle.std.specs.Prelude.{ℕ, Bool, false, Option, Some, None}
 use Rattle.dso_base.specs.declared.record.Set.{Set}
 use Rattle.dso_change.specs.Hands.{has_field}
 use Rattle.dso_table.specs.declared.slot.Slot.{Slot}
-use Rattle.dso_table.specs.declared.slot.Standing.{Standing}
+use Rattle.dso_table.specs.declared.slot.ObjectStanding.{ObjectStanding}
 use Rattle.dso_table.specs.States.{copy_of, with_value}
 
 -- there is a copy, and it has the field
-abbrev pub has_value : ℕ → Standing → Bool
+abbrev pub has_value : ℕ → ObjectStanding → Bool
 has_value f standing = has_field f (copy_of standing)
 
 -- the number of the last record that changed an object: this one, if there is one, or the one before

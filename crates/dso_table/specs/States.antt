@@ -12,15 +12,15 @@ use Rattle.dso_change.specs.Hands.{with_field}
 use Rattle.dso_lookup.specs.Maps.{writes, written}
 use Rattle.dso_lookup.specs.Orders.{thread_order}
 use Rattle.dso_lookup.specs.Rows.{is_at_pair}
-use Rattle.dso_table.specs.declared.slot.Standing.{Standing}
-use Rattle.dso_table.specs.declared.slot.Standing.TheVariants.{Asked, Resident}
+use Rattle.dso_table.specs.declared.slot.ObjectStanding.{ObjectStanding}
+use Rattle.dso_table.specs.declared.slot.ObjectStanding.TheVariants.{Asked, Resident}
 
 -- What a client keeps of objects. By object: how it stands, None where it is absent, and the number of the last own
 -- record that changed it and is not acknowledged. By thread and object: whether the thread's open block puts to it, and
 -- whether the thread wants it. The objects used last, the last one first, no more than the limit. How many objects are
 -- resident. The greatest number acknowledged.
 pub record State : Type 0 where
-  pub standing : ℕ → Option Standing
+  pub standing : ℕ → Option ObjectStanding
   pub marks : ℕ → Option ℕ
   pub opened : ThreadId × ℕ → Bool
   pub wanted : ThreadId × ℕ → Bool
@@ -30,25 +30,25 @@ pub record State : Type 0 where
   pub limit : ℕ
 
 -- the client's copy, if there is one
-abbrev pub copy_of : Standing → Option Body
+abbrev pub copy_of : ObjectStanding → Option Body
 copy_of Asked = None
 copy_of (Resident body) = Some body
 
 -- the copy of an object that may be absent
-abbrev pub body_of : Option Standing → Option Body
+abbrev pub body_of : Option ObjectStanding → Option Body
 body_of None = None
 body_of (Some standing) = copy_of standing
 
 -- there is a copy
-abbrev pub is_resident : Option Standing → Bool
+abbrev pub is_resident : Option ObjectStanding → Bool
 is_resident standing = is_some (body_of standing)
 
 -- the object is neither resident nor asked for
-abbrev pub is_absent : Option Standing → Bool
+abbrev pub is_absent : Option ObjectStanding → Bool
 is_absent standing = not (is_some standing)
 
 -- the object was asked for, and didn't come yet
-abbrev pub is_asked : Option Standing → Bool
+abbrev pub is_asked : Option ObjectStanding → Bool
 is_asked (Some Asked) = true
 is_asked standing = false
 
@@ -79,7 +79,7 @@ marked o None s = s.marks
 marked o (Some n) s = with_at o (later_than s.acked (Some n)) s.marks
 
 -- an object with this value in the field of its copy
-abbrev pub with_value : ℕ → Value → Standing → Standing
+abbrev pub with_value : ℕ → Value → ObjectStanding → ObjectStanding
 with_value f v Asked = Asked
 with_value f v (Resident body) = Resident (with_field f v body)
 

@@ -1,16 +1,16 @@
 //! Which objects may be flushed, and the flush (`specs/Victims.antt`).
 ghost use Rattle.std.specs.Prelude.{◌≡◌, ◌↔◌, IsTrue, OnOk, OnErr, IfErr};
 ghost use Rattle.dso_table.specs.States.{flushed};
-ghost use Rattle.dso_table.specs.Tables.{state_in, TablesAgree};
+ghost use Rattle.dso_table.specs.ObjectTables.{state_in, TablesAgree};
 ghost use Rattle.dso_table.specs.Victims.{IsFlushable, IsReason};
 
 use crate::not_flushable::NotFlushable;
 use crate::notes::first_thread;
-use crate::tables::Tables;
+use crate::tables::ObjectTables;
 use crate::{order, places};
 
 /// Whether the object may be flushed, and the first reason where it may not.
-pub(crate) fn judged(tables: &Tables, object: u64) -> Result<(), NotFlushable>
+pub(crate) fn judged(tables: &ObjectTables, object: u64) -> Result<(), NotFlushable>
     ensures flushable { OnOk result (IsFlushable (state_in tables.now) object) }
     ensures reason { IfErr result (IsReason (state_in tables.now) object) }
 {
@@ -33,7 +33,7 @@ pub(crate) fn judged(tables: &Tables, object: u64) -> Result<(), NotFlushable>
 }
 
 /// Whether the object may be flushed.
-pub(crate) fn is_flushable(tables: &Tables, object: u64) -> bool
+pub(crate) fn is_flushable(tables: &ObjectTables, object: u64) -> bool
     ensures { IsTrue result ↔ IsFlushable (state_in tables.now) object }
 {
     judged(tables, object).is_ok()
@@ -41,7 +41,7 @@ pub(crate) fn is_flushable(tables: &Tables, object: u64) -> bool
 
 /// Flushes an object that may be flushed: it is absent. Else it tells the first reason why not, and nothing is changed. It
 /// takes no memory.
-pub(crate) fn flush(tables: &mut Tables, object: u64) -> Result<(), NotFlushable>
+pub(crate) fn flush(tables: &mut ObjectTables, object: u64) -> Result<(), NotFlushable>
     requires agree { TablesAgree tables.old }
     ensures flushable { OnOk result (IsFlushable (state_in tables.old) object) }
     ensures flushed { OnOk result (state_in tables.new ≡ flushed object (state_in tables.old)) }

@@ -12,5 +12,5 @@ mod tables;
 mod victim;
 
 pub use not_flushable::NotFlushable;
-pub use slot::Standing;
+pub use slot::ObjectStanding;
 pub use table::Table;

@@ -1,7 +1,7 @@
 //! Notes of threads of objects (`specs/States.antt`).
 ghost use Rattle.std.specs.Prelude.{◌≡◌, None, Some, IfNone, IfSome, OnOk, OnErr};
 ghost use Rattle.dso_table.specs.States.{with_note, without_thread};
-ghost use Rattle.dso_table.specs.Tables.{notes_in};
+ghost use Rattle.dso_table.specs.ObjectTables.{notes_in};
 ghost use Rattle.dso_table.specs.Victims.{NoNote, IsFirstNote};
 
 use dso_base::{NoMemory, ThreadId};

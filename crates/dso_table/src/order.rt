@@ -6,7 +6,7 @@ ghost use Rattle.std.specs.BTreeSet.{contains};
 ghost use Rattle.lru.specs.LruCache.{lru_cache};
 ghost use Rattle.dso_lookup.specs.Search.{is_listed};
 ghost use Rattle.dso_table.specs.States.{without, with_at};
-ghost use Rattle.dso_table.specs.Tables.{used_in, limit_in, is_ordered, number_in, JoinedBy, OrderAgrees};
+ghost use Rattle.dso_table.specs.ObjectTables.{used_in, limit_in, is_ordered, number_in, JoinedBy, OrderAgrees};
 
 use dso_base::NoMemory;
 use lru::LruCache;

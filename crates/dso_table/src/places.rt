@@ -4,7 +4,7 @@ ghost use Rattle.std.specs.Bool.{OnTrue, OnFalse};
 ghost use Rattle.std.specs.Option.{option_copied, option_map};
 ghost use Rattle.dso_table.specs.States.{is_resident, with_at};
 ghost use Rattle.dso_table.specs.Slots.{wrote, has_slot_value, changed_before};
-ghost use Rattle.dso_table.specs.Tables.{slot_in, standing_of, PlacesAgree};
+ghost use Rattle.dso_table.specs.ObjectTables.{slot_in, standing_of, PlacesAgree};
 
 use crate::slot::Slot;
 use dso_base::{NoMemory, Set};

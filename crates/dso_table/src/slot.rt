@@ -10,7 +10,7 @@ use std::alloc::Global;
 
 /// How an object stands with a client where it isn't absent: asked for, or resident with this content.
 #[derive(Debug, Drop)]
-pub enum Standing {
+pub enum ObjectStanding {
     Asked,
     Resident(Body),
 }
@@ -19,7 +19,7 @@ pub enum Standing {
 #[derive(Debug, Drop)]
 pub struct Slot {
     pub object: u64,
-    pub standing: Standing,
+    pub standing: ObjectStanding,
     pub changed: Option<u64>,
 }
 
@@ -39,8 +39,8 @@ impl Slot {
         ensures { result ≡ is_resident (Some self.now.standing) }
     {
         match self.standing {
-            Standing::Asked => false,
-            Standing::Resident(_) => true,
+            ObjectStanding::Asked => false,
+            ObjectStanding::Resident(_) => true,
         }
     }
 
@@ -62,8 +62,8 @@ impl Slot {
         ensures unchanged { OnFalse result (self.new ≡ self.old) }
     {
         let found = match &mut self.standing {
-            Standing::Asked => false,
-            Standing::Resident(body) => write_field(alloc, body, set.field, set.value),
+            ObjectStanding::Asked => false,
+            ObjectStanding::Resident(body) => write_field(alloc, body, set.field, set.value),
         };
         if found {
             self.changed = changed_last(changed, self.changed);

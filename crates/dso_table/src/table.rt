@@ -4,12 +4,12 @@ ghost use Rattle.std.specs.Bool.{OnTrue, OnFalse};
 ghost use Rattle.std.specs.Option.{option_copied};
 ghost use Rattle.dso_change.specs.Hands.{has_field};
 ghost use Rattle.dso_table.specs.States.{nothing_known, body_of, is_absent, is_asked, asked, put, set, acted, acknowledged, opened, closed, used, flushed};
-ghost use Rattle.dso_table.specs.Tables.{state_in};
+ghost use Rattle.dso_table.specs.ObjectTables.{state_in};
 ghost use Rattle.dso_table.specs.Victims.{IsFlushable, IsReason, IsVictim, NoVictim};
 
 use crate::not_flushable::NotFlushable;
-use crate::slot::Standing;
-use crate::tables::Tables;
+use crate::slot::ObjectStanding;
+use crate::tables::ObjectTables;
 use crate::{flush, notes, places, tables, victim};
 use dso_base::{Body, NoMemory, Set, ThreadId};
 use std::alloc::Global;
@@ -26,15 +26,15 @@ use std::marker::Model;
 /// [`Table::victim`] that for each resident object that may not be flushed.
 #[derive(Drop)]
 pub struct Table {
-    tables: Tables,
+    tables: ObjectTables,
 }
 
 impl Model for Table {
-    ghost use Rattle.dso_table.specs.declared.tables.Tables.{Tables};
-    ghost use Rattle.dso_table.specs.contracts.tables.Tables.{the_row};
-    ghost use Rattle.dso_table.specs.Tables.{TablesAgree};
+    ghost use Rattle.dso_table.specs.declared.tables.ObjectTables.{ObjectTables};
+    ghost use Rattle.dso_table.specs.contracts.tables.ObjectTables.{the_row};
+    ghost use Rattle.dso_table.specs.ObjectTables.{TablesAgree};
 
-    ghost Value = { Tables };
+    ghost Value = { ObjectTables };
 
     ghost coded = { the_row.coded };
 
@@ -58,8 +58,8 @@ impl Table {
         ensures { option_copied result ≡ body_of ((state_in self.now).standing object) }
     {
         match &places::slot(&self.tables.places, object)?.standing {
-            Standing::Asked => None,
-            Standing::Resident(body) => Some(body),
+            ObjectStanding::Asked => None,
+            ObjectStanding::Resident(body) => Some(body),
         }
     }
 

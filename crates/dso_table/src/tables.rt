@@ -1,14 +1,14 @@
-//! The tables of a client's objects: the places, the order of use, and the notes of threads (`specs/Tables.antt`).
+//! The tables of a client's objects: the places, the order of use, and the notes of threads (`specs/ObjectTables.antt`).
 ghost use Rattle.std.specs.Prelude.{◌≡◌, true, false, Some, IfOk, OnOk, OnErr};
 ghost use Rattle.std.specs.Bool.{OnTrue, OnFalse};
 ghost use Rattle.dso_change.specs.Hands.{has_field};
 ghost use Rattle.dso_table.specs.States.{nothing_known, asked, put, set, used, body_of, is_absent, is_resident};
-ghost use Rattle.dso_table.specs.Tables.{state_in, put_slot, TablesAgree};
+ghost use Rattle.dso_table.specs.ObjectTables.{state_in, put_slot, TablesAgree};
 
 use crate::notes::Notes;
 use crate::order::Order;
 use crate::places::Places;
-use crate::slot::{Slot, Standing, changed_last};
+use crate::slot::{ObjectStanding, Slot, changed_last};
 use crate::{notes, order, places};
 use dso_base::{Body, NoMemory, Set, ThreadId};
 use slab::Slab;
@@ -18,7 +18,7 @@ use std::collections::BTreeMap;
 /// What is kept of the objects that aren't absent, the order of use of the resident ones, the objects that the open block
 /// of each thread puts to, those that each thread wants, and the greatest number of a record acknowledged.
 #[derive(Drop)]
-pub struct Tables {
+pub struct ObjectTables {
     pub places: Places,
     pub order: Order,
     pub opened: Notes,
@@ -27,7 +27,7 @@ pub struct Tables {
 }
 
 /// Nothing is known, and so many objects are to be resident. It answers `NoMemory` where an allocation was refused.
-pub(crate) fn new(alloc: Global, limit: u32) -> Result<Tables, NoMemory>
+pub(crate) fn new(alloc: Global, limit: u32) -> Result<ObjectTables, NoMemory>
     ensures empty { IfOk result (λ tables. state_in tables ≡ nothing_known limit) }
     ensures agree { IfOk result TablesAgree }
 {
@@ -36,7 +36,7 @@ pub(crate) fn new(alloc: Global, limit: u32) -> Result<Tables, NoMemory>
         slots: Slab::new(alloc),
         index: BTreeMap::new(alloc),
     };
-    Ok(Tables {
+    Ok(ObjectTables {
         places,
         order,
         opened: BTreeMap::new(alloc),
@@ -49,7 +49,7 @@ pub(crate) fn new(alloc: Global, limit: u32) -> Result<Tables, NoMemory>
 /// `NoMemory` where an allocation was refused. Else nothing is changed.
 pub(crate) fn ask(
     alloc: Global,
-    tables: &mut Tables,
+    tables: &mut ObjectTables,
     object: u64,
     thread: ThreadId,
 ) -> Result<bool, NoMemory>
@@ -65,7 +65,7 @@ pub(crate) fn ask(
     }
     let slot = Slot {
         object,
-        standing: Standing::Asked,
+        standing: ObjectStanding::Asked,
         changed: None,
     };
     places::add(&mut tables.places, slot)?;
@@ -80,7 +80,7 @@ pub(crate) fn ask(
 
 /// Puts the slot of an object that isn't resident, and then is. It answers `NoMemory` where an allocation was refused, and
 /// nothing is changed then.
-fn put_new(tables: &mut Tables, slot: Slot) -> Result<(), NoMemory>
+fn put_new(tables: &mut ObjectTables, slot: Slot) -> Result<(), NoMemory>
     requires agree { TablesAgree tables.old }
     requires resident { is_resident (Some slot.standing) ≡ true }
     requires absent { is_resident ((state_in tables.old).standing slot.object) ≡ false }
@@ -101,7 +101,11 @@ fn put_new(tables: &mut Tables, slot: Slot) -> Result<(), NoMemory>
 
 /// Puts the copy of an object, which the own record of this number changed, if there is one. It answers `NoMemory` where an
 /// allocation was refused, and nothing is changed then.
-pub(crate) fn put(tables: &mut Tables, body: Body, changed: Option<u64>) -> Result<(), NoMemory>
+pub(crate) fn put(
+    tables: &mut ObjectTables,
+    body: Body,
+    changed: Option<u64>,
+) -> Result<(), NoMemory>
     requires agree { TablesAgree tables.old }
     ensures ok { OnOk result (state_in tables.new ≡ put body changed (state_in tables.old)) }
     ensures err { OnErr result (state_in tables.new ≡ state_in tables.old) }
@@ -110,7 +114,7 @@ pub(crate) fn put(tables: &mut Tables, body: Body, changed: Option<u64>) -> Resu
     let object = body.object;
     let slot = Slot {
         object,
-        standing: Standing::Resident(body),
+        standing: ObjectStanding::Resident(body),
         changed: changed_last(changed, places::changed_before(&tables.places, object)),
     };
     if places::is_resident(&tables.places, object) {
@@ -122,7 +126,12 @@ pub(crate) fn put(tables: &mut Tables, body: Body, changed: Option<u64>) -> Resu
 
 /// Writes a field of the copy of an object. False, with nothing changed, exactly where there is no copy or it has no such
 /// field. It takes no memory.
-pub(crate) fn set(alloc: Global, tables: &mut Tables, change: Set, changed: Option<u64>) -> bool
+pub(crate) fn set(
+    alloc: Global,
+    tables: &mut ObjectTables,
+    change: Set,
+    changed: Option<u64>,
+) -> bool
     requires agree { TablesAgree tables.old }
     ensures found { result ≡ has_field change.field (body_of ((state_in tables.old).standing change.object)) }
     ensures written { OnTrue result (state_in tables.new ≡ set change changed (state_in tables.old)) }
@@ -134,7 +143,7 @@ pub(crate) fn set(alloc: Global, tables: &mut Tables, change: Set, changed: Opti
 
 /// A resident object was used: it is the first of those used last. It answers `NoMemory` where an allocation was refused,
 /// and nothing is changed then.
-pub(crate) fn touch(tables: &mut Tables, object: u64) -> Result<(), NoMemory>
+pub(crate) fn touch(tables: &mut ObjectTables, object: u64) -> Result<(), NoMemory>
     requires agree { TablesAgree tables.old }
     ensures ok { OnOk result (state_in tables.new ≡ used object (state_in tables.old)) }
     ensures err { OnErr result (state_in tables.new ≡ state_in tables.old) }

@@ -1,15 +1,15 @@
 //! The object that is flushed next (`specs/Victims.antt`).
 ghost use Rattle.std.specs.Prelude.{ℕ, ◌≡◌, true, IfNone, IfSome};
 ghost use Rattle.dso_lookup.specs.Search.{is_listed};
-ghost use Rattle.dso_table.specs.Tables.{state_in, TablesAgree};
+ghost use Rattle.dso_table.specs.ObjectTables.{state_in, TablesAgree};
 ghost use Rattle.dso_table.specs.Victims.{IsFlushable, IsLeastUnused, IsLeastRecent, IsVictim, NoVictim};
 
 use crate::flush::is_flushable;
 use crate::order;
-use crate::tables::Tables;
+use crate::tables::ObjectTables;
 
 /// The flushable object of least id that isn't among those used last.
-fn least_unused(tables: &Tables) -> Option<u64>
+fn least_unused(tables: &ObjectTables) -> Option<u64>
     requires { TablesAgree tables.now }
     ensures none { IfNone result ((o : ℕ) → IsFlushable (state_in tables.now) o → is_listed o (state_in tables.now).used ≡ true) }
     ensures least { IfSome result (IsLeastUnused (state_in tables.now)) }
@@ -23,7 +23,7 @@ fn least_unused(tables: &Tables) -> Option<u64>
 }
 
 /// The flushable object that was used longest ago, where each flushable one is among those used last.
-fn least_recent(tables: &Tables) -> Option<u64>
+fn least_recent(tables: &ObjectTables) -> Option<u64>
     requires { (o : ℕ) → IsFlushable (state_in tables.now) o → is_listed o (state_in tables.now).used ≡ true }
     ensures none { IfNone result ((o : ℕ) → IsFlushable (state_in tables.now) o → ⊥) }
     ensures least { IfSome result (IsLeastRecent (state_in tables.now)) }
@@ -42,7 +42,7 @@ fn least_recent(tables: &Tables) -> Option<u64>
 /// The object that is flushed next: where more objects are resident than the client is to keep, the flushable one of least
 /// id that isn't among those used last, else the flushable one that was used longest ago. It costs the number of resident
 /// objects that may not be flushed, times a logarithm.
-pub(crate) fn victim(tables: &Tables) -> Option<u64>
+pub(crate) fn victim(tables: &ObjectTables) -> Option<u64>
     requires { TablesAgree tables.now }
     ensures none { IfNone result (NoVictim (state_in tables.now)) }
     ensures victim { IfSome result (IsVictim (state_in tables.now)) }

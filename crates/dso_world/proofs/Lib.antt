@@ -3,7 +3,7 @@ pub mod links
 pub mod journals
 pub mod sending
 pub mod coming
-pub mod members
+pub mod client_nodes
 pub mod premises
 pub mod pasts
 pub mod follows

@@ -1,6 +1,6 @@
 pub mod Choices
 pub mod Followed
-pub mod Made
+pub mod EntryDraft
 pub mod Stepped
 pub mod Looks
 pub mod Openings

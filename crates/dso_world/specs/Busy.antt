@@ -6,7 +6,7 @@ use Rattle.dso_base.specs.declared.journal.Node.TheVariants.{Server}
 use Rattle.dso_law.specs.Entries.{entries_of}
 use Rattle.dso_law.specs.ServerReadings.{is_lost}
 use Rattle.dso_law.specs.Settings.{Settings, threads_of}
-use Rattle.dso_legal.specs.Slots.{has_ended, is_due, is_quiet}
+use Rattle.dso_legal.specs.Slots.{has_ended, is_loss_or_break_due, is_quiet}
 
 -- whether the client isn't lost, and one of its threads has not ended or a message is in flight between it and the
 -- server
@@ -17,4 +17,4 @@ is_working p c es =
 
 -- Busy: a trigger of the client is due, or it is working.
 abbrev pub is_busy : Settings → ℕ → List Entry → Bool
-is_busy p c es = is_due p c es || is_working p c es
+is_busy p c es = is_loss_or_break_due p c es || is_working p c es

@@ -9,57 +9,58 @@ use Rattle.dso_class.specs.declared.program.Program.{Program}
 use Rattle.dso_law.specs.Channels.{Letter, up_in_flight}
 use Rattle.dso_law.specs.Settings.{clients_of}
 use Rattle.dso_legal.specs.Lawful.{IsLawful}
-use Rattle.dso_legal.specs.Slots.{Slot, is_due}
+use Rattle.dso_legal.specs.Slots.{Slot, is_loss_or_break_due}
 use Rattle.dso_machine.specs.Next.{next_request}
 use Rattle.dso_session.specs.declared.frame.Accepted.{Accepted}
 use Rattle.dso_base.specs.declared.both.Both.{Both}
 use Rattle.dso_base.specs.declared.both.Both.TheVariants as both
-use Rattle.dso_world.specs.declared.made.Made.{Made}
-use Rattle.dso_world.specs.declared.member.Member.{Member}
+use Rattle.dso_world.specs.declared.entry_draft.EntryDraft.{EntryDraft}
+use Rattle.dso_world.specs.declared.client_node.ClientNode.{ClientNode}
 use Rattle.dso_world.specs.declared.nodes.Nodes.{Nodes}
 use Rattle.dso_world.specs.ChosenSlot.{slot_at}
 use Rattle.dso_world.specs.Link.{Line, first_answer}
 use Rattle.dso_world.specs.LinkStands.{Course, Joined, Past}
-use Rattle.dso_world.specs.MemberSteps.{IsJournal, IsOpenAfter}
+use Rattle.dso_world.specs.ClientSteps.{IsJournal, IsOpenAfter}
 use Rattle.dso_world.specs.NodesStand.{NodesStand, NodesStandBy}
 use Rattle.dso_world.specs.PastOf.{course_of, past_of}
-use Rattle.dso_world.specs.Sending.{after_hearing, clock_after}
+use Rattle.dso_world.specs.SentMessages.{after_hearing, clock_after}
 use Rattle.dso_world.specs.WorldSteps.{settings_of}
 
 -- no client has seen 2 ^ 63 messages of the server or more
-abbrev pub HaveRoom : List Member → Type 0
-HaveRoom members = (place : ℕ) (member : Member) → slice_get members place ≡ Some member
-    → member.link.server.seen < 2 ^ 63
+abbrev pub HaveRoom : List ClientNode → Type 0
+HaveRoom client_nodes = (place : ℕ) (client_node : ClientNode) → slice_get client_nodes place ≡ Some client_node
+    → client_node.link.server.seen < 2 ^ 63
 
 -- each client was sent those of these messages that are for it
-abbrev pub AreTold : ℕ → List (ℕ × Down) → List Member → List Member → Type 0
+abbrev pub AreTold : ℕ → List (ℕ × Down) → List ClientNode → List ClientNode → Type 0
 AreTold clock messages old new = (place : ℕ)
     → slice_get new place ≡ option_map (after_hearing (suc place) clock messages) (slice_get old place)
 
 -- the server made its entry, and sent these
-pub record HasTold (made : Made) (messages : List (ℕ × Down)) (old new : Nodes) : Type 0 where
-  pub members : AreTold (clock_after old.clock made.heard) messages old.members.items new.members.items
+pub record HasTold (made : EntryDraft) (messages : List (ℕ × Down)) (old new : Nodes) : Type 0 where
+  pub client_nodes : AreTold (clock_after old.clock made.heard) messages old.client_nodes.items new.client_nodes.items
   pub server : new.server ≡ old.server
   pub clock : new.clock ≡ clock_after old.clock made.heard
 
 -- client d, where this changes the connection of client c
-abbrev pub with_line : ℕ → (Line Both → Line Both) → ℕ → Member → Member
-with_line c change d member = cond (eqb d c) (record member { link = change member.link }) member
+abbrev pub with_line : ℕ → (Line Both → Line Both) → ℕ → ClientNode → ClientNode
+with_line c change d client_node = cond (eqb d c) (record client_node { link = change client_node.link }) client_node
 
 -- this changed the connection of client c alone
-abbrev pub ChangesLine : ℕ → (Line Both → Line Both) → List Member → List Member → Type 0
+abbrev pub ChangesLine : ℕ → (Line Both → Line Both) → List ClientNode → List ClientNode → Type 0
 ChangesLine c change old new = (place : ℕ)
     → slice_get new place ≡ option_map (with_line c change (suc place)) (slice_get old place)
 
 -- the connection of client c broke fewer than 2 ^ 32 - 1 times
-abbrev pub HasBreakLeft : ℕ → List Member → Type 0
-HasBreakLeft c members = (member : Member) → slice_get members (c - 1) ≡ Some member
-    → member.link.server.epoch + 1 < 2 ^ 32
+abbrev pub HasBreakLeft : ℕ → List ClientNode → Type 0
+HasBreakLeft c client_nodes = (client_node : ClientNode) → slice_get client_nodes (c - 1) ≡ Some client_node
+    → client_node.link.server.epoch + 1 < 2 ^ 32
 
 -- what the server makes of the first frame in flight from a client, None where there is none
-abbrev pub first_up : ℕ → List Member → Option (Accepted Both)
-first_up c members =
-    option_and_then (λ member. first_answer member.link.up member.link.server) (slice_get members (c - 1))
+abbrev pub first_up : ℕ → List ClientNode → Option (Accepted Both)
+first_up c client_nodes =
+    option_and_then (λ client_node. first_answer client_node.link.up client_node.link.server) (slice_get client_nodes
+    (c - 1))
 
 module _ (program : Program) where
   -- the nodes stand for some journal's entries, after which the slot is open, and client c is one of the cluster's
@@ -100,7 +101,7 @@ module _ (program : Program) where
     pub rest : List (Letter Up)
     pub first : up_in_flight c es ≡ letter ∷ rest
     pub joined : course_of (settings_of program) c es ≡ Joined
-    pub none_due : is_due (settings_of program) c es ≡ false
+    pub none_due : is_loss_or_break_due (settings_of program) c es ≡ false
     pub stands : NodesStandBy program (course_heard c es) (past_heard c es) nodes es
 
   -- so for some journal's entries

@@ -12,7 +12,7 @@ use Rattle.dso_law.specs.Entries.{is_node, entries_of}
 use Rattle.dso_law.specs.Channels.{Direction, Letter, breaks, count_inputs, in_flight, is_broken, posted, rejoins}
 use Rattle.dso_law.specs.Channels.{to_client, to_server}
 use Rattle.dso_legal.specs.Lawful.{AllFollow, IsLawful}
-use Rattle.dso_legal.specs.Slots.{has_rejoined, is_due}
+use Rattle.dso_legal.specs.Slots.{has_rejoined, is_loss_or_break_due}
 use Rattle.dso_legal.specs.Slots as slots
 use Rattle.dso_session.specs.declared.session.Posted.{Posted}
 use Rattle.dso_world.specs.LinkStands.{Course, Joined, Broken, Half, Past, can_take_down, can_take_up}
@@ -57,7 +57,7 @@ pub record CanTake (p : Settings) (es : List Entry) {M : Type 0} (as_up : Up →
     (c : ℕ) : Type 0 where
   pub down : slots.can_take_down p c es ≡ can_take_down (course_of p c es) (past_of as_up as_down c es)
   pub up : slots.can_take_up p c es
-      ≡ (not (is_due p c es) && can_take_up (course_of p c es) (past_of as_up as_down c es))
+      ≡ (not (is_loss_or_break_due p c es) && can_take_up (course_of p c es) (past_of as_up as_down c es))
 
 -- Letters: where all entries follow, the letters in flight are those posted that were not taken; and in a lawful
 -- journal a client's messages can be taken where its connection says so.

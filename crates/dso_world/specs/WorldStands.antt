@@ -8,12 +8,12 @@ use Rattle.dso_class.specs.declared.program.Program.{Program}
 use Rattle.dso_legal.specs.Lawful.{IsLawful}
 use Rattle.dso_legal.specs.Slots.{is_finished, open_slots, slots, weight}
 use Rattle.dso_machine.specs.Next.{next_request}
-use Rattle.dso_world.specs.declared.board.Board.{Board}
+use Rattle.dso_world.specs.declared.open_steps.OpenSteps.{OpenSteps}
 use Rattle.dso_world.specs.declared.step.Step.{Step}
 use Rattle.dso_world.specs.declared.world.World.{World}
 use Rattle.dso_world.specs.ChosenSlot.{chosen_slot, is_slot, slot_at}
 use Rattle.dso_world.specs.Laws.{RowStands}
-use Rattle.dso_world.specs.MemberSteps.{IsJournal, IsOpenAfter}
+use Rattle.dso_world.specs.ClientSteps.{IsJournal, IsOpenAfter}
 use Rattle.dso_world.specs.NodesStand.{NodesStand}
 use Rattle.dso_world.specs.WorldSteps.{settings_of, slot_of}
 
@@ -30,24 +30,24 @@ abbrev pub is_spent : World → Bool
 is_spent world = is_some world.spent
 
 module _ (program : Program) where
-  -- The board after the entries: its steps are those of all slots, in their order; each flag tells whether its slot is
+  -- The open steps after the entries: its steps are those of all slots, in their order; each flag tells whether its slot is
   -- open; and it is noted whether the run is finished.
-  pub record BoardStands (board : Board) (es : List Entry) : Type 0 where
-    pub steps : map slot_of board.steps.items ≡ slots (settings_of program)
-    pub row : RowStands (settings_of program) (next_request program.code) board.chooser es
-    pub finished : board.is_finished ≡ is_finished (settings_of program) es
+  pub record OpenStepsStand (open_steps : OpenSteps) (es : List Entry) : Type 0 where
+    pub steps : map slot_of open_steps.steps.items ≡ slots (settings_of program)
+    pub row : RowStands (settings_of program) (next_request program.code) open_steps.chooser es
+    pub finished : open_steps.is_finished ≡ is_finished (settings_of program) es
 
   -- All that a world keeps beside its journal, after these entries
-  pub record PartsStand (world : World) (es : List Entry) : Type 0 where
+  pub record WorldPartsStand (world : World) (es : List Entry) : Type 0 where
     pub nodes : NodesStand program world.nodes es
-    pub board : BoardStands world.board es
+    pub open_steps : OpenStepsStand world.open_steps es
     pub weight : world.weight ≡ min (weight es) (2 ^ 64 - 1)
 
   -- The world is one of this program: its journal is lawful; and while it isn't spent, its parts are what they are
   -- after the journal's entries.
   pub record WorldStands (world : World) : Type 0 where
     pub lawful : IsLawful (settings_of program) (next_request program.code) (entries_in world)
-    pub parts : is_spent world ≡ false → PartsStand world (entries_in world)
+    pub parts : is_spent world ≡ false → WorldPartsStand world (entries_in world)
 
   -- whether the step's slot is one of the cluster's that are open
   abbrev pub is_open_step : Step → World → Bool
@@ -65,7 +65,7 @@ pub record MakesEntry (step : Step) (old new : World) : Type 0 where
 pub record IsMakeable (program : Program) (step : Step) (place : ℕ) (world : World) : Type 0 where
   pub journal : IsJournal program (entries_in world)
   pub few : length (journal_of world).entries < 2 ^ 28
-  pub parts : PartsStand program world (entries_in world)
+  pub parts : WorldPartsStand program world (entries_in world)
   pub at : slice_get (slots (settings_of program)) place ≡ Some (slot_of step)
   pub opened : IsOpenAfter program (entries_in world) (slot_of step)
 
@@ -74,7 +74,7 @@ pub record IsMakeable (program : Program) (step : Step) (place : ℕ) (world : W
 pub record IsMade (program : Program) (step : Step) (old new : World) : Type 0 where
   pub makes : MakesEntry step old new
   pub lawful : IsLawful (settings_of program) (next_request program.code) (entries_in new)
-  pub parts : PartsStand program new (entries_in new)
+  pub parts : WorldPartsStand program new (entries_in new)
 
 -- the step makes an entry where its slot is open; where that isn't open, nothing changes
 abbrev pub IsStepped : Program → Step → Bool → World → World → Type 0

@@ -3,7 +3,7 @@ ghost use Rattle.std.specs.Prelude.{◌≡◌, ◌+◌, ◌<◌, ◌≤◌, ◌^
 ghost use Rattle.std.specs.Option.{option_map_or};
 ghost use Rattle.dso_world.specs.Flags.{closed_row, is_set, next_set, nth_set, chosen_place};
 
-use crate::seed::Moved;
+use crate::seed::SeedState;
 use dso_base::NoMemory;
 use std::alloc::Global;
 use std::marker::Model;
@@ -19,7 +19,7 @@ pub struct Chooser {
     count: usize,
     begin: usize,
     entries: u64,
-    seed: Moved,
+    seed: SeedState,
 }
 
 impl Model for Chooser {
@@ -73,7 +73,7 @@ impl Chooser {
             count: 0,
             begin: 0,
             entries: 0,
-            seed: Moved::new(0),
+            seed: SeedState::new(0),
         })
     }
 

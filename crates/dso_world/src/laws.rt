@@ -1,6 +1,6 @@
 //! The laws of the cluster in one program (`specs/Laws.antt`). Each is the contract of a function that does nothing.
 ghost use Rattle.dso_world.specs.Breaks.{BrokenIsNeverDue};
-ghost use Rattle.dso_world.specs.Finishing.{EndedAsksNothing, FinishedWhereNoneIsBusy};
+ghost use Rattle.dso_world.specs.FinishedRuns.{EndedAsksNothing, FinishedWhereNoneIsBusy};
 ghost use Rattle.dso_world.specs.LinkStands.{LinksGoOn};
 ghost use Rattle.dso_world.specs.PastOf.{LettersAreLeft};
 ghost use Rattle.dso_world.specs.Laws.{PlacesAreChosen, RoundsGoOn};

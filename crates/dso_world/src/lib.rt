@@ -4,7 +4,7 @@
 //! A caller:
 //!
 //! ```rust
-//! ghost use Rattle.dso_class.specs.Sound.{IsSound};
+//! ghost use Rattle.dso_class.specs.Sound.{IsSoundProgram};
 //!
 //! use dso_base::{Journal, NoMemory};
 //! use dso_class::Program;
@@ -13,7 +13,7 @@
 //!
 //! /// The journal of a run by round robin, of a thousand entries at most.
 //! fn run(alloc: Global, program: &Program) -> Result<Journal, NoMemory>
-//!     requires { IsSound program.now }
+//!     requires { IsSoundProgram program.now }
 //! {
 //!     let mut world = World::new(alloc, program)?;
 //!     for _turn in 0..1000 {
@@ -29,26 +29,26 @@
 //! ```
 #![tactic(auto)]
 
-mod acting;
-mod applying;
-mod arrived;
-mod board;
 mod chooser;
-mod following;
+mod client_entry;
+mod client_node;
+mod client_step;
+mod entry_draft;
+mod entry_weight;
+mod incoming_message;
 pub mod laws;
 mod link;
-mod looking;
-mod made;
-mod member;
+mod node_step;
 mod nodes;
+mod open_steps;
 mod opening;
 mod pump;
-mod saying;
 mod seed;
-mod serving;
+mod server_entry;
+mod server_step;
+mod slot_test;
 mod step;
-mod telling;
-mod weighing;
+mod step_update;
 mod world;
 
 pub use chooser::Chooser;

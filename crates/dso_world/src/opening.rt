@@ -1,15 +1,15 @@
 //! A cluster before its first step (`specs/NodesStand.antt`).
 ghost use Rattle.std.specs.Prelude.{◌≡◌, ◌++◌, [], IfOk, OnOk, eqb, filter, length, map};
-ghost use Rattle.dso_class.specs.Sound.{IsSound};
+ghost use Rattle.dso_class.specs.Sound.{IsSoundProgram};
 ghost use Rattle.dso_legal.specs.Slots.{client_slots, slots};
-ghost use Rattle.dso_world.specs.NodesStand.{AreMembers, MemberStands, NodesStand};
-ghost use Rattle.dso_world.specs.WorldStands.{BoardStands};
+ghost use Rattle.dso_world.specs.NodesStand.{AreClientNodes, ClientNodeStands, NodesStand};
+ghost use Rattle.dso_world.specs.WorldStands.{OpenStepsStand};
 ghost use Rattle.dso_world.specs.WorldSteps.{settings_of, slot_of};
 
-use crate::board::Board;
-use crate::looking::{is_finished, is_open};
-use crate::member::Member;
+use crate::client_node::ClientNode;
 use crate::nodes::Nodes;
+use crate::open_steps::OpenSteps;
+use crate::slot_test::{is_finished, is_open};
 use crate::{Chooser, Link, Step};
 use dso_base::{NoMemory, ThreadId};
 use dso_class::Program;
@@ -31,16 +31,16 @@ fn thread_count(threads: &[ThreadId], number: u8) -> usize
 }
 
 /// The client of this number, with its connection.
-fn member(alloc: Global, program: &Program, number: u8) -> Result<Member, NoMemory>
-    requires { IsSound program.now }
-    ensures { IfOk result (λ member. MemberStands program.now number member []) }
+fn client_node(alloc: Global, program: &Program, number: u8) -> Result<ClientNode, NoMemory>
+    requires { IsSoundProgram program.now }
+    ensures { IfOk result (λ client_node. ClientNodeStands program.now number client_node []) }
 {
     let threads = thread_count(program.threads.as_slice(), number) as u8;
     let client = Client::new(alloc, &program.code, number, threads, program.resident)?;
     let losses = program.losses.as_slice();
     let breaks = program.breaks.as_slice();
     let triggers = Triggers::new(alloc, number, losses, breaks)?;
-    Ok(Member {
+    Ok(ClientNode {
         client,
         link: Link::new(alloc),
         clock: 0,
@@ -49,26 +49,26 @@ fn member(alloc: Global, program: &Program, number: u8) -> Result<Member, NoMemo
 }
 
 /// All clients, by rising number.
-fn members(alloc: Global, program: &Program) -> Result<Vec<Member>, NoMemory>
-    requires { IsSound program.now }
-    ensures { IfOk result (λ members. AreMembers program.now program.now.clients members.items) }
+fn client_nodes(alloc: Global, program: &Program) -> Result<Vec<ClientNode>, NoMemory>
+    requires { IsSoundProgram program.now }
+    ensures { IfOk result (λ client_nodes. AreClientNodes program.now program.now.clients client_nodes.items) }
 {
-    let mut members = Vec::new(alloc);
+    let mut client_nodes = Vec::new(alloc);
     for number in 0..program.clients {
-        members.push(member(alloc, program, number + 1)?)?;
+        client_nodes.push(client_node(alloc, program, number + 1)?)?;
     }
-    Ok(members)
+    Ok(client_nodes)
 }
 
 /// The nodes of a sound program's cluster before its first step.
 pub(crate) fn nodes(alloc: Global, program: &Program) -> Result<Nodes, NoMemory>
-    requires { IsSound program.now }
+    requires { IsSoundProgram program.now }
     ensures { IfOk result (λ nodes. NodesStand program.now nodes []) }
 {
-    let members = members(alloc, program)?;
+    let client_nodes = client_nodes(alloc, program)?;
     let server = Server::new(alloc, &program.code, program.clients)?;
     Ok(Nodes {
-        members,
+        client_nodes,
         server,
         clock: 0,
     })
@@ -106,18 +106,22 @@ fn steps(alloc: Global, program: &Program) -> Result<Vec<Step>, NoMemory>
     Ok(steps)
 }
 
-/// The board of a sound program's cluster before its first step.
-pub(crate) fn board(alloc: Global, program: &Program, nodes: &Nodes) -> Result<Board, NoMemory>
-    requires sound { IsSound program.now }
+/// The open steps of a sound program's cluster before its first step.
+pub(crate) fn open_steps(
+    alloc: Global,
+    program: &Program,
+    nodes: &Nodes,
+) -> Result<OpenSteps, NoMemory>
+    requires sound { IsSoundProgram program.now }
     requires stands { NodesStand program.now nodes.now [] }
-    ensures { IfOk result (λ board. BoardStands program.now board []) }
+    ensures { IfOk result (λ open_steps. OpenStepsStand program.now open_steps []) }
 {
     let steps = steps(alloc, program)?;
     let mut chooser = Chooser::new(alloc, steps.len())?;
     for place in 0..steps.len() {
         chooser.set(place, is_open(nodes, steps[place]));
     }
-    Ok(Board {
+    Ok(OpenSteps {
         steps,
         chooser,
         is_finished: is_finished(program, nodes),

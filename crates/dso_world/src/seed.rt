@@ -4,7 +4,7 @@ ghost use Rattle.dso_world.specs.ChosenSlot.{moved_on, seed_after, lot};
 
 /// A seed, and what it is after so many moves.
 #[derive(Clone, Copy, Debug)]
-pub(crate) struct Moved {
+pub(crate) struct SeedState {
     seed: u64,
     moves: u64,
     now: u64,
@@ -19,13 +19,13 @@ fn moved_on(x: u64) -> u64
         .wrapping_add(1_442_695_040_888_963_407)
 }
 
-impl Moved {
+impl SeedState {
     /// The seed before its first move.
-    pub(crate) fn new(seed: u64) -> Moved
+    pub(crate) fn new(seed: u64) -> SeedState
         ensures seed { result.seed ≡ seed }
         ensures moves { result.moves ≡ 0 }
     {
-        Moved {
+        SeedState {
             seed,
             moves: 0,
             now: seed,
@@ -33,19 +33,19 @@ impl Moved {
     }
 
     /// This seed after so many moves. The same seed goes on from where it was.
-    pub(crate) fn moved_to(self, seed: u64, moves: u64) -> Moved
+    pub(crate) fn moved_to(self, seed: u64, moves: u64) -> SeedState
         ensures seed { result.seed ≡ seed }
         ensures moves { result.moves ≡ moves }
     {
         if self.seed == seed && self.moves <= moves {
             self.moved_on_to(moves)
         } else {
-            Moved::new(seed).moved_on_to(moves)
+            SeedState::new(seed).moved_on_to(moves)
         }
     }
 
     /// It costs a step for each move that it hadn't made.
-    fn moved_on_to(self, moves: u64) -> Moved
+    fn moved_on_to(self, moves: u64) -> SeedState
         requires { self.moves ≤ moves }
         ensures seed { result.seed ≡ self.seed }
         ensures moves { result.moves ≡ moves }
@@ -54,7 +54,7 @@ impl Moved {
         for _move in self.moves..moves {
             now = moved_on(now);
         }
-        Moved {
+        SeedState {
             seed: self.seed,
             moves,
             now,

@@ -2,18 +2,18 @@
 ghost use Rattle.std.specs.Prelude.{◌≡◌, ◌<◌, ◌-◌, ◌^◌, false, true, [], length, min, slice_get, IfOk, IsErr, OnErr, OnOk};
 ghost use Rattle.std.specs.Option.{option_copied};
 ghost use Rattle.dso_class.specs.declared.program.Program.{Program};
-ghost use Rattle.dso_class.specs.Sound.{IsSound};
+ghost use Rattle.dso_class.specs.Sound.{IsSoundProgram};
 ghost use Rattle.dso_legal.specs.Slots.{is_finished, weight};
 ghost use Rattle.dso_world.specs.WorldStands.{IsChosenStep, IsMade, IsMakeable, IsStepped, WorldStands, entries_in, is_open_step, is_spent, journal_of};
 ghost use Rattle.dso_world.specs.WorldSteps.{settings_of};
 
-use crate::applying::apply;
-use crate::board::Board;
-use crate::following::follow;
+use crate::entry_weight::with_weight;
+use crate::node_step::apply;
 use crate::nodes::Nodes;
-use crate::opening::{board, nodes};
+use crate::open_steps::OpenSteps;
+use crate::opening::{nodes, open_steps};
 use crate::step::Step;
-use crate::weighing::with_weight;
+use crate::step_update::follow;
 use dso_base::{Entry, Items, Journal, NoMemory};
 use dso_class::Program;
 use std::alloc::Global;
@@ -28,7 +28,7 @@ use std::alloc::Global;
 pub struct World {
     pub(crate) spent: Option<NoMemory>,
     pub(crate) nodes: Nodes,
-    pub(crate) board: Board,
+    pub(crate) open_steps: OpenSteps,
     pub(crate) weight: u64,
     pub(crate) journal: Journal,
 }
@@ -36,17 +36,17 @@ pub struct World {
 impl World {
     /// The cluster of a sound program before its first step. It answers `NoMemory` where an allocation was refused.
     pub fn new(alloc: Global, program: &Program) -> Result<World, NoMemory>
-        requires { IsSound program.now }
+        requires { IsSoundProgram program.now }
         ensures stands { IfOk result (WorldStands program.now) }
         ensures whole { IfOk result (λ world. is_spent world ≡ false) }
         ensures empty { IfOk result (λ world. (journal_of world).entries ≡ []) }
     {
         let nodes = nodes(alloc, program)?;
-        let board = board(alloc, program, &nodes)?;
+        let open_steps = open_steps(alloc, program, &nodes)?;
         Ok(World {
             spent: None,
             nodes,
-            board,
+            open_steps,
             weight: 0,
             journal: Journal {
                 entries: Items::new(alloc),
@@ -60,7 +60,7 @@ impl World {
     /// It answers `NoMemory` where an allocation was refused: the world is spent then, with the journal that it had. A
     /// spent world answers that refusal to every step, and nothing changes.
     pub fn step(&mut self, alloc: Global, program: &Program, step: Step) -> Result<bool, NoMemory>
-        requires sound { IsSound program.now }
+        requires sound { IsSoundProgram program.now }
         requires stands { WorldStands program.now self.old }
         requires few { length (journal_of self.old).entries < 2 ^ 28 }
         ensures stands { WorldStands program.now self.new }
@@ -73,7 +73,7 @@ impl World {
         if let Some(refusal) = self.spent {
             return Err(refusal);
         }
-        let Some(place) = self.board.open_place(step) else {
+        let Some(place) = self.open_steps.open_place(step) else {
             return Ok(false);
         };
         if let Err(refusal) = self.make(alloc, program, step, place) {
@@ -97,7 +97,7 @@ impl World {
         ensures spent { self.new.spent ≡ self.old.spent }
     {
         let entry = apply(alloc, program, &mut self.nodes, step)?;
-        follow(program, &self.nodes, &entry, place, &mut self.board);
+        follow(program, &self.nodes, &entry, place, &mut self.open_steps);
         self.weight = with_weight(self.weight, &entry);
         self.journal.entries.push(entry)?;
         Ok(())
@@ -108,7 +108,7 @@ impl World {
         ensures { (program : Program) → WorldStands program self.now → is_spent self.now ≡ false
             → result ≡ is_open_step program step self.now }
     {
-        self.board.is_open(step)
+        self.open_steps.is_open(step)
     }
 
     /// The step that is taken next: by round robin, or by the seed. None exactly where no slot is open. It takes no
@@ -118,7 +118,7 @@ impl World {
             → IsChosenStep program seed result self.old }
         ensures same { self.new ≡ self.old }
     {
-        self.board.choose(seed)
+        self.open_steps.choose(seed)
     }
 
     /// Whether every thread of a client that isn't lost has ended, no message between the server and such a client is
@@ -127,7 +127,7 @@ impl World {
         ensures { (program : Program) → WorldStands program self.now → is_spent self.now ≡ false
             → result ≡ is_finished (settings_of program) (entries_in self.now) }
     {
-        self.board.is_finished
+        self.open_steps.is_finished
     }
 
     /// The journal's weight, and 2^64 - 1 where that is more. It takes no memory.
@@ -159,12 +159,12 @@ impl World {
         let World {
             journal,
             nodes,
-            board,
+            open_steps,
             ..
         } = self;
         // Calls, so that the proof of this function doesn't go into the parts of nodes.
         drop(nodes);
-        drop(board);
+        drop(open_steps);
         journal
     }
 }

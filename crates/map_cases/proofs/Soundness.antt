@@ -15,7 +15,7 @@ use Rattle.dso_machine.specs.Next.{body_of}
 use Rattle.dso_machine.specs.declared.code.ThreadBody.{ThreadBody}
 use Rattle.dso_machine.specs.declared.tree.Stmt.TheVariants as s
 use Rattle.dso_base.specs.declared.lock.ThreadId.{ThreadId}
-use Rattle.dso_machine.specs.Sound.{Scope, AreCallees, IsCallee, IsMapCallee, IsGuard, IsLiteral, IsSoundClass, IsSoundMethod, IsSoundBody, IsSound, HasNoGap, SoundExpr, SoundExprs, SoundStmt, SoundBlock}
+use Rattle.dso_machine.specs.Sound.{Scope, AreCallees, IsCallee, IsMapCallee, IsGuard, IsLiteral, IsSoundClass, IsSoundMethod, IsSoundBody, IsSoundCode, HasNoGap, SoundExpr, SoundExprs, SoundStmt, SoundBlock}
 use Rattle.map_cases.specs.CallCode.{call_shape, call_code, IsPart, AreMethods}
 
 -- ---- the class of maps
@@ -140,7 +140,7 @@ module _ (map : Expr) (callees : List (ℕ × ℕ)) (args : List Expr) where
       of_a_map = record { class = of_maps; place = callee.1; number = omega arith; params = are.1 }
   callees_sound count (callee ∷ other ∷ rest) are = absurd are
 
-  sound_call : IsPart map → All IsPart args → AreMethods (length args) callees → IsSound (call_code map callees args)
+  sound_call : IsPart map → All IsPart args → AreMethods (length args) callees → IsSoundCode (call_code map callees args)
   sound_call part parts are = record {
     few_classes = omega arith;
     few_roots = omega arith;
@@ -165,9 +165,9 @@ module _ (map : Expr) (callees : List (ℕ × ℕ)) (args : List Expr) where
 
 -- the code that was made of these parts is sound, with so many arguments
 pub sound_made : (map : Expr) (callees : List (ℕ × ℕ)) (args : List Expr) (count : ℕ) (code : Code) → code ≡ call_code map callees args → IsPart map → All IsPart args → length args ≡ count
-    → AreMethods count callees → IsSound code
+    → AreMethods count callees → IsSoundCode code
 sound_made map callees args count code is part parts long are =
-    subst IsSound (sym is) (sound_call map callees args part parts (subst (λ count. AreMethods count callees) (sym long) are))
+    subst IsSoundCode (sym is) (sound_call map callees args part parts (subst (λ count. AreMethods count callees) (sym long) are))
 
 -- and its thread is there
 pub there_made : (map : Expr) (callees : List (ℕ × ℕ)) (args : List Expr) (code : Code) → code ≡ call_code map callees args → body_of (record { client = 1; index = 1 }) code.bodies ≢ None

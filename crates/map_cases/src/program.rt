@@ -46,7 +46,7 @@ pub fn no_map() -> Expr
 #[tactic(auto, using(crate::proofs::Soundness::made))]
 pub fn code_of(alloc: Global, map: Expr, method: &str, values: &[Value]) -> Result<Code, NoMemory>
     requires part { IsPart map }
-    ensures sound { IfOk result (λ code. machine.IsSound code) }
+    ensures sound { IfOk result (λ code. machine.IsSoundCode code) }
     ensures there { IfOk result (λ code. body_of (record { client = 1; index = 1 }) code.bodies ≢ None) }
 {
     let args = arguments(alloc, values)?;

@@ -24,7 +24,7 @@ pub struct Asked {
 
 /// What the thread of the code asks, up to its end, where these fields answer it.
 pub fn asked_by(alloc: Global, code: &Code, fields: &mut Fields) -> Result<Vec<Asked>, NoMemory>
-    requires sound { machine.IsSound code.now }
+    requires sound { machine.IsSoundCode code.now }
     requires there { body_of (record { client = 1; index = 1 }) code.now.bodies ≢ None }
 {
     let mut thread = Thread::new(alloc, code, THREAD)?;
@@ -41,7 +41,7 @@ fn asked_to_end(
     thread: &mut Thread,
     fields: &mut Fields,
 ) -> Result<Vec<Asked>, NoMemory>
-    requires { machine.IsSound code.now }
+    requires { machine.IsSoundCode code.now }
 {
     let mut asked = Vec::new(alloc);
     for _ in 0..1000u32 {
@@ -60,7 +60,7 @@ fn ask(
     thread: &mut Thread,
     fields: &mut Fields,
 ) -> Result<Option<Asked>, NoMemory>
-    requires { machine.IsSound code.now }
+    requires { machine.IsSoundCode code.now }
 {
     if thread.over() {
         return Ok(None);

@@ -13,7 +13,7 @@ use Rattle.dso_plain.specs.After.{after}
 use Rattle.dso_plain.specs.History.{IsLegal, events_of, last_state}
 use Rattle.dso_plain.specs.Possible.{May}
 use Rattle.dso_plain.specs.State.{opening}
-use Rattle.dso_plain.specs.Tables.{state_of}
+use Rattle.dso_plain.specs.HeapTables.{state_of}
 use Rattle.dso_plain.proofs.independence.RunsSwap.{ends_in_parts}
 use Rattle.dso_plain.proofs.keys.SameKeys.{same_thread}
 use Rattle.dso_plain.proofs.histories.LegalGoesOn.{goes_on}

@@ -10,7 +10,7 @@ use Rattle.dso_machine.specs.declared.thread.Thread.{Thread}
 use Rattle.dso_machine.specs.Next.{next_request}
 use Rattle.dso_machine.specs.Standing.{ThreadStands}
 use Rattle.dso_plain.specs.History.{IsLegal, events_of, last_state}
-use Rattle.dso_plain.specs.Tables.{state_of}
+use Rattle.dso_plain.specs.HeapTables.{state_of}
 use Rattle.report_cases.specs.declared.legal_run.LegalRun.{LegalRun}
 
 -- the events are a legal history of the program, and the heap is its last state

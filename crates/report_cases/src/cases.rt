@@ -1,6 +1,6 @@
 //! The cases of the input, line by line.
 ghost use Rattle.std.specs.Prelude.{◌≡◌, IfOk, length};
-ghost use Rattle.dso_class.specs.Sound.{IsSound};
+ghost use Rattle.dso_class.specs.Sound.{IsSoundProgram};
 ghost use Rattle.dso_config.specs.InRange.{IsInRange};
 ghost use Rattle.report_cases.specs.LegalRun.{IsLegalRun};
 
@@ -108,7 +108,7 @@ fn reported(alloc: Global, text: &str, script: &str) -> Result<String, Unreporte
 
 /// The report of the heap that a history of the program leads to.
 fn report_of(alloc: Global, program: &Program, run: &LegalRun) -> Result<Vec<u8>, NoMemory>
-    requires sound { IsSound program.now }
+    requires sound { IsSoundProgram program.now }
     requires legal { IsLegalRun program.now run.now }
 {
     report(alloc, program, &run.plain)
@@ -117,7 +117,7 @@ fn report_of(alloc: Global, program: &Program, run: &LegalRun) -> Result<Vec<u8>
 /// The program of a text.
 #[tactic(auto, using(crate::proofs::TextInput::valid_input))]
 fn program_of(alloc: Global, text: &str) -> Result<Program, Unreported>
-    ensures { IfOk result IsSound }
+    ensures { IfOk result IsSoundProgram }
 {
     let tree = parse(alloc, text.as_bytes())?;
     let config = config(alloc)?;

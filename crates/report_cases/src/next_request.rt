@@ -3,7 +3,7 @@ ghost use Rattle.std.specs.Prelude.{◌≡◌, ◌≢◌, ◌∷◌, ◌++◌, [
 ghost use Rattle.dso_base.specs.declared.lock.ThreadId.{ThreadId};
 ghost use Rattle.dso_base.specs.declared.request.Event.{Event};
 ghost use Rattle.dso_machine.specs.Next.{body_of, next_request};
-ghost use Rattle.dso_machine.specs.Sound.{IsSound};
+ghost use Rattle.dso_machine.specs.Sound.{IsSoundCode};
 ghost use Rattle.dso_machine.specs.Standing.{ThreadStands};
 ghost use Rattle.dso_plain.specs.History.{events_of};
 ghost use Rattle.report_cases.specs.LegalRun.{CanFollow, FollowsCode};
@@ -20,7 +20,7 @@ pub(crate) fn next_request(
     thread: ThreadId,
     events: &[Event],
 ) -> Result<Option<Request>, NoMemory>
-    requires sound { IsSound code.now }
+    requires sound { IsSoundCode code.now }
     requires there { body_of thread code.now.bodies ≢ None }
     requires follows { FollowsCode code.now thread events.now }
     ensures { IfOk result (λ asked. asked ≡ next_request code.now thread (events_of thread events.now)) }
@@ -41,7 +41,7 @@ fn ask_after(
     thread: ThreadId,
     events: &[Event],
 ) -> Result<Option<Request>, NoMemory>
-    requires sound { IsSound code.now }
+    requires sound { IsSoundCode code.now }
     requires stands { ThreadStands code.now thread run.old [] }
     requires follows { FollowsCode code.now thread events.now }
     ensures { IfOk result (λ asked. asked ≡ next_request code.now thread (events_of thread events.now)) }
@@ -52,7 +52,7 @@ fn ask_after(
 
 /// What a thread that stands for some events asks next; None after its end.
 fn ask(alloc: Global, code: &Code, run: &mut Thread) -> Result<Option<Request>, NoMemory>
-    requires { IsSound code.now }
+    requires { IsSoundCode code.now }
     ensures { IfOk result (λ asked. (thread : ThreadId) (events : List Event) → ThreadStands code.now thread run.old events → asked ≡ next_request code.now thread events) }
 {
     if run.over() {
@@ -69,7 +69,7 @@ fn follow_all(
     thread: ThreadId,
     events: &[Event],
 ) -> Result<(), NoMemory>
-    requires sound { IsSound code.now }
+    requires sound { IsSoundCode code.now }
     requires stands { ThreadStands code.now thread run.old [] }
     requires follows { FollowsCode code.now thread events.now }
     ensures { OnOk result (ThreadStands code.now thread run.new (events_of thread events.now)) }
@@ -88,7 +88,7 @@ fn follow(
     thread: ThreadId,
     event: &Event,
 ) -> Result<(), NoMemory>
-    requires sound { IsSound code.now }
+    requires sound { IsSoundCode code.now }
     requires next { CanFollow code.now thread run.old event.now }
     ensures { OnOk result ((events : List Event) → ThreadStands code.now thread run.old events → ThreadStands code.now thread run.new (events ++ events_of thread (event.now ∷ []))) }
 {

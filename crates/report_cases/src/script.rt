@@ -1,7 +1,7 @@
 //! What is done in a case, word by word: `1.2` is an act of the second thread of client 1, `1.2*` are all acts that it
 //! can make now, and `loss:2` is the loss of client 2; `-` is nothing.
 ghost use Rattle.std.specs.Prelude.{◌≡◌, ◌≢◌, Some, None, false, IfOk, OnOk};
-ghost use Rattle.dso_class.specs.Sound.{IsSound};
+ghost use Rattle.dso_class.specs.Sound.{IsSoundProgram};
 ghost use Rattle.dso_machine.specs.Next.{body_of, next_request};
 ghost use Rattle.dso_plain.specs.History.{events_of};
 ghost use Rattle.report_cases.specs.LegalRun.{IsLegalRun};
@@ -25,7 +25,7 @@ pub(crate) fn play(
     run: &mut LegalRun,
     script: &str,
 ) -> Result<(), Unreported>
-    requires sound { IsSound program.now }
+    requires sound { IsSoundProgram program.now }
     requires legal { IsLegalRun program.now run.old }
     ensures { OnOk result (IsLegalRun program.now run.new) }
 {
@@ -42,7 +42,7 @@ fn play_word(
     run: &mut LegalRun,
     word: &str,
 ) -> Result<(), Unreported>
-    requires sound { IsSound program.now }
+    requires sound { IsSoundProgram program.now }
     requires legal { IsLegalRun program.now run.old }
     ensures { OnOk result (IsLegalRun program.now run.new) }
 {
@@ -65,7 +65,7 @@ fn act_once(
     run: &mut LegalRun,
     thread: ThreadId,
 ) -> Result<(), Unreported>
-    requires sound { IsSound program.now }
+    requires sound { IsSoundProgram program.now }
     requires there { body_of thread program.now.code.bodies ≢ None }
     requires legal { IsLegalRun program.now run.old }
     ensures { OnOk result (IsLegalRun program.now run.new) }
@@ -84,7 +84,7 @@ fn act_on(
     run: &mut LegalRun,
     thread: ThreadId,
 ) -> Result<(), Unreported>
-    requires sound { IsSound program.now }
+    requires sound { IsSoundProgram program.now }
     requires there { body_of thread program.now.code.bodies ≢ None }
     requires legal { IsLegalRun program.now run.old }
     ensures { OnOk result (IsLegalRun program.now run.new) }
@@ -134,7 +134,7 @@ fn act(
     run: &mut LegalRun,
     thread: ThreadId,
 ) -> Result<bool, NoMemory>
-    requires sound { IsSound program.now }
+    requires sound { IsSoundProgram program.now }
     requires there { body_of thread program.now.code.bodies ≢ None }
     requires legal { IsLegalRun program.now run.old }
     ensures { OnOk result (IsLegalRun program.now run.new) }

@@ -1,5 +1,5 @@
 //! Runs of a program by round robin and by seeds.
-ghost use Rattle.dso_class.specs.Sound.{IsSound};
+ghost use Rattle.dso_class.specs.Sound.{IsSoundProgram};
 ghost use Rattle.dso_world.specs.WorldStands.{WorldStands};
 
 use crate::shown::{shown_refusal, shown_world};
@@ -52,7 +52,7 @@ pub fn by_numbers(alloc: Global, name: &str, case: Case<'_>) -> Result<String, N
 
 /// A row for round robin and for each seed.
 fn seed_rows(alloc: Global, name: &str, program: &Program) -> Result<String, NoMemory>
-    requires { IsSound program.now }
+    requires { IsSoundProgram program.now }
 {
     let mut rows = run_row(alloc, name, program, None)?;
     for seed in 0..SEEDS {
@@ -80,7 +80,7 @@ fn numbered_rows(
 
 /// A row for round robin, and one for the seed.
 fn both_rows(alloc: Global, name: &str, program: &Program, seed: u64) -> Result<String, NoMemory>
-    requires { IsSound program.now }
+    requires { IsSoundProgram program.now }
 {
     let mut rows = run_row(alloc, name, program, None)?;
     let row = run_row(alloc, name, program, Some(seed))?;
@@ -95,7 +95,7 @@ fn run_row(
     program: &Program,
     seed: Option<u64>,
 ) -> Result<String, NoMemory>
-    requires { IsSound program.now }
+    requires { IsSoundProgram program.now }
 {
     let mut world = World::new(alloc, program)?;
     let ending = run(alloc, program, &mut world, seed)?;
@@ -114,7 +114,7 @@ fn run(
     world: &mut World,
     seed: Option<u64>,
 ) -> Result<Ending, NoMemory>
-    requires sound { IsSound program.now }
+    requires sound { IsSoundProgram program.now }
     requires stands { WorldStands program.now world.old }
 {
     for _turn in 0..MOST_ENTRIES {

@@ -1,5 +1,5 @@
 //! A step of a cluster.
-ghost use Rattle.dso_class.specs.Sound.{IsSound};
+ghost use Rattle.dso_class.specs.Sound.{IsSoundProgram};
 ghost use Rattle.dso_world.specs.WorldStands.{WorldStands};
 
 use dso_base::NoMemory;
@@ -17,7 +17,7 @@ pub fn take(
     world: &mut World,
     step: Step,
 ) -> Result<bool, NoMemory>
-    requires sound { IsSound program.now }
+    requires sound { IsSoundProgram program.now }
     requires stands { WorldStands program.now world.old }
     ensures { WorldStands program.now world.new }
 {

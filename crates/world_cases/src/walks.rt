@@ -1,5 +1,5 @@
 //! Steps that are drawn, open or not.
-ghost use Rattle.dso_class.specs.Sound.{IsSound};
+ghost use Rattle.dso_class.specs.Sound.{IsSoundProgram};
 ghost use Rattle.dso_world.specs.WorldStands.{WorldStands};
 
 use crate::draws::{drawn_step, moved_on};
@@ -52,7 +52,7 @@ pub fn by_draws(alloc: Global, text: &str, case: Case<'_>) -> Result<String, NoM
 
 /// The row of a walk of a program.
 fn walk_row(alloc: Global, name: &str, program: &Program, draws: Draws) -> Result<String, NoMemory>
-    requires { IsSound program.now }
+    requires { IsSoundProgram program.now }
 {
     let mut world = World::new(alloc, program)?;
     let Tally { made, told } = walk(alloc, program, &mut world, draws)?;
@@ -69,7 +69,7 @@ fn walk(
     world: &mut World,
     draws: Draws,
 ) -> Result<Tally, NoMemory>
-    requires sound { IsSound program.now }
+    requires sound { IsSoundProgram program.now }
     requires stands { WorldStands program.now world.old }
 {
     let mut seed = draws.seed;

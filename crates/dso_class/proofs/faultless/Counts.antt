@@ -10,8 +10,8 @@ use Rattle.dso_config.specs.declared.config.Config.{Config}
 use Rattle.dso_syntax.specs.declared.tree.Ast.{Ast}
 use Rattle.dso_class.specs.declared.fault.NameKind.TheVariants as kind
 use Rattle.dso_class.specs.declared.fault.What.TheVariants as what
-use Rattle.dso_entries.specs.Words.{Word}
-use Rattle.dso_entries.specs.LastAndFirst.{AreFirsts, empty, again, fresh}
+use Rattle.dso_config_entries.specs.Words.{Word}
+use Rattle.dso_config_entries.specs.LastAndFirst.{AreFirsts, empty, again, fresh}
 use Rattle.dso_class.specs.Limits.{most_texts, most_threads}
 use Rattle.dso_class.specs.Mentions.{Mention, Mentioned, text, thread, mentions_of}
 use Rattle.dso_class.specs.PrecedingMentions.{in_text, text_in, thread_in}

@@ -9,7 +9,7 @@ use Rattle.dso_syntax.specs.declared.tree.Item.TheVariants as item
 use Rattle.dso_syntax.specs.declared.tree.Member.{Member}
 use Rattle.dso_syntax.specs.declared.tree.Member.TheVariants as member
 use Rattle.dso_syntax.specs.declared.tree.StmtTree.{StmtTree}
-use Rattle.dso_entries.specs.Words.{Word}
+use Rattle.dso_config_entries.specs.Words.{Word}
 use Rattle.dso_class.specs.Mentions.{Mention, Mentioned, on, Owner, thread_owner, statement, block, body, of_member, of_item, method, parameter, synchronized}
 use Rattle.dso_class.specs.PrecedingMentions.{class_in, field_in, static_in, method_in, parameter_in, thread_in, in_text}
 use Rattle.dso_class.specs.Declarations.{fields_of, statics_of, methods_of, threads_of, class_names, all_statics}

@@ -7,7 +7,7 @@ use Rattle.dso_config.specs.declared.config.Config.{Config}
 use Rattle.dso_syntax.specs.declared.tree.Ast.{Ast}
 use Rattle.dso_class.specs.declared.fault.NameKind.TheVariants as kind
 use Rattle.dso_class.specs.declared.fault.What.TheVariants as what
-use Rattle.dso_entries.specs.Words.{Word}
+use Rattle.dso_config_entries.specs.Words.{Word}
 use Rattle.dso_class.specs.Limits.{most_classes, most_fields, most_statics, most_methods, most_params, most_vars}
 use Rattle.dso_class.specs.Mentions.{Mention, Mentioned, class, field, static, method, parameter}
 use Rattle.dso_class.specs.PrecedingMentions.{class_in, member_in, field_in, static_in, method_in, parameter_in, variable_in, in_text, in_class, in_body}

@@ -11,8 +11,8 @@ use Rattle.dso_syntax.specs.declared.tree.Member.{Member}
 use Rattle.dso_syntax.specs.declared.tree.Member.TheVariants as member
 use Rattle.dso_syntax.specs.declared.tree.StmtTree.{StmtTree}
 use Rattle.dso_class.specs.declared.fault.NameKind.TheVariants as kind
-use Rattle.dso_entries.specs.Words.{Word}
-use Rattle.dso_entries.specs.LastAndFirst.{AreFirsts}
+use Rattle.dso_config_entries.specs.Words.{Word}
+use Rattle.dso_config_entries.specs.LastAndFirst.{AreFirsts}
 use Rattle.dso_class.specs.Limits.{most_classes, most_fields, most_statics, most_methods, most_params, most_vars, most_texts, most_threads}
 use Rattle.dso_class.specs.Mentions.{Mention, on, Owner, thread_owner, mentions_of, of_member, of_item, body, this}
 use Rattle.dso_class.specs.Mentions as mention

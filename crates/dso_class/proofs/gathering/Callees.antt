@@ -6,20 +6,20 @@ use Rattle.std.proofs.lemmas.List.Elements.{All-contains, Contains-append_left, 
 use Rattle.std.proofs.Math.Dec.{eqb-suc-zero}
 use Rattle.std.specs.Borrow.{Bor}
 use Rattle.dso_syntax.specs.declared.tree.Ast.{Ast}
-use Rattle.dso_entries.specs.Words.{Word}
+use Rattle.dso_config_entries.specs.Words.{Word}
 use Rattle.dso_class.specs.Declarations.{MethodTree, all_methods}
 use Rattle.dso_class.specs.NameFaults.{TakesArguments}
 use Rattle.dso_class.specs.NameFaults as faults
 use Rattle.dso_class.specs.declared.gathered_methods.Declared.{Declared}
 use Rattle.dso_class.specs.Gathered.{by_name, is_name, only, declared_at, declared_of, capped, callee_at, callees_of}
 use Rattle.dso_class.specs.Multimap.{row_of}
-use Rattle.dso_class.specs.Tables.{AreTables}
-use Rattle.dso_class.specs.declared.tables.Tables.{Tables}
-use Rattle.dso_entries.proofs.lists.Last.{taken}
+use Rattle.dso_class.specs.DeclaredNames.{AreTables}
+use Rattle.dso_class.specs.declared.tables.DeclaredNames.{DeclaredNames}
+use Rattle.dso_config_entries.proofs.lists.Last.{taken}
 use Rattle.dso_class.specs.Numbers.{IsNumber, HasMethod, AreThePairs}
 use Rattle.dso_class.proofs.lists.NumberedItems.{made_of, each_there, each_pairs, only_true, only_same, only_there, only_pairs, each_push, nothing_there, stands_at}
 use Rattle.dso_class.proofs.gathering.FieldsAndMethods.{declared_tells, declared_there, capped_small, same_name}
-use Rattle.dso_entries.proofs.lists.Places.{nowhere, stands_there}
+use Rattle.dso_config_entries.proofs.lists.Places.{nowhere, stands_there}
 
 -- a callee, by the method that it is
 pub record IsCallee (methods : List MethodTree) (name : Word) (count : ℕ) (pair : ℕ × ℕ) : Type 0 where
@@ -163,12 +163,12 @@ by_row ast name (declared ∷ rest) empty is tells = (
   λ has. ap not (tells ∙ eqb-suc-zero (length rest)),
 )
 
-pub method_where : (ast : Ast) (name : Bor Word) (tables : Tables) (row : List Declared) (empty : Bool) → AreTables ast tables → row ≡ row_of by_name tables.methods name → empty ≡ eqb (length row) 0
+pub method_where : (ast : Ast) (name : Bor Word) (tables : DeclaredNames) (row : List Declared) (empty : Bool) → AreTables ast tables → row ≡ row_of by_name tables.methods name → empty ≡ eqb (length row) 0
     → IsTrue (not empty) ↔ faults.HasMethod ast name.now
 method_where ast name tables row empty are is tells = by_row ast name.now row empty (is ∙ are.methods.all name) tells
 
 -- the callees that a call gives
-pub callees_where : {E : Type 0} (result : Result (List (ℕ × ℕ)) E) (ast : Ast) (name : Bor Word) (tables : Tables) (count : ℕ) (row : List Declared) → AreTables ast tables → row ≡ row_of by_name tables.methods name
+pub callees_where : {E : Type 0} (result : Result (List (ℕ × ℕ)) E) (ast : Ast) (name : Bor Word) (tables : DeclaredNames) (count : ℕ) (row : List Declared) → AreTables ast tables → row ≡ row_of by_name tables.methods name
     → IfOk result (λ pairs. pairs ≡ callees_of count row) → IfOk result (λ pairs. pairs ≡ callees_of count (declared_of (all_methods ast.items) name.now))
 callees_where (Ok pairs) ast name tables count row are is gives = gives ∙ ap (callees_of count) (is ∙ are.methods.all name)
 callees_where (Err refused) ast name tables count row are is gives = tt

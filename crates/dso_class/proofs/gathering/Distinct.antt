@@ -8,14 +8,14 @@ use Rattle.dso_config.specs.declared.config.RootEntry.{RootEntry}
 use Rattle.dso_syntax.specs.declared.tree.Ast.{Ast}
 use Rattle.dso_syntax.specs.declared.tree.Member.{Member}
 use Rattle.dso_syntax.specs.declared.tree.Member.TheVariants as member
-use Rattle.dso_entries.specs.Words.{Word}
-use Rattle.dso_entries.specs.LastAndFirst.{AreFirsts, empty, again, fresh}
+use Rattle.dso_config_entries.specs.Words.{Word}
+use Rattle.dso_config_entries.specs.LastAndFirst.{AreFirsts, empty, again, fresh}
 use Rattle.dso_class.specs.Declarations.{ClassTree, MethodTree, classes_of, fields_of, methods_of, methods_from, statics_of, all_methods, all_statics}
 use Rattle.dso_class.specs.Gathered.{named_fields, all_fields}
 use Rattle.dso_class.proofs.faultless.Text.{IsCleanClass, IsCleanText}
 use Rattle.dso_class.proofs.lists.NumberedItems.{first_pairs, later_pairs, append_pairs, the_only}
 use Rattle.dso_class.proofs.gathering.Callees.{AreFew, Rises, DoRise}
-use Rattle.dso_entries.proofs.lists.Places.{nowhere}
+use Rattle.dso_config_entries.proofs.lists.Places.{nowhere}
 
 -- the front of a list all of which something holds of
 all_front : {A : Type 0} (P : A → Type 0) (xs ys : List A) → All P (xs ++ ys) → All P xs

@@ -8,13 +8,13 @@ use Rattle.std.proofs.lemmas.Option.{slice_get_within}
 use Rattle.std.proofs.lemmas.List.Elements.{All-contains, All-head, All-tail}
 use Rattle.std.specs.Str.{bytes_eq}
 use Rattle.std.proofs.lemmas.Slice.Eq.{bytes_eq-Decides}
-use Rattle.dso_entries.specs.Words.{Word, length_word}
+use Rattle.dso_config_entries.specs.Words.{Word, length_word}
 use Rattle.dso_class.specs.Declarations.{MethodTree}
 use Rattle.dso_class.specs.declared.gathered_methods.Declared.{Declared}
 use Rattle.dso_class.specs.Gathered.{is_name, place_at, places_in, places_of, declared_at, declared_of, capped, capped_pair}
 use Rattle.dso_class.specs.Numbers.{IsNumber, HasField, AreThePairs}
 use Rattle.dso_class.proofs.lists.NumberedItems.{made_of, each_there, each_pairs, only_true, only_same, only_there, only_pairs, all_there}
-use Rattle.dso_entries.proofs.lists.Places.{equal_is, stands_there}
+use Rattle.dso_config_entries.proofs.lists.Places.{equal_is, stands_there}
 
 -- names that are one, and a name and itself
 pub same_name : (word name : Word) → is_name word name ≡ true → word ≡ name

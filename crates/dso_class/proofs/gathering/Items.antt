@@ -9,13 +9,13 @@ use Rattle.dso_syntax.specs.declared.tree.Item.TheVariants as item
 use Rattle.dso_syntax.specs.declared.tree.Member.{Member}
 use Rattle.dso_syntax.specs.declared.tree.Member.TheVariants as member
 use Rattle.dso_syntax.specs.declared.tree.StmtTree.{StmtTree}
-use Rattle.dso_entries.specs.Words.{Word}
+use Rattle.dso_config_entries.specs.Words.{Word}
 use Rattle.dso_class.specs.Declarations.{ClassTree, MethodTree, classes_of, fields_of, statics_of, methods_of, methods_from, all_statics, all_methods}
 use Rattle.dso_class.specs.Gathered.{capped, named_fields, all_fields, by_name, AreMethodRows}
 use Rattle.std.specs.Borrow.{Bor}
 use Rattle.std.specs.BTreeMap.{BTreeMap, is_at}
 use Rattle.dso_class.specs.declared.gathered_methods.Declared.{Declared}
-use Rattle.dso_entries.specs.LastAndFirst.{AreFirsts}
+use Rattle.dso_config_entries.specs.LastAndFirst.{AreFirsts}
 use Rattle.dso_class.specs.Multimap.{row_of, longer}
 use Rattle.dso_class.proofs.gathering.Multimap.{AreWithFields, with_field, with_method}
 use Rattle.dso_class.proofs.gathering.ClassNames.{classes_append}

@@ -2,7 +2,7 @@
 use Rattle.std.proofs.Common.{ℕ, ◌≡◌, arith, refl, sym, ◌∙◌, ap, Bool, true, false, List, [], ◌∷◌, ◌++◌, length, append_assoc, append-nil}
 use Rattle.std.specs.Borrow.{Bor}
 use Rattle.std.specs.BTreeMap.{BTreeMap, is_at}
-use Rattle.dso_entries.specs.Words.{Word}
+use Rattle.dso_config_entries.specs.Words.{Word}
 use Rattle.dso_class.specs.Declarations.{MethodTree}
 use Rattle.dso_class.specs.declared.gathered_methods.Declared.{Declared}
 use Rattle.dso_class.specs.Gathered.{by_name, is_name, only, capped, place_at, places_in, places_of, declared_at, declared_of, AreFieldRows, AreMethodRows}

@@ -5,13 +5,13 @@ use Rattle.std.proofs.lemmas.Grind.{flat_map-append}
 use Rattle.dso_config.specs.declared.config.RootEntry.{RootEntry}
 use Rattle.dso_syntax.specs.declared.tree.Item.{Item}
 use Rattle.dso_syntax.specs.declared.tree.Member.{Member}
-use Rattle.dso_entries.specs.Words.{Word}
+use Rattle.dso_config_entries.specs.Words.{Word}
 use Rattle.dso_class.specs.Declarations.{classes_of, statics_of, all_statics}
 use Rattle.dso_class.specs.Gathered.{named_fields}
 use Rattle.dso_class.proofs.gathering.Items.{statics_append}
 use Rattle.dso_class.specs.Symbols.{field_words}
 use Rattle.dso_class.proofs.gathering.ClassNames.{classes_append}
-use Rattle.dso_entries.proofs.lists.Last.{taken}
+use Rattle.dso_config_entries.proofs.lists.Last.{taken}
 
 -- ---- lists
 

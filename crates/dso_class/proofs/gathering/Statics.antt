@@ -5,10 +5,10 @@ use Rattle.std.specs.declared.cmp.Ordering.{Ordering}
 use Rattle.std.specs.declared.cmp.Ordering.TheVariants.{Less, Equal, Greater}
 use Rattle.std.specs.Ordering.{is_eq, ordering_then}
 use Rattle.std.specs.BTreeMap.{is_at}
-use Rattle.dso_entries.specs.Words.{Word}
+use Rattle.dso_config_entries.specs.Words.{Word}
 use Rattle.dso_class.specs.Gathered.{by_name, static_named}
-use Rattle.dso_entries.proofs.lists.BorrowedWords.{same_word, tied_word}
-use Rattle.dso_entries.proofs.lists.Places.{equal_is}
+use Rattle.dso_config_entries.proofs.lists.BorrowedWords.{same_word, tied_word}
+use Rattle.dso_config_entries.proofs.lists.Places.{equal_is}
 
 -- the order of lent static fields: by the class, then by the field
 abbrev pub by_static : Bor Word × Bor Word → Bor Word × Bor Word → Ordering

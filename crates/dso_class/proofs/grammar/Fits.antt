@@ -25,7 +25,7 @@ use Rattle.dso_syntax.specs.ProgramGrammar as p
 use Rattle.dso_syntax.specs.ProgramGrammar.{statement, command_of, guarded_of, Parenthesized, Waited, Body, Block, Statement, Conditional, Members, Tops}
 use Rattle.dso_syntax.proofs.prefixes.OneLevelMore.{lift_block}
 use Rattle.dso_machine.specs.Sound.{is_unary}
-use Rattle.dso_entries.specs.Words.{Word}
+use Rattle.dso_config_entries.specs.Words.{Word}
 use Rattle.dso_class.specs.Declarations.{MethodTree, ThreadTree, classes_of, methods_of, methods_from, threads_of}
 use Rattle.dso_class.proofs.grammar.Operators.{operators_of, operators, fits_of, fits, block_fits, join}
 use Rattle.dso_class.proofs.mentions.TreeFolds as folds

@@ -17,7 +17,7 @@ use Rattle.dso_syntax.specs.declared.tree.StmtForm.TheVariants as s
 use Rattle.dso_syntax.specs.Grammar as g
 use Rattle.dso_syntax.specs.ProgramGrammar as p
 use Rattle.dso_machine.specs.Sound.{is_unary}
-use Rattle.dso_entries.specs.Words.{Word}
+use Rattle.dso_config_entries.specs.Words.{Word}
 use Rattle.dso_class.specs.Mentions.{Mention, this, on, alone, call, variable, synchronized, Owner, Part, Step, all_of, qualifier_mentions, receiver_mentions, part_of, expression, block, step_of, statement}
 use Rattle.dso_class.proofs.grammar.Operators.{operators_of, operators, fits_of, fits, block_fits, both}
 use Rattle.dso_class.proofs.mentions.TreeFolds as folds

@@ -9,12 +9,12 @@ use Rattle.std.specs.BTreeMap.{is_at}
 use Rattle.std.proofs.lemmas.List.{map-append, get_or-map, length-map, reverse-append, reverse-reverse}
 use Rattle.std.proofs.lemmas.List.Elements.{Contains-push_cases, Contains-append_left, Contains-append_right, Contains-append_cases}
 use Rattle.std.proofs.lemmas.Map.Lookups.{exact_bytes}
-use Rattle.dso_entries.specs.Words.{Word}
-use Rattle.dso_entries.specs.BorrowedWords.{words_of}
-use Rattle.dso_entries.specs.FirstPlace.{place_of}
+use Rattle.dso_config_entries.specs.Words.{Word}
+use Rattle.dso_config_entries.specs.BorrowedWords.{words_of}
+use Rattle.dso_config_entries.specs.FirstPlace.{place_of}
 use Rattle.dso_class.specs.BodyWalk.{Begins}
-use Rattle.dso_entries.proofs.lists.Last.{taken}
-use Rattle.dso_entries.proofs.lists.Places as places
+use Rattle.dso_config_entries.proofs.lists.Last.{taken}
+use Rattle.dso_config_entries.proofs.lists.Places as places
 
 -- a word that stands in a list is one of its words
 pub among : (words : List (Bor Word)) (i : ℕ) (one : Bor Word) (word : Word) → i < length words → one ≡ get_or words i one → one.now ≡ word → Contains (words_of words) word

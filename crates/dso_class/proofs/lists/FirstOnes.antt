@@ -3,7 +3,7 @@ use Rattle.std.proofs.Common.{ℕ, ◌≡◌, ◌≢◌, ◌↔◌, ◌<◌, ◌
 use Rattle.std.proofs.lemmas.List.Elements.{Contains-append_left, Contains-push, Contains-push_cases}
 use Rattle.std.proofs.lemmas.Option.{slice_get_within}
 use Rattle.dso_class.specs.Gathered.{capped}
-use Rattle.dso_entries.specs.LastAndFirst.{AreFirsts, empty, again, fresh}
+use Rattle.dso_config_entries.specs.LastAndFirst.{AreFirsts, empty, again, fresh}
 use Rattle.dso_class.proofs.gathering.Distinct.{firsts_same}
 use Rattle.dso_class.proofs.gathering.FieldsAndMethods.{capped_small}
 use Rattle.dso_class.proofs.locking.LockNumbers.{firsts_have}

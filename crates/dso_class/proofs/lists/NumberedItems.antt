@@ -4,8 +4,8 @@ use Rattle.std.proofs.lemmas.List.Elements.{All-nil, All-cons, All-append, All-w
 use Rattle.std.proofs.lemmas.List.Kept.{AllPairs-cons}
 use Rattle.std.proofs.lemmas.Option.{same_Some, slice_get-get_or}
 use Rattle.dso_class.specs.Gathered.{only, each_at}
-use Rattle.dso_entries.proofs.lists.Places.{nowhere, stands_there}
-use Rattle.dso_entries.proofs.lists.Last.{taken}
+use Rattle.dso_config_entries.proofs.lists.Places.{nowhere, stands_there}
+use Rattle.dso_config_entries.proofs.lists.Last.{taken}
 
 -- one more item of a list, where F goes along lists
 pub more : {A B : Type 0} (F : List A → List B) → ((xs ys : List A) → F (xs ++ ys) ≡ F xs ++ F ys) → (xs : List A) (i : ℕ) (x : A) (these : List B)

@@ -5,8 +5,8 @@ use Rattle.dso_base.specs.declared.lock.Grade.{Grade}
 use Rattle.dso_config.specs.declared.config.Config.{Config}
 use Rattle.dso_syntax.specs.declared.tree.Ast.{Ast}
 use Rattle.dso_class.specs.declared.fault.NameKind.TheVariants as kind
-use Rattle.dso_entries.specs.Words.{Word}
-use Rattle.dso_entries.specs.LastAndFirst.{LastWith, last, nothing, LastGives}
+use Rattle.dso_config_entries.specs.Words.{Word}
+use Rattle.dso_config_entries.specs.LastAndFirst.{LastWith, last, nothing, LastGives}
 use Rattle.dso_class.specs.Mentions.{Mention, synchronized}
 use Rattle.dso_class.specs.NameFaults.{no_autolock}
 use Rattle.dso_class.specs.FaultsAmong.{IsFine, IsFault}

@@ -3,19 +3,19 @@ use Rattle.std.proofs.Common.{◌≡◌, ℕ, ◌+◌, sym, subst, ap, ◌∙◌
 use Rattle.std.proofs.lemmas.List.Elements.{Contains-append_left, Contains-append_right, Contains-push, Contains-push_cases}
 use Rattle.std.proofs.lemmas.Option.{slice_get-map, slice_get-get_or}
 use Rattle.std.specs.Borrow.{Bor}
-use Rattle.dso_entries.specs.LastAndFirst.{AreFirsts, empty, again, fresh, LastWith, last}
-use Rattle.dso_entries.specs.Words.{Word}
+use Rattle.dso_config_entries.specs.LastAndFirst.{AreFirsts, empty, again, fresh, LastWith, last}
+use Rattle.dso_config_entries.specs.Words.{Word}
 use Rattle.dso_base.specs.declared.shape.Guard.TheVariants as guard
 use Rattle.dso_config.specs.declared.config.Config.{Config}
 use Rattle.dso_config.specs.declared.config.GuardEntry.{GuardEntry}
 use Rattle.dso_config.specs.declared.config.NamedEntry.{NamedEntry}
 use Rattle.dso_config.specs.InRange.{entries}
-use Rattle.dso_entries.specs.ConfigEntries.{lock_mentions}
-use Rattle.dso_entries.specs.LockNumbers.{IsLockNumber}
+use Rattle.dso_config_entries.specs.ConfigEntries.{lock_mentions}
+use Rattle.dso_config_entries.specs.LockNumbers.{IsLockNumber}
 use Rattle.dso_class.specs.Numbers.{IsNumber}
 use Rattle.dso_class.specs.TextProgram.{Source, roots_of, IsNamedLock, IsGuard, named, nothing, own}
-use Rattle.dso_entries.proofs.lists.Last.{IsNamed, IsGuarded}
-use Rattle.dso_entries.proofs.lists.Places.{nowhere, stands_there}
+use Rattle.dso_config_entries.proofs.lists.Last.{IsNamed, IsGuarded}
+use Rattle.dso_config_entries.proofs.lists.Places.{nowhere, stands_there}
 
 -- the first ones have each item
 pub firsts_have : {A : Type 0} (xs : List A) (firsts : List A) (x : A) → AreFirsts xs firsts → Contains xs x → Contains firsts x

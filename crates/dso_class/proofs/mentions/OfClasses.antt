@@ -4,7 +4,7 @@ use Rattle.dso_syntax.specs.declared.tree.Ident.{Ident}
 use Rattle.dso_syntax.specs.declared.tree.Member.{Member}
 use Rattle.dso_syntax.specs.declared.tree.Member.TheVariants as member
 use Rattle.dso_syntax.specs.declared.tree.StmtTree.{StmtTree}
-use Rattle.dso_entries.specs.Words.{Word}
+use Rattle.dso_config_entries.specs.Words.{Word}
 use Rattle.dso_class.specs.Mentions.{Mention, Mentioned, on, Owner, statement, block, body, of_member, class, field, static, method, parameter, root, synchronized, thread}
 use Rattle.dso_class.specs.PrecedingMentions.{class_in, member_in, field_in, static_in, method_in, thread_in, in_text, begins_class, begins_body, in_class}
 use Rattle.dso_class.specs.FaultsAmong.{behind}

@@ -9,7 +9,7 @@ use Rattle.dso_syntax.specs.declared.tree.ExprForm.{ExprForm, fold-ExprForm, fol
 use Rattle.dso_syntax.specs.declared.tree.ExprForm.TheOpen as ef
 use Rattle.dso_syntax.specs.declared.tree.ExprForm.TheVariants as e
 use Rattle.dso_syntax.specs.Grammar as grammar
-use Rattle.dso_entries.specs.Words.{Word}
+use Rattle.dso_config_entries.specs.Words.{Word}
 use Rattle.dso_class.specs.declared.uses.Role.{Role}
 use Rattle.dso_class.specs.declared.uses.Role.TheVariants as role
 use Rattle.dso_class.specs.BodyWalk.{used, bare_used}

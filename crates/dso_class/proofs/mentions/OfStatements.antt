@@ -10,7 +10,7 @@ use Rattle.dso_syntax.specs.declared.tree.StmtForm.{StmtForm}
 use Rattle.dso_syntax.specs.declared.tree.StmtForm.TheVariants as s
 use Rattle.dso_syntax.specs.Grammar as grammar
 use Rattle.dso_syntax.specs.ProgramGrammar as program
-use Rattle.dso_entries.specs.Words.{Word}
+use Rattle.dso_config_entries.specs.Words.{Word}
 use Rattle.dso_class.specs.Mentions.{Owner, step_of, statement, block, answer, expression, on, variable, synchronized}
 use Rattle.dso_class.specs.Numbers.{Numbers, MeansExpr, MeansStmt, put_root, put_field}
 use Rattle.dso_class.specs.StatementWalk.{PutsNamed, to_root, to_field}

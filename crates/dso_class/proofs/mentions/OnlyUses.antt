@@ -10,7 +10,7 @@ use Rattle.dso_syntax.specs.declared.tree.StmtTree.{StmtTree, roll-StmtTree}
 use Rattle.dso_syntax.specs.declared.tree.StmtForm.{StmtForm, roll-StmtForm}
 use Rattle.dso_syntax.specs.declared.tree.StmtForm.TheOpen.{StmtForm-F}
 use Rattle.dso_syntax.specs.declared.tree.StmtForm.TheFolds.{fold-StmtForm, fold-roll-StmtTree, fold-roll-StmtForm, ind-StmtTree, map-StmtForm, map-StmtTree}
-use Rattle.dso_entries.specs.Words.{Word}
+use Rattle.dso_config_entries.specs.Words.{Word}
 use Rattle.dso_class.proofs.grammar.Operators.{both, join}
 use Rattle.dso_class.specs.Mentions.{Mention, Mentioned, on, Owner, Part, part_of, all_of, qualifier_mentions, receiver_mentions, expression, Step, step_of, statement, block, answer, class, field, static, method, parameter, variable, synchronized, client, alone, dotted, called, this, new, call, text}
 use Rattle.dso_class.specs.PrecedingMentions.{member_in, field_in, static_in, method_in, parameter_in, in_text, begins_class, begins_body}

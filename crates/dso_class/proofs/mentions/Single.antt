@@ -2,7 +2,7 @@
 use Rattle.std.proofs.Common.{ℕ, List, [], ◌∷◌, Contains, Ok, Err, refl}
 use Rattle.dso_class.specs.declared.fault.NameKind.TheVariants as kind
 use Rattle.dso_class.specs.declared.fault.NameFault.TheVariants as fault
-use Rattle.dso_entries.specs.Words.{Word}
+use Rattle.dso_config_entries.specs.Words.{Word}
 use Rattle.dso_class.specs.Mentions.{Mention, Owner, on, alone, dotted, called, new, call}
 use Rattle.dso_class.specs.Numbers.{Numbers, IsNumber}
 use Rattle.dso_class.specs.TextProgram.{Source}

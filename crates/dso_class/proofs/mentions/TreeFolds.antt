@@ -15,7 +15,7 @@ use Rattle.dso_syntax.specs.declared.tree.StmtForm.TheOpen.{StmtForm-F}
 use Rattle.dso_syntax.specs.declared.tree.StmtForm.TheVariants as s
 use Rattle.dso_syntax.specs.Grammar.{expression}
 use Rattle.dso_syntax.specs.ProgramGrammar.{statement}
-use Rattle.dso_entries.specs.Words.{Word}
+use Rattle.dso_config_entries.specs.Words.{Word}
 
 module _ {A B : Type 0} (f : ExprForm-F A B → A) (g : ExprTree-F A B → B) where
   -- an expression, by what its form gives

@@ -15,7 +15,7 @@ use Rattle.dso_machine.specs.declared.code.ThreadBody.{ThreadBody}
 use Rattle.dso_machine.specs.declared.tree.Stmt.{Stmt}
 use Rattle.dso_syntax.specs.declared.tree.Ident.{Ident}
 use Rattle.dso_syntax.specs.declared.tree.StmtTree.{StmtTree}
-use Rattle.dso_entries.specs.Words.{Word}
+use Rattle.dso_config_entries.specs.Words.{Word}
 use Rattle.dso_class.specs.Mentions.{Owner, thread_owner}
 use Rattle.dso_class.specs.Declarations.{ClassTree, FieldTree, MethodTree, ThreadTree, classes_of, fields_of, threads_of, all_methods, all_statics, class_names}
 use Rattle.dso_class.specs.NameFaults.{HasNoFault}
@@ -25,7 +25,7 @@ use Rattle.dso_class.proofs.faultless.Text.{IsCleanText, IsCleanMethod, IsCleanT
 use Rattle.dso_class.proofs.gathering.Distinct.{all_statics_differ}
 use Rattle.dso_class.proofs.lists.NumberedItems.{all_there}
 use Rattle.dso_class.proofs.locking.LastEntry.{last_unique, autolock_unique}
-use Rattle.dso_entries.proofs.lists.Places.{stands_there}
+use Rattle.dso_config_entries.proofs.lists.Places.{stands_there}
 use Rattle.dso_class.proofs.one_program.ExpressionCode.{IsToldApart, of_three, numbered}
 use Rattle.dso_class.proofs.one_program.StatementCode.{one_block}
 use Rattle.dso_class.proofs.one_program.Variables.{IsNoClass, MethodIsApart, ThreadIsApart, methods_apart, threads_apart, roots_of_classes}

@@ -7,7 +7,7 @@ use Rattle.dso_machine.specs.declared.tree.Expr.TheVariants as x
 use Rattle.dso_syntax.specs.declared.tree.ExprTree.{ExprTree}
 use Rattle.dso_syntax.specs.declared.tree.ExprForm.TheVariants as e
 use Rattle.dso_syntax.specs.Grammar.{expression}
-use Rattle.dso_entries.specs.Words.{Word}
+use Rattle.dso_config_entries.specs.Words.{Word}
 use Rattle.dso_class.specs.Declarations.{MethodTree}
 use Rattle.dso_class.specs.Numbers.{Numbers, IsNumber, HasField, HasMethod, IsFieldRef, AreThePairs, MeansExpr, MeansExprs}
 use Rattle.dso_class.proofs.one_program.Lists.{one_number, one_pairs}

@@ -8,7 +8,7 @@ use Rattle.dso_syntax.specs.declared.tree.ExprForm.{ExprForm, out-ExprForm, roll
 use Rattle.dso_syntax.specs.declared.tree.ExprForm.TheOpen.{ExprForm-F}
 use Rattle.dso_syntax.specs.declared.tree.ExprForm.TheVariants as e
 use Rattle.dso_syntax.specs.Grammar.{expression}
-use Rattle.dso_entries.specs.Words.{Word}
+use Rattle.dso_config_entries.specs.Words.{Word}
 
 -- the forms of expressions
 abbrev pub Form : Type 0

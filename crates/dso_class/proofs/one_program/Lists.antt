@@ -2,10 +2,10 @@
 use Rattle.std.proofs.Common.{ℕ, zero, suc, ◌≡◌, ◌≢◌, ◌<◌, arith, refl, sym, ap, ◌∙◌, subst, inl, inr, Some, List, [], ◌∷◌, ◌++◌, AllPairs, Contains, slice_get, ◌⊎◌}
 use Rattle.std.proofs.lemmas.List.Elements.{All-contains, Contains-append_left, Contains-append_right, Contains-append_cases, Contains-push}
 use Rattle.std.proofs.lemmas.Option.{same_Some}
-use Rattle.dso_entries.specs.LastAndFirst.{AreFirsts, empty, again, fresh}
+use Rattle.dso_config_entries.specs.LastAndFirst.{AreFirsts, empty, again, fresh}
 use Rattle.dso_class.specs.Numbers.{AreThePairs}
 use Rattle.dso_class.proofs.lists.NumberedItems.{first_pairs, later_pairs, append_pairs, the_only}
-use Rattle.dso_entries.proofs.lists.Places.{nowhere, stands_there}
+use Rattle.dso_config_entries.proofs.lists.Places.{nowhere, stands_there}
 
 -- a thing that stands in a list of different things has one number
 pub one_number : {A : Type 0} (xs : List A) → AllPairs (λ x y. x ≢ y) xs → (x : A) (i j : ℕ) → slice_get xs i ≡ Some x → slice_get xs j ≡ Some x → i ≡ j

@@ -7,7 +7,7 @@ use Rattle.dso_machine.specs.Sound as machine
 use Rattle.dso_syntax.specs.declared.tree.Ast.{Ast}
 use Rattle.dso_class.specs.declared.program.Names.{Names}
 use Rattle.dso_class.specs.declared.program.Program.{Program}
-use Rattle.dso_entries.specs.Words.{Word}
+use Rattle.dso_config_entries.specs.Words.{Word}
 use Rattle.dso_class.specs.TextProgram.{Source, AreNames, IsCode, IsProgramOf, IsThreadBefore}
 use Rattle.dso_class.proofs.one_program.Lists.{one_rising, one_firsts, firsts_differ}
 use Rattle.dso_class.proofs.one_program.ExpressionCode.{of_three}

@@ -6,7 +6,7 @@ use Rattle.dso_class.specs.declared.fault.NameFault.{NameFault}
 use Rattle.dso_class.specs.declared.fault.NameFault.TheVariants as fault
 use Rattle.dso_class.specs.declared.fault.NameKind.{NameKind}
 use Rattle.dso_class.specs.declared.fault.What.{What}
-use Rattle.dso_entries.specs.Words.{Word}
+use Rattle.dso_config_entries.specs.Words.{Word}
 use Rattle.dso_class.specs.Mentions.{Mention, Mentioned, Owner, on, body}
 use Rattle.dso_class.specs.FaultsAmong.{behind, IsFault, AreFine}
 use Rattle.dso_class.specs.TextProgram.{Source}

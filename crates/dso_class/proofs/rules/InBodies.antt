@@ -6,13 +6,13 @@ use Rattle.dso_syntax.specs.declared.tree.Ast.{Ast}
 use Rattle.dso_class.specs.declared.fault.NameKind.{NameKind}
 use Rattle.dso_class.specs.declared.fault.NameKind.TheVariants as kind
 use Rattle.dso_class.specs.declared.fault.What.TheVariants as what
-use Rattle.dso_entries.specs.Words.{Word}
-use Rattle.dso_entries.specs.LastAndFirst.{LastWith, AreFirsts}
+use Rattle.dso_config_entries.specs.Words.{Word}
+use Rattle.dso_config_entries.specs.LastAndFirst.{LastWith, AreFirsts}
 use Rattle.dso_class.specs.Limits.{most_params, most_vars, most_texts}
 use Rattle.dso_class.specs.Mentions.{Mention, parameter, variable, synchronized, alone, dotted, called, this, new, call, text}
 use Rattle.dso_class.specs.PrecedingMentions.{in_text, in_body, text_in, parameter_in, variable_in}
 use Rattle.dso_class.specs.Declarations.{all_statics, class_names}
-use Rattle.dso_entries.specs.ConfigEntries.{Matches, autolocks_of}
+use Rattle.dso_config_entries.specs.ConfigEntries.{Matches, autolocks_of}
 use Rattle.dso_class.specs.NameFaults.{IsClass, HasMethod, TakesArguments, IsTaken, Breaks, rank, member_twice, variable_twice, many_vars, many_params, unknown_alone, unknown_dotted, no_static, unknown_called, class_called, this_outside, no_class, no_method, wrong_arguments, many_texts, no_autolock}
 use Rattle.dso_class.specs.FaultsAmong.{IsFine, IsFault}
 use Rattle.dso_class.proofs.lists.Among.{stable}

@@ -7,8 +7,8 @@ use Rattle.dso_class.specs.declared.class_item.Resolved.{Resolved}
 use Rattle.dso_class.specs.declared.fault.What.{What}
 use Rattle.dso_class.specs.declared.fault.What.TheVariants as what
 use Rattle.dso_class.specs.declared.member.Class.{Class}
-use Rattle.dso_entries.specs.Words.{Word}
-use Rattle.dso_entries.specs.BorrowedWords.{words_of}
+use Rattle.dso_config_entries.specs.Words.{Word}
+use Rattle.dso_config_entries.specs.BorrowedWords.{words_of}
 use Rattle.dso_class.specs.Mentions.{Mention, Mentioned, class, field, static, method}
 use Rattle.dso_class.specs.PrecedingMentions.{in_text, in_class, class_in, member_in}
 use Rattle.dso_class.specs.TextWalk.{HasMetText, HasMetClass}

@@ -7,12 +7,12 @@ use Rattle.dso_class.specs.declared.fault.NameKind.{NameKind}
 use Rattle.dso_class.specs.declared.fault.NameKind.TheVariants as kind
 use Rattle.dso_class.specs.declared.fault.What.{What}
 use Rattle.dso_class.specs.declared.fault.What.TheVariants as what
-use Rattle.dso_entries.specs.Words.{Word, thread_word}
-use Rattle.dso_entries.specs.LastAndFirst.{LastWith}
+use Rattle.dso_config_entries.specs.Words.{Word, thread_word}
+use Rattle.dso_config_entries.specs.LastAndFirst.{LastWith}
 use Rattle.dso_class.specs.Limits.{most_classes, most_fields, most_statics, most_methods, most_threads}
 use Rattle.dso_class.specs.Mentions.{Mention, Mentioned, class, field, static, method, root, synchronized, thread, client}
 use Rattle.dso_class.specs.PrecedingMentions.{in_text, in_class, class_in, member_in, field_in, static_in, method_in}
-use Rattle.dso_entries.specs.ConfigEntries.{Matches, IsRoot, autolocks_of}
+use Rattle.dso_config_entries.specs.ConfigEntries.{Matches, IsRoot, autolocks_of}
 use Rattle.dso_class.specs.NameFaults.{Breaks, IsClient, threads_before, rank, thread_class, class_twice, many_classes, member_twice, many_fields, many_statics, many_methods, no_root, no_autolock, many_threads, no_client, variable_twice, many_vars}
 use Rattle.dso_class.specs.FaultsAmong.{IsFine, IsFault}
 

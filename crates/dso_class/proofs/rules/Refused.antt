@@ -6,11 +6,11 @@ use Rattle.dso_class.specs.declared.fault.NameFault.{NameFault}
 use Rattle.dso_class.specs.declared.fault.NameFault.TheVariants as fault
 use Rattle.dso_class.specs.declared.fault.What.{What}
 use Rattle.dso_class.specs.Heads.{IsRefused, no_memory}
-use Rattle.dso_entries.specs.BorrowedWords.{words_of}
-use Rattle.dso_entries.specs.FirstPlace.{place_of}
-use Rattle.dso_entries.specs.Words.{Word}
-use Rattle.dso_entries.proofs.lists.Keyed as keyed
-use Rattle.dso_entries.proofs.lists.BorrowedWords.{by_bytes, same_word, tied_word}
+use Rattle.dso_config_entries.specs.BorrowedWords.{words_of}
+use Rattle.dso_config_entries.specs.FirstPlace.{place_of}
+use Rattle.dso_config_entries.specs.Words.{Word}
+use Rattle.dso_config_entries.proofs.lists.Keyed as keyed
+use Rattle.dso_config_entries.proofs.lists.BorrowedWords.{by_bytes, same_word, tied_word}
 
 -- a name that has a number is taken
 pub taken : (names : List (Bor Word)) (word : Bor Word) (place : Option ℕ) {found : Bool} {name : Word} → place ≡ place_of by_bytes names word → found ≡ is_some place → found ≡ true → word.now ≡ name

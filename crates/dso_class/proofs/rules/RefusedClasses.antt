@@ -2,7 +2,7 @@
 use Rattle.std.proofs.Common.{◌≡◌, inl, inr, ℕ, subst, sym, List, Contains, Result, Ok, Err, IsErr, IsErrAnd, IfErr}
 use Rattle.dso_class.specs.declared.fault.NameFault.{NameFault}
 use Rattle.dso_class.specs.declared.fault.What.{What}
-use Rattle.dso_entries.specs.Words.{Word, thread_word}
+use Rattle.dso_config_entries.specs.Words.{Word, thread_word}
 use Rattle.dso_class.specs.Heads.{IsRefused, IsClassTaken, twice, many, no_memory}
 
 -- a refusal that is passed on

@@ -11,7 +11,7 @@ use Rattle.dso_map.specs.MapClass.{is_map}
 use Rattle.dso_machine.specs.declared.code.Code.{Code}
 use Rattle.dso_machine.specs.declared.tree.FieldRef.{FieldRef}
 use Rattle.dso_machine.specs.Sound.{ArePlaces, IsCallee, AreCallees}
-use Rattle.dso_entries.specs.Words.{Word}
+use Rattle.dso_config_entries.specs.Words.{Word}
 use Rattle.dso_class.specs.Declarations.{ClassTree, classes_of, fields_of, class_names, all_statics, all_methods}
 use Rattle.dso_class.specs.Numbers.{IsNumber, HasField, HasMethod, AreThePairs, IsFieldRef}
 use Rattle.dso_class.specs.TextProgram.{Source, field_names, IsClass, IsField, IsMethod, IsCode}

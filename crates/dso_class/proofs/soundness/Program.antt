@@ -22,12 +22,12 @@ use Rattle.dso_syntax.specs.declared.tree.Ident.{Ident}
 use Rattle.dso_syntax.specs.declared.tree.StmtTree.{StmtTree}
 use Rattle.dso_syntax.specs.TextLimits.{most_levels}
 use Rattle.dso_class.specs.declared.program.Program.{Program}
-use Rattle.dso_entries.specs.Words.{Word}
+use Rattle.dso_config_entries.specs.Words.{Word}
 use Rattle.dso_class.specs.Mentions.{Owner, thread_owner, block, on, parameter, statement}
 use Rattle.dso_class.specs.Declarations.{ClassTree, MethodTree, ThreadTree, classes_of, fields_of, class_names, all_methods, threads_of}
 use Rattle.dso_class.specs.ValidInput.{IsValidInput}
 use Rattle.dso_class.specs.TextProgram.{Source, variables_of, method_owner, IsBody, IsClass, IsMethod, IsThread, IsCode, IsProgramOf}
-use Rattle.dso_class.specs.Sound.{IsSound}
+use Rattle.dso_class.specs.Sound.{IsSoundProgram}
 use Rattle.dso_class.proofs.faultless.Text.{IsCleanBody, IsCleanMethod, IsCleanThread, IsCleanText, clean_text}
 use Rattle.dso_class.proofs.grammar.Operators.{block_fits}
 use Rattle.dso_class.proofs.grammar.GoodTrees.{IsQuiet, quiet_right}
@@ -149,7 +149,7 @@ module _ (config : Config) (ast : Ast) (locks texts : List Word) (code : Code) (
   -- ---- the code
 
   -- the code is sound
-  code_sound : length locks ≤ 2048 → length texts ≤ 4096 → machine.IsSound code
+  code_sound : length locks ≤ 2048 → length texts ≤ 4096 → machine.IsSoundCode code
   code_sound few_locks few_texts =
       let named : length (class_names ast.items) ≡ length (classes_of ast.items) = length-map (classes_of ast.items) (λ class. class.name) in
       record {
@@ -187,7 +187,7 @@ triggers_there : (clients kept : ℕ) (all same : List Trigger) → kept ≡ cli
 triggers_there clients kept all same is_kept is_same fit = subst (λ n. All (IsTrigger n) same) (sym is_kept) (subst (λ ts. All (IsTrigger clients) ts) (sym is_same) fit)
 
 -- the program of a clean text is sound
-pub sound_from_clean : (config : Config) (ast : Ast) (program : Program) → IsValidInput config ast → IsProgramOf config ast program → IsCleanText config ast → IsSound program
+pub sound_from_clean : (config : Config) (ast : Ast) (program : Program) → IsValidInput config ast → IsProgramOf config ast program → IsCleanText config ast → IsSoundProgram program
 sound_from_clean config ast program given is clean =
     let fits = given.in_range in
     let locks = few_lock_names config is.locks fits is.locks_in_order in
@@ -216,5 +216,5 @@ sound_from_clean config ast program given is clean =
     }
 
 -- the program of a text without a fault is sound
-pub sound_program : (config : Config) (ast : Ast) (program : Program) → IsValidInput config ast → IsProgramOf config ast program → IsSound program
+pub sound_program : (config : Config) (ast : Ast) (program : Program) → IsValidInput config ast → IsProgramOf config ast program → IsSoundProgram program
 sound_program config ast program given is = sound_from_clean config ast program given is (clean_text config ast is.no_fault)

@@ -17,12 +17,12 @@ use Rattle.dso_machine.specs.Sound as machine
 use Rattle.dso_syntax.specs.declared.tree.Ident.{Ident}
 use Rattle.dso_syntax.specs.declared.tree.Member.{Member}
 use Rattle.dso_syntax.specs.declared.tree.Member.TheVariants as member
-use Rattle.dso_entries.specs.Words.{Word}
-use Rattle.dso_entries.specs.LastAndFirst.{AreFirsts, empty, again, fresh}
+use Rattle.dso_config_entries.specs.Words.{Word}
+use Rattle.dso_config_entries.specs.LastAndFirst.{AreFirsts, empty, again, fresh}
 use Rattle.dso_class.specs.Mentions.{Mention, on, parameter}
 use Rattle.dso_class.specs.PrecedingMentions.{variable_in, in_text}
 use Rattle.dso_class.specs.Declarations.{ClassTree, FieldTree, classes_of, fields_of, methods_of, methods_from}
-use Rattle.dso_entries.specs.ConfigEntries.{lock_mentions}
+use Rattle.dso_config_entries.specs.ConfigEntries.{lock_mentions}
 use Rattle.dso_class.specs.TextProgram.{Source, roots_of, IsField, IsClass, IsGuard, IsNamedLock, IsCode}
 use Rattle.dso_class.proofs.faultless.Text.{IsCleanClass}
 use Rattle.dso_class.proofs.lists.SideBySide.{zip_length, zip_all, all_at}

@@ -11,7 +11,7 @@ use Rattle.dso_syntax.specs.declared.tree.ExprTree.{ExprTree}
 use Rattle.dso_syntax.specs.declared.tree.StmtTree.{StmtTree}
 use Rattle.dso_syntax.specs.Grammar as g
 use Rattle.dso_syntax.specs.declared.tree.ExprForm.TheVariants as e
-use Rattle.dso_entries.specs.Words.{Word}
+use Rattle.dso_config_entries.specs.Words.{Word}
 use Rattle.dso_class.specs.Mentions.{Owner, statement}
 use Rattle.dso_class.specs.Numbers.{Numbers, MeansExpr, MeansExprs, MeansStmt, MeansBlock}
 use Rattle.dso_class.specs.TextProgram.{Source, numbers_of, IsCode}

@@ -3,10 +3,10 @@ use Rattle.std.proofs.Common.{◌≡◌, ℕ, ◌+◌, ◌<◌, List, [], ◌∷
 use Rattle.std.proofs.lemmas.List.{map-append, take-append-drop}
 use Rattle.dso_machine.specs.declared.tree.Expr.{Expr}
 use Rattle.dso_syntax.specs.declared.tree.ExprTree.{ExprTree}
-use Rattle.dso_entries.specs.Words.{Word}
+use Rattle.dso_config_entries.specs.Words.{Word}
 use Rattle.dso_class.specs.Mentions.{Owner, Part, all_of, expression}
 use Rattle.dso_class.specs.Numbers.{Numbers, MeansExpr, MeansExprs, none, more}
-use Rattle.dso_entries.proofs.lists.Last.{taken}
+use Rattle.dso_config_entries.proofs.lists.Last.{taken}
 
 -- what expressions mention, and others behind them
 pub all_append : (xs ys : List Part) (known : List Word) → all_of (xs ++ ys) known ≡ all_of xs known ++ all_of ys known

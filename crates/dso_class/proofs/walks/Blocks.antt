@@ -4,13 +4,13 @@ use Rattle.std.specs.List.{list_all}
 use Rattle.std.proofs.lemmas.List.{map-append, take-append-drop}
 use Rattle.dso_machine.specs.declared.tree.Stmt.{Stmt}
 use Rattle.dso_syntax.specs.declared.tree.StmtTree.{StmtTree}
-use Rattle.dso_entries.specs.Words.{Word}
+use Rattle.dso_config_entries.specs.Words.{Word}
 use Rattle.dso_class.specs.Assignable.{AreAssignable, IsAssignable, assigns}
 use Rattle.dso_class.specs.Mentions.{Owner, Step, block, statement}
 use Rattle.dso_class.specs.Numbers.{Numbers, MeansStmt, MeansBlock, done, next}
 use Rattle.dso_class.specs.StatementWalk.{known_after}
 use Rattle.dso_class.proofs.grammar.Operators.{both}
-use Rattle.dso_entries.proofs.lists.Last.{taken}
+use Rattle.dso_config_entries.proofs.lists.Last.{taken}
 
 -- what statements mention, and others behind them
 block_append : (xs ys : List Step) (known : List Word) → block (xs ++ ys) known ≡ block xs known ++ block ys (known_after xs known)

@@ -19,9 +19,9 @@ use Rattle.dso_syntax.specs.declared.tree.StmtTree.{StmtTree}
 use Rattle.dso_class.specs.declared.body.Body.{Body}
 use Rattle.dso_class.specs.declared.fault.NameFault.{NameFault}
 use Rattle.dso_class.specs.declared.fault.NameFault.TheVariants as fault
-use Rattle.dso_entries.specs.Words.{Word}
-use Rattle.dso_entries.specs.LastAndFirst.{LastWith, last, nothing}
-use Rattle.dso_entries.specs.ConfigEntries.{Matches, autolocks_of}
+use Rattle.dso_config_entries.specs.Words.{Word}
+use Rattle.dso_config_entries.specs.LastAndFirst.{LastWith, last, nothing}
+use Rattle.dso_config_entries.specs.ConfigEntries.{Matches, autolocks_of}
 use Rattle.dso_class.specs.Limits.{most_texts, most_vars}
 use Rattle.dso_class.specs.Mentions.{Mention, Owner, on, body, parameter}
 use Rattle.dso_class.specs.PrecedingMentions.{in_text, in_body, begins_body, parameter_in, variable_in}
@@ -36,7 +36,7 @@ use Rattle.dso_class.proofs.mentions.Fine.{behind_reverse}
 use Rattle.dso_class.proofs.walks.Knowing.{with_known}
 use Rattle.dso_class.proofs.walks.Narrowing.{itself}
 use Rattle.dso_class.proofs.walks.BodyParts.{begins_same}
-use Rattle.dso_entries.proofs.lists.Last.{taken}
+use Rattle.dso_config_entries.proofs.lists.Last.{taken}
 use Rattle.dso_class.proofs.mentions.OfClasses.{is_of_body, body_no_body, body_of_body, params_of_body}
 use Rattle.dso_class.proofs.mentions.OnlyUses.{MentionsPass, part_grows}
 

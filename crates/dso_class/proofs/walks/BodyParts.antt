@@ -5,13 +5,13 @@ use Rattle.dso_base.specs.declared.lock.Grade.{Grade}
 use Rattle.dso_class.specs.declared.fault.NameKind.{NameKind}
 use Rattle.dso_class.specs.declared.fault.NameFault.{NameFault}
 use Rattle.dso_class.specs.declared.fault.NameFault.TheVariants as fault
-use Rattle.dso_entries.specs.Words.{Word}
+use Rattle.dso_config_entries.specs.Words.{Word}
 use Rattle.dso_class.specs.Mentions.{Mention, Mentioned, Owner, on}
 use Rattle.dso_class.specs.FaultsAmong.{behind, IsFine, IsFault}
 use Rattle.dso_class.specs.Numbers.{Numbers}
 use Rattle.dso_class.specs.TextProgram.{Source, numbers_of}
 use Rattle.dso_class.specs.BodyWalk.{Begins, Met, HasMet, GoesOn, IsRight, IsWalked, IsMade}
-use Rattle.dso_entries.specs.LastAndFirst.{AreFirsts}
+use Rattle.dso_config_entries.specs.LastAndFirst.{AreFirsts}
 use Rattle.dso_class.specs.PrecedingMentions.{in_text, in_body, text_in, variable_in, begins_body}
 use Rattle.dso_class.proofs.mentions.Fine.{behind_append, fine_both}
 use Rattle.dso_class.proofs.rules.Composing.{fault_in_front, fault_behind, fault_alone}

@@ -11,8 +11,8 @@ use Rattle.dso_class.specs.declared.class_item.Resolved.{Resolved}
 use Rattle.dso_class.specs.declared.fault.NameFault.{NameFault}
 use Rattle.dso_class.specs.declared.fault.What.TheVariants as what
 use Rattle.dso_class.specs.declared.member.Class.{Class}
-use Rattle.dso_entries.specs.Words.{Word}
-use Rattle.dso_entries.specs.BorrowedWords.{words_of}
+use Rattle.dso_config_entries.specs.Words.{Word}
+use Rattle.dso_config_entries.specs.BorrowedWords.{words_of}
 use Rattle.dso_class.specs.Mentions.{Mention, on, of_item, of_member}
 use Rattle.dso_class.specs.Mentions as mention
 use Rattle.dso_class.specs.PrecedingMentions.{in_text, class_in, member_in, field_in, method_in, begins_class}

@@ -12,11 +12,11 @@ use Rattle.dso_syntax.specs.declared.tree.Ast.{Ast}
 use Rattle.dso_class.specs.declared.fault.NameKind.{NameKind}
 use Rattle.dso_class.specs.declared.fault.NameKind.TheVariants as kind
 use Rattle.dso_class.specs.declared.fault.What.TheVariants as what
-use Rattle.dso_entries.specs.Words.{Word, thread_word}
-use Rattle.dso_entries.specs.BorrowedWords.{words_of}
-use Rattle.dso_entries.specs.LastAndFirst.{AreFirsts}
+use Rattle.dso_config_entries.specs.Words.{Word, thread_word}
+use Rattle.dso_config_entries.specs.BorrowedWords.{words_of}
+use Rattle.dso_config_entries.specs.LastAndFirst.{AreFirsts}
 use Rattle.dso_class.specs.Limits.{most_params, most_vars}
-use Rattle.dso_entries.specs.FirstPlace.{place_of}
+use Rattle.dso_config_entries.specs.FirstPlace.{place_of}
 use Rattle.dso_class.specs.Mentions.{Mention, Mentioned, Owner, on, parameter, variable}
 use Rattle.dso_class.specs.PrecedingMentions.{in_text, in_body, text_in, parameter_in, variable_in}
 use Rattle.dso_class.specs.Declaring.{IsDeclared}
@@ -27,7 +27,7 @@ use Rattle.dso_class.specs.TextProgram.{Source}
 use Rattle.dso_class.specs.BodyWalk.{Met, HasMet, IsRight}
 use Rattle.dso_class.proofs.rules.InBodies.{same_rank, variable_breaks, parameter_breaks}
 use Rattle.dso_class.proofs.lists.Among.{in_reverse, of_reverse, not_none, number_stays, stable}
-use Rattle.dso_entries.proofs.lists.BorrowedWords.{by_bytes, fresh_where}
+use Rattle.dso_config_entries.proofs.lists.BorrowedWords.{by_bytes, fresh_where}
 use Rattle.dso_class.proofs.walks.Literals.{at_end}
 use Rattle.dso_class.proofs.walks.BodyParts.{begins_same, in_body_more}
 

@@ -11,8 +11,8 @@ use Rattle.dso_class.specs.declared.class_item.Resolved.{Resolved}
 use Rattle.dso_class.specs.declared.class_item.Setting.{Setting}
 use Rattle.dso_class.specs.declared.fault.NameFault.{NameFault}
 use Rattle.dso_class.specs.declared.member.Class.{Class}
-use Rattle.dso_entries.specs.Words.{Word}
-use Rattle.dso_entries.specs.BorrowedWords.{words_of}
+use Rattle.dso_config_entries.specs.Words.{Word}
+use Rattle.dso_config_entries.specs.BorrowedWords.{words_of}
 use Rattle.dso_class.specs.Mentions.{Mention, of_item, of_member}
 use Rattle.dso_class.proofs.gathering.Items.{fields_append, methods_append}
 use Rattle.dso_class.specs.Declarations.{ClassTree, ThreadTree, classes_of, fields_of, methods_of, methods_from, threads_of}
@@ -23,7 +23,7 @@ use Rattle.dso_class.specs.TextWalk.{GoesOnFrom, IsToldOf, IsSetting, HasMetText
 use Rattle.dso_class.proofs.gathering.ClassNames.{classes_append}
 use Rattle.dso_class.proofs.mentions.Fine.{behind_append, fine_both}
 use Rattle.dso_class.proofs.rules.ComposingItems.{told_front, told_behind}
-use Rattle.dso_entries.proofs.lists.Last.{taken}
+use Rattle.dso_config_entries.proofs.lists.Last.{taken}
 
 -- a list that begins with a list begins with what that begins with
 pub begins_both : {A : Type 0} (xs ys zs : List A) → Begins xs ys → Begins ys zs → Begins xs zs

@@ -6,8 +6,8 @@ use Rattle.std.proofs.Math.Seq.{take-append_seam}
 use Rattle.std.proofs.lemmas.List.{take_all, take-map, take-append-le, length-map, length-append, reverse-append, reverse-reverse}
 use Rattle.std.proofs.lemmas.List.Elements.{Contains-push, Contains-push_cases, Contains-append_left, Contains-append_cases}
 use Rattle.dso_class.specs.declared.fault.NameFault.{NameFault}
-use Rattle.dso_entries.specs.Words.{Word}
-use Rattle.dso_entries.specs.BorrowedWords.{words_of}
+use Rattle.dso_config_entries.specs.Words.{Word}
+use Rattle.dso_config_entries.specs.BorrowedWords.{words_of}
 use Rattle.dso_class.specs.Limits.{most_vars}
 use Rattle.dso_class.specs.Mentions.{Mention, Owner, Step, on, variable}
 use Rattle.dso_class.specs.PrecedingMentions.{in_text, in_body, variable_in}

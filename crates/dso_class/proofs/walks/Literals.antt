@@ -5,8 +5,8 @@ use Rattle.dso_config.specs.declared.config.Config.{Config}
 use Rattle.dso_syntax.specs.declared.tree.Ast.{Ast}
 use Rattle.dso_class.specs.declared.fault.NameKind.TheVariants as kind
 use Rattle.dso_class.specs.declared.fault.What.TheVariants as what
-use Rattle.dso_entries.specs.Words.{Word}
-use Rattle.dso_entries.specs.LastAndFirst.{AreFirsts, empty, again, fresh}
+use Rattle.dso_config_entries.specs.Words.{Word}
+use Rattle.dso_config_entries.specs.LastAndFirst.{AreFirsts, empty, again, fresh}
 use Rattle.dso_class.specs.Limits.{most_texts}
 use Rattle.dso_class.specs.Mentions.{Mention, Owner, on, text}
 use Rattle.dso_class.specs.PrecedingMentions.{in_text, text_in, variable_in}

@@ -10,11 +10,11 @@ use Rattle.dso_syntax.specs.declared.tree.Member.TheVariants as member
 use Rattle.dso_class.specs.declared.class_item.Resolved.{Resolved}
 use Rattle.dso_class.specs.declared.class_item.Setting.{Setting}
 use Rattle.dso_class.specs.declared.member.Class.{Class}
-use Rattle.dso_entries.specs.Words.{Word}
-use Rattle.dso_entries.specs.BorrowedWords.{words_of}
+use Rattle.dso_config_entries.specs.Words.{Word}
+use Rattle.dso_config_entries.specs.BorrowedWords.{words_of}
 use Rattle.dso_class.specs.Mentions.{Mention, on, field, static, root}
 use Rattle.dso_class.specs.Declarations.{FieldTree}
-use Rattle.dso_entries.specs.ConfigEntries.{IsRoot}
+use Rattle.dso_config_entries.specs.ConfigEntries.{IsRoot}
 use Rattle.dso_class.specs.TextProgram.{Source, roots_of, IsField, IsGuard, IsMethod}
 use Rattle.dso_class.specs.BodyWalk.{Begins}
 use Rattle.dso_class.specs.declared.fault.NameFault.{NameFault}

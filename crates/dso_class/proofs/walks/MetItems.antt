@@ -7,9 +7,9 @@ use Rattle.std.proofs.lemmas.List.Sorted.{IsPermutation-reverse, IsPermutation-s
 use Rattle.dso_base.specs.declared.shape.FieldShape.{FieldShape}
 use Rattle.dso_class.specs.declared.class_item.Resolved.{Resolved}
 use Rattle.dso_class.specs.declared.member.Class.{Class}
-use Rattle.dso_entries.specs.Words.{Word}
-use Rattle.dso_entries.specs.BorrowedWords.{words_of}
-use Rattle.dso_entries.specs.LastAndFirst.{AreFirsts}
+use Rattle.dso_config_entries.specs.Words.{Word}
+use Rattle.dso_config_entries.specs.BorrowedWords.{words_of}
+use Rattle.dso_config_entries.specs.LastAndFirst.{AreFirsts}
 use Rattle.dso_class.specs.Mentions.{Mention, Mentioned, on, field, static, method, root, synchronized}
 use Rattle.dso_class.specs.PrecedingMentions.{in_text, in_class, class_in, static_in, thread_in, text_in, member_in, field_in, method_in, begins_class}
 use Rattle.dso_class.specs.TextWalk.{HasMetText, HasMetClass}

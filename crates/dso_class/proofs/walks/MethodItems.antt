@@ -18,13 +18,13 @@ use Rattle.dso_class.specs.declared.fault.NameFault.TheVariants as fault
 use Rattle.dso_class.specs.declared.fault.NameKind.TheVariants as kind
 use Rattle.dso_class.specs.declared.fault.What.TheVariants as what
 use Rattle.dso_class.specs.declared.member.Class.{Class}
-use Rattle.dso_entries.specs.Words.{Word}
-use Rattle.dso_entries.specs.BorrowedWords.{words_of}
-use Rattle.dso_entries.specs.LastAndFirst.{LastWith, last, nothing}
+use Rattle.dso_config_entries.specs.Words.{Word}
+use Rattle.dso_config_entries.specs.BorrowedWords.{words_of}
+use Rattle.dso_config_entries.specs.LastAndFirst.{LastWith, last, nothing}
 use Rattle.dso_class.specs.Mentions.{Mention, on, of_member, method, synchronized, body}
 use Rattle.dso_class.specs.PrecedingMentions.{in_body, begins_body}
 use Rattle.dso_class.specs.Declarations.{MethodTree}
-use Rattle.dso_entries.specs.ConfigEntries.{Matches, autolocks_of}
+use Rattle.dso_config_entries.specs.ConfigEntries.{Matches, autolocks_of}
 use Rattle.dso_class.specs.NameFaults.{HasNoFault}
 use Rattle.dso_class.specs.FaultsAmong.{behind, AreFine}
 use Rattle.dso_class.specs.TextProgram.{Source, IsAutolock, IsBody, IsField, IsMethod, IsNamedLock, IsSynced}

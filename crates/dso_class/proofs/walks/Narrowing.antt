@@ -1,7 +1,7 @@
 -- Numbers of variables and text literals, which are small: in 32 bits they are themselves.
 use Rattle.std.proofs.Common.{◌≡◌, ◌∙◌, ℕ, ◌<◌, ◌≤◌, arith, List, length, subst, sym}
 use Rattle.std.proofs.lemmas.Option.{slice_get_within}
-use Rattle.dso_entries.specs.Words.{Word}
+use Rattle.dso_config_entries.specs.Words.{Word}
 use Rattle.dso_class.specs.Mentions.{Mention}
 use Rattle.dso_class.specs.Numbers.{IsNumber}
 use Rattle.dso_class.specs.Gathered.{capped}

@@ -10,13 +10,13 @@ use Rattle.dso_class.specs.declared.program.Names.{Names}
 use Rattle.dso_class.specs.Symbols.{AreWordsOf}
 use Rattle.dso_class.specs.declared.class_item.Setting.{Setting}
 use Rattle.dso_class.specs.declared.class_item.Resolved.{Resolved}
-use Rattle.dso_entries.specs.Words.{Word, thread_word, run_word}
-use Rattle.dso_entries.specs.LastAndFirst.{AreFirsts}
-use Rattle.dso_entries.specs.BorrowedWords.{words_of}
+use Rattle.dso_config_entries.specs.Words.{Word, thread_word, run_word}
+use Rattle.dso_config_entries.specs.LastAndFirst.{AreFirsts}
+use Rattle.dso_config_entries.specs.BorrowedWords.{words_of}
 use Rattle.dso_class.specs.Declarations.{all_statics}
-use Rattle.dso_entries.specs.ConfigEntries.{lock_mentions}
+use Rattle.dso_config_entries.specs.ConfigEntries.{lock_mentions}
 use Rattle.dso_class.specs.TextProgram.{Source}
-use Rattle.dso_class.specs.Tables.{AreTables}
+use Rattle.dso_class.specs.DeclaredNames.{AreTables}
 use Rattle.dso_class.specs.TextWalk.{IsSetting, IsReady}
 use Rattle.dso_class.specs.WholeProgram.{IsWhole}
 use Rattle.dso_class.proofs.faultless.Text.{clean_text}

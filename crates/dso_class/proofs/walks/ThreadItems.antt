@@ -15,8 +15,8 @@ use Rattle.dso_class.specs.declared.fault.NameFault.{NameFault}
 use Rattle.dso_class.specs.declared.fault.NameFault.TheVariants as fault
 use Rattle.dso_class.specs.declared.fault.NameKind.TheVariants as kind
 use Rattle.dso_class.specs.declared.fault.What.TheVariants as what
-use Rattle.dso_entries.specs.Words.{Word, thread_word, run_word}
-use Rattle.dso_entries.specs.BorrowedWords.{words_of}
+use Rattle.dso_config_entries.specs.Words.{Word, thread_word, run_word}
+use Rattle.dso_config_entries.specs.BorrowedWords.{words_of}
 use Rattle.dso_class.specs.Declarations.{ThreadTree}
 use Rattle.dso_class.specs.BodyWalk.{HasTexts}
 use Rattle.dso_class.specs.Mentions.{Mention, on, Owner, thread_owner, thread, client, body, of_item}

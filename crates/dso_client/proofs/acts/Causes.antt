@@ -5,10 +5,10 @@ use Rattle.dso_base.specs.declared.request.Request.{Request}
 use Rattle.dso_law.specs.ClientStep.{can_do}
 use Rattle.dso_law.specs.RequestNeeds.{Need, unmet}
 use Rattle.dso_client.specs.declared.cause.Cause.{Cause}
-use Rattle.dso_client.specs.Points.{Point}
+use Rattle.dso_client.specs.RunPoints.{RunPoint}
 use Rattle.dso_client.specs.Turns.{IsAnswerable, IsCause, IsOfNeed, Waits}
 
-pub exact_cause : (at : Point) (t : ThreadId) (request : Request) (told : Cause) → Waits at t request told → IsAnswerable at t request → IsOfNeed at t request told
+pub exact_cause : (at : RunPoint) (t : ThreadId) (request : Request) (told : Cause) → Waits at t request told → IsAnswerable at t request → IsOfNeed at t request told
 exact_cause at t request told w answerable = by (unmet at.settings at.client at.next t request at.entries) refl
   where
     by : (need : Option Need) → unmet at.settings at.client at.next t request at.entries ≡ need → IsOfNeed at t request told

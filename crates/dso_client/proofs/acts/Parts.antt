@@ -13,103 +13,103 @@ use Rattle.dso_law.specs.Settings.{threads_of}
 use Rattle.dso_law.specs.Threads.{ending_by, locks_of}
 use Rattle.dso_machine.specs.declared.thread.Thread.{Thread}
 use Rattle.dso_client.specs.declared.answered.Answered.{Answered}
-use Rattle.dso_client.specs.declared.kept.Kept.{Kept}
-use Rattle.dso_client.specs.declared.seat.Seat.{Seat}
-use Rattle.dso_client.specs.Answering.{IsAnswering, StandsLived}
-use Rattle.dso_client.specs.Committing.{HasLived, Lives, WorksAlone, with_work}
-use Rattle.dso_client.specs.GoingOn.{with_seat}
-use Rattle.dso_client.specs.LedgerStands.{LedgerStands}
-use Rattle.dso_client.specs.Living.{lived}
-use Rattle.dso_client.specs.LivingSeats.{RestStands, LivesOn, LiveOn}
-use Rattle.dso_client.specs.LockingStands.{LockingStands}
+use Rattle.dso_client.specs.declared.client_state.ClientState.{ClientState}
+use Rattle.dso_client.specs.declared.thread_context.ThreadContext.{ThreadContext}
+use Rattle.dso_client.specs.AnsweredActs.{IsAnswering, StandsApplied}
+use Rattle.dso_client.specs.SentRecords.{IsApplied, Applies, WorksAlone, with_work}
+use Rattle.dso_client.specs.ThreadProgress.{with_context}
+use Rattle.dso_client.specs.SequencesStand.{SequencesStand}
+use Rattle.dso_client.specs.ActEffects.{applied}
+use Rattle.dso_client.specs.ContextEffects.{RestStands, AppliesTo, ApplyTo}
+use Rattle.dso_client.specs.LockStateStands.{LockStateStands}
 use Rattle.dso_client.specs.Openings.{thread_at, first_threads}
-use Rattle.dso_client.specs.Points.{Point}
-use Rattle.dso_client.specs.SeatPlaces.{seat_in}
-use Rattle.dso_client.specs.SeatStands.{SeatStands}
+use Rattle.dso_client.specs.RunPoints.{RunPoint}
+use Rattle.dso_client.specs.ContextPlaces.{context_in}
+use Rattle.dso_client.specs.ContextStands.{ContextStands}
 use Rattle.dso_client.specs.TableStands.{TableStands}
-use Rattle.dso_client.proofs.seats.SeatsFound.{seat_is, seat_there}
-use Rattle.dso_client.proofs.acts.Places.{changed_is, seat_of_all, set_there}
-use Rattle.dso_client.proofs.seats.ChangedSeats.{told_unchanged}
-use Rattle.dso_client.proofs.acts.Seats.{WorkLives, told_together, work_lives, seats_live}
+use Rattle.dso_client.proofs.contexts.ContextsFound.{context_is, context_there}
+use Rattle.dso_client.proofs.acts.Places.{changed_is, context_of_all, set_there}
+use Rattle.dso_client.proofs.contexts.ChangedContexts.{told_unchanged}
+use Rattle.dso_client.proofs.acts.Contexts.{WorkLives, told_together, work_lives, contexts_live}
 
-module _ (at : Point) (shape : Shape) (act : Answered) (old : Kept) (h : IsAnswering at shape act old) where
+module _ (at : RunPoint) (shape : Shape) (act : Answered) (old : ClientState) (h : IsAnswering at shape act old) where
   -- the acting thread, by the client's number
   pub actor : act.thread ≡ thread_at at.client act.thread.index
   actor = ap (λ c. thread_at c act.thread.index) h.mine
 
-  -- has a seat
-  pub acting_seat : (seat : Seat) × (seat_in old.seats.items act.thread.index ≡ Some seat)
-  acting_seat = seat_there at.client old.seats.items act.thread.index h.stands.numbered
+  -- has a context
+  pub acting_context : (context : ThreadContext) × (context_in old.contexts.items act.thread.index ≡ Some context)
+  acting_context = context_there at.client old.contexts.items act.thread.index h.stands.numbered
       (ap (list_any (is_thread (thread_at at.client act.thread.index))) h.stands.places ∙ (ap (λ t. list_any (is_thread t) (threads_of at.settings at.client)) (sym actor) ∙ h.its))
 
-  seat_its : (seat : Seat) → seat_in old.seats.items act.thread.index ≡ Some seat → seat.id ≡ act.thread
-  seat_its seat there = seat_is at.client old.seats.items act.thread.index seat h.stands.numbered there ∙ sym actor
+  context_its : (context : ThreadContext) → context_in old.contexts.items act.thread.index ≡ Some context → context.id ≡ act.thread
+  context_its context there = context_is at.client old.contexts.items act.thread.index context h.stands.numbered there ∙ sym actor
 
   -- the lock that it waits on
-  pub waits_so : option_and_then (λ (seat : Seat). seat.waiting) (seat_in old.seats.items act.thread.index) ≡ (locks_of act.thread at.entries).waiting
+  pub waits_so : option_and_then (λ (context : ThreadContext). context.waiting) (context_in old.contexts.items act.thread.index) ≡ (locks_of act.thread at.entries).waiting
   waits_so =
-      let seat = acting_seat in
-      ap (option_and_then (λ (seat : Seat). seat.waiting)) seat.1
-      ∙ ((seat_of_all (SeatStands at) old.seats.items act.thread.index seat.0 h.stands.seats seat.1).waiting ∙ ap (λ t. (locks_of t at.entries).waiting) (seat_its seat.0 seat.1))
+      let context = acting_context in
+      ap (option_and_then (λ (context : ThreadContext). context.waiting)) context.1
+      ∙ ((context_of_all (ContextStands at) old.contexts.items act.thread.index context.0 h.stands.contexts context.1).waiting ∙ ap (λ t. (locks_of t at.entries).waiting) (context_its context.0 context.1))
 
   -- what the objects are to live with
-  pub lives : (ending : Option Ending) → ending ≡ ending_by act.request act.reply (locks_of act.thread at.entries) → Lives at shape act act.thread.index ending old
-  lives ending ends = record {
+  pub applies : (ending : Option Ending) → ending ≡ ending_by act.request act.reply (locks_of act.thread at.entries) → Applies at shape act act.thread.index ending old
+  applies ending ends = record {
     its = actor;
     table = h.stands.table;
-    ledger = h.stands.ledger;
-    acting = λ seat there. record {
+    sequences = h.stands.sequences;
+    acting = λ context there. record {
       shape_is = h.shape_is;
-      its = seat_its seat there;
-      work = (seat_of_all (SeatStands at) old.seats.items act.thread.index seat h.stands.seats there).work;
+      its = context_its context there;
+      work = (context_of_all (ContextStands at) old.contexts.items act.thread.index context h.stands.contexts there).work;
       once = h.stands.facts.once act.thread;
       ends = ends;
     };
     met = h.answers.met;
   }
 
-  module _ (clock : ℕ) (mid new : Kept) (txn : Option Txn) (alone : WorksAlone act.thread.index old.seats.items mid.seats.items) (lived_so : HasLived clock at act act.thread.index txn mid)
-      (number : mid.number ≡ old.number) (locking : mid.locking ≡ old.locking) (seats : LiveOn mid.locking act mid.seats.items new.seats.items)
-      (locks : LockingStands (lived clock act at) new.locking) (others : new ≡ record mid { seats = new.seats; locking = new.locking }) where
-    abbrev worked : Seat
-    worked = with_work alone.privates alone.block acting_seat.0
+  module _ (clock : ℕ) (mid new : ClientState) (txn : Option Txn) (alone : WorksAlone act.thread.index old.contexts.items mid.contexts.items) (applied_so : IsApplied clock at act act.thread.index txn mid)
+      (number : mid.number ≡ old.number) (lock_state : mid.lock_state ≡ old.lock_state) (contexts : ApplyTo mid.lock_state act mid.contexts.items new.contexts.items)
+      (locks : LockStateStands (applied clock act at) new.lock_state) (others : new ≡ record mid { contexts = new.contexts; lock_state = new.lock_state }) where
+    abbrev worked : ThreadContext
+    worked = with_work alone.privates alone.block acting_context.0
 
-    set : mid.seats.items ≡ with_seat act.thread.index worked old.seats.items
-    set = alone.seats ∙ changed_is old.seats.items act.thread.index (with_work alone.privates alone.block) acting_seat.0 acting_seat.1
+    set : mid.contexts.items ≡ with_context act.thread.index worked old.contexts.items
+    set = alone.contexts ∙ changed_is old.contexts.items act.thread.index (with_work alone.privates alone.block) acting_context.0 acting_context.1
 
-    worked_there : seat_in mid.seats.items act.thread.index ≡ Some worked
-    worked_there = ap (λ seats. seat_in seats act.thread.index) set ∙ set_there old.seats.items act.thread.index acting_seat.0 worked acting_seat.1
+    worked_there : context_in mid.contexts.items act.thread.index ≡ Some worked
+    worked_there = ap (λ contexts. context_in contexts act.thread.index) set ∙ set_there old.contexts.items act.thread.index acting_context.0 worked acting_context.1
 
     rest : RestStands at worked
-    unfolding acting_seat
+    unfolding acting_context
     rest =
-        let s = seat_of_all (SeatStands at) old.seats.items act.thread.index acting_seat.0 h.stands.seats acting_seat.1 in
+        let s = context_of_all (ContextStands at) old.contexts.items act.thread.index acting_context.0 h.stands.contexts acting_context.1 in
         record { next = s.next; seen = s.seen; waiting = s.waiting; marked = s.marked; last = s.last }
 
-    all_work : AllByRecursion (WorkLives clock act at) mid.seats.items
+    all_work : AllByRecursion (WorkLives clock act at) mid.contexts.items
     all_work = subst (AllByRecursion (WorkLives clock act at)) (sym set)
-        (work_lives clock at act h.mine old.seats.items acting_seat.0 worked h.stands.numbered acting_seat.1 h.stands.seats rest (lived_so.work worked worked_there))
+        (work_lives clock at act h.mine old.contexts.items acting_context.0 worked h.stands.numbered acting_context.1 h.stands.contexts rest (applied_so.work worked worked_there))
 
-    all_seats : AllByRecursion (SeatStands (lived clock act at)) new.seats.items
-    all_seats = seats_live clock at act h.mine mid.locking mid.seats.items new.seats.items (subst (LockingStands at) (sym locking) h.stands.locking) seats all_work
+    all_contexts : AllByRecursion (ContextStands (applied clock act at)) new.contexts.items
+    all_contexts = contexts_live clock at act h.mine mid.lock_state mid.contexts.items new.contexts.items (subst (LockStateStands at) (sym lock_state) h.stands.lock_state) contexts all_work
 
-    ids : map (λ (seat : Seat). seat.id) new.seats.items ≡ map (λ (seat : Seat). seat.id) old.seats.items
-    ids = told_together (LivesOn mid.locking act) (λ (seat : Seat). seat.id) (λ x y l. ap (λ (r : ThreadId × Thread × Option Request). r.0) l.runs) mid.seats.items new.seats.items seats
-        ∙ (ap (map (λ (seat : Seat). seat.id)) alone.seats ∙ told_unchanged (with_work alone.privates alone.block) (λ (seat : Seat). seat.id) (λ seat. refl) old.seats.items act.thread.index)
+    ids : map (λ (context : ThreadContext). context.id) new.contexts.items ≡ map (λ (context : ThreadContext). context.id) old.contexts.items
+    ids = told_together (AppliesTo mid.lock_state act) (λ (context : ThreadContext). context.id) (λ x y l. ap (λ (r : ThreadId × Thread × Option Request). r.0) l.runs) mid.contexts.items new.contexts.items contexts
+        ∙ (ap (map (λ (context : ThreadContext). context.id)) alone.contexts ∙ told_unchanged (with_work alone.privates alone.block) (λ (context : ThreadContext). context.id) (λ context. refl) old.contexts.items act.thread.index)
 
-    many : length old.seats.items ≡ length new.seats.items
-    many = sym (length-map old.seats.items (λ (seat : Seat). seat.id)) ∙ (ap length (sym ids) ∙ length-map new.seats.items (λ (seat : Seat). seat.id))
+    many : length old.contexts.items ≡ length new.contexts.items
+    many = sym (length-map old.contexts.items (λ (context : ThreadContext). context.id)) ∙ (ap length (sym ids) ∙ length-map new.contexts.items (λ (context : ThreadContext). context.id))
 
-    pub stands_lived : StandsLived clock at act txn new
-    stands_lived = record {
+    pub stands_applied : StandsApplied clock at act txn new
+    stands_applied = record {
       parts = record {
-        number = ap (λ (kept : Kept). kept.number) others ∙ (number ∙ h.stands.number);
+        number = ap (λ (kept : ClientState). kept.number) others ∙ (number ∙ h.stands.number);
         places = ids ∙ h.stands.places;
         numbered = ids ∙ (h.stands.numbered ∙ ap (first_threads at.client) many);
-        seats = all_seats;
-        table = subst (TableStands (lived clock act at)) (sym (ap (λ (kept : Kept). kept.table) others)) lived_so.table;
-        locking = locks;
-        ledger = subst (LedgerStands (lived clock act at)) (sym (ap (λ (kept : Kept). kept.ledger) others)) lived_so.ledger;
+        contexts = all_contexts;
+        table = subst (TableStands (applied clock act at)) (sym (ap (λ (kept : ClientState). kept.table) others)) applied_so.table;
+        lock_state = locks;
+        sequences = subst (SequencesStand (applied clock act at)) (sym (ap (λ (kept : ClientState). kept.sequences) others)) applied_so.sequences;
       };
-      commits = lived_so.commits;
+      commits = applied_so.commits;
     }

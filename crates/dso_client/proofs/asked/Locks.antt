@@ -5,15 +5,15 @@ use Rattle.dso_base.specs.declared.lock.Level.{Level}
 use Rattle.dso_base.specs.declared.lock.LockName.{LockName}
 use Rattle.dso_base.specs.declared.message.Up.TheVariants as up
 use Rattle.dso_hold.specs.Holds.{hold_in}
-use Rattle.dso_lease.specs.declared.standing.Standing.TheVariants as standings
+use Rattle.dso_lease.specs.declared.standing.LeaseStanding.TheVariants as standings
 use Rattle.dso_lease.specs.Leases.{standing_in, with_standing, after_want}
 use Rattle.dso_plain.specs.KeyTests.{is_lock}
 use Rattle.dso_plain.proofs.keys.SameKeys.{same_lock}
 use Rattle.dso_law.specs.Leases.{standing, leased, is_entered, is_recalled, is_asked_for}
-use Rattle.dso_client.specs.declared.locking.Locking.{Locking}
-use Rattle.dso_client.specs.Asking.{asked}
-use Rattle.dso_client.specs.LockingStands.{LockingStands, as_hold, standing_as, list_at}
-use Rattle.dso_client.specs.Points.{Point}
+use Rattle.dso_client.specs.declared.lock_state.LockState.{LockState}
+use Rattle.dso_client.specs.AskedActs.{asked}
+use Rattle.dso_client.specs.LockStateStands.{LockStateStands, as_hold, standing_as, list_at}
+use Rattle.dso_client.specs.RunPoints.{RunPoint}
 use Rattle.dso_client.proofs.heard.Locks.{at_lock}
 
 -- a lock that is neither leased nor asked for is idle
@@ -27,10 +27,10 @@ pub asks_now : (level : Option Level) (entered recalled : Bool) → level ≡ No
 asks_now (Some level) entered recalled e = absurd (cc e)
 asks_now None entered recalled e = refl
 
-module _ (clock index : ℕ) (at : Point) (l : LockName) (level : Level) (old new : Locking) (h : LockingStands at old) where
+module _ (clock index : ℕ) (at : RunPoint) (l : LockName) (level : Level) (old new : LockState) (h : LockStateStands at old) where
   pub lock_asked : leased l at.entries ≡ None → is_asked_for l at.entries ≡ false → new.holds ≡ old.holds → new.lists ≡ old.lists
       → standing_in new.leases ≡ with_standing l (Some (after_want level (standing_in old.leases l))) (standing_in old.leases)
-      → LockingStands (asked clock index (up.Request l level) at) new
+      → LockStateStands (asked clock index (up.Request l level) at) new
   lock_asked unleased unasked held lists wanted = record {
     holds = λ t x. ap (λ holds. option_map as_hold (hold_in holds (x, t))) held ∙ h.holds t x;
     leases = λ x. ap (λ leases. leases x) wanted ∙ (at_lock l (Some (after_want level (standing_in old.leases l))) (standing_in old.leases) x ∙ by x (is_lock x l) refl);

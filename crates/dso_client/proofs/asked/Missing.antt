@@ -11,8 +11,8 @@ use Rattle.dso_law.specs.Leases.{leased, is_asked_for}
 use Rattle.dso_law.specs.Records.{is_batch_asked}
 use Rattle.dso_law.specs.RequestNeeds.{Need, NeedsId, NeedsObject, NeedsLease, unless_asked, ask_for}
 use Rattle.dso_law.proofs.runs.AsksForAbsent.{IsLacking, lacking}
-use Rattle.dso_client.specs.Asking.{IsMissing}
-use Rattle.dso_client.specs.Points.{Point}
+use Rattle.dso_client.specs.AskedActs.{IsMissing}
+use Rattle.dso_client.specs.RunPoints.{RunPoint}
 use Rattle.dso_client.specs.Turns.{Asks}
 
 -- a message that is there wasn't sent before
@@ -39,7 +39,7 @@ module _ (es : List Entry) (m : Up) where
       subst (IsMissing es) h.1 (neither (leased l es) (is_asked_for l es) h.0)
   need_missing need lacks e = absurd (cc e)
 
-pub asks_missing : (at : Point) (t : ThreadId) (request : Request) (m : Up) → Asks at t request m → IsMissing at.entries m
+pub asks_missing : (at : RunPoint) (t : ThreadId) (request : Request) (m : Up) → Asks at t request m → IsMissing at.entries m
 asks_missing at t request m h =
     let es = at.entries in
     need_missing es m h.need (subst (IsLacking es) h.lacks (lacking at.settings at.client at.next t es request)) h.asked

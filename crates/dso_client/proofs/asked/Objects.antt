@@ -18,15 +18,15 @@ use Rattle.dso_law.specs.Copies.{is_resident, is_object_asked}
 use Rattle.dso_law.specs.HeldBody.{held_body}
 use Rattle.dso_law.proofs.client.ClientLaws.{lock_either_way}
 use Rattle.dso_law.proofs.core.Bodies.{bodies_are_held}
-use Rattle.dso_table.specs.declared.slot.Standing.{Standing}
-use Rattle.dso_table.specs.declared.slot.Standing.TheVariants.{Asked, Resident}
+use Rattle.dso_table.specs.declared.slot.ObjectStanding.{ObjectStanding}
+use Rattle.dso_table.specs.declared.slot.ObjectStanding.TheVariants.{Asked, Resident}
 use Rattle.dso_law.specs.Records.{records}
-use Rattle.dso_table.specs.declared.tables.Tables.{Tables}
+use Rattle.dso_table.specs.declared.tables.ObjectTables.{ObjectTables}
 use Rattle.dso_table.specs.States as states
 use Rattle.dso_table.specs.States.{State, body_of, is_asked, is_absent, acted}
-use Rattle.dso_table.specs.Tables.{state_in}
-use Rattle.dso_client.specs.Asking.{asked}
-use Rattle.dso_client.specs.Points.{Point}
+use Rattle.dso_table.specs.ObjectTables.{state_in}
+use Rattle.dso_client.specs.AskedActs.{asked}
+use Rattle.dso_client.specs.RunPoints.{RunPoint}
 use Rattle.dso_client.specs.TableStands.{TableTells}
 use Rattle.dso_client.proofs.flushed.Flushed.{at_number}
 
@@ -44,7 +44,7 @@ noted true false here want note e = e
 noted false b here want note e = e
 
 -- an object that is neither resident nor asked for is absent
-absent_so : (standing : Option Standing) → body_of standing ≡ None → is_asked standing ≡ false → is_absent standing ≡ true
+absent_so : (standing : Option ObjectStanding) → body_of standing ≡ None → is_asked standing ≡ false → is_absent standing ≡ true
 absent_so None e f = refl
 absent_so (Some Asked) e f = absurd (cc f)
 absent_so (Some (Resident body)) e f = absurd (cc e)
@@ -53,7 +53,7 @@ none_there : (body : Option Body) → is_some body ≡ false → body ≡ None
 none_there None e = refl
 none_there (Some body) e = absurd (cc e)
 
-module _ (clock : ℕ) (at : Point) (t : ThreadId) (mine : t.client ≡ at.client) (old : Tables) (used : List ℕ) (h : TableTells at used old) where
+module _ (clock : ℕ) (at : RunPoint) (t : ThreadId) (mine : t.client ≡ at.client) (old : ObjectTables) (used : List ℕ) (h : TableTells at used old) where
   -- whether a thread is the one that acts
   pub same : (u : ThreadId) → is_at (thread_order t) u ≡ (eqb u.client at.client && eqb t.index u.index)
   same u = thread_at t u ∙ (ap (λ c. eqb u.client c && eqb u.index t.index) mine ∙ ap (λ b. eqb u.client at.client && b) (lock_either_way (Name t.index) (Name u.index)))
@@ -64,7 +64,7 @@ module _ (clock : ℕ) (at : Point) (t : ThreadId) (mine : t.client ≡ at.clien
       ∙ dropped (eqb u.client at.client) (eqb t.index u.index) (wants_object x u.index at.entries) ((state_in old).wanted (u, x)) (h.wanted u x)
 
   -- ids are asked for
-  pub ids_asked : (new : Tables) → state_in new ≡ acted t (state_in old) → TableTells (asked clock t.index up.IdAsk at) used new
+  pub ids_asked : (new : ObjectTables) → state_in new ≡ acted t (state_in old) → TableTells (asked clock t.index up.IdAsk at) used new
   ids_asked new is = record {
     bodies = λ x. ap (λ (s : State). body_of (s.standing x)) is ∙ h.bodies x;
     asked = λ x. ap (λ (s : State). is_asked (s.standing x)) is ∙ h.asked x;
@@ -78,7 +78,7 @@ module _ (clock : ℕ) (at : Point) (t : ThreadId) (mine : t.client ≡ at.clien
   }
 
   -- a lock is asked for
-  pub lease_asked : (l : LockName) (level : Level) (new : Tables) → state_in new ≡ acted t (state_in old) → TableTells (asked clock t.index (up.Request l level) at) used new
+  pub lease_asked : (l : LockName) (level : Level) (new : ObjectTables) → state_in new ≡ acted t (state_in old) → TableTells (asked clock t.index (up.Request l level) at) used new
   lease_asked l level new is = record {
     bodies = λ x. ap (λ (s : State). body_of (s.standing x)) is ∙ h.bodies x;
     asked = λ x. ap (λ (s : State). is_asked (s.standing x)) is ∙ h.asked x;
@@ -99,7 +99,7 @@ module _ (clock : ℕ) (at : Point) (t : ThreadId) (mine : t.client ≡ at.clien
     absent unasked = absent_so ((state_in old).standing o) (h.bodies o ∙ not_held) (h.asked o ∙ unasked)
 
     -- an object is asked for
-    pub object_asked : (new : Tables) → state_in new ≡ states.asked o t (acted t (state_in old)) → TableTells (asked clock t.index (up.Fault o) at) used new
+    pub object_asked : (new : ObjectTables) → state_in new ≡ states.asked o t (acted t (state_in old)) → TableTells (asked clock t.index (up.Fault o) at) used new
     object_asked new is = record {
       bodies = λ x. ap (λ (s : State). body_of (s.standing x)) is ∙ (ap body_of (at_number o (Some Asked) (state_in old).standing x) ∙ bodies x (eqb o x) refl);
       asked = λ x. ap (λ (s : State). is_asked (s.standing x)) is ∙ (ap is_asked (at_number o (Some Asked) (state_in old).standing x) ∙ asks x (eqb o x));

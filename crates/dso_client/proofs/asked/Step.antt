@@ -17,12 +17,12 @@ use Rattle.dso_law.proofs.runs.Quiet.{nothing_is_due}
 use Rattle.dso_machine.specs.declared.code.Code.{Code}
 use Rattle.dso_machine.specs.Next.{next_request}
 use Rattle.dso_machine.specs.Standing.{ThreadStands}
-use Rattle.dso_client.specs.declared.kept.Kept.{Kept}
-use Rattle.dso_client.specs.declared.seat.Seat.{Seat}
-use Rattle.dso_client.specs.Asking.{asked}
+use Rattle.dso_client.specs.declared.client_state.ClientState.{ClientState}
+use Rattle.dso_client.specs.declared.thread_context.ThreadContext.{ThreadContext}
+use Rattle.dso_client.specs.AskedActs.{asked}
 use Rattle.dso_client.specs.ClientStands.{ClientStands, point}
 use Rattle.dso_client.specs.Entries.{asked_entry}
-use Rattle.dso_client.specs.KeptStands.{PartsStand}
+use Rattle.dso_client.specs.StateStands.{ClientPartsStand}
 use Rattle.dso_client.specs.Openings.{thread_at}
 use Rattle.dso_client.specs.Turns.{Asks}
 use Rattle.dso_client.proofs.facts.All.{run_facts}
@@ -46,7 +46,7 @@ of_all t test (u ∷ threads) h = by (of_all t test threads) (test u) h
     by rest true h = first rest (is_thread t u) h
     by rest false h = behind (is_thread t u) (rest h)
 
-module _ (code : Code) (p : Settings) (c clock index : ℕ) (m : Up) (es : List Entry) (old : Kept) (h : ClientStands code p c old es) where
+module _ (code : Code) (p : Settings) (c clock index : ℕ) (m : Up) (es : List Entry) (old : ClientState) (h : ClientStands code p c old es) where
   abbrev next : ThreadId → Option Request
   next = next_in (next_request code) es
 
@@ -61,8 +61,8 @@ module _ (code : Code) (p : Settings) (c clock index : ℕ) (m : Up) (es : List 
     sends = sym (ap (λ locks. map ToServer (map (λ l. up.Return l (client_list l es)) locks ++ m ∷ [])) (nothing_is_due p c (next_request code) es h.run));
   })
 
-  pub asked_stands : (request : Request) (new : Kept) → list_any (is_thread (thread_at c index)) (threads_of p c) ≡ true → next (thread_at c index) ≡ Some request
-      → Asks (point code p c es) (thread_at c index) request m → PartsStand (asked clock index m (point code p c es)) new → new.seats.items ≡ old.seats.items → ClientStands code p c new (entry ∷ es)
+  pub asked_stands : (request : Request) (new : ClientState) → list_any (is_thread (thread_at c index)) (threads_of p c) ≡ true → next (thread_at c index) ≡ Some request
+      → Asks (point code p c es) (thread_at c index) request m → ClientPartsStand (asked clock index m (point code p c es)) new → new.contexts.items ≡ old.contexts.items → ClientStands code p c new (entry ∷ es)
   asked_stands request new its is asks parts same =
       let step : ClientStep p c next (next_in (next_request code) (entry ∷ es)) entry es = record {
         its = of_all (thread_at c index) (λ t. eqb t.client c) p.threads its;
@@ -75,11 +75,11 @@ module _ (code : Code) (p : Settings) (c clock index : ℕ) (m : Up) (es : List 
           number = parts.number;
           places = parts.places;
           numbered = parts.numbered;
-          seats = parts.seats;
+          contexts = parts.contexts;
           table = parts.table;
-          locking = parts.locking;
-          ledger = parts.ledger;
+          lock_state = parts.lock_state;
+          sequences = parts.sequences;
           facts = run_facts p c (next_request code) (entry ∷ es) (h.run, step);
         };
-        threads = subst (AllByRecursion (λ (seat : Seat). ThreadStands code seat.id seat.thread (events_in seat.id es))) (sym same) h.threads;
+        threads = subst (AllByRecursion (λ (context : ThreadContext). ThreadStands code context.id context.thread (events_in context.id es))) (sym same) h.threads;
       }

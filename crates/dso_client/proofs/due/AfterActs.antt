@@ -25,10 +25,10 @@ use Rattle.dso_law.specs.Leases.{enters, leased, is_entered, is_recalled}
 use Rattle.dso_law.specs.Settings.{threads_of}
 use Rattle.dso_law.specs.Threads.{Held, Waiting, Locks, hold_in, hold_of, locks_by, locks_of, resumed, with_hold}
 use Rattle.dso_client.specs.declared.answered.Answered.{Answered}
-use Rattle.dso_client.specs.Living.{acting}
-use Rattle.dso_client.specs.Points.{Point}
+use Rattle.dso_client.specs.ActEffects.{acting}
+use Rattle.dso_client.specs.RunPoints.{RunPoint}
 use Rattle.dso_client.specs.RunFacts.{AreOwnHolds}
-use Rattle.dso_client.specs.Returning.{OnlyThese, is_due_at, is_of, is_wanted_by, left_lock, record_sent, wanted_lock}
+use Rattle.dso_client.specs.LeaseReturns.{OnlyThese, is_due_at, is_of, is_wanted_by, left_lock, record_sent, wanted_lock}
 
 -- a test that fails where a wider one does
 any_less : {A : Type 0} (test wider : A → Bool) → ((x : A) → test x ≡ true → wider x ≡ true) → (xs : List A) → list_any wider xs ≡ false → list_any test xs ≡ false
@@ -110,8 +110,8 @@ held_not_due true false entered free e = refl
 held_not_due true true false free e = refl
 held_not_due true true true free e = e
 
-module _ (clock : ℕ) (act : Answered) (next : ThreadId → Option Request) (at : Point) where
-  abbrev pub then : Point
+module _ (clock : ℕ) (act : Answered) (next : ThreadId → Option Request) (at : RunPoint) where
+  abbrev pub then : RunPoint
   then = acting clock act [] next at
 
   module _ (its : list_any (is_thread act.thread) (threads_of at.settings at.client) ≡ true) (quiet : (l : LockName) → is_due_at at l ≡ false) (k : LockName) (left : is_of k (left_lock act.request) ≡ false)
@@ -174,7 +174,7 @@ module _ (clock : ℕ) (act : Answered) (next : ThreadId → Option Request) (at
       by false e false f = absurd (cc (sym is ∙ (due_same txn k ∙ elsewhere its quiet k e f)))
 
 -- a thread that isn't one of the client's holds nothing still
-pub own_acted : (clock : ℕ) (act : Answered) (next : ThreadId → Option Request) (at : Point) (txn : Option Txn) → list_any (is_thread act.thread) (threads_of at.settings at.client) ≡ true
+pub own_acted : (clock : ℕ) (act : Answered) (next : ThreadId → Option Request) (at : RunPoint) (txn : Option Txn) → list_any (is_thread act.thread) (threads_of at.settings at.client) ≡ true
     → AreOwnHolds at → AreOwnHolds (acting clock act (record_sent txn) next at)
 own_acted clock act next at txn its own t stranger = by (is_thread t act.thread) refl
   where

@@ -16,19 +16,19 @@ use Rattle.dso_hold.specs.Holds.{hold_in}
 use Rattle.dso_lease.specs.Leases.{standing_in, with_standing, after_want}
 use Rattle.dso_plain.specs.KeyTests.{is_lock}
 use Rattle.dso_plain.proofs.keys.SameKeys.{same_lock}
-use Rattle.dso_law.specs.declared.readings.Standing as law
+use Rattle.dso_law.specs.declared.readings.LockStanding as law
 use Rattle.dso_law.specs.ClientStep.{returns, asks_again}
 use Rattle.dso_law.specs.ClientWaiters.{client_list, list_by_act, list_by_sent}
-use Rattle.dso_law.specs.Closing.{is_closing, is_due, due}
+use Rattle.dso_law.specs.Closing.{is_closing, is_lease_due, due}
 use Rattle.dso_law.specs.Leases.{standing_up, standing, leased, is_entered, is_recalled, is_asked_for}
 use Rattle.dso_client.specs.declared.answered.Answered.{Answered}
-use Rattle.dso_client.specs.declared.kept.Kept.{Kept}
-use Rattle.dso_client.specs.declared.locking.Locking.{Locking}
-use Rattle.dso_client.specs.KeptStands.{PartsStand}
-use Rattle.dso_client.specs.Living.{acting, lived}
-use Rattle.dso_client.specs.LockingStands.{LockingStands, as_hold, list_at, standing_as}
-use Rattle.dso_client.specs.Points.{Point}
-use Rattle.dso_client.specs.Returning.{AsksAgain, asked_again, message_sent, record_sent, returns_lock}
+use Rattle.dso_client.specs.declared.client_state.ClientState.{ClientState}
+use Rattle.dso_client.specs.declared.lock_state.LockState.{LockState}
+use Rattle.dso_client.specs.StateStands.{ClientPartsStand}
+use Rattle.dso_client.specs.ActEffects.{acting, applied}
+use Rattle.dso_client.specs.LockStateStands.{LockStateStands, as_hold, list_at, standing_as}
+use Rattle.dso_client.specs.RunPoints.{RunPoint}
+use Rattle.dso_client.specs.LeaseReturns.{AsksAgain, asked_again, message_sent, record_sent, returns_lock}
 use Rattle.dso_client.specs.RunFacts.{RunFacts}
 use Rattle.dso_client.proofs.asked.Locks.{idle, asks_now}
 use Rattle.dso_client.proofs.due.Settled.{due_has, standing_returned}
@@ -56,16 +56,16 @@ was_returned (Some (Enter k Write)) closing returned l e = by closing (list_any 
     by false false f e = absurd (cc e)
 was_returned (Some request) closing returned l e = absurd (cc e)
 
-module _ (clock : ℕ) (act : Answered) (next : ThreadId → Option Request) (at : Point) where
+module _ (clock : ℕ) (act : Answered) (next : ThreadId → Option Request) (at : RunPoint) where
   abbrev dues : List LockName
-  dues = due at.settings at.client next (lived clock act at).entries
+  dues = due at.settings at.client next (applied clock act at).entries
 
   -- a lease that is given back was there before the act
   was_leased : (l : LockName) → list_any (is_lock l) dues ≡ true → is_some (leased l at.entries) ≡ true
-  was_leased l there = first_of (is_some (leased l at.entries)) (is_due at.settings at.client next l (lived clock act at).entries) (sym (due_has (acting clock act [] next at) l) ∙ there)
+  was_leased l there = first_of (is_some (leased l at.entries)) (is_lease_due at.settings at.client next l (applied clock act at).entries) (sym (due_has (acting clock act [] next at) l) ∙ there)
 
-  told_returned : (returned : List Up) → returned ≡ returns at.settings at.client next (lived clock act at).entries → (l : LockName) → list_any (returns_lock l) returned ≡ list_any (is_lock l) dues
-  told_returned returned is l = ap (list_any (returns_lock l)) is ∙ returned_locks l (λ k. client_list k (lived clock act at).entries) dues
+  told_returned : (returned : List Up) → returned ≡ returns at.settings at.client next (applied clock act at).entries → (l : LockName) → list_any (returns_lock l) returned ≡ list_any (is_lock l) dues
+  told_returned returned is l = ap (list_any (returns_lock l)) is ∙ returned_locks l (λ k. client_list k (applied clock act at).entries) dues
 
   abbrev WasClosing : Option Request → Bool → Type 0
   WasClosing request closing = (l : LockName) → request ≡ Some (Enter l Write) → is_some (leased l at.entries) ≡ true → closing ≡ is_closing at.settings at.client at.next l at.entries
@@ -73,8 +73,8 @@ module _ (clock : ℕ) (act : Answered) (next : ThreadId → Option Request) (at
   abbrev requested : Option LockName → List Up
   requested lock = message_sent (option_map (λ l. up.Request l Write) lock)
 
-  pub asks_so : (request : Option Request) (closing : Bool) (returned : List Up) → returned ≡ returns at.settings at.client next (lived clock act at).entries → WasClosing request closing
-      → requested (asked_again request closing returned) ≡ asks_again at.settings at.client at.next next request (lived clock act at).entries at.entries
+  pub asks_so : (request : Option Request) (closing : Bool) (returned : List Up) → returned ≡ returns at.settings at.client next (applied clock act at).entries → WasClosing request closing
+      → requested (asked_again request closing returned) ≡ asks_again at.settings at.client at.next next request (applied clock act at).entries at.entries
   asks_so None closing returned is was = refl
   asks_so (Some (Enter l Read)) closing returned is was = refl
   asks_so (Some (Enter l Write)) closing returned is was = ap (λ b. requested (cond (not closing && b) (Some l) None)) (told_returned returned is l) ∙ by (list_any (is_lock l) dues) refl
@@ -98,14 +98,14 @@ module _ (clock : ℕ) (act : Answered) (next : ThreadId → Option Request) (at
   entries_so sent = (acting clock act sent next at).entries
 
   -- one more request, of a lock that is idle
-  locking_asked : (sent : List Up) (l : LockName) (level : Level) (old new : Locking) → LockingStands (acting clock act sent next at) old → leased l (acting clock act sent next at).entries ≡ None
+  lock_state_asked : (sent : List Up) (l : LockName) (level : Level) (old new : LockState) → LockStateStands (acting clock act sent next at) old → leased l (acting clock act sent next at).entries ≡ None
       → is_asked_for l (acting clock act sent next at).entries ≡ false → new.holds ≡ old.holds → new.lists ≡ old.lists
       → standing_in new.leases ≡ with_standing l (Some (after_want level (standing_in old.leases l))) (standing_in old.leases)
-      → LockingStands (acting clock act (sent ++ up.Request l level ∷ []) next at) new
-  locking_asked sent l level old new h unleased unasked held lists wanted = record {
+      → LockStateStands (acting clock act (sent ++ up.Request l level ∷ []) next at) new
+  lock_state_asked sent l level old new h unleased unasked held lists wanted = record {
     holds = λ t x. ap (λ holds. option_map as_hold (hold_in holds (x, t))) held ∙ h.holds t x;
     leases = λ x. ap (λ leases. leases x) wanted ∙ (at_lock l (Some (after_want level (standing_in old.leases l))) (standing_in old.leases) x ∙ (by x (is_lock x l) refl
-        ∙ ap (λ (s : law.Standing). standing_as s.lease (is_entered x (entries_so sent)) (is_recalled x (entries_so sent)) s.is_asked) (sym (in_parts (standing_up x) sent (up.Request l level ∷ []) (standing x at.entries)))));
+        ∙ ap (λ (s : law.LockStanding). standing_as s.lease (is_entered x (entries_so sent)) (is_recalled x (entries_so sent)) s.is_asked) (sym (in_parts (standing_up x) sent (up.Request l level ∷ []) (standing x at.entries)))));
     lists = λ x. ap (λ lists. list_at lists x) lists ∙ (h.lists x ∙ sym (in_parts (list_by_sent x) sent (up.Request l level ∷ []) (list_by_act x act.thread act.request act.reply act.woken (client_list x at.entries))));
   }
     where
@@ -122,33 +122,33 @@ module _ (clock : ℕ) (act : Answered) (next : ThreadId → Option Request) (at
   asked_same (Some txn) l = refl
 
   -- a lock that was given back is idle
-  gone_now : (txn : Option Txn) (returned : List Up) → returned ≡ returns at.settings at.client next (lived clock act at).entries → (l : LockName) → list_any (is_lock l) dues ≡ true
+  gone_now : (txn : Option Txn) (returned : List Up) → returned ≡ returns at.settings at.client next (applied clock act at).entries → (l : LockName) → list_any (is_lock l) dues ≡ true
       → standing l (acting clock act (record_sent txn ++ returned) next at).entries ≡ record (standing l (acting clock act (record_sent txn) next at).entries) { lease = None }
   gone_now txn returned is l there =
       ap (λ r. standing l (acting clock act (record_sent txn ++ r) next at).entries) is
-      ∙ (standing_returned clock act next at (record_sent txn) (λ k. client_list k (lived clock act at).entries) dues l
+      ∙ (standing_returned clock act next at (record_sent txn) (λ k. client_list k (applied clock act at).entries) dues l
       ∙ ap (λ b. cond b (record (standing l (acting clock act (record_sent txn) next at).entries) { lease = None }) (standing l (acting clock act (record_sent txn) next at).entries)) there)
 
-  pub one_asked : (txn : Option Txn) (request : Option Request) (closing : Bool) (returned : List Up) (l : LockName) (old new : Kept) → PartsStand (acting clock act (record_sent txn ++ returned) next at) old → RunFacts at
-      → returned ≡ returns at.settings at.client next (lived clock act at).entries → request ≡ next act.thread → WasClosing request closing → asked_again request closing returned ≡ Some l
-      → new.locking.holds ≡ old.locking.holds → new.locking.lists ≡ old.locking.lists
-      → standing_in new.locking.leases ≡ with_standing l (Some (after_want Write (standing_in old.locking.leases l))) (standing_in old.locking.leases)
-      → new ≡ record old { locking = new.locking } → AsksAgain clock act (record_sent txn ++ returned) next at (Some (up.Request l Write)) new
+  pub one_asked : (txn : Option Txn) (request : Option Request) (closing : Bool) (returned : List Up) (l : LockName) (old new : ClientState) → ClientPartsStand (acting clock act (record_sent txn ++ returned) next at) old → RunFacts at
+      → returned ≡ returns at.settings at.client next (applied clock act at).entries → request ≡ next act.thread → WasClosing request closing → asked_again request closing returned ≡ Some l
+      → new.lock_state.holds ≡ old.lock_state.holds → new.lock_state.lists ≡ old.lock_state.lists
+      → standing_in new.lock_state.leases ≡ with_standing l (Some (after_want Write (standing_in old.lock_state.leases l))) (standing_in old.lock_state.leases)
+      → new ≡ record old { lock_state = new.lock_state } → AsksAgain clock act (record_sent txn ++ returned) next at (Some (up.Request l Write)) new
   one_asked txn request closing returned l old new h facts is its was again held lists wanted same =
       let there : list_any (is_lock l) dues ≡ true = sym (told_returned returned is l) ∙ was_returned request closing returned l again in
       let gone = gone_now txn returned is l there in
       record {
-        asks = sym (ap requested again) ∙ (asks_so request closing returned is was ∙ ap (λ r. asks_again at.settings at.client at.next next r (lived clock act at).entries at.entries) its);
-        parts = subst (PartsStand (acting clock act ((record_sent txn ++ returned) ++ up.Request l Write ∷ []) next at)) (sym same)
-            (parts_on clock act next at (record_sent txn ++ returned) (up.Request l Write ∷ []) tt old new.locking h
-            (locking_asked (record_sent txn ++ returned) l Write old.locking new.locking h.locking (ap (λ (s : law.Standing). s.lease) gone)
-            (ap (λ (s : law.Standing). s.is_asked) gone ∙ (asked_same txn l ∙ facts.apart l (was_leased l there))) held lists wanted));
+        asks = sym (ap requested again) ∙ (asks_so request closing returned is was ∙ ap (λ r. asks_again at.settings at.client at.next next r (applied clock act at).entries at.entries) its);
+        parts = subst (ClientPartsStand (acting clock act ((record_sent txn ++ returned) ++ up.Request l Write ∷ []) next at)) (sym same)
+            (parts_on clock act next at (record_sent txn ++ returned) (up.Request l Write ∷ []) tt old new.lock_state h
+            (lock_state_asked (record_sent txn ++ returned) l Write old.lock_state new.lock_state h.lock_state (ap (λ (s : law.LockStanding). s.lease) gone)
+            (ap (λ (s : law.LockStanding). s.is_asked) gone ∙ (asked_same txn l ∙ facts.apart l (was_leased l there))) held lists wanted));
       }
 
-  pub none_asked : (txn : Option Txn) (request : Option Request) (closing : Bool) (returned : List Up) (old : Kept) → PartsStand (acting clock act (record_sent txn ++ returned) next at) old
-      → returned ≡ returns at.settings at.client next (lived clock act at).entries → request ≡ next act.thread → WasClosing request closing → asked_again request closing returned ≡ None
+  pub none_asked : (txn : Option Txn) (request : Option Request) (closing : Bool) (returned : List Up) (old : ClientState) → ClientPartsStand (acting clock act (record_sent txn ++ returned) next at) old
+      → returned ≡ returns at.settings at.client next (applied clock act at).entries → request ≡ next act.thread → WasClosing request closing → asked_again request closing returned ≡ None
       → AsksAgain clock act (record_sent txn ++ returned) next at None old
   none_asked txn request closing returned old h is its was again = record {
-    asks = sym (ap requested again) ∙ (asks_so request closing returned is was ∙ ap (λ r. asks_again at.settings at.client at.next next r (lived clock act at).entries at.entries) its);
-    parts = subst (λ sent. PartsStand (acting clock act sent next at) old) (sym (append-nil (record_sent txn ++ returned))) h;
+    asks = sym (ap requested again) ∙ (asks_so request closing returned is was ∙ ap (λ r. asks_again at.settings at.client at.next next r (applied clock act at).entries at.entries) its);
+    parts = subst (λ sent. ClientPartsStand (acting clock act sent next at) old) (sym (append-nil (record_sent txn ++ returned))) h;
   }

@@ -6,15 +6,15 @@ use Rattle.dso_base.specs.declared.lock.LockName.{LockName}
 use Rattle.dso_base.specs.declared.lock.ThreadId.{ThreadId}
 use Rattle.dso_base.specs.declared.message.Up.{Up}
 use Rattle.dso_base.specs.declared.message.Up.TheVariants as up
-use Rattle.dso_lease.specs.declared.standing.Standing.{Standing}
+use Rattle.dso_lease.specs.declared.standing.LeaseStanding.{LeaseStanding}
 use Rattle.dso_lease.specs.Leases.{standing_in, with_standing, was_entered}
 use Rattle.dso_lookup.specs.Maps.{look, writes, written}
 use Rattle.dso_lookup.specs.Orders.{lock_order}
 use Rattle.dso_plain.specs.KeyTests.{is_lock}
 use Rattle.dso_law.proofs.client.ClientLaws.{lock_either_way}
-use Rattle.dso_client.specs.declared.locking.Locking.{Locking}
-use Rattle.dso_client.specs.LockingStands.{list_at}
-use Rattle.dso_client.specs.Returning.{AreGivenBack, given_back}
+use Rattle.dso_client.specs.declared.lock_state.LockState.{LockState}
+use Rattle.dso_client.specs.LockStateStands.{list_at}
+use Rattle.dso_client.specs.LeaseReturns.{AreGivenBack, given_back}
 use Rattle.dso_client.proofs.heard.Locks.{at_lock, without_list}
 
 or_none : (b : Bool) → (b || false) ≡ b
@@ -22,7 +22,7 @@ or_none true = refl
 or_none false = refl
 
 -- one lease
-pub one_given : (l : LockName) (old new : Locking) → (was_entered (standing_in old.leases l) ≡ true → standing_in new.leases ≡ with_standing l None (standing_in old.leases))
+pub one_given : (l : LockName) (old new : LockState) → (was_entered (standing_in old.leases l) ≡ true → standing_in new.leases ≡ with_standing l None (standing_in old.leases))
     → look lock_order new.lists ≡ written (writes (is_at (lock_order l)) (λ _. None)) (look lock_order old.lists) → new.holds ≡ old.holds
     → was_entered (standing_in old.leases l) ≡ true → AreGivenBack (l ∷ []) old new
 one_given l old new gives gone held entered = record {
@@ -47,7 +47,7 @@ told_alike l f g same (k ∷ locks) none = by (is_lock l k) refl none (told_alik
         λ i. up.Return k (first i) ∷ rest i
 
 -- what may be given back elsewhere still may
-still_may : (l : LockName) (old mid : LockName → Option Standing) → ((k : LockName) → is_lock k l ≡ false → mid k ≡ old k) → (locks : List LockName) → list_any (is_lock l) locks ≡ false
+still_may : (l : LockName) (old mid : LockName → Option LeaseStanding) → ((k : LockName) → is_lock k l ≡ false → mid k ≡ old k) → (locks : List LockName) → list_any (is_lock l) locks ≡ false
     → AllByRecursion (λ k. was_entered (old k) ≡ true) locks → AllByRecursion (λ k. was_entered (mid k) ≡ true) locks
 still_may l old mid same [] none may = tt
 still_may l old mid same (k ∷ locks) none may = by (is_lock l k) refl none (λ n. still_may l old mid same locks n may.1)
@@ -57,7 +57,7 @@ still_may l old mid same (k ∷ locks) none may = by (is_lock l k) refl none (λ
     by true e none later = absurd (cc none)
     by false e none later = (ap was_entered (same k (lock_either_way k l ∙ e)) ∙ may.0, later none)
 
-module _ (l : LockName) (rest : List LockName) (old mid : Locking) (first : AreGivenBack (l ∷ []) old mid) where
+module _ (l : LockName) (rest : List LockName) (old mid : LockState) (first : AreGivenBack (l ∷ []) old mid) where
   lease_elsewhere : (k : LockName) → is_lock k l ≡ false → standing_in mid.leases k ≡ standing_in old.leases k
   lease_elsewhere k e = first.leases k ∙ ap (λ b. cond (b || false) None (standing_in old.leases k)) e
 
@@ -70,7 +70,7 @@ module _ (l : LockName) (rest : List LockName) (old mid : Locking) (first : AreG
   once_or_twice false b none x = refl
 
   -- one lease, and then the others
-  pub more_given : (new : Locking) (before sent after : List Up) → list_any (is_lock l) rest ≡ false → sent ≡ before ++ up.Return l (list_at old.lists l) ∷ []
+  pub more_given : (new : LockState) (before sent after : List Up) → list_any (is_lock l) rest ≡ false → sent ≡ before ++ up.Return l (list_at old.lists l) ∷ []
       → (after ≡ sent ++ given_back mid rest) × AreGivenBack rest mid new → (after ≡ before ++ given_back old (l ∷ rest)) × AreGivenBack (l ∷ rest) old new
   more_given new before sent after apart one more = (
     more.0 ∙ (ap (λ s. s ++ given_back mid rest) one ∙ (append_assoc before (up.Return l (list_at old.lists l) ∷ []) (given_back mid rest)

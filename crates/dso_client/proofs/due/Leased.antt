@@ -15,11 +15,11 @@ use Rattle.dso_base.specs.declared.request.Event.{Event}
 use Rattle.dso_base.specs.declared.request.Request.{Request}
 use Rattle.dso_plain.specs.KeyTests.{is_lock}
 use Rattle.dso_plain.proofs.keys.SameKeys.{same_lock}
-use Rattle.dso_law.specs.declared.readings.Standing.{Standing}
+use Rattle.dso_law.specs.declared.readings.LockStanding.{LockStanding}
 use Rattle.dso_law.specs.Settings.{Settings}
 use Rattle.dso_law.specs.Entries.{by_sent_up, by_taken_down}
 use Rattle.dso_law.specs.Leases.{standing_up, standing_down, standing, leased, insert_lock, is_lock_before, granted_by, granted}
-use Rattle.dso_law.specs.Closing.{is_due}
+use Rattle.dso_law.specs.Closing.{is_lease_due}
 use Rattle.dso_law.specs.ClientRun.{ClientRun, next_in}
 use Rattle.dso_law.proofs.runs.Quiet.{nothing_is_due}
 use Rattle.dso_client.proofs.due.Parts.{each_fails}
@@ -44,7 +44,7 @@ among_insert l k (first ∷ rest) = by (is_lock k first) refl (is_lock_before k 
     by false differ false later = ap (λ b. is_lock l first || b) later ∙ swapped (is_lock l k) (is_lock l first) (list_any (is_lock l) rest)
 
 module _ (l : LockName) where
-  said_lease : (m : Up) (s : Standing) → is_some (standing_up l m s).lease ≡ true → is_some s.lease ≡ true
+  said_lease : (m : Up) (s : LockStanding) → is_some (standing_up l m s).lease ≡ true → is_some s.lease ≡ true
   said_lease (up.Request k level) s = by (is_lock l k)
     where
       by : (b : Bool) → is_some (cond b (record s { is_asked = true }) s).lease ≡ true → is_some s.lease ≡ true
@@ -57,12 +57,12 @@ module _ (l : LockName) where
       by false h = h
   said_lease m s = λ h. h
 
-  sent_lease : (out : List Sent) (s : Standing) → is_some (by_sent_up (standing_up l) out s).lease ≡ true → is_some s.lease ≡ true
+  sent_lease : (out : List Sent) (s : LockStanding) → is_some (by_sent_up (standing_up l) out s).lease ≡ true → is_some s.lease ≡ true
   sent_lease [] s h = h
   sent_lease (ToServer m ∷ out) s h = said_lease m s (sent_lease out (standing_up l m s) h)
   sent_lease (ToClient c m ∷ out) s h = sent_lease out s h
 
-  by_input : (i : Input) (s : Standing) (locks : List LockName) → (is_some s.lease ≡ true → list_any (is_lock l) locks ≡ true) → is_some (by_taken_down (standing_down l) i s).lease ≡ true
+  by_input : (i : Input) (s : LockStanding) (locks : List LockName) → (is_some s.lease ≡ true → list_any (is_lock l) locks ≡ true) → is_some (by_taken_down (standing_down l) i s).lease ≡ true
       → list_any (is_lock l) (by_taken_down granted_by i locks) ≡ true
   by_input (input.TookDown (down.Grant k level)) s locks before h = among_insert l k locks ∙ by (is_lock l k) h
     where
@@ -78,10 +78,10 @@ module _ (l : LockName) where
 
 -- no lease of a run is to be given back between two entries
 pub quiet_lease : (p : Settings) (c : ℕ) (next : ThreadId → List Event → Option Request) (es : List Entry) → ClientRun p c next es → (l : LockName)
-    → (is_some (leased l es) && is_due p c (next_in next es) l es) ≡ false
+    → (is_some (leased l es) && is_lease_due p c (next_in next es) l es) ≡ false
 quiet_lease p c next es run l = by (is_some (leased l es)) refl
   where
-    by : (b : Bool) → is_some (leased l es) ≡ b → (b && is_due p c (next_in next es) l es) ≡ false
+    by : (b : Bool) → is_some (leased l es) ≡ b → (b && is_lease_due p c (next_in next es) l es) ≡ false
     by false e = refl
-    by true e = ap (λ b. b && is_due p c (next_in next es) l es) (sym e)
-        ∙ each_fails (λ k. is_due p c (next_in next es) k es) (λ k. is_some (leased k es)) l (granted es) (nothing_is_due p c next es run) (leased_granted l es e)
+    by true e = ap (λ b. b && is_lease_due p c (next_in next es) l es) (sym e)
+        ∙ each_fails (λ k. is_lease_due p c (next_in next es) k es) (λ k. is_some (leased k es)) l (granted es) (nothing_is_due p c next es run) (leased_granted l es e)

@@ -5,7 +5,7 @@ use Rattle.dso_base.specs.declared.lock.LockName.{LockName}
 use Rattle.dso_plain.specs.KeyTests.{is_lock}
 use Rattle.dso_plain.proofs.keys.SameKeys.{same_lock}
 use Rattle.dso_law.proofs.runs.Quiet.{lock_self}
-use Rattle.dso_client.specs.Returning.{Distinct}
+use Rattle.dso_client.specs.LeaseReturns.{Distinct}
 
 module _ (test other : LockName → Bool) where
   -- the locks that pass both

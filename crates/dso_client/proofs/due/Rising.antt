@@ -13,7 +13,7 @@ use Rattle.dso_base.specs.declared.message.Down.TheVariants as down
 use Rattle.dso_plain.specs.KeyTests.{is_lock}
 use Rattle.dso_law.specs.Entries.{by_taken_down}
 use Rattle.dso_law.specs.Leases.{is_lock_before, insert_lock, granted_by, granted}
-use Rattle.dso_client.specs.Returning.{Distinct, Rising}
+use Rattle.dso_client.specs.LeaseReturns.{Distinct, Rising}
 
 -- numbers are ordered
 below_below : (a b c : ℕ) → ltb a b ≡ true → ltb b c ≡ true → ltb a c ≡ true

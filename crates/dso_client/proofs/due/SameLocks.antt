@@ -7,7 +7,7 @@ use Rattle.dso_plain.proofs.keys.SameKeys.{same_lock}
 use Rattle.dso_law.specs.Leases.{is_lock_before}
 use Rattle.dso_law.proofs.client.ClientLaws.{lock_either_way}
 use Rattle.dso_law.proofs.runs.Quiet.{lock_self}
-use Rattle.dso_client.specs.Returning.{Rising}
+use Rattle.dso_client.specs.LeaseReturns.{Rising}
 use Rattle.dso_client.proofs.due.Rising.{before_before, before_isnt, after_isnt}
 
 -- what holds of each of a list holds of one of it

@@ -15,21 +15,21 @@ use Rattle.dso_law.specs.HeldBody.{body_by_sent, held_body}
 use Rattle.dso_law.specs.Records.{batch_asked_by_sent, is_batch_asked, records_by_sent, records, unacked_by_sent, unacked}
 use Rattle.dso_law.specs.ResidentCount.{Presence, presence_by_sent, presence}
 use Rattle.dso_law.proofs.runs.Said.{LeavesLocks}
-use Rattle.dso_table.specs.declared.tables.Tables.{Tables}
-use Rattle.dso_table.specs.Tables.{state_in}
+use Rattle.dso_table.specs.declared.tables.ObjectTables.{ObjectTables}
+use Rattle.dso_table.specs.ObjectTables.{state_in}
 use Rattle.dso_client.specs.declared.answered.Answered.{Answered}
-use Rattle.dso_client.specs.declared.kept.Kept.{Kept}
-use Rattle.dso_client.specs.declared.ledger.Ledger.{Ledger}
-use Rattle.dso_client.specs.declared.locking.Locking.{Locking}
-use Rattle.dso_client.specs.declared.seat.Seat.{Seat}
-use Rattle.dso_client.specs.KeptStands.{PartsStand}
-use Rattle.dso_client.specs.LedgerStands.{LedgerStands}
-use Rattle.dso_client.specs.Living.{acting}
-use Rattle.dso_client.specs.LockingStands.{LockingStands}
-use Rattle.dso_client.specs.Points.{Point}
-use Rattle.dso_client.specs.SeatStands.{SeatStands, last_by_sent, last_record}
+use Rattle.dso_client.specs.declared.client_state.ClientState.{ClientState}
+use Rattle.dso_client.specs.declared.sequences.Sequences.{Sequences}
+use Rattle.dso_client.specs.declared.lock_state.LockState.{LockState}
+use Rattle.dso_client.specs.declared.thread_context.ThreadContext.{ThreadContext}
+use Rattle.dso_client.specs.StateStands.{ClientPartsStand}
+use Rattle.dso_client.specs.SequencesStand.{SequencesStand}
+use Rattle.dso_client.specs.ActEffects.{acting}
+use Rattle.dso_client.specs.LockStateStands.{LockStateStands}
+use Rattle.dso_client.specs.RunPoints.{RunPoint}
+use Rattle.dso_client.specs.ContextStands.{ContextStands, last_by_sent, last_record}
 use Rattle.dso_client.specs.TableStands.{TableStands}
-use Rattle.dso_client.proofs.seats.AtStart.{all_as}
+use Rattle.dso_client.proofs.contexts.AtStart.{all_as}
 
 -- these are returns and requests
 abbrev pub AreOfLocks : List Up → Type 0
@@ -60,27 +60,27 @@ same_faults : (o : ℕ) (sent ms : List Up) → AreOfLocks ms → list_any (faul
 same_faults o [] ms of_locks = no_fault o ms of_locks
 same_faults o (m ∷ sent) ms of_locks = ap (λ b. faults o (ToServer m) || b) (same_faults o sent ms of_locks)
 
-module _ (clock : ℕ) (act : Answered) (next : ThreadId → Option Request) (at : Point) (sent ms : List Up) (of_locks : AreOfLocks ms) where
-  abbrev before : Point
+module _ (clock : ℕ) (act : Answered) (next : ThreadId → Option Request) (at : RunPoint) (sent ms : List Up) (of_locks : AreOfLocks ms) where
+  abbrev before : RunPoint
   before = acting clock act sent next at
 
-  abbrev after : Point
+  abbrev after : RunPoint
   after = acting clock act (sent ++ ms) next at
 
   left : {S : Type 0} (step : Up → S → S) → LeavesLocks step → (s : S) → by_sent_up step (map ToServer sent) s ≡ by_sent_up step (map ToServer (sent ++ ms)) s
   left step leaves s = sym (in_parts step sent ms s ∙ leaves_all step leaves ms of_locks (by_sent_up step (map ToServer sent) s))
 
-  seat_on : (seat : Seat) → SeatStands before seat → SeatStands after seat
-  seat_on seat h = record {
+  context_on : (context : ThreadContext) → ContextStands before context → ContextStands after context
+  context_on context h = record {
     next = h.next;
     work = h.work;
     seen = h.seen;
     waiting = h.waiting;
     marked = h.marked;
-    last = h.last ∙ left (last_by_sent seat.id) (record { request = λ l level s. refl; return_of = λ l threads s. refl }) (last_record seat.id at.entries);
+    last = h.last ∙ left (last_by_sent context.id) (record { request = λ l level s. refl; return_of = λ l threads s. refl }) (last_record context.id at.entries);
   }
 
-  table_on : (table : Tables) → TableStands before table → TableStands after table
+  table_on : (table : ObjectTables) → TableStands before table → TableStands after table
   table_on table h = record {
     bodies = λ o. h.bodies o ∙ left (body_by_sent o) (record { request = λ l level s. refl; return_of = λ l threads s. refl }) (held_body o at.entries);
     asked = λ o. h.asked o ∙ left (asked_by_sent o) (record { request = λ l level s. refl; return_of = λ l threads s. refl }) (is_object_asked o at.entries);
@@ -93,8 +93,8 @@ module _ (clock : ℕ) (act : Answered) (next : ThreadId → Option Request) (at
     order = h.order;
   }
 
-  ledger_on : (ledger : Ledger) → LedgerStands before ledger → LedgerStands after ledger
-  ledger_on ledger h = record {
+  sequences_on : (sequences : Sequences) → SequencesStand before sequences → SequencesStand after sequences
+  sequences_on sequences h = record {
     ids = h.ids;
     bounded = h.bounded;
     end = h.end;
@@ -103,13 +103,13 @@ module _ (clock : ℕ) (act : Answered) (next : ThreadId → Option Request) (at
     unacked = λ n. h.unacked n ∙ ap (list_any (λ (txn : Txn). eqb txn.seq n)) (left unacked_by_sent (record { request = λ l level s. refl; return_of = λ l threads s. refl }) (unacked at.entries));
   }
 
-  pub parts_on : (old : Kept) (locking : Locking) → PartsStand before old → LockingStands after locking → PartsStand after (record old { locking = locking })
-  parts_on old locking h stands = record {
+  pub parts_on : (old : ClientState) (lock_state : LockState) → ClientPartsStand before old → LockStateStands after lock_state → ClientPartsStand after (record old { lock_state = lock_state })
+  parts_on old lock_state h stands = record {
     number = h.number;
     places = h.places;
     numbered = h.numbered;
-    seats = all_as (SeatStands before) (SeatStands after) seat_on old.seats.items h.seats;
+    contexts = all_as (ContextStands before) (ContextStands after) context_on old.contexts.items h.contexts;
     table = table_on old.table h.table;
-    locking = stands;
-    ledger = ledger_on old.ledger h.ledger;
+    lock_state = stands;
+    sequences = sequences_on old.sequences h.sequences;
   }

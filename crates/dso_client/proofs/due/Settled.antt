@@ -14,22 +14,22 @@ use Rattle.dso_hold.specs.Holds.{hold_in}
 use Rattle.dso_lease.specs.Leases.{standing_in, was_entered}
 use Rattle.dso_plain.specs.KeyTests.{is_lock}
 use Rattle.dso_plain.proofs.keys.SameKeys.{same_lock}
-use Rattle.dso_law.specs.declared.readings.Standing as law
+use Rattle.dso_law.specs.declared.readings.LockStanding as law
 use Rattle.dso_law.proofs.runs.Quiet.{lock_self}
 use Rattle.dso_law.specs.Entries.{by_sent_up}
 use Rattle.dso_law.specs.ClientStep.{returns}
 use Rattle.dso_law.specs.ClientWaiters.{list_by_act, list_by_sent, client_list}
-use Rattle.dso_law.specs.Closing.{is_closing, is_due, is_free, due}
+use Rattle.dso_law.specs.Closing.{is_closing, is_lease_due, is_free, due}
 use Rattle.dso_law.specs.Leases.{granted, insert_lock, leased_locks, standing_up, standing, leased, is_entered, is_recalled, is_asked_for}
 use Rattle.dso_law.specs.Settings.{threads_of}
 use Rattle.dso_client.specs.declared.answered.Answered.{Answered}
-use Rattle.dso_client.specs.declared.kept.Kept.{Kept}
-use Rattle.dso_client.specs.declared.locking.Locking.{Locking}
-use Rattle.dso_client.specs.KeptStands.{PartsStand}
-use Rattle.dso_client.specs.Living.{acting, lived}
-use Rattle.dso_client.specs.LockingStands.{LockingStands, as_hold, standing_as}
-use Rattle.dso_client.specs.Points.{Point}
-use Rattle.dso_client.specs.Returning.{ActSettles, AddsDue, AreGivenBack, Distinct, OnlyThese, Rising, given_back, is_due_at, is_of, is_wanted_by, record_sent}
+use Rattle.dso_client.specs.declared.client_state.ClientState.{ClientState}
+use Rattle.dso_client.specs.declared.lock_state.LockState.{LockState}
+use Rattle.dso_client.specs.StateStands.{ClientPartsStand}
+use Rattle.dso_client.specs.ActEffects.{acting, applied}
+use Rattle.dso_client.specs.LockStateStands.{LockStateStands, as_hold, standing_as}
+use Rattle.dso_client.specs.RunPoints.{RunPoint}
+use Rattle.dso_client.specs.LeaseReturns.{ActSettles, AddsDue, AreGivenBack, Distinct, OnlyThese, Rising, given_back, is_due_at, is_of, is_wanted_by, record_sent}
 use Rattle.dso_client.specs.RunFacts.{RunFacts}
 use Rattle.dso_client.proofs.lock_standing.LockStands.{entered_told}
 use Rattle.dso_client.proofs.due.Leased.{among_insert, leased_granted}
@@ -39,12 +39,12 @@ use Rattle.dso_client.proofs.due.Sent.{AreOfLocks, in_parts, parts_on}
 
 -- ---- which leases are due
 
-module _ (at : Point) where
+module _ (at : RunPoint) where
   abbrev all_due : List LockName
   all_due = due at.settings at.client at.next at.entries
 
   pub due_rises : Rising all_due
-  due_rises = rising_left (λ l. is_due at.settings at.client at.next l at.entries) (leased_locks at.entries) (rising_left (λ l. is_some (leased l at.entries)) (granted at.entries) (granted_rises at.entries))
+  due_rises = rising_left (λ l. is_lease_due at.settings at.client at.next l at.entries) (leased_locks at.entries) (rising_left (λ l. is_some (leased l at.entries)) (granted at.entries) (granted_rises at.entries))
 
   both_or_none : (g l d : Bool) → (l ≡ true → g ≡ true) → ((g && l) && d) ≡ (l && d)
   both_or_none true l d there = refl
@@ -52,9 +52,9 @@ module _ (at : Point) where
   both_or_none false false d there = refl
 
   pub due_has : (k : LockName) → list_any (is_lock k) all_due ≡ is_due_at at k
-  due_has k = among_left k (λ l. is_due at.settings at.client at.next l at.entries) (leased_locks at.entries)
-      ∙ (ap (λ b. b && is_due at.settings at.client at.next k at.entries) (among_left k (λ l. is_some (leased l at.entries)) (granted at.entries))
-      ∙ both_or_none (list_any (is_lock k) (granted at.entries)) (is_some (leased k at.entries)) (is_due at.settings at.client at.next k at.entries) (leased_granted k at.entries))
+  due_has k = among_left k (λ l. is_lease_due at.settings at.client at.next l at.entries) (leased_locks at.entries)
+      ∙ (ap (λ b. b && is_lease_due at.settings at.client at.next k at.entries) (among_left k (λ l. is_some (leased l at.entries)) (granted at.entries))
+      ∙ both_or_none (list_any (is_lock k) (granted at.entries)) (is_some (leased k at.entries)) (is_lease_due at.settings at.client at.next k at.entries) (leased_granted k at.entries))
 
   only : (a b d : Bool) → (d ≡ true → (a || b) ≡ true) → ((false || (a && d)) || (b && d)) ≡ d
   only true true true h = refl
@@ -74,7 +74,7 @@ module _ (at : Point) where
       ∙ (only (is_of k left) (list_any (is_wanted_by at k) (threads_of at.settings at.client)) (is_due_at at k) (these k) ∙ sym (due_has k))))
 
 -- a lock that wasn't there is added, where its lease is to be given back
-pub adds_one : (at : Point) (lock : LockName) (old new : List LockName) → list_any (is_lock lock) old ≡ false → is_due_at at lock ≡ true → new ≡ insert_lock lock old → AddsDue at (λ k. is_lock k lock) old new
+pub adds_one : (at : RunPoint) (lock : LockName) (old new : List LockName) → list_any (is_lock lock) old ≡ false → is_due_at at lock ≡ true → new ≡ insert_lock lock old → AddsDue at (λ k. is_lock k lock) old new
 adds_one at lock old new absent is inserted = record {
   rises = λ h. subst Rising (sym inserted) (insert_rising lock old h);
   has = λ k. ap (list_any (is_lock k)) inserted ∙ (among_insert k lock old ∙ by k (is_lock k lock) refl (list_any (is_lock k) old));
@@ -93,7 +93,7 @@ adds_one at lock old new absent is inserted = record {
     by k false differ a = elsewhere a
 
 -- one after the other
-pub adds_both : (at : Point) (one other : LockName → Bool) (old mid new : List LockName) → AddsDue at one old mid → AddsDue at other mid new → AddsDue at (λ k. one k || other k) old new
+pub adds_both : (at : RunPoint) (one other : LockName → Bool) (old mid new : List LockName) → AddsDue at one old mid → AddsDue at other mid new → AddsDue at (λ k. one k || other k) old new
 adds_both at one other old mid new first second = record {
   rises = λ h. second.rises (first.rises h);
   has = λ k. second.has k ∙ (ap (λ b. b || (other k && is_due_at at k)) (first.has k) ∙ regrouped (list_any (is_lock k) old) (one k) (other k) (is_due_at at k));
@@ -112,9 +112,9 @@ first_two : (a b : Bool) → (a && b) ≡ true → (a ≡ true) × (b ≡ true)
 first_two true b e = (refl, e)
 first_two false b e = absurd (cc e)
 
-pub due_may : (at : Point) (old : Locking) → LockingStands at old → (l : LockName) → is_due_at at l ≡ true → was_entered (standing_in old.leases l) ≡ true
+pub due_may : (at : RunPoint) (old : LockState) → LockStateStands at old → (l : LockName) → is_due_at at l ≡ true → was_entered (standing_in old.leases l) ≡ true
 due_may at old h l is =
-    let parts = first_two (is_some (leased l at.entries)) (is_due at.settings at.client at.next l at.entries) is in
+    let parts = first_two (is_some (leased l at.entries)) (is_lease_due at.settings at.client at.next l at.entries) is in
     let more = first_two (is_closing at.settings at.client at.next l at.entries) (is_entered l at.entries && is_free at.settings at.client at.next l at.entries) parts.1 in
     let entered = first_two (is_entered l at.entries) (is_free at.settings at.client at.next l at.entries) more.1 in
     entered_told at old h l ∙ (ap (λ there. there && is_entered l at.entries) parts.0 ∙ entered.0)
@@ -133,7 +133,7 @@ each_may test (l ∷ locks) h = (h l (lock_self_there l locks), each_may test lo
 -- ---- what returns make of the locks
 
 module _ (list : LockName → List ThreadId) (x : LockName) where
-  returned_standing : (locks : List LockName) (s : law.Standing) → by_sent_up (standing_up x) (map ToServer (map (λ l. up.Return l (list l)) locks)) s ≡ cond (list_any (is_lock x) locks) (record s { lease = None }) s
+  returned_standing : (locks : List LockName) (s : law.LockStanding) → by_sent_up (standing_up x) (map ToServer (map (λ l. up.Return l (list l)) locks)) s ≡ cond (list_any (is_lock x) locks) (record s { lease = None }) s
   returned_standing [] s = refl
   returned_standing (l ∷ locks) s = returned_standing locks (cond (is_lock x l) (record s { lease = None }) s) ∙ by (is_lock x l) (list_any (is_lock x) locks)
     where
@@ -155,8 +155,8 @@ pub of_locks : (list : LockName → List ThreadId) (locks : List LockName) → A
 of_locks list [] = tt
 of_locks list (l ∷ locks) = of_locks list locks
 
-module _ (clock : ℕ) (act : Answered) (next : ThreadId → Option Request) (at : Point) (sent : List Up) (list : LockName → List ThreadId) (locks : List LockName) where
-  abbrev mid : Point
+module _ (clock : ℕ) (act : Answered) (next : ThreadId → Option Request) (at : RunPoint) (sent : List Up) (list : LockName → List ThreadId) (locks : List LockName) where
+  abbrev mid : RunPoint
   mid = acting clock act sent next at
 
   abbrev messages : List Up
@@ -165,12 +165,12 @@ module _ (clock : ℕ) (act : Answered) (next : ThreadId → Option Request) (at
   pub standing_returned : (x : LockName) → standing x (acting clock act (sent ++ messages) next at).entries ≡ cond (list_any (is_lock x) locks) (record (standing x mid.entries) { lease = None }) (standing x mid.entries)
   standing_returned x = in_parts (standing_up x) sent messages (standing x at.entries) ∙ returned_standing list x locks (standing x mid.entries)
 
-  pub locking_returned : (old new : Locking) → LockingStands mid old → AreGivenBack locks old new → ((x : LockName) → list_any (is_lock x) locks ≡ true → is_asked_for x mid.entries ≡ false)
-      → LockingStands (acting clock act (sent ++ messages) next at) new
-  locking_returned old new h given unasked = record {
+  pub lock_state_returned : (old new : LockState) → LockStateStands mid old → AreGivenBack locks old new → ((x : LockName) → list_any (is_lock x) locks ≡ true → is_asked_for x mid.entries ≡ false)
+      → LockStateStands (acting clock act (sent ++ messages) next at) new
+  lock_state_returned old new h given unasked = record {
     holds = λ t x. ap (λ holds. option_map as_hold (hold_in holds (x, t))) given.holds ∙ h.holds t x;
     leases = λ x. given.leases x ∙ (by x (list_any (is_lock x) locks) refl
-        ∙ ap (λ (s : law.Standing). standing_as s.lease (is_entered x mid.entries) (is_recalled x mid.entries) s.is_asked) (sym (standing_returned x)));
+        ∙ ap (λ (s : law.LockStanding). standing_as s.lease (is_entered x mid.entries) (is_recalled x mid.entries) s.is_asked) (sym (standing_returned x)));
     lists = λ x. given.lists x ∙ (ap (cond (list_any (is_lock x) locks) []) (h.lists x)
         ∙ sym (in_parts (list_by_sent x) sent messages (list_by_act x act.thread act.request act.reply act.woken (client_list x at.entries)) ∙ returned_list list x locks (client_list x mid.entries)));
   }
@@ -183,9 +183,9 @@ module _ (clock : ℕ) (act : Answered) (next : ThreadId → Option Request) (at
 
 -- ---- all together
 
-module _ (clock : ℕ) (act : Answered) (next : ThreadId → Option Request) (at : Point) where
+module _ (clock : ℕ) (act : Answered) (next : ThreadId → Option Request) (at : RunPoint) where
   same_returns : (txn : Option Txn) → map (λ l. up.Return l (client_list l (acting clock act (record_sent txn) next at).entries)) (due at.settings at.client next (acting clock act (record_sent txn) next at).entries)
-      ≡ returns at.settings at.client next (lived clock act at).entries
+      ≡ returns at.settings at.client next (applied clock act at).entries
   same_returns None = refl
   same_returns (Some txn) = refl
 
@@ -195,23 +195,23 @@ module _ (clock : ℕ) (act : Answered) (next : ThreadId → Option Request) (at
   apart_still None facts x there = facts.apart x there
   apart_still (Some txn) facts x there = facts.apart x there
 
-  pub act_settles : (txn : Option Txn) (old new : Kept) (locks : List LockName) (sent : List Up) → PartsStand (acting clock act (record_sent txn) next at) old → RunFacts at
+  pub act_settles : (txn : Option Txn) (old new : ClientState) (locks : List LockName) (sent : List Up) → ClientPartsStand (acting clock act (record_sent txn) next at) old → RunFacts at
       → locks ≡ due at.settings at.client next (acting clock act (record_sent txn) next at).entries
-      → (Distinct locks → AllByRecursion (λ l. was_entered (standing_in old.locking.leases l) ≡ true) locks → (sent ≡ given_back old.locking locks) × AreGivenBack locks old.locking new.locking)
-      → new ≡ record old { locking = new.locking } → ActSettles clock act txn next at sent new
+      → (Distinct locks → AllByRecursion (λ l. was_entered (standing_in old.lock_state.leases l) ≡ true) locks → (sent ≡ given_back old.lock_state locks) × AreGivenBack locks old.lock_state new.lock_state)
+      → new ≡ record old { lock_state = new.lock_state } → ActSettles clock act txn next at sent new
   act_settles txn old new locks sent h facts is gives same =
       let mid = acting clock act (record_sent txn) next at in
       let has : (k : LockName) → list_any (is_lock k) locks ≡ is_due_at mid k = λ k. ap (list_any (is_lock k)) is ∙ due_has mid k in
       let distinct = rising_distinct locks (subst Rising (sym is) (due_rises mid)) in
-      let given = gives distinct (each_may (λ l. was_entered (standing_in old.locking.leases l)) locks (λ k there. due_may mid old.locking h.locking k (sym (has k) ∙ there))) in
+      let given = gives distinct (each_may (λ l. was_entered (standing_in old.lock_state.leases l)) locks (λ k there. due_may mid old.lock_state h.lock_state k (sym (has k) ∙ there))) in
       let list : LockName → List ThreadId = λ l. client_list l mid.entries in
-      let said : sent ≡ map (λ l. up.Return l (list l)) locks = given.0 ∙ ap (λ (lists : LockName → List ThreadId). map (λ l. up.Return l (lists l)) locks) (fun_ext h.locking.lists) in
+      let said : sent ≡ map (λ l. up.Return l (list l)) locks = given.0 ∙ ap (λ (lists : LockName → List ThreadId). map (λ l. up.Return l (lists l)) locks) (fun_ext h.lock_state.lists) in
       let unasked : (x : LockName) → list_any (is_lock x) locks ≡ true → is_asked_for x mid.entries ≡ false =
-      λ x there. apart_still txn facts x (first_two (is_some (leased x mid.entries)) (is_due at.settings at.client next x mid.entries) (sym (has x) ∙ there)).0 in
+      λ x there. apart_still txn facts x (first_two (is_some (leased x mid.entries)) (is_lease_due at.settings at.client next x mid.entries) (sym (has x) ∙ there)).0 in
       record {
         sends = said ∙ (ap (map (λ l. up.Return l (list l))) is ∙ same_returns txn);
-        parts = subst (λ sent. PartsStand (acting clock act (record_sent txn ++ sent) next at) new) (sym said)
-            (subst (PartsStand (acting clock act (record_sent txn ++ map (λ l. up.Return l (list l)) locks) next at)) (sym same)
-            (parts_on clock act next at (record_sent txn) (map (λ l. up.Return l (list l)) locks) (of_locks list locks) old new.locking h
-            (locking_returned clock act next at (record_sent txn) list locks old.locking new.locking h.locking given.1 unasked)));
+        parts = subst (λ sent. ClientPartsStand (acting clock act (record_sent txn ++ sent) next at) new) (sym said)
+            (subst (ClientPartsStand (acting clock act (record_sent txn ++ map (λ l. up.Return l (list l)) locks) next at)) (sym same)
+            (parts_on clock act next at (record_sent txn) (map (λ l. up.Return l (list l)) locks) (of_locks list locks) old new.lock_state h
+            (lock_state_returned clock act next at (record_sent txn) list locks old.lock_state new.lock_state h.lock_state given.1 unasked)));
       }

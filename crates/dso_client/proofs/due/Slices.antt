@@ -6,12 +6,12 @@ use Rattle.dso_base.specs.declared.lock.LockName.{LockName}
 use Rattle.dso_base.specs.declared.message.Up.{Up}
 use Rattle.dso_base.specs.declared.message.Up.TheVariants as up
 use Rattle.dso_lease.specs.Leases.{standing_in, was_entered}
-use Rattle.dso_client.specs.declared.locking.Locking.{Locking}
-use Rattle.dso_client.specs.declared.seat.Seat.{Seat}
-use Rattle.dso_client.specs.LockingStands.{list_at}
-use Rattle.dso_client.specs.Points.{Point}
-use Rattle.dso_client.specs.Returning.{AddsDue, AreGivenBack, Distinct, given_back, is_of, is_wanted_by, wanted_lock}
-use Rattle.dso_client.specs.SeatStands.{SeatStands}
+use Rattle.dso_client.specs.declared.lock_state.LockState.{LockState}
+use Rattle.dso_client.specs.declared.thread_context.ThreadContext.{ThreadContext}
+use Rattle.dso_client.specs.LockStateStands.{list_at}
+use Rattle.dso_client.specs.RunPoints.{RunPoint}
+use Rattle.dso_client.specs.LeaseReturns.{AddsDue, AreGivenBack, Distinct, given_back, is_of, is_wanted_by, wanted_lock}
+use Rattle.dso_client.specs.ContextStands.{ContextStands}
 use Rattle.dso_client.proofs.due.GivenBack.{more_given, rest_may}
 use Rattle.dso_client.proofs.due.Settled.{adds_both}
 
@@ -25,7 +25,7 @@ others_are x xs =
     ap (λ n. take n xs) many ∙ take_all (length xs) xs (omega arith)
 
 -- one lease that is given back, and then the others
-pub all_given : (locks : List LockName) (other : LockName) (old mid new : Locking) (before sent after : List Up) → 1 ≤ length locks
+pub all_given : (locks : List LockName) (other : LockName) (old mid new : LockState) (before sent after : List Up) → 1 ≤ length locks
     → (was_entered (standing_in old.leases (get_or locks 0 other)) ≡ true → AreGivenBack (get_or locks 0 other ∷ []) old mid)
     → sent ≡ before ++ up.Return (get_or locks 0 other) (list_at old.lists (get_or locks 0 other)) ∷ []
     → (Distinct (others locks) → AllByRecursion (λ l. was_entered (standing_in mid.leases l) ≡ true) (others locks) → (after ≡ sent ++ given_back mid (others locks)) × AreGivenBack (others locks) mid new)
@@ -37,12 +37,12 @@ all_given (l ∷ rest) other old mid new before sent after some one said later d
     more_given l rest old mid first new before sent after distinct.0 said (more distinct.1 (rest_may l rest old mid first distinct.0 may.1))
 
 -- the lock that one thread wants, and then those of the others
-pub all_wanted : (at : Point) (seats : List Seat) (one_seat : Seat) (old mid new : List LockName) → 1 ≤ length seats → one_seat ≡ get_or seats 0 one_seat
-    → AddsDue at (λ k. is_of k (wanted_lock one_seat.next)) old mid
-    → (AllByRecursion (SeatStands at) (others seats) → AddsDue at (λ k. list_any (is_wanted_by at k) (map (λ (seat : Seat). seat.id) (others seats))) mid new)
-    → AllByRecursion (SeatStands at) seats → AddsDue at (λ k. list_any (is_wanted_by at k) (map (λ (seat : Seat). seat.id) seats)) old new
-all_wanted at [] one_seat old mid new some its one later h = absurd (omega (arith, some))
-all_wanted at (seat ∷ seats) one_seat old mid new some its one later h =
-    let more = subst (λ rest. AllByRecursion (SeatStands at) rest → AddsDue at (λ k. list_any (is_wanted_by at k) (map (λ (seat : Seat). seat.id) rest)) mid new) (others_are seat seats) later in
-    adds_both at (λ k. is_wanted_by at k seat.id) (λ k. list_any (is_wanted_by at k) (map (λ (seat : Seat). seat.id) seats)) old mid new
-    (subst (λ next. AddsDue at (λ k. is_of k (wanted_lock next)) old mid) (ap (λ (x : Seat). x.next) its ∙ h.0.next) one) (more h.1)
+pub all_wanted : (at : RunPoint) (contexts : List ThreadContext) (one_context : ThreadContext) (old mid new : List LockName) → 1 ≤ length contexts → one_context ≡ get_or contexts 0 one_context
+    → AddsDue at (λ k. is_of k (wanted_lock one_context.next)) old mid
+    → (AllByRecursion (ContextStands at) (others contexts) → AddsDue at (λ k. list_any (is_wanted_by at k) (map (λ (context : ThreadContext). context.id) (others contexts))) mid new)
+    → AllByRecursion (ContextStands at) contexts → AddsDue at (λ k. list_any (is_wanted_by at k) (map (λ (context : ThreadContext). context.id) contexts)) old new
+all_wanted at [] one_context old mid new some its one later h = absurd (omega (arith, some))
+all_wanted at (context ∷ contexts) one_context old mid new some its one later h =
+    let more = subst (λ rest. AllByRecursion (ContextStands at) rest → AddsDue at (λ k. list_any (is_wanted_by at k) (map (λ (context : ThreadContext). context.id) rest)) mid new) (others_are context contexts) later in
+    adds_both at (λ k. is_wanted_by at k context.id) (λ k. list_any (is_wanted_by at k) (map (λ (context : ThreadContext). context.id) contexts)) old mid new
+    (subst (λ next. AddsDue at (λ k. is_of k (wanted_lock next)) old mid) (ap (λ (x : ThreadContext). x.next) its ∙ h.0.next) one) (more h.1)

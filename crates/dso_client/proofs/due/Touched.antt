@@ -19,11 +19,11 @@ use Rattle.dso_law.specs.Settings.{threads_of}
 use Rattle.dso_law.specs.Threads.{hold_of}
 use Rattle.dso_law.specs.ClientWaiters.{is_marked}
 use Rattle.dso_law.specs.Leases.{standing, leased, is_entered, is_recalled, granted}
-use Rattle.dso_law.specs.Closing.{wants_write, is_read, awaits_write, is_free, is_due, due}
-use Rattle.dso_client.specs.Hearing.{heard}
-use Rattle.dso_client.specs.Points.{Point}
-use Rattle.dso_client.specs.Returning.{is_due_at}
-use Rattle.dso_client.specs.Touching.{resumed_lock, touched}
+use Rattle.dso_law.specs.Closing.{wants_write, is_read, awaits_write, is_free, is_lease_due, due}
+use Rattle.dso_client.specs.MessageEffects.{heard}
+use Rattle.dso_client.specs.RunPoints.{RunPoint}
+use Rattle.dso_client.specs.LeaseReturns.{is_due_at}
+use Rattle.dso_client.specs.TouchedLocks.{resumed_lock, touched}
 use Rattle.dso_client.proofs.due.Leased.{leased_granted}
 use Rattle.dso_client.proofs.due.Parts.{none_left, one_left}
 use Rattle.dso_client.proofs.due.Rising.{rising_distinct, granted_rises}
@@ -41,7 +41,7 @@ wants_same k (Some (Enter l Write)) apart a b self = refl
 wants_same k (Some (Resume l)) apart a b self = ap (λ t. t && a) (lock_either_way k l ∙ apart) ∙ sym (ap (λ t. t && b) (lock_either_way k l ∙ apart))
 wants_same k (Some request) apart a b self = refl
 
-module _ (clock : ℕ) (at : Point) (quiet : (l : LockName) → is_due_at at l ≡ false) where
+module _ (clock : ℕ) (at : RunPoint) (quiet : (l : LockName) → is_due_at at l ≡ false) where
   granted_apart : (k l : LockName) (level : Level) → is_due_at (heard clock (down.Grant l level) at) k ≡ false
   granted_apart k l level = by (is_lock k l)
     where
@@ -91,7 +91,7 @@ module _ (clock : ℕ) (at : Point) (quiet : (l : LockName) → is_due_at at l �
   -- where it touches none, or one that isn't to be given back, none is
   pub none_due : (m : Down) → ((l : LockName) → touched at m ≡ Some l → is_due_at (heard clock m at) l ≡ false)
       → due at.settings at.client at.next (heard clock m at).entries ≡ []
-  none_due m fails = none_left (λ k. is_due at.settings at.client at.next k (heard clock m at).entries) (λ k. is_some (leased k (heard clock m at).entries)) (granted (heard clock m at).entries)
+  none_due m fails = none_left (λ k. is_lease_due at.settings at.client at.next k (heard clock m at).entries) (λ k. is_some (leased k (heard clock m at).entries)) (granted (heard clock m at).entries)
       (λ k there. each k (touched at m) refl)
     where
       each : (k : LockName) (l : Option LockName) → touched at m ≡ l → is_due_at (heard clock m at) k ≡ false
@@ -104,9 +104,9 @@ module _ (clock : ℕ) (at : Point) (quiet : (l : LockName) → is_due_at at l �
 
   -- and where the one is, it is alone
   pub one_due : (m : Down) (l : LockName) → touched at m ≡ Some l → is_due_at (heard clock m at) l ≡ true → due at.settings at.client at.next (heard clock m at).entries ≡ l ∷ []
-  one_due m l e is = one_left (λ k. is_due at.settings at.client at.next k (heard clock m at).entries) (λ k. is_some (leased k (heard clock m at).entries)) l (granted (heard clock m at).entries)
+  one_due m l e is = one_left (λ k. is_lease_due at.settings at.client at.next k (heard clock m at).entries) (λ k. is_some (leased k (heard clock m at).entries)) l (granted (heard clock m at).entries)
       (rising_distinct (granted (heard clock m at).entries) (granted_rises (heard clock m at).entries)) (λ k differ. untouched m k (subst (IsApart k) (sym e) differ)) is
-      (leased_granted l (heard clock m at).entries (first (is_some (leased l (heard clock m at).entries)) (is_due at.settings at.client at.next l (heard clock m at).entries) is))
+      (leased_granted l (heard clock m at).entries (first (is_some (leased l (heard clock m at).entries)) (is_lease_due at.settings at.client at.next l (heard clock m at).entries) is))
     where
       first : (a b : Bool) → (a && b) ≡ true → a ≡ true
       first true b h = refl

@@ -20,7 +20,7 @@ use Rattle.dso_base.specs.declared.request.Request.{Request}
 use Rattle.dso_base.specs.declared.request.Request.TheVariants.{Enter}
 use Rattle.dso_plain.specs.KeyTests.{is_lock}
 use Rattle.dso_plain.proofs.keys.SameKeys.{same_lock}
-use Rattle.dso_law.specs.declared.readings.Standing.{Standing}
+use Rattle.dso_law.specs.declared.readings.LockStanding.{LockStanding}
 use Rattle.dso_law.specs.Settings.{Settings}
 use Rattle.dso_law.specs.Entries.{unsent, by_sent_up, by_taken_down}
 use Rattle.dso_law.specs.Threads.{locks_of, ending_of}
@@ -41,7 +41,7 @@ requests_lock l (up.Request k level) = is_lock l k
 requests_lock l m = false
 
 module _ (l : LockName) where
-  asked_said : (m : Up) (s : Standing) → (standing_up l m s).is_asked ≡ (requests_lock l m || s.is_asked)
+  asked_said : (m : Up) (s : LockStanding) → (standing_up l m s).is_asked ≡ (requests_lock l m || s.is_asked)
   asked_said (up.Request k level) s = by (is_lock l k)
     where
       by : (b : Bool) → (cond b (record s { is_asked = true }) s).is_asked ≡ (b || s.is_asked)
@@ -59,7 +59,7 @@ module _ (l : LockName) where
   one_or_rest true false s = refl
   one_or_rest false b s = refl
 
-  asked_sent : (ms : List Up) (s : Standing) → (by_sent_up (standing_up l) (map ToServer ms) s).is_asked ≡ (list_any (requests_lock l) ms || s.is_asked)
+  asked_sent : (ms : List Up) (s : LockStanding) → (by_sent_up (standing_up l) (map ToServer ms) s).is_asked ≡ (list_any (requests_lock l) ms || s.is_asked)
   asked_sent [] s = refl
   asked_sent (m ∷ ms) s = asked_sent ms (standing_up l m s) ∙ (ap (λ b. list_any (requests_lock l) ms || b) (asked_said m s) ∙ one_or_rest (requests_lock l m) (list_any (requests_lock l) ms) s.is_asked)
 
@@ -140,11 +140,11 @@ module _ (l : LockName) where
     by_need : (index : ℕ) → e.input ≡ input.Act index → (t : ThreadId) (request : Request) (need : Option Need) → DoesOrAsks p c t request need before later e es
         → is_some (leased l (e ∷ es)) ≡ true → is_asked_for l (e ∷ es) ≡ false
     by_need index acts t request need step there =
-        let lives = not_gone (list_any (is_lock l) (due p c later (unsent e ∷ es))) (leased l (unsent e ∷ es)) (ap is_some (sym given) ∙ there) in
+        let applies = not_gone (list_any (is_lock l) (due p c later (unsent e ∷ es))) (leased l (unsent e ∷ es)) (ap is_some (sym given) ∙ there) in
         let same : standing l (unsent e ∷ es) ≡ standing l es = ap (λ i. by_taken_down (standing_down l) i (standing l es)) acts in
-        let held : is_some (leased l es) ≡ true = ap (λ (s : Standing). is_some s.lease) (sym same) ∙ lives.1 in
-        let asked : is_asked_for l (unsent e ∷ es) ≡ false = ap (λ (s : Standing). s.is_asked) same ∙ had held in
-        by need step lives.0 held asked
+        let held : is_some (leased l es) ≡ true = ap (λ (s : LockStanding). is_some s.lease) (sym same) ∙ applies.1 in
+        let asked : is_asked_for l (unsent e ∷ es) ≡ false = ap (λ (s : LockStanding). s.is_asked) same ∙ had held in
+        by need step applies.0 held asked
       where
         by : (need : Option Need) → DoesOrAsks p c t request need before later e es → list_any (is_lock l) (due p c later (unsent e ∷ es)) ≡ false → is_some (leased l es) ≡ true
             → is_asked_for l (unsent e ∷ es) ≡ false → is_asked_for l (e ∷ es) ≡ false
@@ -173,16 +173,16 @@ module _ (l : LockName) where
 
     taken : (m : Down) → e.input ≡ input.TookDown m → e.sent ≡ map ToServer (returns p c later (unsent e ∷ es)) → is_some (leased l (e ∷ es)) ≡ true → is_asked_for l (e ∷ es) ≡ false
     taken m takes sends there =
-        let lives = not_gone (list_any (is_lock l) (due p c later (unsent e ∷ es))) (leased l (unsent e ∷ es)) (ap is_some (sym given) ∙ there) in
+        let applies = not_gone (list_any (is_lock l) (due p c later (unsent e ∷ es))) (leased l (unsent e ∷ es)) (ap is_some (sym given) ∙ there) in
         let same : standing l (unsent e ∷ es) ≡ standing_down l m (standing l es) = ap (λ i. by_taken_down (standing_down l) i (standing l es)) takes in
         by_messages (returns p c later (unsent e ∷ es)) sends (none_returned (λ k. client_list k (unsent e ∷ es)) (due p c later (unsent e ∷ es)))
-        (ap (λ (s : Standing). s.is_asked) same ∙ granted m (ap (λ (s : Standing). is_some s.lease) (sym same) ∙ lives.1))
+        (ap (λ (s : LockStanding). s.is_asked) same ∙ granted m (ap (λ (s : LockStanding). is_some s.lease) (sym same) ∙ applies.1))
 
     silent : (ms : List Up) → e.sent ≡ map ToServer ms → list_any (requests_lock l) ms ≡ false → standing l (unsent e ∷ es) ≡ standing l es
         → is_some (leased l (e ∷ es)) ≡ true → is_asked_for l (e ∷ es) ≡ false
     silent ms sends none same there =
-        let lives = not_gone (list_any (is_lock l) (due p c later (unsent e ∷ es))) (leased l (unsent e ∷ es)) (ap is_some (sym given) ∙ there) in
-        by_messages ms sends none (ap (λ (s : Standing). s.is_asked) same ∙ had (ap (λ (s : Standing). is_some s.lease) (sym same) ∙ lives.1))
+        let applies = not_gone (list_any (is_lock l) (due p c later (unsent e ∷ es))) (leased l (unsent e ∷ es)) (ap is_some (sym given) ∙ there) in
+        by_messages ms sends none (ap (λ (s : LockStanding). s.is_asked) same ∙ had (ap (λ (s : LockStanding). is_some s.lease) (sym same) ∙ applies.1))
 
     by_input : (i : Input) → e.input ≡ i → ClientStepOn p c i before later e es → is_some (leased l (e ∷ es)) ≡ true → is_asked_for l (e ∷ es) ≡ false
     by_input (input.Act index) is step there = by_request index is (record { client = c; index = index }) (before (record { client = c; index = index })) step.acts there

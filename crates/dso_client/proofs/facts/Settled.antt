@@ -33,7 +33,7 @@ use Rattle.dso_law.specs.ClientRun.{ClientRun, next_in}
 use Rattle.dso_law.specs.RunLaws.{NumberedFrom, AreNumbered}
 use Rattle.dso_law.proofs.runs.Numbers.{records_are_numbered}
 use Rattle.dso_law.proofs.runs.Said.{LeavesLocks, said_does, said_asks, said_taken}
-use Rattle.dso_client.specs.SeatStands.{last_by_sent, last_record}
+use Rattle.dso_client.specs.ContextStands.{last_by_sent, last_record}
 use Rattle.dso_client.proofs.lock_standing.FirstAcked.{among}
 
 -- each number is over the one before the first

@@ -18,11 +18,11 @@ use Rattle.dso_law.proofs.core.Bodies.{bodies_are_held}
 use Rattle.dso_law.proofs.core.Counts.{residents_are_counted}
 use Rattle.dso_law.proofs.core.Marks.{marks_tell}
 use Rattle.dso_law.specs.ChangeMarks.{AcksInOrder}
-use Rattle.dso_table.specs.declared.tables.Tables.{Tables}
+use Rattle.dso_table.specs.declared.tables.ObjectTables.{ObjectTables}
 use Rattle.dso_table.specs.States as states
-use Rattle.dso_table.specs.Tables.{state_in}
+use Rattle.dso_table.specs.ObjectTables.{state_in}
 use Rattle.dso_table.specs.Victims.{IsFlushable, IsFull, IsLeastRecent, IsLeastUnused, IsVictim, NoVictim}
-use Rattle.dso_client.specs.Points.{Point}
+use Rattle.dso_client.specs.RunPoints.{RunPoint}
 use Rattle.dso_client.specs.RunFacts.{RunFacts}
 use Rattle.dso_client.specs.TableStands.{TableStands}
 
@@ -77,7 +77,7 @@ all_hold true false true d h i j k = absurd (cc j)
 all_hold true true c d h i j k = absurd (cc i)
 all_hold false b c d h i j k = absurd (cc h)
 
-module _ (at : Point) (table : Tables) (stands : TableStands at table) (facts : RunFacts at) (acks : AcksInOrder at.entries) where
+module _ (at : RunPoint) (table : ObjectTables) (stands : TableStands at table) (facts : RunFacts at) (acks : AcksInOrder at.entries) where
   -- an object is resident in the table where the readings say so
   resident_as : (o : ℕ) → states.is_resident ((state_in table).standing o) ≡ is_resident o at.entries
   resident_as o = ap is_some (stands.bodies o) ∙ (bodies_are_held o at.entries).resident

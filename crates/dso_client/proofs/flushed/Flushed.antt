@@ -14,20 +14,20 @@ use Rattle.dso_law.proofs.core.Bodies.{bodies_are_held}
 use Rattle.dso_law.proofs.core.Counts.{residents_are_counted}
 use Rattle.dso_machine.specs.declared.code.Code.{Code}
 use Rattle.dso_machine.specs.Next.{next_request}
-use Rattle.dso_table.specs.declared.slot.Standing.{Standing}
-use Rattle.dso_table.specs.declared.slot.Standing.TheVariants.{Asked, Resident}
+use Rattle.dso_table.specs.declared.slot.ObjectStanding.{ObjectStanding}
+use Rattle.dso_table.specs.declared.slot.ObjectStanding.TheVariants.{Asked, Resident}
 use Rattle.dso_law.specs.Records.{records}
-use Rattle.dso_table.specs.declared.tables.Tables.{Tables}
+use Rattle.dso_table.specs.declared.tables.ObjectTables.{ObjectTables}
 use Rattle.dso_table.specs.States as states
 use Rattle.dso_table.specs.States.{State, body_of, is_asked, with_at, flushed}
-use Rattle.dso_table.specs.Tables.{state_in}
-use Rattle.dso_client.specs.declared.kept.Kept.{Kept}
-use Rattle.dso_client.specs.declared.seat.Seat.{Seat}
+use Rattle.dso_table.specs.ObjectTables.{state_in}
+use Rattle.dso_client.specs.declared.client_state.ClientState.{ClientState}
+use Rattle.dso_client.specs.declared.thread_context.ThreadContext.{ThreadContext}
 use Rattle.dso_client.specs.ClientStands.{ClientStands, point}
 use Rattle.dso_client.specs.Entries.{flush_entry}
-use Rattle.dso_client.specs.SeatStands.{SeatStands}
+use Rattle.dso_client.specs.ContextStands.{ContextStands}
 use Rattle.dso_client.specs.TableStands.{TableStands}
-use Rattle.dso_client.proofs.seats.AtStart.{all_as}
+use Rattle.dso_client.proofs.contexts.AtStart.{all_as}
 use Rattle.dso_client.proofs.facts.All.{run_facts}
 
 -- a function with another value at one number
@@ -39,11 +39,11 @@ at_number {V} o new old x = ap (λ b. or_old (cond b (Some new) None) (old x)) (
     by false = refl
 
 -- a resident object isn't asked for
-pub not_asked : (standing : Option Standing) → states.is_resident standing ≡ true → is_asked standing ≡ false
+pub not_asked : (standing : Option ObjectStanding) → states.is_resident standing ≡ true → is_asked standing ≡ false
 not_asked None e = refl
 not_asked (Some standing) e = there standing e
   where
-    there : (standing : Standing) → states.is_resident (Some standing) ≡ true → is_asked (Some standing) ≡ false
+    there : (standing : ObjectStanding) → states.is_resident (Some standing) ≡ true → is_asked (Some standing) ≡ false
     there Asked e = absurd (cc e)
     there (Resident body) e = refl
 
@@ -51,10 +51,10 @@ module _ (code : Code) (p : Settings) (c clock o : ℕ) (es : List Entry) where
   abbrev after : List Entry
   after = flush_entry clock c o ∷ es
 
-  seat_after : (seat : Seat) → SeatStands (point code p c es) seat → SeatStands (point code p c after) seat
-  seat_after seat h = record { next = h.next; work = h.work; seen = h.seen; waiting = h.waiting; marked = h.marked; last = h.last }
+  context_after : (context : ThreadContext) → ContextStands (point code p c es) context → ContextStands (point code p c after) context
+  context_after context h = record { next = h.next; work = h.work; seen = h.seen; waiting = h.waiting; marked = h.marked; last = h.last }
 
-  table_after : (old new : Tables) → TableStands (point code p c es) old → is_resident o es ≡ true → state_in new ≡ flushed o (state_in old)
+  table_after : (old new : ObjectTables) → TableStands (point code p c es) old → is_resident o es ≡ true → state_in new ≡ flushed o (state_in old)
       → TableStands (point code p c after) new
   table_after old new h there is = record {
     bodies = λ x. ap (λ (s : State). body_of (s.standing x)) is ∙ (ap body_of (at_number o None (state_in old).standing x) ∙ bodies x (eqb o x));
@@ -79,7 +79,7 @@ module _ (code : Code) (p : Settings) (c clock o : ℕ) (es : List Entry) where
           sym (not_asked ((state_in old).standing x) resident) ∙ h.asked x
       asked x false same = h.asked x
 
-  pub stands_flushed : (old new : Kept) → ClientStands code p c old es → MayFlush p c o es → is_resident o es ≡ true
+  pub stands_flushed : (old new : ClientState) → ClientStands code p c old es → MayFlush p c o es → is_resident o es ≡ true
       → state_in new.table ≡ flushed o (state_in old.table) → new ≡ record old { table = new.table } → ClientStands code p c new after
   stands_flushed old new h may there is same =
       let step : ClientStep p c (next_in (next_request code) es) (next_in (next_request code) after) (flush_entry clock c o) es = record { may = may; event = refl; sends = refl } in
@@ -90,16 +90,16 @@ module _ (code : Code) (p : Settings) (c clock o : ℕ) (es : List Entry) where
           number = h.parts.number;
           places = h.parts.places;
           numbered = h.parts.numbered;
-          seats = all_as (SeatStands (point code p c es)) (SeatStands (point code p c after)) seat_after old.seats.items h.parts.seats;
+          contexts = all_as (ContextStands (point code p c es)) (ContextStands (point code p c after)) context_after old.contexts.items h.parts.contexts;
           table = table_after old.table new.table h.parts.table there is;
-          locking = record { holds = h.parts.locking.holds; leases = h.parts.locking.leases; lists = h.parts.locking.lists };
-          ledger = record {
-            ids = h.parts.ledger.ids;
-            bounded = h.parts.ledger.bounded;
-            end = h.parts.ledger.end;
-            asking = h.parts.ledger.asking;
-            records = h.parts.ledger.records;
-            unacked = h.parts.ledger.unacked;
+          lock_state = record { holds = h.parts.lock_state.holds; leases = h.parts.lock_state.leases; lists = h.parts.lock_state.lists };
+          sequences = record {
+            ids = h.parts.sequences.ids;
+            bounded = h.parts.sequences.bounded;
+            end = h.parts.sequences.end;
+            asking = h.parts.sequences.asking;
+            records = h.parts.sequences.records;
+            unacked = h.parts.sequences.unacked;
           };
           facts = run_facts p c (next_request code) after (h.run, step);
         };

@@ -9,14 +9,14 @@ use Rattle.dso_law.specs.ChangeMarks.{later_mark}
 use Rattle.dso_law.specs.FitsDown.{FitsAck}
 use Rattle.dso_law.specs.Records.{unacked, records}
 use Rattle.dso_law.specs.RunLaws.{NumberedFrom}
-use Rattle.dso_table.specs.declared.tables.Tables.{Tables}
+use Rattle.dso_table.specs.declared.tables.ObjectTables.{ObjectTables}
 use Rattle.dso_table.specs.States.{State, body_of, is_asked, acknowledged, later_than}
-use Rattle.dso_table.specs.Tables.{state_in}
+use Rattle.dso_table.specs.ObjectTables.{state_in}
 use Rattle.dso_txn.specs.Numbers.{numbers_in, with_number, IsLeast}
-use Rattle.dso_client.specs.declared.ledger.Ledger.{Ledger}
-use Rattle.dso_client.specs.Hearing.{heard}
-use Rattle.dso_client.specs.LedgerStands.{LedgerStands}
-use Rattle.dso_client.specs.Points.{Point}
+use Rattle.dso_client.specs.declared.sequences.Sequences.{Sequences}
+use Rattle.dso_client.specs.MessageEffects.{heard}
+use Rattle.dso_client.specs.SequencesStand.{SequencesStand}
+use Rattle.dso_client.specs.RunPoints.{RunPoint}
 use Rattle.dso_client.specs.RunFacts.{RunFacts}
 use Rattle.dso_client.specs.TableStands.{TableStands}
 use Rattle.dso_client.proofs.lock_standing.FirstAcked.{among, not_behind, first_is_least}
@@ -32,13 +32,13 @@ without_first k seq (txn ∷ txns) n h fits = by (eqb seq n) refl
     by true e = sym (ap (among txns) (sym (eqb-true seq n e) ∙ fits) ∙ not_behind k txn txns h)
     by false e = ap (λ b. b || among txns n) (ap (λ s. eqb s n) (sym fits) ∙ e)
 
-pub ack_heard : (clock seq : ℕ) (at : Point) (old new : Ledger) → LedgerStands at old → RunFacts at → FitsAck seq (unacked at.entries) → (done : Bool)
+pub ack_heard : (clock seq : ℕ) (at : RunPoint) (old new : Sequences) → SequencesStand at old → RunFacts at → FitsAck seq (unacked at.entries) → (done : Bool)
     → IsTrue done ↔ IsLeast seq (numbers_in old.unacked) → OnTrue done (numbers_in new.unacked ≡ with_number seq false (numbers_in old.unacked))
-    → new ≡ record old { unacked = new.unacked } → LedgerStands (heard clock (down.Ack seq) at) new
+    → new ≡ record old { unacked = new.unacked } → SequencesStand (heard clock (down.Ack seq) at) new
 ack_heard clock seq at old new h facts fits done least gone same =
     let it = on_true done (numbers_in new.unacked ≡ with_number seq false (numbers_in old.unacked))
     (least.1 (first_is_least facts.numbered.acked (unacked at.entries) seq (numbers_in old.unacked) facts.numbered.numbers h.unacked fits)) gone in
-    subst (LedgerStands (heard clock (down.Ack seq) at)) (sym same) (record {
+    subst (SequencesStand (heard clock (down.Ack seq) at)) (sym same) (record {
       ids = h.ids;
       bounded = h.bounded;
       end = h.end;
@@ -56,7 +56,7 @@ later_same seq (Some n) = elim (leb_tells n seq) [
 ]
 
 -- the first record that isn't acknowledged has no greater number than the last one sent
-pub acked_was_sent : (at : Point) (seq : ℕ) → RunFacts at → FitsAck seq (unacked at.entries) → seq ≤ records at.entries
+pub acked_was_sent : (at : RunPoint) (seq : ℕ) → RunFacts at → FitsAck seq (unacked at.entries) → seq ≤ records at.entries
 acked_was_sent at seq facts fits = by facts.numbered.acked (unacked at.entries) (records at.entries) facts.numbered.numbers facts.numbered.whole fits
   where
     by : (k : ℕ) (txns : List Txn) (n : ℕ) → NumberedFrom k txns → k + length txns ≡ n → FitsAck seq txns → seq ≤ n
@@ -66,7 +66,7 @@ acked_was_sent at seq facts fits = by facts.numbered.acked (unacked at.entries) 
         let same : seq ≡ txn.seq = fits in
         omega (arith, first, same, whole)
 
-pub acked_heard : (clock seq : ℕ) (at : Point) (old new : Tables) → TableStands at old → seq ≤ records at.entries → state_in new ≡ acknowledged seq (state_in old)
+pub acked_heard : (clock seq : ℕ) (at : RunPoint) (old new : ObjectTables) → TableStands at old → seq ≤ records at.entries → state_in new ≡ acknowledged seq (state_in old)
     → TableStands (heard clock (down.Ack seq) at) new
 acked_heard clock seq at old new h sent is = record {
   bodies = λ x. ap (λ (s : State). body_of (s.standing x)) is ∙ h.bodies x;

@@ -12,14 +12,14 @@ use Rattle.dso_change.specs.Hands.{has_field}
 use Rattle.dso_law.specs.HeldBody.{held_body}
 use Rattle.dso_law.specs.Copies.{is_object_asked}
 use Rattle.dso_law.specs.Store.{body_by_sets, body_with}
-use Rattle.dso_table.specs.declared.slot.Standing.{Standing}
-use Rattle.dso_table.specs.declared.slot.Standing.TheVariants.{Asked, Resident}
+use Rattle.dso_table.specs.declared.slot.ObjectStanding.{ObjectStanding}
+use Rattle.dso_table.specs.declared.slot.ObjectStanding.TheVariants.{Asked, Resident}
 use Rattle.dso_law.specs.Records.{records}
-use Rattle.dso_table.specs.declared.tables.Tables.{Tables}
+use Rattle.dso_table.specs.declared.tables.ObjectTables.{ObjectTables}
 use Rattle.dso_table.specs.States.{State, body_of, is_asked, with_value, set}
-use Rattle.dso_table.specs.Tables.{state_in}
-use Rattle.dso_client.specs.Hearing.{heard}
-use Rattle.dso_client.specs.Points.{Point}
+use Rattle.dso_table.specs.ObjectTables.{state_in}
+use Rattle.dso_client.specs.MessageEffects.{heard}
+use Rattle.dso_client.specs.RunPoints.{RunPoint}
 use Rattle.dso_client.specs.TableStands.{TableStands}
 use Rattle.dso_client.proofs.flushed.Flushed.{at_number}
 
@@ -30,12 +30,12 @@ past (first ∷ values) zero v h = absurd (omega (arith, h))
 past (first ∷ values) (suc f) v h = ap (λ rest. first ∷ rest) (past values f v (omega (arith, h)))
 
 -- the copy with the value
-pub with_it : (change : Set) (standing : Option Standing) → body_of (option_map (with_value change.field change.value) standing) ≡ body_with change (body_of standing)
+pub with_it : (change : Set) (standing : Option ObjectStanding) → body_of (option_map (with_value change.field change.value) standing) ≡ body_with change (body_of standing)
 with_it change None = refl
 with_it change (Some Asked) = refl
 with_it change (Some (Resident body)) = refl
 
-pub asked_as : (change : Set) (standing : Option Standing) → is_asked (option_map (with_value change.field change.value) standing) ≡ is_asked standing
+pub asked_as : (change : Set) (standing : Option ObjectStanding) → is_asked (option_map (with_value change.field change.value) standing) ≡ is_asked standing
 asked_as change None = refl
 asked_as change (Some Asked) = refl
 asked_as change (Some (Resident body)) = refl
@@ -47,7 +47,7 @@ no_field change (Some body) e =
     let most : length body.values ≤ change.field = ltb-false change.field (length body.values) e in
     ap (λ values. Some (record body { values = values })) (sym (past body.values change.field change.value most))
 
-module _ (clock : ℕ) (at : Point) (change : Set) (old new : Tables) (h : TableStands at old) where
+module _ (clock : ℕ) (at : RunPoint) (change : Set) (old new : ObjectTables) (h : TableStands at old) where
   written : state_in new ≡ set change None (state_in old) → TableStands (heard clock (down.Changes (change ∷ [])) at) new
   written is = record {
     bodies = λ x. ap (λ (s : State). body_of (s.standing x)) is
@@ -104,15 +104,15 @@ sets_more x [] change before = refl
 sets_more x (first ∷ sets) change before = sets_more x sets change (cond (eqb first.object x) (body_with first before) before)
 
 -- so many of the changes were heard
-abbrev pub HeardUpTo : ℕ → List Set → Tables → Tables → Type 0
-HeardUpTo n changes old new = (clock : ℕ) (at : Point) → TableStands at old → TableStands (heard clock (down.Changes (take n changes)) at) new
+abbrev pub HeardUpTo : ℕ → List Set → ObjectTables → ObjectTables → Type 0
+HeardUpTo n changes old new = (clock : ℕ) (at : RunPoint) → TableStands at old → TableStands (heard clock (down.Changes (take n changes)) at) new
 
 -- before the first
-pub none_heard : (changes : List Set) (table : Tables) → HeardUpTo 0 changes table table
+pub none_heard : (changes : List Set) (table : ObjectTables) → HeardUpTo 0 changes table table
 none_heard changes table clock at h = record { bodies = h.bodies; asked = h.asked; marks = h.marks; opened = h.opened; wanted = h.wanted; room = h.room; count = h.count; acked = h.acked; order = h.order }
 
 -- changes, and one more behind them, are all of them
-one_behind : (clock : ℕ) (at : Point) (changes : List Set) (change : Set) (table : Tables)
+one_behind : (clock : ℕ) (at : RunPoint) (changes : List Set) (change : Set) (table : ObjectTables)
     → TableStands (heard clock (down.Changes (change ∷ [])) (heard clock (down.Changes changes) at)) table → TableStands (heard clock (down.Changes (changes ++ change ∷ [])) at) table
 one_behind clock at changes change table h = record {
   bodies = λ x. h.bodies x ∙ sym (sets_more x changes change (held_body x at.entries));
@@ -127,13 +127,13 @@ one_behind clock at changes change table h = record {
 }
 
 -- one more
-pub one_more_heard : (i : ℕ) (changes : List Set) (other : Set) (old mid new : Tables) → i < length changes → HeardUpTo i changes old mid
-    → ((clock : ℕ) (at : Point) → TableStands at mid → TableStands (heard clock (down.Changes (get_or changes i other ∷ [])) at) new) → HeardUpTo (i + 1) changes old new
+pub one_more_heard : (i : ℕ) (changes : List Set) (other : Set) (old mid new : ObjectTables) → i < length changes → HeardUpTo i changes old mid
+    → ((clock : ℕ) (at : RunPoint) → TableStands at mid → TableStands (heard clock (down.Changes (get_or changes i other ∷ [])) at) new) → HeardUpTo (i + 1) changes old new
 one_more_heard i changes other old mid new less before hears clock at h =
     subst (λ changes. TableStands (heard clock (down.Changes changes) at) new) (sym (take_more changes i other less))
     (one_behind clock at (take i changes) (get_or changes i other) new (hears clock (heard clock (down.Changes (take i changes)) at) (before clock at h)))
 
 -- all of them
-pub all_heard : (n : ℕ) (changes : List Set) (old new : Tables) → length changes ≤ n → HeardUpTo n changes old new
-    → (clock : ℕ) (at : Point) → TableStands at old → TableStands (heard clock (down.Changes changes) at) new
+pub all_heard : (n : ℕ) (changes : List Set) (old new : ObjectTables) → length changes ≤ n → HeardUpTo n changes old new
+    → (clock : ℕ) (at : RunPoint) → TableStands at old → TableStands (heard clock (down.Changes changes) at) new
 all_heard n changes old new all before clock at h = subst (λ changes. TableStands (heard clock (down.Changes changes) at) new) (take_all n changes all) (before clock at h)

@@ -9,11 +9,11 @@ use Rattle.dso_law.specs.Records.{batches, made, id_at}
 use Rattle.dso_law.specs.RunLaws.{IdsAreTaken}
 use Rattle.dso_law.specs.Settings.{batch_size}
 use Rattle.dso_law.proofs.core.Ids.{ids_are_ahead}
-use Rattle.dso_client.specs.declared.ledger.Ledger.{Ledger}
-use Rattle.dso_client.specs.Hearing.{heard}
-use Rattle.dso_client.specs.LedgerStands.{LedgerStands, ids_in, ids_end}
-use Rattle.dso_client.specs.Points.{Point}
-use Rattle.dso_client.proofs.seats.BatchEnds.{behind_all}
+use Rattle.dso_client.specs.declared.sequences.Sequences.{Sequences}
+use Rattle.dso_client.specs.MessageEffects.{heard}
+use Rattle.dso_client.specs.SequencesStand.{SequencesStand, ids_in, ids_end}
+use Rattle.dso_client.specs.RunPoints.{RunPoint}
+use Rattle.dso_client.proofs.contexts.BatchEnds.{behind_all}
 
 -- one more batch ends behind all others
 end_more : (first : ℕ) (bs : List ℕ) → ids_end bs ≤ first → ids_end (bs ++ first ∷ []) ≡ first + 256
@@ -34,11 +34,11 @@ of_batch first k = elim (leb_tells 256 k) [
       ap (λ b. cond b (Some (first + k)) None) (lt-ltb (first + k) (first + 256) (omega (arith, early)) ∙ sym (lt-ltb k 256 early))
 ]
 
-module _ (clock first : ℕ) (at : Point) (fits : FitsIds first at.entries) (taken : IdsAreTaken at.entries) where
+module _ (clock first : ℕ) (at : RunPoint) (fits : FitsIds first at.entries) (taken : IdsAreTaken at.entries) where
   all_made : made at.entries ≡ batch_size * length (batches at.entries)
   all_made = taken.all fits.asked
 
-  pub batch_heard : (old : Ledger) → LedgerStands at old → LedgerStands (heard clock (down.Ids first) at) (record old { pool = filled first; is_asking = false })
+  pub batch_heard : (old : Sequences) → SequencesStand at old → SequencesStand (heard clock (down.Ids first) at) (record old { pool = filled first; is_asking = false })
   batch_heard old h = record {
     ids = λ k. of_batch first k ∙ (sym (ids_are_ahead.more (batches at.entries) first k) ∙ ap (λ n. id_at (batches at.entries ++ first ∷ []) (n + k)) (sym all_made));
     bounded = omega arith;
@@ -49,7 +49,7 @@ module _ (clock first : ℕ) (at : Point) (fits : FitsIds first at.entries) (tak
   }
 
   -- while a batch is asked for, no id is left
-  pub none_left : (old : Ledger) → LedgerStands at old → old.pool.next ≡ old.pool.end
+  pub none_left : (old : Sequences) → SequencesStand at old → old.pool.next ≡ old.pool.end
   none_left old h = elim (leb_tells old.pool.end old.pool.next) [
     | inl g ↦
         let most = g.1 in

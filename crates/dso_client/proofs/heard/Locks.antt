@@ -17,10 +17,10 @@ use Rattle.dso_plain.proofs.keys.TableOrders.{lock_at}
 use Rattle.dso_plain.proofs.keys.SameKeys.{same_lock}
 use Rattle.dso_law.specs.Leases.{standing, leased, is_entered, is_recalled, is_asked_for}
 use Rattle.dso_law.proofs.client.ClientLaws.{lock_either_way}
-use Rattle.dso_client.specs.declared.locking.Locking.{Locking}
-use Rattle.dso_client.specs.Hearing.{heard}
-use Rattle.dso_client.specs.LockingStands.{LockingStands, as_hold, standing_as, list_at}
-use Rattle.dso_client.specs.Points.{Point}
+use Rattle.dso_client.specs.declared.lock_state.LockState.{LockState}
+use Rattle.dso_client.specs.MessageEffects.{heard}
+use Rattle.dso_client.specs.LockStateStands.{LockStateStands, as_hold, standing_as, list_at}
+use Rattle.dso_client.specs.RunPoints.{RunPoint}
 
 -- a function with another value at one lock, seen from the other
 pub at_lock : {V : Type 0} (l : LockName) (new : V) (old : LockName → V) (x : LockName) → written (writes (is_at (lock_order l)) (λ _. new)) old x ≡ cond (is_lock x l) new (old x)
@@ -39,9 +39,9 @@ without_list l old new gone x = ap (λ lists. unwrap_or (lists x) []) gone ∙ (
     by true = refl
     by false = refl
 
-module _ (clock : ℕ) (at : Point) (l : LockName) (old : Locking) (h : LockingStands at old) where
-  pub grant_heard : (level : Level) (new : Locking) → new.holds ≡ old.holds → standing_in new.leases ≡ with_standing l (Some (granted_at level)) (standing_in old.leases)
-      → look lock_order new.lists ≡ written (writes (is_at (lock_order l)) (λ _. None)) (look lock_order old.lists) → LockingStands (heard clock (down.Grant l level) at) new
+module _ (clock : ℕ) (at : RunPoint) (l : LockName) (old : LockState) (h : LockStateStands at old) where
+  pub grant_heard : (level : Level) (new : LockState) → new.holds ≡ old.holds → standing_in new.leases ≡ with_standing l (Some (granted_at level)) (standing_in old.leases)
+      → look lock_order new.lists ≡ written (writes (is_at (lock_order l)) (λ _. None)) (look lock_order old.lists) → LockStateStands (heard clock (down.Grant l level) at) new
   grant_heard level new held granted gone = record {
     holds = λ t x. ap (λ holds. option_map as_hold (hold_in holds (x, t))) held ∙ h.holds t x;
     leases = λ x. ap (λ leases. leases x) granted ∙ (at_lock l (Some (granted_at level)) (standing_in old.leases) x ∙ by x (is_lock x l));
@@ -66,8 +66,8 @@ module _ (clock : ℕ) (at : Point) (l : LockName) (old : Locking) (h : LockingS
   closed None entered recalled true = refl
   closed None entered recalled false = refl
 
-  pub recall_heard : (new : Locking) → new.holds ≡ old.holds → standing_in new.leases ≡ with_standing l (option_map lease.recalled (standing_in old.leases l)) (standing_in old.leases)
-      → new.lists ≡ old.lists → LockingStands (heard clock (down.Recall l) at) new
+  pub recall_heard : (new : LockState) → new.holds ≡ old.holds → standing_in new.leases ≡ with_standing l (option_map lease.recalled (standing_in old.leases l)) (standing_in old.leases)
+      → new.lists ≡ old.lists → LockStateStands (heard clock (down.Recall l) at) new
   recall_heard new held recalled same = record {
     holds = λ t x. ap (λ holds. option_map as_hold (hold_in holds (x, t))) held ∙ h.holds t x;
     leases = λ x. ap (λ leases. leases x) recalled ∙ (at_lock l (option_map lease.recalled (standing_in old.leases l)) (standing_in old.leases) x ∙ by x (is_lock x l) refl);
@@ -82,8 +82,8 @@ module _ (clock : ℕ) (at : Point) (l : LockName) (old : Locking) (h : LockingS
       by x false e = h.leases x
 
   -- and where there is no lease nothing is changed
-  pub recall_unheard : (new : Locking) → new.holds ≡ old.holds → standing_in new.leases ≡ standing_in old.leases → lease.is_leased (standing_in old.leases l) ≡ false
-      → new.lists ≡ old.lists → LockingStands (heard clock (down.Recall l) at) new
+  pub recall_unheard : (new : LockState) → new.holds ≡ old.holds → standing_in new.leases ≡ standing_in old.leases → lease.is_leased (standing_in old.leases l) ≡ false
+      → new.lists ≡ old.lists → LockStateStands (heard clock (down.Recall l) at) new
   recall_unheard new held unchanged none same = record {
     holds = λ t x. ap (λ holds. option_map as_hold (hold_in holds (x, t))) held ∙ h.holds t x;
     leases = λ x. ap (λ leases. leases x) unchanged ∙ by x (is_lock x l) refl;
@@ -110,9 +110,9 @@ pub on_true : (b : Bool) (P : Type 0) → b ≡ true → OnTrue b P → P
 on_true true P e h = h
 on_true false P e h = absurd (cc e)
 
-pub recall_either : (clock : ℕ) (at : Point) (l : LockName) (old : Locking) → LockingStands at old → (found : Bool) (new : Locking) → new.holds ≡ old.holds → new.lists ≡ old.lists
+pub recall_either : (clock : ℕ) (at : RunPoint) (l : LockName) (old : LockState) → LockStateStands at old → (found : Bool) (new : LockState) → new.holds ≡ old.holds → new.lists ≡ old.lists
     → found ≡ lease.is_leased (standing_in old.leases l)
     → OnTrue found (standing_in new.leases ≡ with_standing l (option_map lease.recalled (standing_in old.leases l)) (standing_in old.leases))
-    → OnFalse found (standing_in new.leases ≡ standing_in old.leases) → LockingStands (heard clock (down.Recall l) at) new
+    → OnFalse found (standing_in new.leases ≡ standing_in old.leases) → LockStateStands (heard clock (down.Recall l) at) new
 recall_either clock at l old h true new held same found closing unchanged = recall_heard clock at l old h new held closing same
 recall_either clock at l old h false new held same found closing unchanged = recall_unheard clock at l old h new held unchanged (sym found) same

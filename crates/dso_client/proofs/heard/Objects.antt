@@ -7,14 +7,14 @@ use Rattle.dso_law.specs.HeldBody.{held_body}
 use Rattle.dso_law.specs.ResidentCount.{presence, resident_count}
 use Rattle.dso_law.proofs.core.Bodies.{bodies_are_held}
 use Rattle.dso_law.proofs.core.Counts.{residents_are_counted}
-use Rattle.dso_table.specs.declared.slot.Standing.TheVariants.{Resident}
+use Rattle.dso_table.specs.declared.slot.ObjectStanding.TheVariants.{Resident}
 use Rattle.dso_law.specs.Records.{records}
-use Rattle.dso_table.specs.declared.tables.Tables.{Tables}
+use Rattle.dso_table.specs.declared.tables.ObjectTables.{ObjectTables}
 use Rattle.dso_table.specs.States as states
 use Rattle.dso_table.specs.States.{State, body_of, is_asked, put}
-use Rattle.dso_table.specs.Tables.{state_in}
-use Rattle.dso_client.specs.Hearing.{heard}
-use Rattle.dso_client.specs.Points.{Point}
+use Rattle.dso_table.specs.ObjectTables.{state_in}
+use Rattle.dso_client.specs.MessageEffects.{heard}
+use Rattle.dso_client.specs.RunPoints.{RunPoint}
 use Rattle.dso_client.specs.TableStands.{TableStands}
 use Rattle.dso_client.proofs.flushed.Flushed.{at_number}
 
@@ -23,7 +23,7 @@ pub counted : (b : Bool) (n : ℕ) → n + cond b 0 1 ≡ cond b n (suc n)
 counted true n = omega arith
 counted false n = omega arith
 
-pub object_heard : (clock : ℕ) (at : Point) (body : Body) (old new : Tables) → TableStands at old → state_in new ≡ put body None (state_in old)
+pub object_heard : (clock : ℕ) (at : RunPoint) (body : Body) (old new : ObjectTables) → TableStands at old → state_in new ≡ put body None (state_in old)
     → TableStands (heard clock (down.Object body) at) new
 object_heard clock at body old new h is = record {
   bodies = λ x. ap (λ (s : State). body_of (s.standing x)) is ∙ (ap body_of (at_number body.object (Some (Resident body)) (state_in old).standing x) ∙ bodies x (eqb body.object x));

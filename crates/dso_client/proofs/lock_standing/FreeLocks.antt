@@ -5,18 +5,18 @@ use Rattle.std.specs.Option.{option_map}
 use Rattle.dso_base.specs.declared.lock.LockName.{LockName}
 use Rattle.dso_base.specs.declared.lock.ThreadId.{ThreadId}
 use Rattle.dso_base.specs.Following.{is_thread}
-use Rattle.dso_hold.specs.declared.tables.Tables.{Tables}
+use Rattle.dso_hold.specs.declared.tables.HoldTables.{HoldTables}
 use Rattle.dso_hold.specs.Holds as hold
 use Rattle.dso_hold.specs.Holds.{IsFree}
 use Rattle.dso_plain.specs.State.{Hold}
 use Rattle.dso_law.specs.Closing.{is_free}
 use Rattle.dso_law.specs.Settings.{threads_of}
 use Rattle.dso_law.specs.Threads.{hold_in, hold_of}
-use Rattle.dso_client.specs.Living.{HoldsStand}
-use Rattle.dso_client.specs.LockingStands.{as_hold}
-use Rattle.dso_client.specs.Points.{Point}
+use Rattle.dso_client.specs.ActEffects.{HoldsStand}
+use Rattle.dso_client.specs.LockStateStands.{as_hold}
+use Rattle.dso_client.specs.RunPoints.{RunPoint}
 use Rattle.dso_client.specs.RunFacts.{AreOwnHolds}
-use Rattle.dso_client.proofs.lived.Entered.{passes_not}
+use Rattle.dso_client.proofs.applied.Entered.{passes_not}
 use Rattle.dso_client.proofs.lock_standing.HoldsSome.{gone}
 
 -- what passes for none of a list passes for none in it
@@ -28,7 +28,7 @@ isnt_there : (held : Option Hold) → not (is_none held) ≡ false → held ≡ 
 isnt_there None e = refl
 isnt_there (Some held) e = absurd (cc e)
 
-module _ (at : Point) (holds : Tables) (h : HoldsStand at holds) (own : AreOwnHolds at) (l : LockName) where
+module _ (at : RunPoint) (holds : HoldTables) (h : HoldsStand at holds) (own : AreOwnHolds at) (l : LockName) where
   abbrev is_holder : ThreadId → Bool
   is_holder t = not (is_none (hold_of t l at.entries))
 

@@ -8,9 +8,9 @@ use Rattle.dso_lease.specs.Leases.{is_admitted, level_of, standing_in, was_enter
 use Rattle.dso_law.specs.Closing.{is_read}
 use Rattle.dso_law.specs.Leases.{leased, is_entered, is_recalled, is_asked_for}
 use Rattle.dso_law.specs.RequestNeeds.{is_enough}
-use Rattle.dso_client.specs.declared.locking.Locking.{Locking}
-use Rattle.dso_client.specs.LockingStands.{LockingStands, standing_as}
-use Rattle.dso_client.specs.Points.{Point}
+use Rattle.dso_client.specs.declared.lock_state.LockState.{LockState}
+use Rattle.dso_client.specs.LockStateStands.{LockStateStands, standing_as}
+use Rattle.dso_client.specs.RunPoints.{RunPoint}
 
 none_enough : (wanted : Level) → false ≡ is_enough wanted None
 none_enough Read = refl
@@ -44,17 +44,17 @@ module _ (entered recalled : Bool) where
   enough_so wanted None true = none_enough wanted
   enough_so wanted None false = none_enough wanted
 
-module _ (at : Point) (locking : Locking) (h : LockingStands at locking) (l : LockName) where
-  pub level_told : level_of (standing_in locking.leases l) ≡ leased l at.entries
+module _ (at : RunPoint) (lock_state : LockState) (h : LockStateStands at lock_state) (l : LockName) where
+  pub level_told : level_of (standing_in lock_state.leases l) ≡ leased l at.entries
   level_told = ap level_of (h.leases l) ∙ level_so (is_entered l at.entries) (is_recalled l at.entries) (leased l at.entries) (is_asked_for l at.entries)
 
-  pub entered_told : was_entered (standing_in locking.leases l) ≡ (is_some (leased l at.entries) && is_entered l at.entries)
+  pub entered_told : was_entered (standing_in lock_state.leases l) ≡ (is_some (leased l at.entries) && is_entered l at.entries)
   entered_told = ap was_entered (h.leases l) ∙ entered_so (is_entered l at.entries) (is_recalled l at.entries) (leased l at.entries) (is_asked_for l at.entries)
 
-  pub recalled_told : lease.is_closing (standing_in locking.leases l) ≡ (is_some (leased l at.entries) && is_recalled l at.entries)
+  pub recalled_told : lease.is_closing (standing_in lock_state.leases l) ≡ (is_some (leased l at.entries) && is_recalled l at.entries)
   recalled_told = ap lease.is_closing (h.leases l) ∙ recalled_so (is_entered l at.entries) (is_recalled l at.entries) (leased l at.entries) (is_asked_for l at.entries)
 
-  pub enough_told : (wanted : Level) → is_admitted wanted true (standing_in locking.leases l) ≡ is_enough wanted (leased l at.entries)
+  pub enough_told : (wanted : Level) → is_admitted wanted true (standing_in lock_state.leases l) ≡ is_enough wanted (leased l at.entries)
   enough_told wanted = ap (is_admitted wanted true) (h.leases l) ∙ enough_so (is_entered l at.entries) (is_recalled l at.entries) wanted (leased l at.entries) (is_asked_for l at.entries)
 
 -- a lease that is of at least some level is there

@@ -14,11 +14,11 @@ use Rattle.dso_plain.proofs.keys.SameKeys.{same_thread, thread_self}
 use Rattle.dso_law.specs.RequestNeeds.{conflicts, hold_level, is_in_conflict}
 use Rattle.dso_law.specs.Settings.{threads_of, up_to}
 use Rattle.dso_law.specs.Threads.{hold_in, hold_of}
-use Rattle.dso_client.specs.declared.kept.Kept.{Kept}
-use Rattle.dso_client.specs.KeptStands.{KeptStands}
+use Rattle.dso_client.specs.declared.client_state.ClientState.{ClientState}
+use Rattle.dso_client.specs.StateStands.{StateStands}
 use Rattle.dso_client.specs.Openings.{first_threads, thread_at}
-use Rattle.dso_client.specs.Points.{Point}
-use Rattle.dso_client.proofs.lived.Entered.{excludes_conflicts, none_conflicts}
+use Rattle.dso_client.specs.RunPoints.{RunPoint}
+use Rattle.dso_client.proofs.applied.Entered.{excludes_conflicts, none_conflicts}
 
 -- ---- lists of threads that rise
 
@@ -101,38 +101,38 @@ both_true : (a b : Bool) → (not a && b) ≡ true → (a ≡ false) × (b ≡ t
 both_true true b e = absurd (cc e)
 both_true false b e = (refl, e)
 
-module _ (at : Point) (kept : Kept) (stands : KeptStands at kept) (t : ThreadId) (l : LockName) (level : Level) where
+module _ (at : RunPoint) (kept : ClientState) (stands : StateStands at kept) (t : ThreadId) (l : LockName) (level : Level) where
   abbrev is_rival : ThreadId → Bool
   is_rival = is_in_conflict at.settings at.client at.next t l level at.entries
 
-  rival_there : (u : ThreadId) → IsInConflict t l level (hold.hold_in kept.locking.holds) u → is_rival u ≡ true
+  rival_there : (u : ThreadId) → IsInConflict t l level (hold.hold_in kept.lock_state.holds) u → is_rival u ≡ true
   rival_there u rival = by (is_thread t u) refl
     where
       conflicting : conflicts level (hold_level (hold_of u l at.entries)) ≡ true
-      conflicting = sym (excludes_conflicts level (hold.hold_in kept.locking.holds (l, u)) ∙ ap (λ held. conflicts level (hold_level held)) (stands.locking.holds u l)) ∙ rival.excludes
+      conflicting = sym (excludes_conflicts level (hold.hold_in kept.lock_state.holds (l, u)) ∙ ap (λ held. conflicts level (hold_level held)) (stands.lock_state.holds u l)) ∙ rival.excludes
 
       by : (b : Bool) → is_thread t u ≡ b → (not b && conflicts level (hold_level (hold_of u l at.entries))) ≡ true
       by true e = absurd (rival.other (same_thread t u e))
       by false e = conflicting
 
-  is_in : (u : ThreadId) → is_rival u ≡ true → IsInConflict t l level (hold.hold_in kept.locking.holds) u
+  is_in : (u : ThreadId) → is_rival u ≡ true → IsInConflict t l level (hold.hold_in kept.lock_state.holds) u
   is_in u e =
       let parts = both_true (is_thread t u) (conflicts level (hold_level (hold_of u l at.entries))) e in
       record {
         other = λ same. absurd (cc (sym parts.0 ∙ (ap (is_thread t) same ∙ thread_self t)));
-        excludes = excludes_conflicts level (hold.hold_in kept.locking.holds (l, u)) ∙ (ap (λ held. conflicts level (hold_level held)) (stands.locking.holds u l) ∙ parts.1);
+        excludes = excludes_conflicts level (hold.hold_in kept.lock_state.holds (l, u)) ∙ (ap (λ held. conflicts level (hold_level held)) (stands.lock_state.holds u l) ∙ parts.1);
       }
 
-  pub none_rivals : NoConflict t l level (hold.hold_in kept.locking.holds) → find is_rival (threads_of at.settings at.client) ≡ None
+  pub none_rivals : NoConflict t l level (hold.hold_in kept.lock_state.holds) → find is_rival (threads_of at.settings at.client) ≡ None
   none_rivals none = none_found is_rival (threads_of at.settings at.client) (λ u. by u (is_rival u) refl)
     where
       by : (u : ThreadId) (b : Bool) → is_rival u ≡ b → b ≡ false
       by u true e = absurd (none u (is_in u e))
       by u false e = refl
 
-  pub first_rival : (u : ThreadId) → IsFirstInConflict t l level (hold.hold_in kept.locking.holds) u → find is_rival (threads_of at.settings at.client) ≡ Some u
+  pub first_rival : (u : ThreadId) → IsFirstInConflict t l level (hold.hold_in kept.lock_state.holds) u → find is_rival (threads_of at.settings at.client) ≡ Some u
   first_rival u first = first_found is_rival u (threads_of at.settings at.client)
-      (subst Rising (sym stands.numbered ∙ stands.places) (first_rise at.client (length kept.seats.items)))
+      (subst Rising (sym stands.numbered ∙ stands.places) (first_rise at.client (length kept.contexts.items)))
       (by (list_any (is_thread u) (threads_of at.settings at.client)) refl) passes (λ v e. first.first v (is_in v e))
     where
       passes : is_rival u ≡ true

@@ -1,4 +1,4 @@
--- A thread's own objects, as its seat keeps them.
+-- A thread's own objects, as its context keeps them.
 use Rattle.std.proofs.Common.{◌≡◌, ℕ, ap}
 use Rattle.dso_base.specs.Block.{Work, body_in}
 use Rattle.dso_change.specs.Hands.{Hand, hand_of}

@@ -11,13 +11,13 @@ use Rattle.dso_base.specs.declared.request.Request.{Request}
 use Rattle.dso_change.specs.Hands.{has_field}
 use Rattle.dso_plain.proofs.keys.SameKeys.{number_self}
 use Rattle.dso_law.specs.Records.{records}
-use Rattle.dso_table.specs.declared.tables.Tables.{Tables}
+use Rattle.dso_table.specs.declared.tables.ObjectTables.{ObjectTables}
 use Rattle.dso_table.specs.States.{State, body_of, put, set}
-use Rattle.dso_table.specs.Tables.{state_in}
+use Rattle.dso_table.specs.ObjectTables.{state_in}
 use Rattle.dso_client.specs.declared.answered.Answered.{Answered}
-use Rattle.dso_client.specs.Committing.{MaySend}
-use Rattle.dso_client.specs.Living.{acting}
-use Rattle.dso_client.specs.Points.{Point}
+use Rattle.dso_client.specs.SentRecords.{MaySend}
+use Rattle.dso_client.specs.ActEffects.{acting}
+use Rattle.dso_client.specs.RunPoints.{RunPoint}
 use Rattle.dso_client.specs.TableStands.{TableStands}
 use Rattle.dso_client.proofs.sent.Objects.{sent, body_sent, set_sent}
 
@@ -32,13 +32,13 @@ any_at test (x ∷ xs) (suc i) none less e = by (test x) (any_at test xs i none 
     by false rest = rest
 
 -- the table stands once these parts of the record were sent, and acknowledges no number of it
-pub record StandsSent (clock : ℕ) (act : Answered) (next : ThreadId → Option Request) (at : Point) (txn : Txn) (news : List Body) (sets : List Set) (table : Tables) : Type 0 where
+pub record StandsSent (clock : ℕ) (act : Answered) (next : ThreadId → Option Request) (at : RunPoint) (txn : Txn) (news : List Body) (sets : List Set) (table : ObjectTables) : Type 0 where
   pub stands : TableStands (sent clock act next at txn news sets) table
   pub acked : (state_in table).acked ≤ records at.entries
 
 -- so far so many objects and sets of the record were sent
-abbrev pub IsSoFar : Txn → ℕ → ℕ → Tables → Tables → Type 0
-IsSoFar txn n m old new = (clock : ℕ) (act : Answered) (next : ThreadId → Option Request) (at : Point) → TableStands (acting clock act [] next at) old → MaySend at txn
+abbrev pub IsSoFar : Txn → ℕ → ℕ → ObjectTables → ObjectTables → Type 0
+IsSoFar txn n m old new = (clock : ℕ) (act : Answered) (next : ThreadId → Option Request) (at : RunPoint) → TableStands (acting clock act [] next at) old → MaySend at txn
     → StandsSent clock act next at txn (take n txn.news) (take m txn.sets) new
 
 -- the number of the record wasn't acknowledged
@@ -46,7 +46,7 @@ unacked_so_far : (acked n seq : ℕ) → acked ≤ n → seq ≡ suc n → acked
 unacked_so_far acked n seq few next = omega (arith, few, next)
 
 -- one more object
-pub body_so_far : (txn : Txn) (i : ℕ) (none : Body) (old mid new : Tables) → i < length txn.news → IsSoFar txn i 0 old mid
+pub body_so_far : (txn : Txn) (i : ℕ) (none : Body) (old mid new : ObjectTables) → i < length txn.news → IsSoFar txn i 0 old mid
     → state_in new ≡ put (get_or txn.news i none) (Some txn.seq) (state_in mid) → IsSoFar txn (i + 1) 0 old new
 body_so_far txn i none old mid new less before is clock act next at h may =
     let it = before clock act next at h may in
@@ -57,7 +57,7 @@ body_so_far txn i none old mid new less before is clock act next at h may =
     })
 
 -- one more set
-pub set_so_far : (txn : Txn) (n i : ℕ) (none : Set) (old mid new : Tables) → i < length txn.sets → IsSoFar txn n i old mid
+pub set_so_far : (txn : Txn) (n i : ℕ) (none : Set) (old mid new : ObjectTables) → i < length txn.sets → IsSoFar txn n i old mid
     → (let change = get_or txn.sets i none in has_field change.field (body_of ((state_in mid).standing change.object)) ≡ true → state_in new ≡ set change (Some txn.seq) (state_in mid))
     → (let change = get_or txn.sets i none in (copy : Body) → body_of ((state_in mid).standing change.object) ≡ Some copy → has_field change.field (Some copy) ≡ false
     → state_in new ≡ put copy (Some txn.seq) (state_in mid))
@@ -74,8 +74,8 @@ set_so_far txn n i none old mid new less before writes marks clock act next at h
     })
 
 -- all of it
-pub all_so_far : (txn : Txn) (old new : Tables) → IsSoFar txn (length txn.news) (length txn.sets) old new
-    → (clock : ℕ) (act : Answered) (next : ThreadId → Option Request) (at : Point) → TableStands (acting clock act [] next at) old → MaySend at txn
+pub all_so_far : (txn : Txn) (old new : ObjectTables) → IsSoFar txn (length txn.news) (length txn.sets) old new
+    → (clock : ℕ) (act : Answered) (next : ThreadId → Option Request) (at : RunPoint) → TableStands (acting clock act [] next at) old → MaySend at txn
     → TableStands (acting clock act (Commit txn ∷ []) next at) new
 all_so_far txn old new all clock act next at h may =
     let it = (all clock act next at h may).stands in

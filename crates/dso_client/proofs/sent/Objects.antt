@@ -20,14 +20,14 @@ use Rattle.dso_law.specs.ResidentCount.{Presence, come, presence, resident_count
 use Rattle.dso_law.specs.Store.{body_by_news, body_by_sets, body_with}
 use Rattle.dso_law.proofs.core.Bodies.{bodies_are_held}
 use Rattle.dso_law.proofs.core.Counts.{residents_are_counted}
-use Rattle.dso_table.specs.declared.slot.Standing.TheVariants.{Resident}
-use Rattle.dso_table.specs.declared.tables.Tables.{Tables}
+use Rattle.dso_table.specs.declared.slot.ObjectStanding.TheVariants.{Resident}
+use Rattle.dso_table.specs.declared.tables.ObjectTables.{ObjectTables}
 use Rattle.dso_table.specs.States as states
 use Rattle.dso_table.specs.States.{State, body_of, is_asked, put, set, with_value}
-use Rattle.dso_table.specs.Tables.{state_in}
+use Rattle.dso_table.specs.ObjectTables.{state_in}
 use Rattle.dso_client.specs.declared.answered.Answered.{Answered}
-use Rattle.dso_client.specs.Living.{acting}
-use Rattle.dso_client.specs.Points.{Point}
+use Rattle.dso_client.specs.ActEffects.{acting}
+use Rattle.dso_client.specs.RunPoints.{RunPoint}
 use Rattle.dso_client.specs.TableStands.{TableStands}
 use Rattle.dso_client.proofs.flushed.Flushed.{at_number, not_asked}
 use Rattle.dso_client.proofs.objects.HeldObjects.{held_object}
@@ -77,19 +77,19 @@ there_is (Some body) e = (body, refl)
 abbrev pub with_parts : Txn → List Body → List Set → Txn
 with_parts txn news sets = record txn { news = news; sets = sets }
 
-module _ (clock : ℕ) (act : Answered) (next : ThreadId → Option Request) (at : Point) (txn : Txn) where
+module _ (clock : ℕ) (act : Answered) (next : ThreadId → Option Request) (at : RunPoint) (txn : Txn) where
   -- the point once these objects and sets of the record were sent
-  abbrev pub sent : List Body → List Set → Point
+  abbrev pub sent : List Body → List Set → RunPoint
   sent news sets = acting clock act (Commit (with_parts txn news sets) ∷ []) next at
 
   -- the mark of the record
-  module _ (old : Tables) (later : (state_in old).acked < txn.seq) (news : List Body) where
+  module _ (old : ObjectTables) (later : (state_in old).acked < txn.seq) (news : List Body) where
     mark_at : (o x : ℕ) → states.marked o (Some txn.seq) (state_in old) x ≡ cond (eqb o x) (Some txn.seq) ((state_in old).marks x)
     mark_at o x = at_number o (states.later_than (state_in old).acked (Some txn.seq)) (state_in old).marks x
         ∙ ap (λ mark. cond (eqb o x) mark ((state_in old).marks x)) (later_marked (state_in old).acked txn.seq later)
 
     -- one more object
-    pub body_sent : (body : Body) (new : Tables) → TableStands (sent news []) old → state_in new ≡ put body (Some txn.seq) (state_in old) → TableStands (sent (news ++ body ∷ []) []) new
+    pub body_sent : (body : Body) (new : ObjectTables) → TableStands (sent news []) old → state_in new ≡ put body (Some txn.seq) (state_in old) → TableStands (sent (news ++ body ∷ []) []) new
     body_sent body new h is = record {
       bodies = λ x. ap (λ (s : State). body_of (s.standing x)) is ∙ (ap body_of (at_number body.object (Some (Resident body)) (state_in old).standing x)
           ∙ (bodies x (eqb body.object x) ∙ sym (news_more x news body (held_body x at.entries))));
@@ -121,7 +121,7 @@ module _ (clock : ℕ) (act : Answered) (next : ThreadId → Option Request) (at
         there = ap is_some (h.bodies body.object) ∙ ((bodies_are_held body.object (sent news []).entries).resident ∙ sym ((residents_are_counted (sent news []).entries).has body.object))
 
     -- one more set of a copy
-    module _ (sets : List Set) (change : Set) (new : Tables) (h : TableStands (sent news sets) old) where
+    module _ (sets : List Set) (change : Set) (new : ObjectTables) (h : TableStands (sent news sets) old) where
       -- the copy of an object so far
       abbrev so_far : ℕ → Option Body
       so_far x = body_by_sets x sets (body_by_news x news (held_body x at.entries))

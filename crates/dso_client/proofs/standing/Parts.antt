@@ -1,7 +1,7 @@
 -- What a client keeps, without what its entries keep in a run.
-use Rattle.dso_client.specs.declared.kept.Kept.{Kept}
-use Rattle.dso_client.specs.KeptStands.{KeptStands, PartsStand}
-use Rattle.dso_client.specs.Points.{Point}
+use Rattle.dso_client.specs.declared.client_state.ClientState.{ClientState}
+use Rattle.dso_client.specs.StateStands.{StateStands, ClientPartsStand}
+use Rattle.dso_client.specs.RunPoints.{RunPoint}
 
-pub parts_of : (at : Point) (kept : Kept) → KeptStands at kept → PartsStand at kept
-parts_of at kept h = record { number = h.number; places = h.places; numbered = h.numbered; seats = h.seats; table = h.table; locking = h.locking; ledger = h.ledger }
+pub parts_of : (at : RunPoint) (kept : ClientState) → StateStands at kept → ClientPartsStand at kept
+parts_of at kept h = record { number = h.number; places = h.places; numbered = h.numbered; contexts = h.contexts; table = h.table; lock_state = h.lock_state; sequences = h.sequences }

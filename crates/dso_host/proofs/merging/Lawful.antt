@@ -25,7 +25,7 @@ use Rattle.dso_law.specs.Settings.{Settings, clients_of}
 use Rattle.dso_law.proofs.runs.OwnRequests.{own_requests}
 use Rattle.dso_machine.specs.declared.code.Code.{Code}
 use Rattle.dso_machine.specs.Next.{next_request}
-use Rattle.dso_machine.specs.Sound.{IsSound}
+use Rattle.dso_machine.specs.Sound.{IsSoundCode}
 use Rattle.dso_legal.specs.Lawful.{AllFollow, ClientFollows, MayFollow, NodeFollows, next_after}
 use Rattle.dso_world.specs.PastOf.{AreLeft, LettersAreLeft, letters_posted}
 use Rattle.dso_world.proofs.journals.Letters.{letters_are_left}
@@ -114,7 +114,7 @@ module _ {M : Type 0} (direction : Direction M) (behind : PostsBehind direction)
   first_in_flight = left.left ∙ first_left (letters_posted direction es) (count_inputs direction.takes (entries_of direction.receiver es)) takes.letter there
 
 -- ---- one entry more
-module _ (code : Code) (sound : IsSound code) (p : Settings) (shaped : p.shape ≡ code.shape) (log : Node → List Entry) (logs : AreLogs code p log) where
+module _ (code : Code) (sound : IsSoundCode code) (p : Settings) (shaped : p.shape ≡ code.shape) (log : Node → List Entry) (logs : AreLogs code p log) where
   abbrev next : ThreadId → List Event → Option Request
   next = next_request code
 

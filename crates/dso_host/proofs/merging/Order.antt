@@ -18,13 +18,13 @@ use Rattle.dso_law.specs.Settings.{Settings}
 use Rattle.dso_legal.specs.Lawful.{AllFollow, NodeFollows, next_after}
 use Rattle.dso_machine.specs.declared.code.Code.{Code}
 use Rattle.dso_machine.specs.Next.{next_request}
-use Rattle.dso_machine.specs.Sound.{IsSound}
+use Rattle.dso_machine.specs.Sound.{IsSoundCode}
 use Rattle.dso_client.specs.ClientStands.{point}
 use Rattle.dso_client.specs.RunFacts.{SizesAreKept}
 use Rattle.dso_world.proofs.premises.Sizes.{sizes_are_kept}
 use Rattle.dso_cell.specs.Logs.{FitsLog, LogIsInOrder}
 
-module _ (code : Code) (sound : IsSound code) (p : Settings) (shaped : p.shape ≡ code.shape) where
+module _ (code : Code) (sound : IsSoundCode code) (p : Settings) (shaped : p.shape ≡ code.shape) where
   heard_fits : (c : ℕ) (m : Up) (lost : Bool) (e : Entry) (es : List Entry) → HeardOrLost p c m lost e (counted es) → lost ≡ false → FitsUp p c m (counted es)
   heard_fits c m true e es heard is = absurd (cc is)
   heard_fits c m false e es heard is = heard.fits

@@ -10,7 +10,7 @@ use Rattle.dso_base.specs.declared.request.Request.{Request}
 use Rattle.dso_law.specs.Settings.{Settings, threads_of}
 use Rattle.dso_law.specs.Threads.{is_local}
 use Rattle.dso_law.specs.Leases.{leased, is_entered, is_recalled}
-use Rattle.dso_law.specs.Closing.{is_read, awaits_write, admits, is_closing, is_free, is_due}
+use Rattle.dso_law.specs.Closing.{is_read, awaits_write, admits, is_closing, is_free, is_lease_due}
 use Rattle.dso_law.specs.LeaseHeld.{Lease, awaits_lease}
 use Rattle.dso_law.specs.CoreLaws.{LeasesTell, ClosingIsKept}
 
@@ -28,7 +28,7 @@ module _ (p : Settings) (c : ℕ) (next : ThreadId → Option Request) (l : Lock
   admits_is (Some level) lease is = let same : record { level = level; is_entered = is_entered l es; is_closing = is_closing p c next l es } ≡ lease = cc is in
       ap (λ lease. not lease.is_closing || not lease.is_entered) same
 
-  due_is : (level : Option Level) → (is_some level && is_due p c next l es) ≡ option_map_or (λ lease. lease.is_closing && (lease.is_entered && is_free p c next l es)) (of_level level) false
+  due_is : (level : Option Level) → (is_some level && is_lease_due p c next l es) ≡ option_map_or (λ lease. lease.is_closing && (lease.is_entered && is_free p c next l es)) (of_level level) false
   due_is None = refl
   due_is (Some level) = refl
 

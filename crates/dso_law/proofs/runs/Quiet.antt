@@ -18,7 +18,7 @@ use Rattle.dso_plain.proofs.keys.SameKeys.{same_lock, number_self}
 use Rattle.dso_law.specs.Settings.{Settings, threads_of}
 use Rattle.dso_law.specs.Entries.{unsent}
 use Rattle.dso_law.specs.Leases.{leased, is_entered, is_recalled, granted, leased_locks}
-use Rattle.dso_law.specs.Closing.{is_read, awaits_write, is_free, is_due, due}
+use Rattle.dso_law.specs.Closing.{is_read, awaits_write, is_free, is_lease_due, due}
 use Rattle.dso_law.specs.ClientStep.{ClientStepOn}
 use Rattle.dso_law.specs.ClientRun.{next_in}
 use Rattle.dso_law.specs.RunLaws.{NothingIsDue}
@@ -71,11 +71,11 @@ module _ (p : Settings) (c : ℕ) (next : ThreadId → Option Request) (e : Entr
 
   -- a lock that was granted and isn't returned isn't to be
   not_due : (l : LockName) → list_any (is_lock l) (granted (unsent e ∷ es)) ≡ true → list_any (is_lock l) (due p c next (unsent e ∷ es)) ≡ false → is_due_at l (leased l (unsent e ∷ es)) ≡ false
-  not_due l there none = by (is_some (leased l (unsent e ∷ es))) (is_due p c next l (unsent e ∷ es)) refl refl
+  not_due l there none = by (is_some (leased l (unsent e ∷ es))) (is_lease_due p c next l (unsent e ∷ es)) refl refl
     where
-      by : (a b : Bool) → is_some (leased l (unsent e ∷ es)) ≡ a → is_due p c next l (unsent e ∷ es) ≡ b → (a && b) ≡ false
+      by : (a b : Bool) → is_some (leased l (unsent e ∷ es)) ≡ a → is_lease_due p c next l (unsent e ∷ es) ≡ b → (a && b) ≡ false
       by true true some is = no_both (list_any (is_lock l) (due p c next (unsent e ∷ es)))
-          (in_part l (λ k. is_due p c next k (unsent e ∷ es)) (leased_locks (unsent e ∷ es)) is (in_part l (λ k. is_some (leased k (unsent e ∷ es))) (granted (unsent e ∷ es)) some there)) none
+          (in_part l (λ k. is_lease_due p c next k (unsent e ∷ es)) (leased_locks (unsent e ∷ es)) is (in_part l (λ k. is_some (leased k (unsent e ∷ es))) (granted (unsent e ∷ es)) some there)) none
       by true false some is = refl
       by false b some is = refl
 
@@ -88,7 +88,7 @@ module _ (p : Settings) (c : ℕ) (next : ThreadId → Option Request) (e : Entr
 
   -- what the entry returns is all that is due
   pub quiet_entry : due p c next (e ∷ es) ≡ []
-  quiet_entry = none_left (λ l. is_due p c next l (e ∷ es)) (λ l. is_some (leased l (e ∷ es))) (granted (unsent e ∷ es)) quiet_lock
+  quiet_entry = none_left (λ l. is_lease_due p c next l (e ∷ es)) (λ l. is_some (leased l (e ∷ es))) (granted (unsent e ∷ es)) quiet_lock
 
 module _ (p : Settings) (c : ℕ) (next : ThreadId → List Event → Option Request) where
   -- a flush changes nothing that is asked of leases, and neither does a rejoin

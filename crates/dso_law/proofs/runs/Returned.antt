@@ -15,7 +15,7 @@ use Rattle.dso_base.specs.declared.request.Event.TheVariants.{Act}
 use Rattle.dso_base.specs.declared.request.Request.{Request}
 use Rattle.dso_base.specs.declared.request.Request.TheVariants.{Enter}
 use Rattle.dso_plain.specs.KeyTests.{is_lock}
-use Rattle.dso_law.specs.declared.readings.Standing.{Standing}
+use Rattle.dso_law.specs.declared.readings.LockStanding.{LockStanding}
 use Rattle.dso_law.specs.Settings.{Settings}
 use Rattle.dso_law.specs.Entries.{unsent, by_sent_up}
 use Rattle.dso_law.specs.Threads.{locks_of, ending_of}
@@ -34,7 +34,7 @@ returns_lock l (up.Return k threads) = is_lock l k
 returns_lock l m = false
 
 module _ (l : LockName) where
-  lease_said : (m : Up) (s : Standing) → (standing_up l m s).lease ≡ cond (returns_lock l m) None s.lease
+  lease_said : (m : Up) (s : LockStanding) → (standing_up l m s).lease ≡ cond (returns_lock l m) None s.lease
   lease_said (up.Request k level) s = by (is_lock l k)
     where
       by : (b : Bool) → (cond b (record s { is_asked = true }) s).lease ≡ s.lease
@@ -54,7 +54,7 @@ module _ (l : LockName) where
   gone_by false rest x = refl
 
   -- what messages sent to the server make of the lease
-  pub lease_sent : (ms : List Up) (s : Standing) → (by_sent_up (standing_up l) (map ToServer ms) s).lease ≡ cond (list_any (returns_lock l) ms) None s.lease
+  pub lease_sent : (ms : List Up) (s : LockStanding) → (by_sent_up (standing_up l) (map ToServer ms) s).lease ≡ cond (list_any (returns_lock l) ms) None s.lease
   lease_sent [] s = refl
   lease_sent (m ∷ ms) s = lease_sent ms (standing_up l m s) ∙ ap (cond (list_any (returns_lock l) ms) None) (lease_said m s) ∙ gone_by (returns_lock l m) (list_any (returns_lock l) ms) s.lease
 

@@ -7,7 +7,7 @@ use Rattle.dso_base.specs.declared.request.Reply.TheVariants.{Done}
 use Rattle.dso_base.specs.declared.request.Request.{Request}
 use Rattle.dso_base.specs.declared.request.Request.TheVariants.{New, Look, Get, Put, Enter, Exit, Wait, Tick, Timeout, Resume, Notify, NotifyAll, Print, End, Pause, Settle}
 use Rattle.dso_plain.specs.State.{PlainState}
-use Rattle.dso_plain.specs.Possible.{Answers, AnswersExit, AnswersResume, AnswersEnd, AnswersDone, IsAwake, IsAwakeFor, IsPossibleButMarks}
+use Rattle.dso_plain.specs.Possible.{AnswersRequest, AnswersExit, AnswersResume, AnswersEnd, AnswersDone, IsAwake, IsAwakeFor, IsPossibleButMarks}
 use Rattle.dso_law.specs.Settings.{Settings}
 use Rattle.dso_law.specs.Entries.{events_in}
 use Rattle.dso_law.specs.RequestNeeds.{unmet}
@@ -23,7 +23,7 @@ use Rattle.dso_legal.proofs.acts.ActsOnLocks.{may_enter, may_exit, may_end, may_
 module _ (p : Settings) (next : ThreadId → Option Request) (t : ThreadId) (client : List Entry) (start_state s : PlainState) (sees : Sees p t client start_state s) (orderly : IsOrderly p t client) where
   -- the reply is possible
   may_answer : (request : Request) (reply : Reply) → KeepsTo p.shape t (events_in t client) request
-      → unmet p t.client next t request client ≡ None → reply_of p t request client ≡ Some reply → Answers p.shape t request reply s
+      → unmet p t.client next t request client ≡ None → reply_of p t request client ≡ Some reply → AnswersRequest p.shape t request reply s
   may_answer (New class n) reply keeps need e = may_make p t client start_state s sees class n reply keeps.makes e
   may_answer (Look o) reply keeps need e = may_look p t client start_state s sees next o reply need e
   may_answer (Get o f) reply keeps need e = may_read p t client start_state s sees next o f reply need e

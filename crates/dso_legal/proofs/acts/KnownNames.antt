@@ -19,7 +19,7 @@ use Rattle.dso_base.specs.Following.{is_thread}
 use Rattle.dso_plain.specs.KeyTests.{is_field}
 use Rattle.dso_lookup.specs.Maps.{or_old}
 use Rattle.dso_plain.specs.State.{Object, Hold, PlainState, IsPrivate, IsShared, is_private_to, is_mine, is_shared, size_of, hold_on_guard}
-use Rattle.dso_plain.specs.Possible.{StandsFrom, Answers, AnswersGet, AnswersPut}
+use Rattle.dso_plain.specs.Possible.{StandsFrom, AnswersRequest, AnswersGet, AnswersPut}
 use Rattle.dso_base.specs.Block.{opening_value}
 use Rattle.dso_plain.specs.After.{apply, change_of, made_new, new_object, opening_field, read, read_shared, put, published, shared, present, holds_reference, names_below, names, notifies}
 use Rattle.dso_plain.specs.Past.{newest}
@@ -262,7 +262,7 @@ module _ (shape : Shape) (t : ThreadId) (s : PlainState) (before : ThreadId → 
   notify_names l (Some u) w = k w
 
   -- Each act that names only what was told keeps names known, by what was told before it.
-  pub act_names : (request : Request) (reply : Reply) (woken : Option ThreadId) → NamesOnlyTold request (before t) → Answers shape t request reply s → (w : ThreadId) → KeepsNames w (before w) (apply (change_of shape t request reply woken s) s)
+  pub act_names : (request : Request) (reply : Reply) (woken : Option ThreadId) → NamesOnlyTold request (before t) → AnswersRequest shape t request reply s → (w : ThreadId) → KeepsNames w (before w) (apply (change_of shape t request reply woken s) s)
   act_names (New class n) (Made o) woken its a w = new_known class n o a.1 w
   act_names (Get o f) (Val v) woken its a w = read_names o f (is_shared (s.objects o)) w
   act_names (Put o f v) Done woken its a w = put_names o f v its.1 a w
@@ -292,7 +292,7 @@ module _ (shape : Shape) (t : ThreadId) (s : PlainState) (before : ThreadId → 
   read_among o f p false h = h
 
   -- What the reply tells of is known after it.
-  pub reply_known : (request : Request) (reply : Reply) (woken : Option ThreadId) → Answers shape t request reply s → (o : ℕ) → tells o reply ≡ true → IsAmong t o (apply (change_of shape t request reply woken s) s).objects
+  pub reply_known : (request : Request) (reply : Reply) (woken : Option ThreadId) → AnswersRequest shape t request reply s → (o : ℕ) → tells o reply ≡ true → IsAmong t o (apply (change_of shape t request reply woken s) s).objects
   reply_known (New class n) (Made x) woken a o e = made_known class n x a.1 o e
   reply_known (Get x f) (Val (value.Ref named)) woken a o e = read_among x f o (is_shared (s.objects x)) (subst (λ y. IsAmong t y s.objects) (same_number named o e) (got x f named a))
   reply_known (Put x f v) (Made y) woken a o e = absurd a.1

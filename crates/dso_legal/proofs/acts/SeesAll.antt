@@ -20,7 +20,7 @@ use Rattle.dso_law.specs.Threads.{open_block, ends_thread}
 use Rattle.dso_legal.specs.Agreement.{messages}
 use Rattle.dso_legal.specs.CopiesStand.{state_at, CopiesStand}
 use Rattle.dso_legal.specs.Lawful.{next_after, AllFollow}
-use Rattle.dso_legal.specs.SoundProgram.{IsSound}
+use Rattle.dso_legal.specs.SoundProgram.{AsksSoundly}
 use Rattle.dso_legal.specs.Views.{Sees}
 use Rattle.dso_legal.proofs.acts.Acts.{acts_are_possible}
 use Rattle.dso_legal.proofs.blocks.Orderly.{is_orderly}
@@ -33,7 +33,7 @@ use Rattle.dso_legal.proofs.fitting.Untold.{all_untold, keeps_to}
 abbrev pub AllCopies : Settings → List Entry → Type 0
 AllCopies p es = (c : ℕ) → is_lost c (entries_of Server es) ≡ false → CopiesStand p.shape c (state_at p c es) (messages (down_in_flight c es)) (entries_of (Client c) es)
 
-module _ (p : Settings) (next : ThreadId → List Event → Option Request) (es : List Entry) (follow : AllFollow p next es) (sound : IsSound p.shape next) (stand : AllStand p es) (copies : AllCopies p es) where
+module _ (p : Settings) (next : ThreadId → List Event → Option Request) (es : List Entry) (follow : AllFollow p next es) (sound : AsksSoundly p.shape next) (stand : AllStand p es) (copies : AllCopies p es) where
   -- What a thread that hasn't ended sees.
   pub sees_all : (t : ThreadId) → is_lost t.client (entries_of Server es) ≡ false → list_any ends_thread (events_in t (entries_of (Client t.client) es)) ≡ false
       → Sees p t (entries_of (Client t.client) es) (state_at p t.client es) (end_of p.shape (open_block t (entries_of (Client t.client) es)) (state_at p t.client es))

@@ -13,7 +13,7 @@ use Rattle.dso_plain.specs.Touches.{AreActsOf}
 use Rattle.dso_law.specs.Threads.{Locks, locks_after}
 use Rattle.dso_legal.specs.Names.{NameOnlyTold}
 use Rattle.dso_legal.specs.PendingBlocks.{no_locks}
-use Rattle.dso_legal.specs.SoundProgram.{event_tells, WaitsAreHeld, IsSound}
+use Rattle.dso_legal.specs.SoundProgram.{event_tells, WaitsAreHeld, AsksSoundly}
 use Rattle.dso_legal.proofs.acts.Names.{none_behind}
 use Rattle.dso_legal.proofs.blocks.OpenRuns.{acts_in_parts}
 
@@ -42,7 +42,7 @@ module _ (next : ThreadId → List Event → Option Request) (listed : ThreadId 
   follows_one_more before [] e h is = (subst (λ xs. IsNext next listed t xs e) (none_behind before) is, tt)
   follows_one_more before (first ∷ events) e h is = (h.0, follows_one_more (before ++ first ∷ []) events e h.1 (subst (λ xs. IsNext next listed t xs e) (sym (append_assoc before (first ∷ []) events)) is))
 
-module _ (shape : Shape) (next : ThreadId → List Event → Option Request) (sound : IsSound shape next) (t : ThreadId) where
+module _ (shape : Shape) (next : ThreadId → List Event → Option Request) (sound : AsksSoundly shape next) (t : ThreadId) where
   -- from where the thread stands
   names_from : (before events : List Event) → AreActsOf t (before ++ events) → list_any (event_tells 0) (before ++ events) ≡ false → WaitsAreHeld t (before ++ events) no_locks → FollowsProgram next (Listed next) t before
       → FollowsFrom next (Listed next) t before events → NameOnlyTold before events

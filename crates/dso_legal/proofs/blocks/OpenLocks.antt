@@ -16,7 +16,7 @@ use Rattle.dso_base.specs.Following.{is_thread}
 use Rattle.dso_plain.specs.KeyTests.{is_lock}
 use Rattle.dso_lookup.specs.Maps.{or_old}
 use Rattle.dso_plain.specs.State.{Hold, PlainState, level_of, is_shared, hold_on_guard}
-use Rattle.dso_plain.specs.Possible.{Answers, IsUpgrade}
+use Rattle.dso_plain.specs.Possible.{AnswersRequest, IsUpgrade}
 use Rattle.dso_plain.specs.After as plain
 use Rattle.dso_plain.specs.After.{entered, exited, change_of, apply, read, read_shared, put, notifies, notifies_all}
 use Rattle.dso_plain.specs.Touches.{ActTouches, Takes}
@@ -159,7 +159,7 @@ module _ (shape : Shape) (t : ThreadId) (s : PlainState) (locks : Locks) (have :
       }
 
   -- An act that is no ending leaves the thread's locks as its state has them.
-  pub act_have : (request : Request) (reply : Reply) (woken : Option ThreadId) → Answers shape t request reply s → ending_by request reply locks ≡ None
+  pub act_have : (request : Request) (reply : Reply) (woken : Option ThreadId) → AnswersRequest shape t request reply s → ending_by request reply locks ≡ None
       → HaveLocks t (locks_by request reply locks) (apply (change_of shape t request reply woken s) s)
   act_have (New class n) (Made o) woken a none = left (apply (change_of shape t (New class n) (Made o) woken s) s) (λ l. refl) (λ l. refl)
   act_have (Get o f) (Val v) woken a none = read_have o f (is_shared (s.objects o))
@@ -186,7 +186,7 @@ module _ (shape : Shape) (t : ThreadId) (s : PlainState) (locks : Locks) (have :
   resume_keeps k l x (Some waiting) free e = set_keeps k l x (Some (record { level = Write; count = waiting.count })) locks.holds (λ held. absurd (cc (sym (ap level_of free) ∙ held))) e
 
   -- It keeps each hold at its level.
-  pub act_keeps : (request : Request) (reply : Reply) → Answers shape t request reply s → ending_by request reply locks ≡ None → (l : LockName) (x : Level) → IsHeldAt l x locks → IsHeldAt l x (locks_by request reply locks)
+  pub act_keeps : (request : Request) (reply : Reply) → AnswersRequest shape t request reply s → ending_by request reply locks ≡ None → (l : LockName) (x : Level) → IsHeldAt l x locks → IsHeldAt l x (locks_by request reply locks)
   act_keeps (Enter k level) Done a none l x e = set_keeps k l x (entered level (hold_in k locks.holds)) locks.holds (enter_keeps level x (hold_in k locks.holds)) e
   act_keeps (Exit k) Done a none l x e = set_keeps k l x (exited (hold_in k locks.holds)) locks.holds (exit_keeps k x (hold_in k locks.holds) none) e
   act_keeps (Wait k) Done a none l x e = absurd (cc none)
@@ -198,7 +198,7 @@ module _ (shape : Shape) (t : ThreadId) (s : PlainState) (locks : Locks) (have :
   resume_takes k (Some waiting) is ne = ap (λ o. is_enough Write (level_of o)) (set_there k (Some (record { level = Write; count = waiting.count })) locks.holds)
 
   -- It holds what it takes.
-  act_takes : (request : Request) (reply : Reply) → Answers shape t request reply s → (l : LockName) (x : Level) → Takes request reply l x → IsHeldFor l x (locks_by request reply locks)
+  act_takes : (request : Request) (reply : Reply) → AnswersRequest shape t request reply s → (l : LockName) (x : Level) → Takes request reply l x → IsHeldFor l x (locks_by request reply locks)
   act_takes (Enter k level) Done a l x takes = subst (λ n. IsHeldFor n x (locks_by (Enter k level) Done locks)) (sym takes.0) (subst (λ y. IsHeldFor k y (locks_by (Enter k level) Done locks)) (sym takes.1)
       (ap (λ o. is_enough level (level_of o)) (set_there k (entered level (hold_in k locks.holds)) locks.holds)
       ∙ enter_enough level (hold_in k locks.holds) (λ up. a.1 (subst (λ hold. IsUpgrade level hold) (sym (have.holds k)) up))))
@@ -207,6 +207,6 @@ module _ (shape : Shape) (t : ThreadId) (s : PlainState) (locks : Locks) (have :
   act_takes request reply a l x takes = absurd takes
 
   -- What an act that is no ending touches is held after it.
-  pub act_touched : (request : Request) (reply : Reply) → Answers shape t request reply s → ending_by request reply locks ≡ None → (l : LockName) (x : Level) → ActTouches t request reply s l x → IsHeldFor l x (locks_by request reply locks)
+  pub act_touched : (request : Request) (reply : Reply) → AnswersRequest shape t request reply s → ending_by request reply locks ≡ None → (l : LockName) (x : Level) → ActTouches t request reply s l x → IsHeldFor l x (locks_by request reply locks)
   act_touched request reply a none l x (inl held) = held_for l x (locks_by request reply locks) (act_keeps request reply a none l x (sym (ap level_of (have.holds l)) ∙ held))
   act_touched request reply a none l x (inr takes) = act_takes request reply a l x takes

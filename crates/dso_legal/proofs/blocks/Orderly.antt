@@ -22,7 +22,7 @@ use Rattle.dso_law.specs.Replies.{woken_by}
 use Rattle.dso_law.specs.Threads.{Locks, locks_by, locks_after, locks_of, hold_in}
 use Rattle.dso_legal.specs.Lawful.{next_after, NodeFollows, AllFollow}
 use Rattle.dso_legal.specs.PendingBlocks.{no_locks}
-use Rattle.dso_legal.specs.SoundProgram.{event_tells, IsSound}
+use Rattle.dso_legal.specs.SoundProgram.{event_tells, AsksSoundly}
 use Rattle.dso_legal.specs.Views.{OnlyListedHold, IsOrderly}
 use Rattle.dso_legal.proofs.blocks.WaitsApart.{waits_apart}
 use Rattle.dso_legal.proofs.leases.LeaseSteps.{no_both, unless_true}
@@ -99,6 +99,6 @@ pub only_listed_hold : (p : Settings) (next : ThreadId → List Event → Option
 only_listed_hold p next es h c u l unlisted = ap (λ (locks : Locks). hold_in l locks.holds) (has_no_locks p next c u (inl unlisted) es h)
 
 -- A client's entries are orderly, where a sound program's thread was told of no object 0.
-pub is_orderly : (p : Settings) (next : ThreadId → List Event → Option Request) → IsSound p.shape next → (es : List Entry) → AllFollow p next es
+pub is_orderly : (p : Settings) (next : ThreadId → List Event → Option Request) → AsksSoundly p.shape next → (es : List Entry) → AllFollow p next es
     → (t : ThreadId) → list_any (event_tells 0) (events_in t (entries_of (Client t.client) es)) ≡ false → IsOrderly p t (entries_of (Client t.client) es)
 is_orderly p next sound es h t untold = record { listed = only_listed_hold p next es h t.client; apart = waits_apart p next sound t es h untold }

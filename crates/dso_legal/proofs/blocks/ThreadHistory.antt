@@ -30,7 +30,7 @@ use Rattle.dso_legal.specs.Lawful.{AllFollow}
 use Rattle.dso_legal.specs.MadeOnce.{is_made, objects_made, objects_of}
 use Rattle.dso_legal.specs.Names.{NameOnlyTold, NamesAreKnown}
 use Rattle.dso_legal.specs.PendingBlocks.{joined, pending, taken_in, handed_in}
-use Rattle.dso_legal.specs.SoundProgram.{IsSound}
+use Rattle.dso_legal.specs.SoundProgram.{AsksSoundly}
 use Rattle.dso_legal.proofs.blocks.EachEvent.{each_dropped}
 use Rattle.dso_legal.proofs.blocks.ClientBlocks.{keeps_thread, own_events, no_events, joined_parts}
 use Rattle.dso_legal.proofs.copies.FieldMoves.{apart}
@@ -176,7 +176,7 @@ module _ (p : Settings) (next : ThreadId → List Event → Option Request) (es 
     history_runs = (runs_but_marks_in_parts p.shape (as_made es) (waiting ++ open_block t own) (opening p.shape)).1 (runs, (runs_but_marks_in_parts p.shape waiting (open_block t own) (last_state p.shape (as_made es))).1 (line, opened))
 
     -- where nothing told a thread of object 0
-    module _ (sound : IsSound p.shape next) (untold : AllUntold es) where
+    module _ (sound : AsksSoundly p.shape next) (untold : AllUntold es) where
       -- each thread names only what it was told
       all_told : (u : ThreadId) → NameOnlyTold [] (events_of u thread_history)
       all_told u = first_told [] (events_of u thread_history) (first_part u).rest (subst (NameOnlyTold []) (first_part u).whole

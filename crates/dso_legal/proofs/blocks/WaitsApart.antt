@@ -20,7 +20,7 @@ use Rattle.dso_law.specs.Settings.{Settings}
 use Rattle.dso_law.specs.Threads.{Locks, Waiting, hold_in, resumed, locks_by, locks_of}
 use Rattle.dso_legal.specs.Lawful.{next_after, AllFollow}
 use Rattle.dso_legal.specs.PendingBlocks.{no_locks, locks_through}
-use Rattle.dso_legal.specs.SoundProgram.{event_tells, IsOfWaiter, WaitsAreHeld, KeepsTo, IsSound}
+use Rattle.dso_legal.specs.SoundProgram.{event_tells, IsOfWaiter, WaitsAreHeld, KeepsTo, AsksSoundly}
 use Rattle.dso_legal.proofs.blocks.OpenLocks.{set_there}
 use Rattle.dso_legal.proofs.blocks.OwnActs.{IsNextAct, act_follows, act_waits, holds_along, own_acts}
 use Rattle.dso_legal.proofs.blocks.SameLocks.{same_locks, locks_one_more}
@@ -56,7 +56,7 @@ none_before test (first ∷ events) event none = by (test first) none (none_befo
     by true none later = none
     by false none later = later none
 
-module _ (p : Settings) (next : ThreadId → List Event → Option Request) (sound : IsSound p.shape next) (t : ThreadId) where
+module _ (p : Settings) (next : ThreadId → List Event → Option Request) (sound : AsksSoundly p.shape next) (t : ThreadId) where
   -- the thread's events follow the program, wait only with the lock held, and leave it no hold of the lock that it waits on
   -- where none told of object 0
   record KeepsApart (events : List Event) : Type 0 where

@@ -15,7 +15,7 @@ use Rattle.dso_law.specs.Settings.{Settings}
 use Rattle.dso_legal.specs.Agreement.{messages}
 use Rattle.dso_legal.specs.CopiesStand.{state_at, CopiesStand}
 use Rattle.dso_legal.specs.Lawful.{AllFollow}
-use Rattle.dso_legal.specs.SoundProgram.{IsSound}
+use Rattle.dso_legal.specs.SoundProgram.{AsksSoundly}
 use Rattle.dso_legal.proofs.line.AllStandOn.{all_stand_on}
 use Rattle.dso_legal.proofs.records.BothEnds.{not_lost_before}
 use Rattle.dso_legal.proofs.copies.OwnCopies.{own_copies}
@@ -30,7 +30,7 @@ pub record AllHolds (p : Settings) (es : List Entry) : Type 0 where
   pub stand : AllStand p es
   pub copies : AllCopies p es
 
-module _ (p : Settings) (next : ThreadId → List Event → Option Request) (sound : IsSound p.shape next) where
+module _ (p : Settings) (next : ThreadId → List Event → Option Request) (sound : AsksSoundly p.shape next) where
   -- before the first entry
   start : AllHolds p []
   start = record {

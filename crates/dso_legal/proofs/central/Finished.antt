@@ -37,9 +37,9 @@ use Rattle.dso_legal.specs.Committed.{committed, ended_blocks}
 use Rattle.dso_legal.specs.AsMade.{as_made}
 use Rattle.dso_legal.specs.Lawful.{next_after, ClientFollows, NodeFollows, AllFollow, IsLawful}
 use Rattle.dso_legal.specs.PendingBlocks.{joined, taken_in, pending, records_in, handed_in, AreRecordsOf}
-use Rattle.dso_legal.specs.SoundProgram.{IsSound}
+use Rattle.dso_legal.specs.SoundProgram.{AsksSoundly}
 use Rattle.dso_legal.proofs.fitting.Untold.{keeps_to}
-use Rattle.dso_legal.specs.Slots.{is_any, is_end, ends, has_ended, is_quiet, is_over, is_due, is_finished}
+use Rattle.dso_legal.specs.Slots.{is_any, is_end, ends, has_ended, is_quiet, is_over, is_loss_or_break_due, is_finished}
 use Rattle.dso_legal.proofs.acts.SoundNames.{first_follows}
 use Rattle.dso_legal.proofs.records.BothEnds.{client_with}
 use Rattle.dso_legal.proofs.records.HandedIn.{are_records_split}
@@ -116,7 +116,7 @@ end_is_ending (End fault) Done locks is listed = refl
 end_is_ending (End fault) reply locks is listed = absurd listed
 end_is_ending request reply locks is listed = absurd (cc is)
 
-module _ (p : Settings) (next : ThreadId → List Event → Option Request) (sound : IsSound p.shape next) (t : ThreadId) where
+module _ (p : Settings) (next : ThreadId → List Event → Option Request) (sound : AsksSoundly p.shape next) (t : ThreadId) where
   -- a thread that has ended has no open block
   abbrev EndsClosed : List Entry → Type 0
   EndsClosed own = list_any ends (events_in t own) ≡ true → open_block t own ≡ []
@@ -198,17 +198,17 @@ module _ (p : Settings) (next : ThreadId → List Event → Option Request) (es 
       first_follows next t [] (events_of t (as_made es)) part.rest (subst (FollowsProgram next (Listed next) t) part.whole (threads_follow p next t es follow))
 
   -- and all of them where the journal is finished and its client isn't lost.
-  pub is_whole : is_lost t.client (entries_of Server es) ≡ false → IsSound p.shape next → list_any (is_thread t) p.threads ≡ true → is_finished p es ≡ true → events_of t (as_made es) ≡ events_in t client
+  pub is_whole : is_lost t.client (entries_of Server es) ≡ false → AsksSoundly p.shape next → list_any (is_thread t) p.threads ≡ true → is_finished p es ≡ true → events_of t (as_made es) ≡ events_in t client
   is_whole alive sound its finished =
-      let over = both (not (list_any (λ t. not (is_over p es t)) p.threads)) (not (list_any (λ c. not (is_quiet p c es)) (clients_of p)) && not (list_any (λ c. is_due p c es) (clients_of p))) finished in
-      let quiet = both (not (list_any (λ c. not (is_quiet p c es)) (clients_of p))) (not (list_any (λ c. is_due p c es) (clients_of p))) over.1 in
+      let over = both (not (list_any (λ t. not (is_over p es t)) p.threads)) (not (list_any (λ c. not (is_quiet p c es)) (clients_of p)) && not (list_any (λ c. is_loss_or_break_due p c es) (clients_of p))) finished in
+      let quiet = both (not (list_any (λ c. not (is_quiet p c es)) (clients_of p))) (not (list_any (λ c. is_loss_or_break_due p c es) (clients_of p))) over.1 in
       let ended : has_ended t es ≡ true = the_other (is_lost t.client (entries_of Server es)) (has_ended t es) (passes (is_over p es) (is_thread t) t (λ u same. same_thread t u same) p.threads over.0 its) alive in
       sym (append-nil (events_of t (as_made es)))
       ∙ ap (λ blocks. events_of t (as_made es) ++ (events_of t (joined blocks) ++ [])) (sym (quiet_pending p next t.client es follow alive quiet.0))
       ∙ ap (λ block. events_of t (as_made es) ++ (events_of t (joined (pending t.client es)) ++ block)) (sym (ended_is_closed p next sound t es follow ended))
       ∙ thread_in_parts p next t t.client refl es follow
 
-module _ (p : Settings) (next : ThreadId → List Event → Option Request) (sound : IsSound p.shape next) (es : List Entry) (lawful : IsLawful p next es) where
+module _ (p : Settings) (next : ThreadId → List Event → Option Request) (sound : AsksSoundly p.shape next) (es : List Entry) (lawful : IsLawful p next es) where
   -- each thread's events in the history, as they were made
   resolved_here : (t : ThreadId) → AreResolved (events_of t (as_made es)) (events_of t (committed es))
   resolved_here t = resolved_of t (as_made es) (committed es) (history_resolved es)

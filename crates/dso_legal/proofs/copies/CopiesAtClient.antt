@@ -18,7 +18,7 @@ use Rattle.dso_plain.specs.State.{PlainState, guard_in}
 use Rattle.dso_law.specs.Settings.{Settings}
 use Rattle.dso_law.specs.Entries.{by_sent_up, by_taken_down}
 use Rattle.dso_law.specs.Channels.{takes_down}
-use Rattle.dso_law.specs.declared.readings.Standing.{Standing}
+use Rattle.dso_law.specs.declared.readings.LockStanding.{LockStanding}
 use Rattle.dso_law.specs.Leases.{standing_up, standing_down}
 use Rattle.dso_law.specs.Copies.{unless_flushed, resident_by_sent, resident_by_taken, value_by_sent, value_by_taken, class_by_sent, class_by_taken}
 use Rattle.dso_legal.specs.Agreement.{after}
@@ -47,7 +47,7 @@ unless_less o (input.Break c) b h = h
 unless_less o (input.Rejoin c) b h = h
 
 -- a message to the server gives no lease
-up_gives_none : (l : LockName) (m : Up) (g : Standing) → (standing_up l m g).lease ≢ None → g.lease ≢ None
+up_gives_none : (l : LockName) (m : Up) (g : LockStanding) → (standing_up l m g).lease ≢ None → g.lease ≢ None
 up_gives_none l up.IdAsk g h = h
 up_gives_none l (up.Fault o) g h = h
 up_gives_none l (up.Flushed o) g h = h
@@ -64,7 +64,7 @@ up_gives_none l (up.Return k threads) g h = by (is_lock l k) h
 up_gives_none l (up.Commit txn) g h = h
 
 -- nor do several
-pub said_gives_none : (l : LockName) (out : List Sent) (g : Standing) → (by_sent_up (standing_up l) out g).lease ≢ None → g.lease ≢ None
+pub said_gives_none : (l : LockName) (out : List Sent) (g : LockStanding) → (by_sent_up (standing_up l) out g).lease ≢ None → g.lease ≢ None
 said_gives_none l [] g h = h
 said_gives_none l (ToServer m ∷ out) g h = up_gives_none l m g (said_gives_none l out (standing_up l m g) h)
 said_gives_none l (ToClient c m ∷ out) g h = said_gives_none l out g h

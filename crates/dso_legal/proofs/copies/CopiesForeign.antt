@@ -12,7 +12,7 @@ use Rattle.dso_base.specs.declared.value.Value.{Value}
 use Rattle.dso_plain.specs.Past.{KeepsPast, PastsGrow}
 use Rattle.dso_plain.specs.Possible.{StandsFrom}
 use Rattle.dso_plain.specs.State.{PlainState, IsShared, is_shared, guard_in, guard_of_object}
-use Rattle.dso_law.specs.declared.readings.Standing.{Standing}
+use Rattle.dso_law.specs.declared.readings.LockStanding.{LockStanding}
 use Rattle.dso_law.specs.Leases.{standing, standing_down}
 use Rattle.dso_law.specs.Copies.{is_resident, resident_by_taken, is_set_of, value_by_sets}
 use Rattle.dso_legal.specs.Agreement.{after}
@@ -119,7 +119,7 @@ module _ (shape : Shape) (c : ℕ) (u : ThreadId) (work : Work) (holds : ℕ →
     here_held here set = is.held o f set (sym (resident_after l o f ms copy) ∙ here)
 
     untouched : IsShared o s → (b : Bool) → list_any (is_set_of o f) told_sets ≡ b → z.guard.lease ≢ None → list_any (is_set_of o f) told_sets ≡ false
-    untouched shared true told leased = absurd (leased (ap (λ (g : Standing). g.lease) (guard_after l o f ms copy) ∙ is.unleased o f shared (gives_value o f work.sets None (has_filtered (is_set_of o f) (λ set. holds set.object) work.sets told))))
+    untouched shared true told leased = absurd (leased (ap (λ (g : LockStanding). g.lease) (guard_after l o f ms copy) ∙ is.unleased o f shared (gives_value o f work.sets None (has_filtered (is_set_of o f) (λ set. holds set.object) work.sets told))))
     untouched shared false told leased = told
 
     shared_field : IsShared o s → FieldStands l c o f r (ms ++ changes_down told_sets) copy

@@ -19,7 +19,7 @@ use Rattle.dso_plain.specs.Possible.{StandsFrom, IsOf}
 use Rattle.dso_plain.specs.State.{PlainState, IsShared, is_shared, guard_in, guard_of_object}
 use Rattle.dso_law.specs.Settings.{Settings}
 use Rattle.dso_law.specs.Entries.{by_sent_up, by_taken_down}
-use Rattle.dso_law.specs.declared.readings.Standing.{Standing}
+use Rattle.dso_law.specs.declared.readings.LockStanding.{LockStanding}
 use Rattle.dso_law.specs.Leases.{standing, standing_down}
 use Rattle.dso_law.specs.Copies.{is_among, is_resident, resident_by_taken, resident_by_sent, unless_flushed, value_by_taken, value_by_sent, value_held, class_by_taken, class_by_sent, class_held, is_set_of, value_by_sets, value_by_bodies, class_by_bodies}
 use Rattle.dso_legal.specs.Agreement.{after}
@@ -85,7 +85,7 @@ module _ (p : Settings) (c : ℕ) (t : ThreadId) (work : Work) (s r : PlainState
       ∙ ap (λ news. class_by_bodies o news (class_held o own)) is.news)
 
   guard_less : (l : LockName) → (standing l (e ∷ own)).lease ≢ None → (standing l own).lease ≢ None
-  guard_less l leased = subst (λ (g : Standing). g.lease ≢ None) (act_takes (standing_down l) e.input is.acts (standing l own)) (said_gives_none l e.sent (by_taken_down (standing_down l) e.input (standing l own)) leased)
+  guard_less l leased = subst (λ (g : LockStanding). g.lease ≢ None) (act_takes (standing_down l) e.input is.acts (standing l own)) (said_gives_none l e.sent (by_taken_down (standing_down l) e.input (standing l own)) leased)
 
   -- a shared object stays so, and is what it was
   still : (o : ℕ) → IsShared o s → r.objects o ≡ s.objects o

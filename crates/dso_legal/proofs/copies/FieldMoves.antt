@@ -8,7 +8,7 @@ use Rattle.dso_base.specs.declared.record.Set.{Set}
 use Rattle.dso_base.specs.declared.value.Value.{Value}
 use Rattle.dso_plain.specs.KeyTests.{is_lock}
 use Rattle.dso_plain.specs.State.{PlainState}
-use Rattle.dso_law.specs.declared.readings.Standing.{Standing}
+use Rattle.dso_law.specs.declared.readings.LockStanding.{LockStanding}
 use Rattle.dso_law.specs.Leases.{standing_down}
 use Rattle.dso_law.specs.Copies.{resident_by_taken, value_by_taken, value_by_sets, is_set_of}
 use Rattle.dso_legal.specs.Agreement.{after, EachMay}
@@ -57,7 +57,7 @@ stays_resident o (down.Changes sets) resident is = is
 stays_resident o (down.Wake l t) resident is = is
 
 -- a lease stays in flight
-pub stays_leased : (l : LockName) (m : Down) (guard : Standing) → guard.lease ≢ None → (standing_down l m guard).lease ≢ None
+pub stays_leased : (l : LockName) (m : Down) (guard : LockStanding) → guard.lease ≢ None → (standing_down l m guard).lease ≢ None
 stays_leased l (down.Ids first) guard is = is
 stays_leased l (down.Object body) guard is = is
 stays_leased l (down.Grant k level) guard is = by (is_lock l k)
@@ -118,7 +118,7 @@ less_resident o (down.Changes sets) resident less h = h
 less_resident o (down.Wake l t) resident less h = h
 
 -- where there is a lease after a message only if there was one in the other reading, so it is after the message
-pub less_leased : (l : LockName) (m : Down) (guard less : Standing) → (less.lease ≢ None → guard.lease ≢ None) → (standing_down l m less).lease ≢ None → (standing_down l m guard).lease ≢ None
+pub less_leased : (l : LockName) (m : Down) (guard less : LockStanding) → (less.lease ≢ None → guard.lease ≢ None) → (standing_down l m less).lease ≢ None → (standing_down l m guard).lease ≢ None
 less_leased l (down.Ids first) guard less h = h
 less_leased l (down.Object body) guard less h = h
 less_leased l (down.Grant k level) guard less h = by (is_lock l k)

@@ -17,7 +17,7 @@ use Rattle.dso_plain.specs.History.{RunsButMarks, end_of}
 use Rattle.dso_plain.specs.KeyTests.{is_view}
 use Rattle.dso_lookup.specs.Maps.{or_old, written}
 use Rattle.dso_plain.specs.Own.{LeavesField}
-use Rattle.dso_plain.specs.Possible.{Answers, MayPut}
+use Rattle.dso_plain.specs.Possible.{AnswersRequest, MayPut}
 use Rattle.dso_plain.specs.State.{PlainState, Object, Hold, IsShared, is_shared, is_owner, is_private_to, guard_in, guard_of_object, hold_on_guard, level_of}
 use Rattle.dso_plain.specs.Touches.{TouchesIn, AreActsOf}
 use Rattle.dso_plain.proofs.keys.SameKeys.{same_number}
@@ -69,7 +69,7 @@ module _ (shape : Shape) (t : ThreadId) (o f : ℕ) where
   put_seen x g v s shared outside (inr held) true owned true is = absurd (outside Write (ap (λ y. level_of (hold_on_guard shape t y f s)) (its_object x g is) ∙ (ap (λ y. level_of (hold_on_guard shape t x y s)) (its_field x g is) ∙ held.1)))
 
   -- an act
-  act_seen : (request : Request) (reply : Reply) (woken : Option ThreadId) (s : PlainState) → Answers shape t request reply s → IsShared o s → IsOutside s
+  act_seen : (request : Request) (reply : Reply) (woken : Option ThreadId) (s : PlainState) → AnswersRequest shape t request reply s → IsShared o s → IsOutside s
       → (after shape (Act t request reply woken) s).seen (t, o, f) ≡ s.seen (t, o, f)
   act_seen (Get x g) (Val v) woken s may shared outside = read_any x g s outside (is_shared (s.objects x))
   act_seen (Put x g v) Done woken s may shared outside = put_seen x g v s shared outside may.1 (is_shared (s.objects x)) refl (is_view t x g (t, o, f)) refl
@@ -107,5 +107,5 @@ module _ (shape : Shape) (t : ThreadId) (o f : ℕ) where
       rest : (x : Level) → TouchesIn shape es (after shape (Act u request reply woken) s) (guard_in shape (after shape (Act u request reply woken) s) o f) x → ⊥
       rest x touch = free x (inr (subst (λ l. TouchesIn shape es (after shape (Act u request reply woken) s) l x) (ap (λ object. guard_of_object shape object o f) left.object) touch))
 
-      first : (w : ThreadId) → w ≡ t → Answers shape w request reply s → ((x : Level) → level_of (s.monitors (guard_in shape s o f, w)) ≡ Some x → ⊥) → (after shape (Act w request reply woken) s).seen (t, o, f) ≡ s.seen (t, o, f)
-      first w is may outside = subst (λ z. (after shape (Act z request reply woken) s).seen (t, o, f) ≡ s.seen (t, o, f)) (sym is) (act_seen request reply woken s (subst (λ z. Answers shape z request reply s) is may) shared (subst (λ z. (x : Level) → level_of (s.monitors (guard_in shape s o f, z)) ≡ Some x → ⊥) is outside))
+      first : (w : ThreadId) → w ≡ t → AnswersRequest shape w request reply s → ((x : Level) → level_of (s.monitors (guard_in shape s o f, w)) ≡ Some x → ⊥) → (after shape (Act w request reply woken) s).seen (t, o, f) ≡ s.seen (t, o, f)
+      first w is may outside = subst (λ z. (after shape (Act z request reply woken) s).seen (t, o, f) ≡ s.seen (t, o, f)) (sym is) (act_seen request reply woken s (subst (λ z. AnswersRequest shape z request reply s) is may) shared (subst (λ z. (x : Level) → level_of (s.monitors (guard_in shape s o f, z)) ≡ Some x → ⊥) is outside))

@@ -38,7 +38,7 @@ use Rattle.dso_law.proofs.client.ClientLaws.{holds_after}
 use Rattle.dso_law.proofs.client.WorkByEntry.{work_goes_on}
 use Rattle.dso_legal.specs.ClassesKept.{class_made}
 use Rattle.dso_legal.specs.Lawful.{AllFollow, ClientFollows, NodeFollows, next_after}
-use Rattle.dso_legal.specs.SoundProgram.{GivesKnownTexts, IsSound}
+use Rattle.dso_legal.specs.SoundProgram.{GivesKnownTexts, AsksSoundly}
 use Rattle.dso_legal.specs.WithinShape.{StaysWithinShape}
 use Rattle.dso_legal.proofs.blocks.OwnActs.{IsNextAct, next_act}
 use Rattle.dso_legal.proofs.fitting.Carried.{C, WorkNow}
@@ -187,7 +187,7 @@ module _ (p : Settings) (next : ThreadId → List Event → Option Request) wher
   abbrev pub AllHeld : List Entry → List Entry → Type 0
   AllHeld now own_entries = (t : ThreadId) → IsWorkHeld p.shape now (locks_of t own_entries) (work_of p.shape t own_entries)
 
-  module _ (sound : IsSound p.shape next) (known : GivesKnownTexts p.shape next) (within : StaysWithinShape p.shape next) where
+  module _ (sound : AsksSoundly p.shape next) (known : GivesKnownTexts p.shape next) (within : StaysWithinShape p.shape next) where
     module _ (e : Entry) (es : List Entry) (follow : AllFollow p next (e ∷ es)) where
       guard_still : (locks : Locks) (o f : ℕ) → IsGuarded p.shape es locks o f → IsGuarded p.shape (e ∷ es) locks o f
       guard_still locks o f it = record { class = it.class; size = it.size; made = class_stays p.shape p next e es follow o (it.class, it.size) it.made; held = it.held }

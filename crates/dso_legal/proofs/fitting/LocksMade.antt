@@ -26,7 +26,7 @@ use Rattle.dso_law.specs.Settings.{Settings}
 use Rattle.dso_law.specs.Entries.{entries_of, by_event, events_in}
 use Rattle.dso_law.specs.Threads.{Held, Waiting, Locks, hold_in, set_hold, with_hold, resumed, locks_by, locks_after, locks_of, hold_of}
 use Rattle.dso_legal.specs.Lawful.{next_after, AllFollow}
-use Rattle.dso_legal.specs.SoundProgram.{IsSound, GivesKnownTexts, IsToldLock}
+use Rattle.dso_legal.specs.SoundProgram.{AsksSoundly, GivesKnownTexts, IsToldLock}
 use Rattle.dso_legal.specs.ValuesFine.{IsFine}
 use Rattle.dso_legal.specs.WithinShape.{IsLockThere, StaysWithinShape}
 use Rattle.dso_legal.proofs.blocks.OwnActs.{IsNextAct}
@@ -120,7 +120,7 @@ module _ (p : Settings) (next : ThreadId → List Event → Option Request) wher
   lock_told es events all (Name n) told there = there
   lock_told es events all (Mon o) told there = value_fine p next es events all (value.Ref o) told tt
 
-  module _ (sound : IsSound p.shape next) (known : GivesKnownTexts p.shape next) (within : StaysWithinShape p.shape next) where
+  module _ (sound : AsksSoundly p.shape next) (known : GivesKnownTexts p.shape next) (within : StaysWithinShape p.shape next) where
     -- a lock that a thread asks to enter is there
     pub entered_made : (es : List Entry) → AllFollow p next es → (t : ThreadId) (l : LockName) (level : Level) → next_after next es t ≡ Some (Enter l level) → LockMade es l
     entered_made es follow t l level asked =

@@ -40,7 +40,7 @@ use Rattle.dso_legal.specs.Agreement.{messages}
 use Rattle.dso_legal.specs.ClassesKept.{class_made}
 use Rattle.dso_legal.specs.Lawful.{next_after, ClientFollows, NodeFollows, AllFollow}
 use Rattle.dso_legal.specs.LocksThere.{LocksAreThere}
-use Rattle.dso_legal.specs.SoundProgram.{IsSound, GivesKnownTexts}
+use Rattle.dso_legal.specs.SoundProgram.{AsksSoundly, GivesKnownTexts}
 use Rattle.dso_legal.specs.WithinShape.{StaysWithinShape}
 use Rattle.dso_legal.proofs.blocks.OwnActs.{IsNextAct, next_act}
 use Rattle.dso_legal.proofs.channels.AfterEntry.{OwnTurn, ServerTurn, own_turn, other_turn, server_turn}
@@ -111,7 +111,7 @@ module _ (p : Settings) (c : ℕ) (before : ThreadId → Option Request) (t : Th
   about Settle k level is = not_lease (is_settled t own_entries) NeedsAck k level (λ e. cc e) is
   about request k level is = cc is
 
-module _ (p : Settings) (next : ThreadId → List Event → Option Request) (sound : IsSound p.shape next) (known : GivesKnownTexts p.shape next) (within : StaysWithinShape p.shape next) where
+module _ (p : Settings) (next : ThreadId → List Event → Option Request) (sound : AsksSoundly p.shape next) (known : GivesKnownTexts p.shape next) (within : StaysWithinShape p.shape next) where
   -- a request is of a lock that is there
   abbrev RequestMade : List Entry → Up → Type 0
   RequestMade now (up.Request l level) = LockMade p next now l

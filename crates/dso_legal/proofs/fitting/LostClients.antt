@@ -40,7 +40,7 @@ use Rattle.dso_law.specs.ServerStep.{HeardOrLost, HeardStep, ServerStepOn, answe
 use Rattle.dso_law.specs.ServerWaiters.{lists_after, lists_noted, waiters_by, waiters_by_message, waiters_by_sent, waiters_left, waiters_of, waiters_woken, wake_each, wakes, wakes_of, wakes_timed_out, without_client}
 use Rattle.dso_law.specs.Settings.{Settings, clients_of}
 use Rattle.dso_law.specs.Store.{held_by, held_by_message, holds_object, stored}
-use Rattle.dso_law.specs.declared.readings.Standing.{Standing}
+use Rattle.dso_law.specs.declared.readings.LockStanding.{LockStanding}
 use Rattle.dso_legal.specs.Agreement.{after}
 use Rattle.dso_legal.specs.Lawful.{AllFollow, NodeFollows, ServerFollows}
 use Rattle.dso_legal.specs.LostClients.{IsNotTo, LostAreToldNothing}
@@ -276,7 +276,7 @@ module _ (p : Settings) (c : ℕ) (e : Entry) (all : List Entry) where
     now = unsent e ∷ server
 
     no_lease : (l : LockName) → (leases_so_far l now).lease c ≡ None
-    no_lease l = ap (λ (s : Standing). s.lease) (gone.standing l)
+    no_lease l = ap (λ (s : LockStanding). s.lease) (gone.standing l)
 
     serves_none : (l : LockName) → told_to c (serves p l now) ≡ []
     serves_none l = serve_none c p l (queue_of l now) (leases_so_far l now) (queues l) (no_lease l)

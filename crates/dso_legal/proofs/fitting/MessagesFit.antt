@@ -32,7 +32,7 @@ use Rattle.dso_legal.specs.RecordsLeased.{IsEndingLeased, IsGuardLeased, IsNoteL
 use Rattle.dso_legal.specs.RecordsOwn.{IsOwnRecord}
 use Rattle.dso_legal.specs.Residency.{is_set}
 use Rattle.dso_legal.specs.Sorted.{IsSorted}
-use Rattle.dso_legal.specs.SoundProgram.{GivesKnownTexts, IsSound}
+use Rattle.dso_legal.specs.SoundProgram.{GivesKnownTexts, AsksSoundly}
 use Rattle.dso_legal.specs.ValuesFit.{FitsStoredField, FitsValues, IsShapedNews}
 use Rattle.dso_legal.specs.WithinShape.{StaysWithinShape}
 use Rattle.dso_legal.proofs.blocks.Histories.{client_of_thread}
@@ -51,7 +51,7 @@ use Rattle.dso_legal.proofs.records.NewsAreNew.{news_unknown}
 use Rattle.dso_legal.proofs.records.Numbered.{records_first}
 use Rattle.dso_legal.proofs.records.Sorted.{first_is_sorted}
 
-module _ (p : Settings) (next : ThreadId → List Event → Option Request) (sound : IsSound p.shape next) (texts : GivesKnownTexts p.shape next) (within : StaysWithinShape p.shape next) (es : List Entry) (follow : AllFollow p next es) (c : ℕ) where
+module _ (p : Settings) (next : ThreadId → List Event → Option Request) (sound : AsksSoundly p.shape next) (texts : GivesKnownTexts p.shape next) (within : StaysWithinShape p.shape next) (es : List Entry) (follow : AllFollow p next es) (c : ℕ) where
   abbrev server : List Entry
   server = counted (entries_of Server es)
 

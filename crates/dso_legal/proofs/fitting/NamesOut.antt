@@ -49,7 +49,7 @@ use Rattle.dso_legal.specs.Agreement.{EachMay, after, messages}
 use Rattle.dso_legal.specs.Lawful.{AllFollow, ClientFollows, NodeFollows, ServerFollows, next_after}
 use Rattle.dso_legal.specs.NamesOut.{IsInGraph, NamesAreOut, NamesWhatIsOut}
 use Rattle.dso_legal.specs.OwnObjects.{count_bodies, published_by}
-use Rattle.dso_legal.specs.SoundProgram.{GivesKnownTexts, IsSound, IsToldValue, NamesOnlyTold, event_tells, tells, was_told}
+use Rattle.dso_legal.specs.SoundProgram.{GivesKnownTexts, AsksSoundly, IsToldValue, NamesOnlyTold, event_tells, tells, was_told}
 use Rattle.dso_legal.specs.WithinShape.{StaysWithinShape}
 use Rattle.dso_legal.proofs.acts.ClientActs.{IsQuiet}
 use Rattle.dso_legal.proofs.blocks.OwnActs.{reply_listed}
@@ -73,7 +73,7 @@ use Rattle.dso_legal.proofs.ids.Making.{IsNew, only_new}
 use Rattle.dso_legal.proofs.objects.OwnObjects.{IsOthers, in_hand_is_own, work_alone, worked_more}
 use Rattle.dso_legal.proofs.records.BothEnds.{not_lost_before, skipped_silent, skipped_way}
 
-module _ (p : Settings) (next : ThreadId → List Event → Option Request) (sound : IsSound p.shape next) (texts : GivesKnownTexts p.shape next) (within : StaysWithinShape p.shape next) (x : ℕ) where
+module _ (p : Settings) (next : ThreadId → List Event → Option Request) (sound : AsksSoundly p.shape next) (texts : GivesKnownTexts p.shape next) (within : StaysWithinShape p.shape next) (x : ℕ) where
   -- the object is in the graph
   abbrev is_stored : List Entry → Bool
   is_stored es = is_some (stored p.shape x (counted (entries_of Server es)))
@@ -623,7 +623,7 @@ module _ (p : Settings) (next : ThreadId → List Event → Option Request) (sou
 
 -- ---- in the words of the law
 
-module _ (p : Settings) (next : ThreadId → List Event → Option Request) (sound : IsSound p.shape next) (texts : GivesKnownTexts p.shape next) (within : StaysWithinShape p.shape next) (es : List Entry) (follow : AllFollow p next es) where
+module _ (p : Settings) (next : ThreadId → List Event → Option Request) (sound : AsksSoundly p.shape next) (texts : GivesKnownTexts p.shape next) (within : StaysWithinShape p.shape next) (es : List Entry) (follow : AllFollow p next es) where
   abbrev at_server : List Entry
   at_server = counted (entries_of Server es)
 

@@ -44,12 +44,12 @@ use Rattle.dso_law.specs.ServerReadings.{counted, is_lost}
 use Rattle.dso_law.specs.Settings.{Settings}
 use Rattle.dso_law.specs.Store.{stored}
 use Rattle.dso_law.specs.Threads.{ending_by, ending_of, exit_ending, hold_of, locks_of, open_block, privates_before, work_of}
-use Rattle.dso_law.specs.declared.readings.Standing.{Standing}
+use Rattle.dso_law.specs.declared.readings.LockStanding.{LockStanding}
 use Rattle.dso_legal.specs.Agreement.{EachMay, after}
 use Rattle.dso_legal.specs.ClassesKept.{class_made}
 use Rattle.dso_legal.specs.Lawful.{AllFollow, ClientFollows, next_after}
 use Rattle.dso_legal.specs.RecordsLeased.{IsEndingLeased, IsGuardLeased, IsNoteLeased, IsRecordLeased, RecordsAreLeased}
-use Rattle.dso_legal.specs.SoundProgram.{GivesKnownTexts, IsSound, KeepsLocks}
+use Rattle.dso_legal.specs.SoundProgram.{GivesKnownTexts, AsksSoundly, KeepsLocks}
 use Rattle.dso_legal.specs.Tokens.{MayGoDown, MayGoUp}
 use Rattle.dso_legal.specs.WithinShape.{StaysWithinShape}
 use Rattle.dso_legal.proofs.acts.ClientActs.{IsNoRecord, IsQuiet, NoRecords}
@@ -94,40 +94,40 @@ each_both P Q step (m ∷ ms) s h k = ((h.0, k.0), each_both P Q step ms (step m
 -- which class and size each object was made with is said; it is the one lock's standing that is spoken of
 module _ (made : ℕ → Option (ClassId × ℕ)) (shape : Shape) (l : LockName) where
   -- where the lock is this one, it is leased at the level
-  abbrev IsLeasedFor : Standing → LockName → Level → Type 0
+  abbrev IsLeasedFor : LockStanding → LockName → Level → Type 0
   IsLeasedFor s k level = is_lock l k ≡ true → is_enough level s.lease ≡ true
 
-  abbrev IsSetLeased : Standing → Set → Type 0
+  abbrev IsSetLeased : LockStanding → Set → Type 0
   IsSetLeased s set = (class : ClassId × ℕ) → made set.object ≡ Some class → IsLeasedFor s (guard_of shape class.0 set.object set.field) Write
 
-  abbrev IsNoteOfLease : Standing → Note → Type 0
+  abbrev IsNoteOfLease : LockStanding → Note → Type 0
   IsNoteOfLease s note = IsLeasedFor s note.lock Write
 
-  abbrev IsEndingOfLease : Standing → Ending → Type 0
+  abbrev IsEndingOfLease : LockStanding → Ending → Type 0
   IsEndingOfLease s (ending.Exit k) = IsLeasedFor s k Read
   IsEndingOfLease s (ending.Wait k) = IsLeasedFor s k Write
   IsEndingOfLease s other = Unit {0}
 
-  record IsOfLease (s : Standing) (txn : Txn) : Type 0 where
+  record IsOfLease (s : LockStanding) (txn : Txn) : Type 0 where
     pub sets : AllByRecursion (IsSetLeased s) txn.sets
     pub notes : AllByRecursion (IsNoteOfLease s) txn.notes
     pub ending : IsEndingOfLease s txn.ending
 
   -- a record may come where all that it names is leased so
-  abbrev MayCommit : Up → Standing → Type 0
+  abbrev MayCommit : Up → LockStanding → Type 0
   MayCommit (up.Commit txn) s = IsOfLease s txn
   MayCommit m s = Unit {0}
 
-  abbrev MayGoLeased : Up → Standing → Type 0
+  abbrev MayGoLeased : Up → LockStanding → Type 0
   MayGoLeased m s = MayGoUp l m s × MayCommit m s
 
-  ending_on : (s x : Standing) (ending : Ending) → ((k : LockName) (level : Level) → IsLeasedFor s k level → IsLeasedFor x k level) → IsEndingOfLease s ending → IsEndingOfLease x ending
+  ending_on : (s x : LockStanding) (ending : Ending) → ((k : LockName) (level : Level) → IsLeasedFor s k level → IsLeasedFor x k level) → IsEndingOfLease s ending → IsEndingOfLease x ending
   ending_on s x (ending.Exit k) on h = on k Read h
   ending_on s x (ending.Wait k) on h = on k Write h
   ending_on s x other on h = tt
 
   -- so it may where all that is leased in one standing is in the other
-  commit_on : (m : Up) (s x : Standing) → ((k : LockName) (level : Level) → IsLeasedFor s k level → IsLeasedFor x k level) → MayCommit m s → MayCommit m x
+  commit_on : (m : Up) (s x : LockStanding) → ((k : LockName) (level : Level) → IsLeasedFor s k level → IsLeasedFor x k level) → MayCommit m s → MayCommit m x
   commit_on (up.Commit txn) s x on h = record {
     sets = each_so (IsSetLeased s) (IsSetLeased x) (λ set it class is. on (guard_of shape class.0 set.object set.field) Write (it class is)) txn.sets h.sets;
     notes = each_so (IsNoteOfLease s) (IsNoteOfLease x) (λ note it. on note.lock Write it) txn.notes h.notes;
@@ -136,12 +136,12 @@ module _ (made : ℕ → Option (ClassId × ℕ)) (shape : Shape) (l : LockName)
   commit_on m s x on h = tt
 
   -- a grant comes only where there is no lease, where the record doesn't name the lock
-  commit_later : (m : Up) (d : Down) (s : Standing) → MayCommit m s → MayGoDown l d s → MayCommit m (standing_down l d s)
+  commit_later : (m : Up) (d : Down) (s : LockStanding) → MayCommit m s → MayGoDown l d s → MayCommit m (standing_down l d s)
   commit_later m (down.Grant k level) s h may = by (is_lock l k) refl
     where
       by : (b : Bool) → is_lock l k ≡ b → MayCommit m (cond b (record { lease = Some level; is_asked = false }) s)
       by true is = commit_on m s (record { lease = Some level; is_asked = false })
-          (λ j x leased here. absurd (enough_there x s.lease (leased here) (ap (λ (s : Standing). s.lease) (may is)))) h
+          (λ j x leased here. absurd (enough_there x s.lease (leased here) (ap (λ (s : LockStanding). s.lease) (may is)))) h
       by false is = h
   commit_later m d s h may = h
 
@@ -151,7 +151,7 @@ module _ (made : ℕ → Option (ClassId × ℕ)) (shape : Shape) (l : LockName)
       record { down_later = base.down_later; up_later = (base.up_later, commit_later m d s up.1 down); same = base.same }
 
   -- messages that are no records
-  none_commit : (ms : List Up) (s : Standing) → NoRecords ms → EachMay MayCommit (standing_up l) ms s
+  none_commit : (ms : List Up) (s : LockStanding) → NoRecords ms → EachMay MayCommit (standing_up l) ms s
   none_commit [] s none = tt
   none_commit (m ∷ ms) s none = (one m none.0, none_commit ms (standing_up l m s) none.1)
     where
@@ -178,7 +178,7 @@ module _ (p : Settings) (next : ThreadId → List Event → Option Request) wher
       some_none is = cc is
   untaken step c before after_it e own_entries i s event rule is = refl
 
-  module _ (sound : IsSound p.shape next) (texts : GivesKnownTexts p.shape next) (within : StaysWithinShape p.shape next) where
+  module _ (sound : AsksSoundly p.shape next) (texts : GivesKnownTexts p.shape next) (within : StaysWithinShape p.shape next) where
     module _ (made : ℕ → Option (ClassId × ℕ)) (l : LockName) (e : Entry) (es : List Entry) (follow : AllFollow p next (e ∷ es)) (says : Says made es) (c : ℕ) where
       abbrev mine : List Entry
       mine = entries_of (Client c) es

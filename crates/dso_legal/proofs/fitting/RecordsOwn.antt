@@ -34,7 +34,7 @@ use Rattle.dso_law.specs.Threads.{Locks, asks_end, ending_by, ending_of, ends_th
 use Rattle.dso_legal.specs.Lawful.{AllFollow, NodeFollows}
 use Rattle.dso_legal.specs.OwnObjects.{published_by}
 use Rattle.dso_legal.specs.RecordsOwn.{HeldAreStored, IsOwnRecord, RecordsAreOwn}
-use Rattle.dso_legal.specs.SoundProgram.{IsSound}
+use Rattle.dso_legal.specs.SoundProgram.{AsksSoundly}
 use Rattle.dso_legal.proofs.blocks.Histories.{client_of_thread}
 use Rattle.dso_legal.proofs.blocks.OwnActs.{reply_listed}
 use Rattle.dso_legal.proofs.fitting.Carried.{first_of}
@@ -86,7 +86,7 @@ ends_more (first ∷ events) event = ap (λ b. ends_thread first || b) (ends_mor
 
 -- ---- a thread and its records
 
-module _ (p : Settings) (next : ThreadId → List Event → Option Request) (sound : IsSound p.shape next) (t : ThreadId) where
+module _ (p : Settings) (next : ThreadId → List Event → Option Request) (sound : AsksSoundly p.shape next) (t : ThreadId) where
   -- any ending may come where the thread hasn't ended
   abbrev MayEnd : Ending → Bool → Type 0
   MayEnd ending ended = ended ≡ false
@@ -142,7 +142,7 @@ module _ (p : Settings) (next : ThreadId → List Event → Option Request) (sou
   pub record_goes : (es : List Entry) → AllFollow p next es → is_lost t.client (entries_of Server es) ≡ false → (txn : Txn) → txn.thread ≡ t → IsFirst (up.Commit txn) (up_in_flight t.client es) → is_ended t (counted (entries_of Server es)) ≡ false
   record_goes es follow alive txn is first = sym (ended_taken (counted (entries_of Server es))) ∙ record_comes p next t MayEnd ends_then false has_ended ending_tells es follow alive txn is first
 
-module _ (p : Settings) (next : ThreadId → List Event → Option Request) (sound : IsSound p.shape next) where
+module _ (p : Settings) (next : ThreadId → List Event → Option Request) (sound : AsksSoundly p.shape next) where
   pub own_record : (es : List Entry) → AllFollow p next es → (c : ℕ) → is_lost c (entries_of Server es) ≡ false → (txn : Txn) → IsFirst (up.Commit txn) (up_in_flight c es) → IsOwnRecord p c (counted (entries_of Server es)) txn
   own_record es follow c alive txn first =
       let its : RecordIsIts p c (up.Commit txn) = first_of (RecordIsIts p c) (up.Commit txn) (up_in_flight c es) first (own_threads p next c es follow).up in

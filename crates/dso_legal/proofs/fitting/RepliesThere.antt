@@ -26,7 +26,7 @@ use Rattle.dso_law.specs.Threads.{last_seen, own, or_else, work_of}
 use Rattle.dso_legal.specs.ClassesKept.{class_made}
 use Rattle.dso_legal.specs.Lawful.{next_after, AllFollow}
 use Rattle.dso_legal.specs.RepliesThere.{RepliesAreThere}
-use Rattle.dso_legal.specs.SoundProgram.{IsSound, GivesKnownTexts}
+use Rattle.dso_legal.specs.SoundProgram.{AsksSoundly, GivesKnownTexts}
 use Rattle.dso_legal.specs.WithinShape.{HasPlace, IsLookAt, KnowsPlace, StaysWithinShape}
 use Rattle.dso_legal.proofs.fitting.Messages.{ClassHas}
 use Rattle.dso_legal.proofs.fitting.Replies.{known_has}
@@ -62,7 +62,7 @@ place_below p (Plain number) size f has there = by (slice_get p.shape.classes nu
 place_below p (Array kind) size f has there = there
 place_below p Roots size f has there = subst (λ n. f < n) (sym has) there
 
-module _ (p : Settings) (next : ThreadId → List Event → Option Request) (sound : IsSound p.shape next) (known : GivesKnownTexts p.shape next) (within : StaysWithinShape p.shape next) (es : List Entry) (follow : AllFollow p next es) where
+module _ (p : Settings) (next : ThreadId → List Event → Option Request) (sound : AsksSoundly p.shape next) (known : GivesKnownTexts p.shape next) (within : StaysWithinShape p.shape next) (es : List Entry) (follow : AllFollow p next es) where
   have : AllHave p next (F p next) (V p next) (V p next) es
   have = all_fine p next sound known within es follow
 

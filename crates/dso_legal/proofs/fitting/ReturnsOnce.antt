@@ -34,7 +34,7 @@ use Rattle.dso_law.specs.Settings.{Settings}
 use Rattle.dso_law.specs.Threads.{ending_of, locks_of}
 use Rattle.dso_legal.specs.Agreement.{messages}
 use Rattle.dso_legal.specs.Lawful.{AllFollow, ClientFollows, NodeFollows, next_after}
-use Rattle.dso_legal.specs.SoundProgram.{IsOfWaiter, IsSound, KeepsTo}
+use Rattle.dso_legal.specs.SoundProgram.{IsOfWaiter, AsksSoundly, KeepsTo}
 use Rattle.dso_legal.proofs.blocks.OwnActs.{IsNextAct, next_act}
 use Rattle.dso_legal.proofs.blocks.SameLocks.{same_locks}
 use Rattle.dso_legal.proofs.blocks.WaitsApart.{does_wait}
@@ -177,7 +177,7 @@ module _ (p : Settings) (c : ℕ) where
     pub lists : (l : LockName) → AreOwnOnce (client_list l own)
     pub up : AllByRecursion ReturnsOnce ups
 
-module _ (p : Settings) (next : ThreadId → List Event → Option Request) (sound : IsSound p.shape next) (c : ℕ) where
+module _ (p : Settings) (next : ThreadId → List Event → Option Request) (sound : AsksSoundly p.shape next) (c : ℕ) where
   module _ (e : Entry) (es : List Entry) (follow : AllFollow p next es) (have : ListsOnce p c (entries_of (Client c) es) (messages (up_in_flight c es))) (rule : ClientFollows p next c e es) where
     abbrev mine : List Entry
     mine = entries_of (Client c) es

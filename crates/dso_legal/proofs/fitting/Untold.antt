@@ -20,7 +20,7 @@ use Rattle.dso_plain.proofs.keys.SameKeys.{same_number}
 use Rattle.dso_law.specs.Settings.{Settings}
 use Rattle.dso_law.specs.Entries.{entries_of, events_in}
 use Rattle.dso_legal.specs.Lawful.{next_after, AllFollow}
-use Rattle.dso_legal.specs.SoundProgram.{IsSound, KeepsTo, IsToldValue, tells, event_tells}
+use Rattle.dso_legal.specs.SoundProgram.{AsksSoundly, KeepsTo, IsToldValue, tells, event_tells}
 use Rattle.dso_legal.proofs.blocks.OwnActs.{threads_follow, threads_wait, own_acts}
 use Rattle.dso_legal.proofs.fitting.Replies.{ReplyHas}
 use Rattle.dso_legal.proofs.fitting.Carried.{C, EventHas, Brings, Keeps, AllHave, carried}
@@ -101,7 +101,7 @@ module _ (p : Settings) (next : ThreadId → List Event → Option Request) wher
   brings now t events (Print v) Done keeps = tt
   brings now t events request reply keeps = tt
 
-  module _ (sound : IsSound p.shape next) where
+  module _ (sound : AsksSoundly p.shape next) where
     keeps_untold : Keeps p next F V O
     keeps_untold = record {
       fields = λ e es follow o f v h. h;

@@ -38,7 +38,7 @@ use Rattle.dso_law.specs.Threads.{work_of}
 use Rattle.dso_legal.specs.Agreement.{messages}
 use Rattle.dso_legal.specs.ClassesKept.{class_asked, class_by, class_by_reply, class_made}
 use Rattle.dso_legal.specs.Lawful.{next_after, AllFollow}
-use Rattle.dso_legal.specs.SoundProgram.{IsSound, GivesKnownTexts, KeepsTo, IsToldValue, IsToldText, IsTextAmong, GivesTextsAmong, tells, event_tells, event_tells_text}
+use Rattle.dso_legal.specs.SoundProgram.{AsksSoundly, GivesKnownTexts, KeepsTo, IsToldValue, IsToldText, IsTextAmong, GivesTextsAmong, tells, event_tells, event_tells_text}
 use Rattle.dso_legal.specs.ValuesFine.{IsFine, FitsField, IsFineBody, IsFineWork, CarriesUpFine, CarriesDownFine, TellsFine, EventTellsFine, KeepsValues, ValuesAreFine}
 use Rattle.dso_legal.specs.WithinShape.{HasPlace, IsLookAt, KnowsPlace, UsesWhatIsThere, StaysWithinShape}
 use Rattle.dso_legal.proofs.blocks.OwnActs.{threads_follow, threads_wait, own_acts}
@@ -235,7 +235,7 @@ module _ (p : Settings) (next : ThreadId → List Event → Option Request) wher
     brings_by t (Print v) Done woken is asked = fine_still e es follow v (value_fine es events all v asked.uses asked.gives)
     brings_by t request reply woken is asked = tt
 
-  module _ (sound : IsSound p.shape next) (known : GivesKnownTexts p.shape next) (within : StaysWithinShape p.shape next) where
+  module _ (sound : AsksSoundly p.shape next) (known : GivesKnownTexts p.shape next) (within : StaysWithinShape p.shape next) where
     pub what_is_asked : (es : List Entry) → AllFollow p next es → AllHave p next F V V es → (t : ThreadId) (request : Request) → next_after next es t ≡ Some request → Asked t (events_in t (entries_of (Client t.client) es)) request
     what_is_asked es follow have t request asked =
         let own : List Entry = entries_of (Client t.client) es in

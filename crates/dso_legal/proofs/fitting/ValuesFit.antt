@@ -33,7 +33,7 @@ use Rattle.dso_law.specs.Store.{stored}
 use Rattle.dso_legal.specs.ClassesKept.{class_made}
 use Rattle.dso_legal.specs.Lawful.{AllFollow}
 use Rattle.dso_legal.specs.NewsAreNew.{IsUnknown, PublishesUnknown}
-use Rattle.dso_legal.specs.SoundProgram.{IsSound, GivesKnownTexts}
+use Rattle.dso_legal.specs.SoundProgram.{AsksSoundly, GivesKnownTexts}
 use Rattle.dso_legal.specs.ValuesFine.{FitsField}
 use Rattle.dso_legal.specs.ValuesFit.{IsShapedNews, FitsStoredField, FitsValues, ValuesFitUp, ValuesFitDown, ValuesFit}
 use Rattle.dso_legal.specs.WithinShape.{StaysWithinShape}
@@ -88,7 +88,7 @@ given_out c o (batch ∷ given) is = by (eqb batch.client c) (is_in_batch o batc
     by true false is later = later is
     by false false is later = later is
 
-module _ (p : Settings) (next : ThreadId → List Event → Option Request) (sound : IsSound p.shape next) (known : GivesKnownTexts p.shape next) (within : StaysWithinShape p.shape next) (es : List Entry) (follow : AllFollow p next es) where
+module _ (p : Settings) (next : ThreadId → List Event → Option Request) (sound : AsksSoundly p.shape next) (known : GivesKnownTexts p.shape next) (within : StaysWithinShape p.shape next) (es : List Entry) (follow : AllFollow p next es) where
   have : AllHave p next (F p next) (V p next) (V p next) es
   have = all_fine p next sound known within es follow
 

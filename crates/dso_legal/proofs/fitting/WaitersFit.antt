@@ -38,7 +38,7 @@ use Rattle.dso_law.specs.Threads.{Locks, ending_by, ending_of, exit_ending, hold
 use Rattle.dso_legal.specs.Lawful.{AllFollow, next_after}
 use Rattle.dso_legal.specs.PendingBlocks.{locks_through, no_locks}
 use Rattle.dso_legal.specs.Places.{Gone, Kept, MayPlaceDown, MayPlaceUp, place_down, place_of, place_up, place_with}
-use Rattle.dso_legal.specs.SoundProgram.{IsSound, TimesOutOnce, latest_ending}
+use Rattle.dso_legal.specs.SoundProgram.{AsksSoundly, TimesOutOnce, latest_ending}
 use Rattle.dso_legal.proofs.blocks.Histories.{client_of_thread}
 use Rattle.dso_legal.proofs.blocks.OwnActs.{IsNextAct}
 use Rattle.dso_legal.proofs.blocks.SameLocks.{same_locks}
@@ -88,7 +88,7 @@ late_act (Wait k) Done locks l ends latest once = absurd (cc ends)
 late_act (End fault) Done locks l ends latest once = absurd (cc ends)
 late_act request reply locks l ends latest once = absurd (cc ends)
 
-module _ (p : Settings) (next : ThreadId → List Event → Option Request) (sound : IsSound p.shape next) (t : ThreadId) where
+module _ (p : Settings) (next : ThreadId → List Event → Option Request) (sound : AsksSoundly p.shape next) (t : ThreadId) where
   abbrev last_now : Ending → Option Ending → Option Ending
   last_now end last = Some end
 
@@ -136,7 +136,7 @@ module _ (p : Settings) (next : ThreadId → List Event → Option Request) (sou
       → EndsItsWait txn.ending (last_ending t (counted (entries_of Server es)))
   record_ends_wait es follow alive txn is first = subst (EndsItsWait txn.ending) (last_taken (counted (entries_of Server es))) (record_comes p next t EndsItsWait last_now None latest latest_tells es follow alive txn is first)
 
-module _ (p : Settings) (next : ThreadId → List Event → Option Request) (sound : IsSound p.shape next) (es : List Entry) (follow : AllFollow p next es) (c : ℕ) where
+module _ (p : Settings) (next : ThreadId → List Event → Option Request) (sound : AsksSoundly p.shape next) (es : List Entry) (follow : AllFollow p next es) (c : ℕ) where
   abbrev server : List Entry
   server = counted (entries_of Server es)
 

@@ -17,7 +17,7 @@ use Rattle.dso_law.specs.Leases.{standing, standing_down, standing_up}
 use Rattle.dso_law.specs.Records.{batch_asked_by_sent, batch_asked_by_taken, batches, batches_by_taken, is_batch_asked, unacked, unacked_by_sent, unacked_by_taken}
 use Rattle.dso_law.specs.ServerReadings.{is_lost}
 use Rattle.dso_law.specs.Settings.{Settings}
-use Rattle.dso_law.specs.declared.readings.Standing.{Standing}
+use Rattle.dso_law.specs.declared.readings.LockStanding.{LockStanding}
 use Rattle.dso_legal.specs.Agreement.{EachMay, messages}
 use Rattle.dso_legal.specs.Batches.{BatchFits, IsAbove, MayAskIds, MayGiveIds, given_to}
 use Rattle.dso_legal.specs.Lawful.{AllFollow, ClientFollows, NodeFollows}
@@ -102,7 +102,7 @@ module _ (p : Settings) (next : ThreadId → List Event → Option Request) (es 
   lease_comes : (m : Down) → IsFirst m (down_in_flight c es) → LeaseFitsDown m mine
   lease_comes (down.Grant l level) first =
       let comes = downs_come p next c (MayGoUp l) (standing_up l) (MayGoDown l) (standing_down l) (standing l) (standing_with c l) (lock_commutes l) (lock_ends p next c l) es follow in
-      ap (λ (s : Standing). s.is_asked) (first_comes (MayGoDown l) (standing_down l) (down.Grant l level) (down_in_flight c es) (standing l mine) first comes (lock_self l))
+      ap (λ (s : LockStanding). s.is_asked) (first_comes (MayGoDown l) (standing_down l) (down.Grant l level) (down_in_flight c es) (standing l mine) first comes (lock_self l))
   lease_comes m first = tt
 
   batch_comes : (m : Down) → IsFirst m (down_in_flight c es) → BatchFits c m es

@@ -16,7 +16,7 @@ use Rattle.dso_base.specs.declared.value.Value.TheVariants as value
 use Rattle.dso_base.specs.Following.{is_thread, FollowsFrom, Listed}
 use Rattle.dso_plain.proofs.keys.SameKeys.{same_thread, thread_self}
 use Rattle.dso_plain.specs.SameActs.{AreSameActs}
-use Rattle.dso_legal.specs.SoundProgram.{KeepsTo, IsSound}
+use Rattle.dso_legal.specs.SoundProgram.{KeepsTo, AsksSoundly}
 use Rattle.dso_legal.specs.examples.Courses.{Course, Stops, Makes, Looks, Reads, Ticks, TimesOut, Does, asked_first, after_reply, asks_after, course_of, program_of}
 
 -- what is asked is the same
@@ -116,7 +116,7 @@ module _ (shape : Shape) where
   by_replies t course (Lost client ∷ events) (e ∷ same) are = absurd are.0
 
   -- The program of the courses is sound.
-  pub sound_program : (courses : List (ThreadId × Course)) → AllSound courses → IsSound shape (program_of courses)
+  pub sound_program : (courses : List (ThreadId × Course)) → AllSound courses → AsksSoundly shape (program_of courses)
   sound_program courses all = record {
     keeps = λ t events request acts untold held follows asks. sound_from (program_of courses) t (course_of t courses) [] events request (its_course t courses all) (λ more. refl) follows asks;
     goes_by_replies = λ t events same are. by_replies t (course_of t courses) events same are;

@@ -20,13 +20,13 @@ use Rattle.dso_base.specs.declared.request.Request.TheVariants.{Enter}
 use Rattle.dso_plain.specs.KeyTests.{is_lock}
 use Rattle.dso_plain.proofs.keys.SameKeys.{same_lock}
 use Rattle.dso_lookup.proofs.Tests.{both}
-use Rattle.dso_law.specs.declared.readings.Standing.{Standing}
+use Rattle.dso_law.specs.declared.readings.LockStanding.{LockStanding}
 use Rattle.dso_law.specs.Settings.{Settings}
 use Rattle.dso_law.specs.Entries.{unsent, by_taken_down}
 use Rattle.dso_law.specs.Threads.{locks_of, ending_of}
 use Rattle.dso_law.specs.ClientWaiters.{client_list}
 use Rattle.dso_law.specs.Leases.{idle, standing_up, standing_down, standing, leased, is_asked_for, granted, leased_locks}
-use Rattle.dso_law.specs.Closing.{is_closing, is_due, due}
+use Rattle.dso_law.specs.Closing.{is_closing, is_lease_due, due}
 use Rattle.dso_law.specs.RequestNeeds.{Need, NeedsId, NeedsObject, NeedsClass, NeedsMark, NeedsLease, NeedsOthersOut, NeedsAck, unmet, unless_asked, ask_for}
 use Rattle.dso_law.specs.Replies.{woken_by}
 use Rattle.dso_law.specs.ClientStep.{record_of, commits, returns, asks_again, Does, Asks, DoesOrAsks, ActsOn, ClientStepOn, ClientStep}
@@ -39,7 +39,7 @@ use Rattle.dso_legal.proofs.leases.Locks.{Distinct, rising_distinct, granted_ris
 use Rattle.dso_legal.proofs.channels.InFlight.{said_of, said_status, said_all}
 
 -- The messages up may come one after the other where the lock stands so, and leave it plain.
-pub record MaySay (l : LockName) (ms : List Up) (s : Standing) : Type 0 where
+pub record MaySay (l : LockName) (ms : List Up) (s : LockStanding) : Type 0 where
   pub comes : EachMay (MayGoUp l) (standing_up l) ms s
   pub plain : IsPlain (after (standing_up l) ms s)
 
@@ -49,14 +49,14 @@ neither true b e = absurd (cc e)
 neither false b e = (refl, e)
 
 -- messages in front of others
-say_append : (l : LockName) (xs ys : List Up) (s : Standing) → EachMay (MayGoUp l) (standing_up l) xs s → MaySay l ys (after (standing_up l) xs s) → MaySay l (xs ++ ys) s
+say_append : (l : LockName) (xs ys : List Up) (s : LockStanding) → EachMay (MayGoUp l) (standing_up l) xs s → MaySay l ys (after (standing_up l) xs s) → MaySay l (xs ++ ys) s
 say_append l xs ys s may later = record {
   comes = may_append (MayGoUp l) (standing_up l) xs ys s may later.comes;
   plain = subst IsPlain (sym (after_append (standing_up l) xs ys s)) later.plain;
 }
 
 -- deaf messages in front of others
-deaf_first : (l : LockName) (xs ys : List Up) (s : Standing) → AllDeaf (MayGoUp l) (standing_up l) xs → MaySay l ys s → MaySay l (xs ++ ys) s
+deaf_first : (l : LockName) (xs ys : List Up) (s : LockStanding) → AllDeaf (MayGoUp l) (standing_up l) xs → MaySay l ys s → MaySay l (xs ++ ys) s
 deaf_first l xs ys s deaf later = say_append l xs ys s (deaf.comes s) (subst (MaySay l ys) (sym (deaf.stays s)) later)
 
 -- a return of each of the locks
@@ -64,7 +64,7 @@ abbrev each_return : (LockName → List ThreadId) → List LockName → List Up
 each_return list locks = map (λ k. up.Return k (list k)) locks
 
 -- the lock without its lease
-abbrev without_lease : Bool → Standing → Standing
+abbrev without_lease : Bool → LockStanding → LockStanding
 without_lease b s = cond b (record s { lease = None }) s
 
 -- returns of other locks are deaf
@@ -75,11 +75,11 @@ returns_deaf l list (k ∷ locks) e =
     more_deaf (MayGoUp l) (standing_up l) (up.Return k (list k)) (each_return list locks) (other_return l k (list k) no.0) (returns_deaf l list locks no.1)
 
 -- what returns of distinct locks, each leased, make of how a lock stands
-record Returned (l : LockName) (list : LockName → List ThreadId) (locks : List LockName) (s : Standing) : Type 0 where
+record Returned (l : LockName) (list : LockName → List ThreadId) (locks : List LockName) (s : LockStanding) : Type 0 where
   comes : EachMay (MayGoUp l) (standing_up l) (each_return list locks) s
   status : after (standing_up l) (each_return list locks) s ≡ without_lease (list_any (is_lock l) locks) s
 
-return_one : (b : Bool) (l : LockName) (list : LockName → List ThreadId) (k : LockName) (locks : List LockName) (s : Standing) → is_lock l k ≡ b → Distinct (k ∷ locks)
+return_one : (b : Bool) (l : LockName) (list : LockName → List ThreadId) (k : LockName) (locks : List LockName) (s : LockStanding) → is_lock l k ≡ b → Distinct (k ∷ locks)
     → (list_any (is_lock l) (k ∷ locks) ≡ true → IsLeased s) → ((list_any (is_lock l) locks ≡ true → IsLeased s) → Returned l list locks s) → Returned l list (k ∷ locks) s
 return_one true l list k locks s e distinct leased later =
     let deaf = returns_deaf l list locks (subst (λ j. list_any (is_lock j) locks ≡ false) (same_lock l k e) distinct.0) in
@@ -97,7 +97,7 @@ return_one false l list k locks s e distinct leased later =
       status = ap (after (standing_up l) (each_return list locks)) (deaf s).1 ∙ rest.status ∙ ap (λ b. without_lease (b || list_any (is_lock l) locks) s) (sym e);
     }
 
-returned : (l : LockName) (list : LockName → List ThreadId) (locks : List LockName) (s : Standing) → Distinct locks → (list_any (is_lock l) locks ≡ true → IsLeased s) → Returned l list locks s
+returned : (l : LockName) (list : LockName → List ThreadId) (locks : List LockName) (s : LockStanding) → Distinct locks → (list_any (is_lock l) locks ≡ true → IsLeased s) → Returned l list locks s
 returned l list [] s distinct leased = record { comes = tt; status = refl }
 returned l list (k ∷ locks) s distinct leased = return_one (is_lock l k) l list k locks s refl distinct leased (returned l list locks s distinct.1)
 
@@ -111,26 +111,26 @@ has_is P l (k ∷ locks) each e = by (is_lock l k) refl e (has_is P l locks each
     by false f e later = later e
 
 -- a plain lock without its lease is plain
-plain_without : (b : Bool) (s : Standing) → IsPlain s → IsPlain (without_lease b s)
+plain_without : (b : Bool) (s : LockStanding) → IsPlain s → IsPlain (without_lease b s)
 plain_without true s plain = λ e. refl
 plain_without false s plain = plain
 
 -- a leased lock without its lease is idle
-idle_without : (s : Standing) (b : Bool) → IsLeased s → b ≡ true → without_lease b s ≡ idle
+idle_without : (s : LockStanding) (b : Bool) → IsLeased s → b ≡ true → without_lease b s ≡ idle
 idle_without s true leased e = is_idle (record s { lease = None }) refl leased.unasked
 idle_without s false leased e = absurd (cc e)
 
 -- an idle lock stays so
-idle_still : (s : Standing) (b : Bool) → s ≡ idle → without_lease b s ≡ idle
-idle_still s true e = ap (λ (s : Standing). let r : Standing = record s { lease = None } in r) e
+idle_still : (s : LockStanding) (b : Bool) → s ≡ idle → without_lease b s ≡ idle
+idle_still s true e = ap (λ (s : LockStanding). let r : LockStanding = record s { lease = None } in r) e
 idle_still s false e = e
 
 -- a request where the lock is idle
-requested : (l k : LockName) (level : Level) (s : Standing) → IsPlain s → (is_lock l k ≡ true → s ≡ idle) → MaySay l (up.Request k level ∷ []) s
+requested : (l k : LockName) (level : Level) (s : LockStanding) → IsPlain s → (is_lock l k ≡ true → s ≡ idle) → MaySay l (up.Request k level ∷ []) s
 requested l k level s plain free = record { comes = (free, tt); plain = by (is_lock l k) refl }
   where
     by : (b : Bool) → is_lock l k ≡ b → IsPlain (cond b (record s { is_asked = true }) s)
-    by true e = λ _. ap (λ (s : Standing). s.lease) (free e)
+    by true e = λ _. ap (λ (s : LockStanding). s.lease) (free e)
     by false e = plain
 
 -- what isn't there is None
@@ -147,18 +147,18 @@ ask_is false x m e = (cc e, refl)
 module _ (p : Settings) (c : ℕ) (l : LockName) (next : ThreadId → Option Request) (es : List Entry) (plain : IsPlain (standing l es)) where
   -- the leases to be given back are leased, each once
   due_distinct : Distinct (due p c next es)
-  due_distinct = distinct_filter (λ k. is_due p c next k es) (leased_locks es) (distinct_filter (λ k. is_some (leased k es)) (granted es) (rising_distinct (granted es) (granted_rises es)))
+  due_distinct = distinct_filter (λ k. is_lease_due p c next k es) (leased_locks es) (distinct_filter (λ k. is_some (leased k es)) (granted es) (rising_distinct (granted es) (granted_rises es)))
 
   due_leased : list_any (is_lock l) (due p c next es) ≡ true → IsLeased (standing l es)
   due_leased e = leased_plain (standing l es) plain (is_there (leased l es) (has_is (λ k. is_some (leased k es) ≡ true) l (due p c next es)
-      (each_filter (λ k. is_some (leased k es) ≡ true) (λ k. is_due p c next k es) (leased_locks es) (each_passes (λ k. is_some (leased k es)) (granted es))) e))
+      (each_filter (λ k. is_some (leased k es) ≡ true) (λ k. is_lease_due p c next k es) (leased_locks es) (each_passes (λ k. is_some (leased k es)) (granted es))) e))
 
   -- what the returns make of the lock
   gives_back : Returned l (λ k. client_list k es) (due p c next es) (standing l es)
   gives_back = returned l (λ k. client_list k es) (due p c next es) (standing l es) due_distinct due_leased
 
   -- the returns, and a message behind them
-  pub gives_back_then : (ms : List Up) → ((s : Standing) → s ≡ without_lease (list_any (is_lock l) (due p c next es)) (standing l es) → IsPlain s → MaySay l ms s) → MaySay l (returns p c next es ++ ms) (standing l es)
+  pub gives_back_then : (ms : List Up) → ((s : LockStanding) → s ≡ without_lease (list_any (is_lock l) (due p c next es)) (standing l es) → IsPlain s → MaySay l ms s) → MaySay l (returns p c next es ++ ms) (standing l es)
   gives_back_then ms later = say_append l (returns p c next es) ms (standing l es) gives_back.comes
       (later _ gives_back.status (subst IsPlain (sym gives_back.status) (plain_without (list_any (is_lock l) (due p c next es)) (standing l es) plain)))
 
@@ -170,7 +170,7 @@ module _ (p : Settings) (c : ℕ) (l : LockName) (next : ThreadId → Option Req
   }
 
   -- a request for a lock that was given back
-  again_one : (k : LockName) (b : Bool) (s : Standing) → s ≡ without_lease (list_any (is_lock l) (due p c next es)) (standing l es) → IsPlain s
+  again_one : (k : LockName) (b : Bool) (s : LockStanding) → s ≡ without_lease (list_any (is_lock l) (due p c next es)) (standing l es) → IsPlain s
       → (b ≡ true → list_any (is_lock k) (due p c next es) ≡ true) → MaySay l (cond b (up.Request k Write ∷ []) []) s
   again_one k false s is plain given = record { comes = tt; plain = plain }
   again_one k true s is plain given = requested l k Write s plain (λ e.
@@ -178,12 +178,12 @@ module _ (p : Settings) (c : ℕ) (l : LockName) (next : ThreadId → Option Req
       is ∙ idle_without (standing l es) (list_any (is_lock l) (due p c next es)) (due_leased mine) mine)
 
   -- an ask for another thing than a lease is deaf
-  deaf_one : (m x : Up) (s : Standing) → IsPlain s → m ≡ x → IsDeaf (MayGoUp l) (standing_up l) x → MaySay l (m ∷ []) s
+  deaf_one : (m x : Up) (s : LockStanding) → IsPlain s → m ≡ x → IsDeaf (MayGoUp l) (standing_up l) x → MaySay l (m ∷ []) s
   deaf_one m x s plain e deaf = subst (λ y. MaySay l (y ∷ []) s) (sym e) (record { comes = ((deaf s).0, tt); plain = subst IsPlain (sym (deaf s).1) plain })
 
   -- an ask behind the returns, where nothing was asked
   ask_one : (need : Need) (before : List Entry) (m : Up) → standing l before ≡ standing l es → ask_for need before ≡ Some m
-      → (s : Standing) → s ≡ without_lease (list_any (is_lock l) (due p c next es)) (standing l es) → IsPlain s → MaySay l (m ∷ []) s
+      → (s : LockStanding) → s ≡ without_lease (list_any (is_lock l) (due p c next es)) (standing l es) → IsPlain s → MaySay l (m ∷ []) s
   ask_one NeedsId before m same ask s is plain = deaf_one m up.IdAsk s plain (ask_is _ up.IdAsk m ask).0 (λ s. (tt, refl))
   ask_one (NeedsObject o) before m same ask s is plain = deaf_one m (up.Fault o) s plain (ask_is _ (up.Fault o) m ask).0 (λ s. (tt, refl))
   ask_one (NeedsLease k level) before m same ask s is plain =
@@ -204,7 +204,7 @@ commits_deaf p l t event (Some ending) es = record { comes = λ s. (tt, tt); sta
 
 module _ (p : Settings) (c : ℕ) (l : LockName) (before after_it : ThreadId → Option Request) (e : Entry) (es : List Entry) where
   -- what the entry makes of the lock before it sends
-  abbrev so_far : Standing
+  abbrev so_far : LockStanding
   so_far = standing l (unsent e ∷ es)
 
   -- what the entry says may come, and leaves the lock plain
@@ -222,7 +222,7 @@ module _ (p : Settings) (c : ℕ) (l : LockName) (before after_it : ThreadId →
       }
 
   -- a request for one of the locks given back, behind the returns
-  again : (request : Option Request) (s : Standing) → s ≡ without_lease (list_any (is_lock l) (due p c after_it (unsent e ∷ es))) so_far → IsPlain so_far → IsPlain s
+  again : (request : Option Request) (s : LockStanding) → s ≡ without_lease (list_any (is_lock l) (due p c after_it (unsent e ∷ es))) so_far → IsPlain so_far → IsPlain s
       → MaySay l (asks_again p c before after_it request (unsent e ∷ es) es) s
   again (Some (Enter k Write)) s is plain_so_far plain = again_one p c l after_it (unsent e ∷ es) plain_so_far k
       (not (is_closing p c before k es) && list_any (is_lock k) (due p c after_it (unsent e ∷ es))) s is plain

@@ -16,7 +16,7 @@ use Rattle.dso_base.specs.Following.{is_thread}
 use Rattle.dso_plain.specs.KeyTests.{is_lock}
 use Rattle.dso_plain.specs.State.{Hold}
 use Rattle.dso_plain.proofs.keys.SameKeys.{same_number}
-use Rattle.dso_law.specs.declared.readings.Standing.{Standing}
+use Rattle.dso_law.specs.declared.readings.LockStanding.{LockStanding}
 use Rattle.dso_law.specs.Settings.{Settings}
 use Rattle.dso_law.specs.Entries.{entries_of}
 use Rattle.dso_law.specs.Channels.{up_in_flight, down_in_flight}
@@ -35,7 +35,7 @@ use Rattle.dso_legal.proofs.leases.LeasesCompatible.{leases_are_compatible}
 use Rattle.dso_legal.proofs.leases.Tokens.{leases_are_tokens}
 
 -- a lease that is there after a message up was there before it
-one_before : (l : LockName) (m : Up) (s : Standing) (level : Level) → (standing_up l m s).lease ≡ Some level → s.lease ≡ Some level
+one_before : (l : LockName) (m : Up) (s : LockStanding) (level : Level) → (standing_up l m s).lease ≡ Some level → s.lease ≡ Some level
 one_before l (up.Request k wanted) s level e = by (is_lock l k) e
   where
     by : (b : Bool) → (cond b (record s { is_asked = true }) s).lease ≡ Some level → s.lease ≡ Some level
@@ -48,20 +48,20 @@ one_before l (up.Return k threads) s level e = by (is_lock l k) e
     by false e = e
 one_before l m s level e = e
 
-lease_before : (l : LockName) (ms : List Up) (s : Standing) (level : Level) → (after (standing_up l) ms s).lease ≡ Some level → s.lease ≡ Some level
+lease_before : (l : LockName) (ms : List Up) (s : LockStanding) (level : Level) → (after (standing_up l) ms s).lease ≡ Some level → s.lease ≡ Some level
 lease_before l [] s level e = e
 lease_before l (m ∷ ms) s level e = one_before l m s level (lease_before l ms (standing_up l m s) level e)
 
 -- and a lease stays as messages come down, since a grant comes only where there is none
-one_stays : (l : LockName) (m : Down) (s : Standing) (level : Level) → MayGoDown l m s → s.lease ≡ Some level → (standing_down l m s).lease ≡ Some level
+one_stays : (l : LockName) (m : Down) (s : LockStanding) (level : Level) → MayGoDown l m s → s.lease ≡ Some level → (standing_down l m s).lease ≡ Some level
 one_stays l (down.Grant k granted) s level may e = by (is_lock l k) refl
   where
     by : (b : Bool) → is_lock l k ≡ b → (cond b (with_lease granted) s).lease ≡ Some level
-    by true f = absurd (let both : Some level ≡ None = sym e ∙ ap (λ (s : Standing). s.lease) (may f) in cc both)
+    by true f = absurd (let both : Some level ≡ None = sym e ∙ ap (λ (s : LockStanding). s.lease) (may f) in cc both)
     by false f = e
 one_stays l m s level may e = e
 
-lease_stays : (l : LockName) (ms : List Down) (s : Standing) (level : Level) → EachMay (MayGoDown l) (standing_down l) ms s → s.lease ≡ Some level → (after (standing_down l) ms s).lease ≡ Some level
+lease_stays : (l : LockName) (ms : List Down) (s : LockStanding) (level : Level) → EachMay (MayGoDown l) (standing_down l) ms s → s.lease ≡ Some level → (after (standing_down l) ms s).lease ≡ Some level
 lease_stays l [] s level may e = e
 lease_stays l (m ∷ ms) s level may e = lease_stays l ms (standing_down l m s) level may.1 (one_stays l m s level may.0 e)
 
@@ -69,7 +69,7 @@ pub leases_are_known : LeasesAreKnown
 leases_are_known p next es h c l level alive e =
     let agree = leases_are_tokens p next es h c l alive in
     lease_before l (messages (up_in_flight c es)) (standing_with c l (counted (entries_of Server es))) level
-    (ap (λ (s : Standing). s.lease) agree.meet ∙ lease_stays l (messages (down_in_flight c es)) (standing l (entries_of (Client c) es)) level agree.downs e)
+    (ap (λ (s : LockStanding). s.lease) agree.meet ∙ lease_stays l (messages (down_in_flight c es)) (standing l (entries_of (Client c) es)) level agree.downs e)
 
 -- holds within leases that don't conflict don't conflict
 covered : (a b x y : Level) → is_enough a (Some x) ≡ true → is_enough b (Some y) ≡ true → conflicts x (Some y) ≡ false → conflicts a (Some b) ≡ false

@@ -24,7 +24,7 @@ use Rattle.dso_base.specs.Following.{is_thread}
 use Rattle.dso_plain.specs.KeyTests.{is_lock}
 use Rattle.dso_plain.specs.State.{Hold}
 use Rattle.dso_plain.proofs.keys.SameKeys.{same_lock, same_thread}
-use Rattle.dso_law.specs.declared.readings.Standing.{Standing}
+use Rattle.dso_law.specs.declared.readings.LockStanding.{LockStanding}
 use Rattle.dso_law.specs.Settings.{Settings, threads_of}
 use Rattle.dso_law.specs.Entries.{unsent, by_taken_down}
 use Rattle.dso_law.specs.Threads.{locks_of, hold_of, ending_of}
@@ -32,7 +32,7 @@ use Rattle.dso_law.specs.Copies.{is_object_asked}
 use Rattle.dso_law.specs.Records.{is_batch_asked}
 use Rattle.dso_law.specs.ClientWaiters.{client_list}
 use Rattle.dso_law.specs.Leases.{standing_up, standing_down, standing, leased, is_asked_for, since_grant, is_entered, leased_locks}
-use Rattle.dso_law.specs.Closing.{is_closing, is_free, is_due, due}
+use Rattle.dso_law.specs.Closing.{is_closing, is_free, is_lease_due, due}
 use Rattle.dso_law.specs.RequestNeeds.{Need, NeedsId, NeedsObject, NeedsClass, NeedsMark, NeedsLease, NeedsOthersOut, NeedsAck, unmet, ask_for}
 use Rattle.dso_law.specs.Replies.{woken_by}
 use Rattle.dso_law.specs.FitsDown.{FitsDown}
@@ -48,17 +48,17 @@ abbrev pub LeavesLease : LockName → Up → Type 0
 LeavesLease l (up.Return k threads) = is_lock l k ≡ false
 LeavesLease l m = Unit {0}
 
-left_one : (l : LockName) (m : Up) (s : Standing) → LeavesLease l m → (standing_up l m s).lease ≡ s.lease
+left_one : (l : LockName) (m : Up) (s : LockStanding) → LeavesLease l m → (standing_up l m s).lease ≡ s.lease
 left_one l (up.Request k level) s h = by (is_lock l k)
   where
     by : (b : Bool) → (cond b (record s { is_asked = true }) s).lease ≡ s.lease
     by true = refl
     by false = refl
-left_one l (up.Return k threads) s h = ap (λ (r : Standing). r.lease) (unless_true (is_lock l k) (record s { lease = None }) s h)
+left_one l (up.Return k threads) s h = ap (λ (r : LockStanding). r.lease) (unless_true (is_lock l k) (record s { lease = None }) s h)
 left_one l m s h = refl
 
 -- and so do messages that all leave it
-lease_left : (l : LockName) (ms : List Up) (s : Standing) → AllByRecursion (LeavesLease l) ms → (after (standing_up l) ms s).lease ≡ s.lease
+lease_left : (l : LockName) (ms : List Up) (s : LockStanding) → AllByRecursion (LeavesLease l) ms → (after (standing_up l) ms s).lease ≡ s.lease
 lease_left l [] s h = refl
 lease_left l (m ∷ ms) s h = lease_left l ms (standing_up l m s) h.1 ∙ left_one l m s h.0
 
@@ -109,18 +109,18 @@ module _ (p : Settings) (c : ℕ) (next : ThreadId → Option Request) (t : Thre
   isnt_free : is_free p c next l es ≡ false
   isnt_free = ap not (found t (λ u. not (is_none (hold_of u l es))) (threads_of p c) (ap (λ (o : Option Hold). not (is_none o)) held) its)
 
-  isnt_due : is_due p c next l es ≡ false
+  isnt_due : is_lease_due p c next l es ≡ false
   isnt_due = last_fails (is_closing p c next l es) (is_entered l es) (is_free p c next l es) isnt_free
 
   isnt_in_due : (b : Bool) → list_any (is_lock l) (due p c next es) ≡ b → b ≡ false
-  isnt_in_due true e = no_both (is_due p c next l es) (has_is (λ k. is_due p c next k es ≡ true) l (due p c next es) (each_passes (λ k. is_due p c next k es) (leased_locks es)) e) isnt_due
+  isnt_in_due true e = no_both (is_lease_due p c next l es) (has_is (λ k. is_lease_due p c next k es ≡ true) l (due p c next es) (each_passes (λ k. is_lease_due p c next k es) (leased_locks es)) e) isnt_due
   isnt_in_due false e = refl
 
   returns_keep : AllByRecursion (LeavesLease l) (returns p c next es)
   returns_keep = returns_leave l (λ k. client_list k es) (due p c next es) (isnt_in_due (list_any (is_lock l) (due p c next es)) refl)
 
 -- a lock that is granted
-abbrev pub with_lease : Level → Standing
+abbrev pub with_lease : Level → LockStanding
 with_lease level = record { lease = Some level; is_asked = false }
 
 -- what the client takes keeps the lease of a lock, and whether it is entered
@@ -143,7 +143,7 @@ module _ (p : Settings) (c : ℕ) (before after_it : ThreadId → Option Request
 
   -- by the messages that it sends
   kept_by : (l : LockName) (ms : List Up) → e.sent ≡ map ToServer ms → AllByRecursion (LeavesLease l) ms → leased l (e ∷ es) ≡ leased l (unsent e ∷ es)
-  kept_by l ms sent leave = ap (λ (s : Standing). s.lease) (said_status (standing_up l) e.sent (standing l (unsent e ∷ es))
+  kept_by l ms sent leave = ap (λ (s : LockStanding). s.lease) (said_status (standing_up l) e.sent (standing l (unsent e ∷ es))
       ∙ ap (λ ms. after (standing_up l) ms (standing l (unsent e ∷ es))) (ap said_of sent ∙ said_all ms))
       ∙ lease_left l ms (standing l (unsent e ∷ es)) leave
 

@@ -9,7 +9,7 @@ use Rattle.dso_base.specs.declared.message.Up.TheVariants as up
 use Rattle.dso_base.specs.declared.journal.Input.{Input}
 use Rattle.dso_base.specs.declared.journal.Input.TheVariants.{TookDown}
 use Rattle.dso_plain.specs.KeyTests.{is_lock}
-use Rattle.dso_law.specs.declared.readings.Standing.{Standing}
+use Rattle.dso_law.specs.declared.readings.LockStanding.{LockStanding}
 use Rattle.dso_law.specs.Entries.{by_taken_down}
 use Rattle.dso_law.specs.Leases.{idle, standing_up, standing_down}
 use Rattle.dso_legal.specs.Tokens.{asked, IsLeased, MayGoUp, MayGoDown}
@@ -43,31 +43,31 @@ pub other_grant : (l k : LockName) (level : Level) → is_lock l k ≡ false →
 other_grant l k level e s = (λ yes. no_both (is_lock l k) yes e, unless_true (is_lock l k) (record { lease = Some level; is_asked = false }) s e)
 
 -- the client speaks where the lock isn't asked for
-abbrev pub ClientSpeaks : Standing → Type 0
+abbrev pub ClientSpeaks : LockStanding → Type 0
 ClientSpeaks s = s.is_asked ≡ false
 
 -- the server speaks where it is
-abbrev pub ServerSpeaks : Standing → Type 0
+abbrev pub ServerSpeaks : LockStanding → Type 0
 ServerSpeaks s = s.is_asked ≡ true
 
-turn_request : (l k : LockName) (level : Level) (s : Standing) (b : Bool) → is_lock l k ≡ b → (is_lock l k ≡ true → s ≡ idle) → IsDeaf (MayGoUp l) (standing_up l) (up.Request k level) ⊎ ClientSpeaks s
-turn_request l k level s true e may = inr (ap (λ (s : Standing). s.is_asked) (may e))
+turn_request : (l k : LockName) (level : Level) (s : LockStanding) (b : Bool) → is_lock l k ≡ b → (is_lock l k ≡ true → s ≡ idle) → IsDeaf (MayGoUp l) (standing_up l) (up.Request k level) ⊎ ClientSpeaks s
+turn_request l k level s true e may = inr (ap (λ (s : LockStanding). s.is_asked) (may e))
 turn_request l k level s false e may = inl (other_request l k level e)
 
-turn_return : (l k : LockName) (threads : _) (s : Standing) (b : Bool) → is_lock l k ≡ b → (is_lock l k ≡ true → IsLeased s) → IsDeaf (MayGoUp l) (standing_up l) (up.Return k threads) ⊎ ClientSpeaks s
+turn_return : (l k : LockName) (threads : _) (s : LockStanding) (b : Bool) → is_lock l k ≡ b → (is_lock l k ≡ true → IsLeased s) → IsDeaf (MayGoUp l) (standing_up l) (up.Return k threads) ⊎ ClientSpeaks s
 turn_return l k threads s true e may = inr (may e).unasked
 turn_return l k threads s false e may = inl (other_return l k threads e)
 
-turn_up : (l : LockName) (m : Up) (s : Standing) → MayGoUp l m s → IsDeaf (MayGoUp l) (standing_up l) m ⊎ ClientSpeaks s
+turn_up : (l : LockName) (m : Up) (s : LockStanding) → MayGoUp l m s → IsDeaf (MayGoUp l) (standing_up l) m ⊎ ClientSpeaks s
 turn_up l (up.Request k level) s may = turn_request l k level s (is_lock l k) refl may
 turn_up l (up.Return k threads) s may = turn_return l k threads s (is_lock l k) refl may
 turn_up l m s may = inl (λ s. (tt, refl))
 
-turn_grant : (l k : LockName) (level : Level) (s : Standing) (b : Bool) → is_lock l k ≡ b → (is_lock l k ≡ true → s ≡ asked) → IsDeaf (MayGoDown l) (standing_down l) (down.Grant k level) ⊎ ServerSpeaks s
-turn_grant l k level s true e may = inr (ap (λ (s : Standing). s.is_asked) (may e))
+turn_grant : (l k : LockName) (level : Level) (s : LockStanding) (b : Bool) → is_lock l k ≡ b → (is_lock l k ≡ true → s ≡ asked) → IsDeaf (MayGoDown l) (standing_down l) (down.Grant k level) ⊎ ServerSpeaks s
+turn_grant l k level s true e may = inr (ap (λ (s : LockStanding). s.is_asked) (may e))
 turn_grant l k level s false e may = inl (other_grant l k level e)
 
-turn_down : (l : LockName) (m : Down) (s : Standing) → MayGoDown l m s → IsDeaf (MayGoDown l) (standing_down l) m ⊎ ServerSpeaks s
+turn_down : (l : LockName) (m : Down) (s : LockStanding) → MayGoDown l m s → IsDeaf (MayGoDown l) (standing_down l) m ⊎ ServerSpeaks s
 turn_down l (down.Grant k level) s may = turn_grant l k level s (is_lock l k) refl may
 turn_down l m s may = inl (λ s. (tt, refl))
 
@@ -84,11 +84,11 @@ pub lock_commutes : (l : LockName) → Commutes (MayGoUp l) (standing_up l) (May
 lock_commutes l = turns_commute (MayGoUp l) (standing_up l) (MayGoDown l) (standing_down l) ClientSpeaks ServerSpeaks (lock_turns l)
 
 -- A lock that is asked for isn't leased.
-abbrev pub IsPlain : Standing → Type 0
+abbrev pub IsPlain : LockStanding → Type 0
 IsPlain s = s.is_asked ≡ true → s.lease ≡ None
 
 -- a plain lock that is leased isn't asked for
-pub leased_plain : (s : Standing) → IsPlain s → s.lease ≢ None → IsLeased s
+pub leased_plain : (s : LockStanding) → IsPlain s → s.lease ≢ None → IsLeased s
 leased_plain s plain leased = record { leased = leased; unasked = by s.is_asked refl }
   where
     by : (b : Bool) → s.is_asked ≡ b → b ≡ false
@@ -96,23 +96,23 @@ leased_plain s plain leased = record { leased = leased; unasked = by s.is_asked 
     by false e = refl
 
 -- a plain lock that is asked for is so alone
-pub asked_plain : (s : Standing) → IsPlain s → s.is_asked ≡ true → s ≡ asked
+pub asked_plain : (s : LockStanding) → IsPlain s → s.is_asked ≡ true → s ≡ asked
 asked_plain s plain e = λ i. record { lease = plain e i; is_asked = e i }
 
 -- a lock neither leased nor asked for is idle
-pub is_idle : (s : Standing) → s.lease ≡ None → s.is_asked ≡ false → s ≡ idle
+pub is_idle : (s : LockStanding) → s.lease ≡ None → s.is_asked ≡ false → s ≡ idle
 is_idle s e f = λ i. record { lease = e i; is_asked = f i }
 
 -- a grant leaves a plain lock plain
-pub plain_granted : (b : Bool) (level : Level) (s : Standing) → IsPlain s → IsPlain (cond b (record { lease = Some level; is_asked = false }) s)
+pub plain_granted : (b : Bool) (level : Level) (s : LockStanding) → IsPlain s → IsPlain (cond b (record { lease = Some level; is_asked = false }) s)
 plain_granted true level s h e = absurd (cc e)
 plain_granted false level s h e = h e
 
-plain_told : (l : LockName) (m : Down) (s : Standing) → IsPlain s → IsPlain (standing_down l m s)
+plain_told : (l : LockName) (m : Down) (s : LockStanding) → IsPlain s → IsPlain (standing_down l m s)
 plain_told l (down.Grant k level) s h = plain_granted (is_lock l k) level s h
 plain_told l m s h = h
 
 -- and so does what a client takes
-pub plain_taken : (l : LockName) (input : Input) (s : Standing) → IsPlain s → IsPlain (by_taken_down (standing_down l) input s)
+pub plain_taken : (l : LockName) (input : Input) (s : LockStanding) → IsPlain s → IsPlain (by_taken_down (standing_down l) input s)
 plain_taken l (TookDown m) s h = plain_told l m s h
 plain_taken l input s h = h

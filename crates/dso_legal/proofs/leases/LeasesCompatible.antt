@@ -19,7 +19,7 @@ use Rattle.dso_base.specs.declared.request.Event.{Event}
 use Rattle.dso_base.specs.declared.request.Request.{Request}
 use Rattle.dso_plain.specs.KeyTests.{is_lock}
 use Rattle.dso_plain.proofs.keys.SameKeys.{same_number, number_self}
-use Rattle.dso_law.specs.declared.readings.Standing.{Standing}
+use Rattle.dso_law.specs.declared.readings.LockStanding.{LockStanding}
 use Rattle.dso_law.specs.Settings.{Settings, clients_of}
 use Rattle.dso_law.specs.Entries.{is_node, entries_of, unsent}
 use Rattle.dso_law.specs.Leases.{idle, standing_up, standing_down}
@@ -40,14 +40,14 @@ use Rattle.dso_legal.proofs.leases.Tokens.{known}
 use Rattle.dso_legal.proofs.channels.InFlight.{told_to, told_append}
 
 -- How a lock stands with each client: leases of two clients don't conflict, and with nobody else is it leased or asked for.
-pub record Lent (p : Settings) (s : ℕ → Standing) : Type 0 where
+pub record Lent (p : Settings) (s : ℕ → LockStanding) : Type 0 where
   pub compatible : (c d : ℕ) (level : Level) → eqb c d ≡ false → (s c).lease ≡ Some level → conflicts level (s d).lease ≡ false
   pub outsiders : (c : ℕ) → list_any (eqb c) (clients_of p) ≡ false → s c ≡ idle
 
 -- the same, where the lock stands the same with each
-lent_same : (p : Settings) (s r : ℕ → Standing) → ((c : ℕ) → r c ≡ s c) → Lent p s → Lent p r
+lent_same : (p : Settings) (s r : ℕ → LockStanding) → ((c : ℕ) → r c ≡ s c) → Lent p s → Lent p r
 lent_same p s r same h = record {
-  compatible = λ c d level ne e. subst (λ (x : Standing). conflicts level x.lease ≡ false) (sym (same d)) (h.compatible c d level ne (ap (λ (x : Standing). x.lease) (sym (same c)) ∙ e));
+  compatible = λ c d level ne e. subst (λ (x : LockStanding). conflicts level x.lease ≡ false) (sym (same d)) (h.compatible c d level ne (ap (λ (x : LockStanding). x.lease) (sym (same c)) ∙ e));
   outsiders = λ c out. same c ∙ h.outsiders c out;
 }
 
@@ -70,10 +70,10 @@ fewer_conflict a b a' b' level e (inr f) h k = subst (λ x. conflicts level x �
 fewer_conflict a b a' b' level (inr e) (inl f) h k = absurd (let never : None ≢ Some level = λ h. cc in never (sym e ∙ k))
 
 -- no more is leased than before
-abbrev Fewer : (ℕ → Standing) → (ℕ → Standing) → Type 0
+abbrev Fewer : (ℕ → LockStanding) → (ℕ → LockStanding) → Type 0
 Fewer s r = (c : ℕ) → ((r c).lease ≡ (s c).lease) ⊎ ((r c).lease ≡ None)
 
-lent_fewer : (p : Settings) (s r : ℕ → Standing) → Fewer s r → ((c : ℕ) → list_any (eqb c) (clients_of p) ≡ false → r c ≡ idle) → Lent p s → Lent p r
+lent_fewer : (p : Settings) (s r : ℕ → LockStanding) → Fewer s r → ((c : ℕ) → list_any (eqb c) (clients_of p) ≡ false → r c ≡ idle) → Lent p s → Lent p r
 lent_fewer p s r fewer outsiders h = record {
   compatible = λ c d level ne. fewer_conflict (s c).lease (s d).lease (r c).lease (r d).lease level (fewer c) (fewer d) (h.compatible c d level ne);
   outsiders = outsiders;
@@ -88,30 +88,30 @@ outsider_other p c d is isnt = by (eqb c d) refl
     by false e = refl
 
 -- what a message of a client makes of its lease
-fewer_kept : (a b : Bool) (s : Standing) → ((cond b (cond a (record s { is_asked = true }) s) s).lease ≡ s.lease) ⊎ ((cond b (cond a (record s { is_asked = true }) s) s).lease ≡ None)
+fewer_kept : (a b : Bool) (s : LockStanding) → ((cond b (cond a (record s { is_asked = true }) s) s).lease ≡ s.lease) ⊎ ((cond b (cond a (record s { is_asked = true }) s) s).lease ≡ None)
 fewer_kept true true s = inl refl
 fewer_kept false true s = inl refl
 fewer_kept a false s = inl refl
 
-fewer_given : (a b : Bool) (s : Standing) → ((cond b (cond a (record s { lease = None }) s) s).lease ≡ s.lease) ⊎ ((cond b (cond a (record s { lease = None }) s) s).lease ≡ None)
+fewer_given : (a b : Bool) (s : LockStanding) → ((cond b (cond a (record s { lease = None }) s) s).lease ≡ s.lease) ⊎ ((cond b (cond a (record s { lease = None }) s) s).lease ≡ None)
 fewer_given true true s = inr refl
 fewer_given false true s = inl refl
 fewer_given a false s = inl refl
 
-fewer_same : (b : Bool) (s : Standing) → ((cond b s s).lease ≡ s.lease) ⊎ ((cond b s s).lease ≡ None)
+fewer_same : (b : Bool) (s : LockStanding) → ((cond b s s).lease ≡ s.lease) ⊎ ((cond b s s).lease ≡ None)
 fewer_same true s = inl refl
 fewer_same false s = inl refl
 
-fewer_heard : (c d : ℕ) (l : LockName) (m : Up) (s : Standing) → ((standing_by c l (input.TookUp d m) s).lease ≡ s.lease) ⊎ ((standing_by c l (input.TookUp d m) s).lease ≡ None)
+fewer_heard : (c d : ℕ) (l : LockName) (m : Up) (s : LockStanding) → ((standing_by c l (input.TookUp d m) s).lease ≡ s.lease) ⊎ ((standing_by c l (input.TookUp d m) s).lease ≡ None)
 fewer_heard c d l (up.Request k level) s = fewer_kept (is_lock l k) (eqb c d) s
 fewer_heard c d l (up.Return k threads) s = fewer_given (is_lock l k) (eqb c d) s
 fewer_heard c d l m s = fewer_same (eqb c d) s
 
-fewer_lost : (b : Bool) (s : Standing) → ((cond b idle s).lease ≡ s.lease) ⊎ ((cond b idle s).lease ≡ None)
+fewer_lost : (b : Bool) (s : LockStanding) → ((cond b idle s).lease ≡ s.lease) ⊎ ((cond b idle s).lease ≡ None)
 fewer_lost true s = inr refl
 fewer_lost false s = inl refl
 
-idle_lost : (b : Bool) (s : Standing) → s ≡ idle → cond b idle s ≡ idle
+idle_lost : (b : Bool) (s : LockStanding) → s ≡ idle → cond b idle s ≡ idle
 idle_lost true s e = refl
 idle_lost false s e = e
 
@@ -130,15 +130,15 @@ second_fails true x e f = absurd (cc e)
 second_fails false x e f = f
 
 -- the server's leases, as they are granted one by one
-record Alike (served : LeaseTable) (s : ℕ → Standing) : Type 0 where
+record Alike (served : LeaseTable) (s : ℕ → LockStanding) : Type 0 where
   same : (c : ℕ) → served.lease c ≡ (s c).lease
 
-module _ (p : Settings) (waiter : Waiter) (served : LeaseTable) (s : ℕ → Standing) (alike : Alike served s) (h : Lent p s) (free : list_any (is_against waiter served) (clients_of p) ≡ false) where
+module _ (p : Settings) (waiter : Waiter) (served : LeaseTable) (s : ℕ → LockStanding) (alike : Alike served s) (h : Lent p s) (free : list_any (is_against waiter served) (clients_of p) ≡ false) where
   -- nobody else's lease conflicts
   against_none_by : (b : Bool) (d : ℕ) → list_any (eqb d) (clients_of p) ≡ b → eqb d waiter.client ≡ false → conflicts waiter.level (s d).lease ≡ false
   against_none_by true d e ne = subst (λ x. conflicts waiter.level x ≡ false) (alike.same d)
       (second_fails (eqb d waiter.client) (conflicts waiter.level (served.lease d)) ne (none_has (is_against waiter served) d (clients_of p) free e))
-  against_none_by false d e ne = subst (λ (x : Standing). conflicts waiter.level x.lease ≡ false) (sym (h.outsiders d e)) (none_conflicts waiter.level)
+  against_none_by false d e ne = subst (λ (x : LockStanding). conflicts waiter.level x.lease ≡ false) (sym (h.outsiders d e)) (none_conflicts waiter.level)
 
   against_none : (d : ℕ) → eqb d waiter.client ≡ false → conflicts waiter.level (s d).lease ≡ false
   against_none d ne = against_none_by (list_any (eqb d) (clients_of p)) d refl ne
@@ -180,22 +180,22 @@ rest_no_outsiders : (p : Settings) (waiter : Waiter) (rest : List Waiter) → No
 rest_no_outsiders p waiter rest h c out = sym (unless_true (eqb c waiter.client) (suc (queued c rest)) (queued c rest) (outsider_other p c waiter.client (member_first p waiter rest h) out)) ∙ h c out
 
 -- how the lock stands after what is told
-abbrev after_told : LockName → List Sent → (ℕ → Standing) → ℕ → Standing
+abbrev after_told : LockName → List Sent → (ℕ → LockStanding) → ℕ → LockStanding
 after_told l out s c = after (standing_down l) (told_to c out) (s c)
 
 -- what grants nothing
-lent_no_grants : (p : Settings) (l : LockName) (out : List Sent) (s : ℕ → Standing) → NoGrants l out → Lent p s → Lent p (after_told l out s)
+lent_no_grants : (p : Settings) (l : LockName) (out : List Sent) (s : ℕ → LockStanding) → NoGrants l out → Lent p s → Lent p (after_told l out s)
 lent_no_grants p l out s none h = lent_same p s (after_told l out s) (λ c. (no_grants_deaf l c out none).stays (s c)) h
 
 -- one grant in front
-told_grant : (b : Bool) (c : ℕ) (l : LockName) (waiter : Waiter) (out : List Sent) (s : Standing) → eqb c waiter.client ≡ b
+told_grant : (b : Bool) (c : ℕ) (l : LockName) (waiter : Waiter) (out : List Sent) (s : LockStanding) → eqb c waiter.client ≡ b
     → after (standing_down l) (told_to c (ToClient waiter.client (down.Grant l waiter.level) ∷ out)) s ≡ after (standing_down l) (told_to c out) (lent b waiter.level s)
 told_grant true c l waiter out s e = ap (λ ms. after (standing_down l) ms s) (if_true (eqb c waiter.client) (down.Grant l waiter.level ∷ told_to c out) (told_to c out) e)
     ∙ ap (after (standing_down l) (told_to c out)) (if_true (is_lock l l) (record { lease = Some waiter.level; is_asked = false }) s (lock_self l))
 told_grant false c l waiter out s e = ap (λ ms. after (standing_down l) ms s) (unless_true (eqb c waiter.client) (down.Grant l waiter.level ∷ told_to c out) (told_to c out) e)
 
 module _ (p : Settings) (l : LockName) where
-  serve_one : (b : Bool) (waiter : Waiter) (rest : List Waiter) (served : LeaseTable) (s : ℕ → Standing) → Lent p s
+  serve_one : (b : Bool) (waiter : Waiter) (rest : List Waiter) (served : LeaseTable) (s : ℕ → LockStanding) → Lent p s
       → (b ≡ false → Lent p (after_told l (serve_queue p l rest (with_grant waiter served)) (λ c. lent (eqb c waiter.client) waiter.level (s c))))
       → Lent p (after_told l (cond b (recalls p l waiter served) (ToClient waiter.client (down.Grant l waiter.level) ∷ serve_queue p l rest (with_grant waiter served))) s)
   serve_one true waiter rest served s h later = lent_no_grants p l (recalls p l waiter served) s (recalls_no_grants p l l waiter served) h
@@ -205,7 +205,7 @@ module _ (p : Settings) (l : LockName) where
       (λ c. told_grant (eqb c waiter.client) c l waiter (serve_queue p l rest (with_grant waiter served)) (s c) refl) (later refl)
 
   -- serving a queue keeps the leases compatible
-  serve_lent : (rest : List Waiter) (served : LeaseTable) (s : ℕ → Standing) → Alike served s → NoOutsiders p rest → Lent p s → Lent p (after_told l (serve_queue p l rest served) s)
+  serve_lent : (rest : List Waiter) (served : LeaseTable) (s : ℕ → LockStanding) → Alike served s → NoOutsiders p rest → Lent p s → Lent p (after_told l (serve_queue p l rest served) s)
   serve_lent [] served s alike members h = h
   serve_lent (waiter ∷ rest) served s alike members h = serve_one (list_any (is_against waiter served) (clients_of p)) waiter rest served s h (λ free.
       serve_lent rest (with_grant waiter served) (λ c. lent (eqb c waiter.client) waiter.level (s c)) (grant_alike p waiter served s alike h free) (rest_no_outsiders p waiter rest members)
@@ -215,7 +215,7 @@ module _ (p : Settings) (l : LockName) where
   one_lent : (out : List Sent) (es : List Entry) → OneServing p l out es → ((c : ℕ) → Queued c (queue_of l es) (standing_with c l es)) → Lent p (λ c. standing_with c l es) → Lent p (after_told l out (λ c. standing_with c l es))
   one_lent out es (inl none) q h = lent_no_grants p l out (λ c. standing_with c l es) none h
   one_lent out es (inr once) q h =
-      let s : ℕ → Standing = λ c. standing_with c l es in
+      let s : ℕ → LockStanding = λ c. standing_with c l es in
       let front : Lent p (after_told l once.front s) = lent_no_grants p l once.front s once.none_in_front h in
       let same : (c : ℕ) → after_told l once.front s c ≡ s c = λ c. (no_grants_deaf l c once.front once.none_in_front).stays (s c) in
       let served : Lent p (after_told l (serves p l es) s) = serve_lent (queue_of l es) (leases_so_far l es) s (record { same = λ c. refl }) (λ c out. (q c).count ∙ ap asks (h.outsiders c out)) h in

@@ -12,7 +12,7 @@ use Rattle.dso_base.specs.declared.message.Down.{Down}
 use Rattle.dso_base.specs.declared.message.Down.TheVariants as down
 use Rattle.dso_plain.specs.KeyTests.{is_lock}
 use Rattle.dso_plain.proofs.keys.SameKeys.{same_number, number_self}
-use Rattle.dso_law.specs.declared.readings.Standing.{Standing}
+use Rattle.dso_law.specs.declared.readings.LockStanding.{LockStanding}
 use Rattle.dso_law.specs.Settings.{Settings, clients_of}
 use Rattle.dso_law.specs.Entries.{by_sent_down}
 use Rattle.dso_law.specs.Leases.{standing_down}
@@ -29,11 +29,11 @@ queued c [] = 0
 queued c (waiter ∷ queue) = cond (eqb c waiter.client) (suc (queued c queue)) (queued c queue)
 
 -- how often it should: once where the lock is asked for
-abbrev pub asks : Standing → ℕ
+abbrev pub asks : LockStanding → ℕ
 asks s = cond s.is_asked 1 0
 
 -- The queue and how the lock stands with the client agree.
-pub record Queued (c : ℕ) (queue : List Waiter) (s : Standing) : Type 0 where
+pub record Queued (c : ℕ) (queue : List Waiter) (s : LockStanding) : Type 0 where
   pub count : queued c queue ≡ asks s
   pub plain : IsPlain s
 
@@ -126,12 +126,12 @@ no_grants_queue l (ToServer m ∷ out) queue h = no_grants_queue l out queue h
 no_grants_queue l (ToClient d m ∷ out) queue h = ap (by_sent_down (queue_by_sent l) out) (no_grant_queue l d m queue h.0) ∙ no_grants_queue l out queue h.1
 
 -- What is sent may come where the lock stands with the client, and leaves queue and standing in agreement.
-pub record MayTell (c : ℕ) (l : LockName) (out : List Sent) (queue : List Waiter) (s : Standing) : Type 0 where
+pub record MayTell (c : ℕ) (l : LockName) (out : List Sent) (queue : List Waiter) (s : LockStanding) : Type 0 where
   pub comes : EachMay (MayGoDown l) (standing_down l) (told_to c out) s
   pub queued : Queued c (by_sent_down (queue_by_sent l) out queue) (after (standing_down l) (told_to c out) s)
 
 -- where no lock is granted
-pub tells_no_grant : (c : ℕ) (l : LockName) (out : List Sent) (queue : List Waiter) (s : Standing) → NoGrants l out → Queued c queue s → MayTell c l out queue s
+pub tells_no_grant : (c : ℕ) (l : LockName) (out : List Sent) (queue : List Waiter) (s : LockStanding) → NoGrants l out → Queued c queue s → MayTell c l out queue s
 tells_no_grant c l out queue s none q =
     let deaf = no_grants_deaf l c out none in
     record {
@@ -146,7 +146,7 @@ told_by_append step (ToServer m ∷ xs) ys s = told_by_append step xs ys s
 told_by_append step (ToClient c m ∷ xs) ys s = told_by_append step xs ys (step c m s)
 
 -- one after the other
-pub tells_append : (c : ℕ) (l : LockName) (xs ys : List Sent) (queue : List Waiter) (s : Standing) → EachMay (MayGoDown l) (standing_down l) (told_to c xs) s
+pub tells_append : (c : ℕ) (l : LockName) (xs ys : List Sent) (queue : List Waiter) (s : LockStanding) → EachMay (MayGoDown l) (standing_down l) (told_to c xs) s
     → MayTell c l ys (by_sent_down (queue_by_sent l) xs queue) (after (standing_down l) (told_to c xs) s) → MayTell c l (xs ++ ys) queue s
 tells_append c l xs ys queue s may later = record {
   comes = subst (λ ms. EachMay (MayGoDown l) (standing_down l) ms s) (sym (told_append c xs ys)) (may_append (MayGoDown l) (standing_down l) (told_to c xs) (told_to c ys) s may later.comes);
@@ -156,14 +156,14 @@ tells_append c l xs ys queue s may later = record {
 }
 
 -- no grants, and then others
-pub no_grants_first : (c : ℕ) (l : LockName) (xs ys : List Sent) (queue : List Waiter) (s : Standing) → NoGrants l xs → MayTell c l ys queue s → MayTell c l (xs ++ ys) queue s
+pub no_grants_first : (c : ℕ) (l : LockName) (xs ys : List Sent) (queue : List Waiter) (s : LockStanding) → NoGrants l xs → MayTell c l ys queue s → MayTell c l (xs ++ ys) queue s
 no_grants_first c l xs ys queue s none later =
     let deaf = no_grants_deaf l c xs none in
     tells_append c l xs ys queue s (deaf.comes s)
     (subst (λ r. MayTell c l ys (by_sent_down (queue_by_sent l) xs queue) r) (sym (deaf.stays s)) (subst (λ w. MayTell c l ys w s) (sym (no_grants_queue l xs queue none)) later))
 
 -- a client that stands in front asks, and no more than once
-asks_once : (s : Standing) (n : ℕ) → suc n ≡ asks s → (s.is_asked ≡ true) × (n ≡ 0)
+asks_once : (s : LockStanding) (n : ℕ) → suc n ≡ asks s → (s.is_asked ≡ true) × (n ≡ 0)
 asks_once s n e = by s.is_asked e
   where
     by : (b : Bool) → suc n ≡ cond b 1 0 → (b ≡ true) × (n ≡ 0)
@@ -171,12 +171,12 @@ asks_once s n e = by s.is_asked e
     by false e = absurd (let never : suc n ≢ 0 = λ h. omega (arith, h) in never e)
 
 -- a grant to the first of the queue
-record GrantsFirst (c : ℕ) (l : LockName) (waiter : Waiter) (rest queue : List Waiter) (s : Standing) (b : Bool) : Type 0 where
+record GrantsFirst (c : ℕ) (l : LockName) (waiter : Waiter) (rest queue : List Waiter) (s : LockStanding) (b : Bool) : Type 0 where
   comes : b ≡ true → s ≡ asked
   left : queued c rest ≡ asks (cond b (record { lease = Some waiter.level; is_asked = false }) s)
   queue_left : Queued c (without_client waiter.client queue) (cond b (record { lease = Some waiter.level; is_asked = false }) s)
 
-grants_first : (b : Bool) (c : ℕ) (l : LockName) (waiter : Waiter) (rest queue : List Waiter) (s : Standing) → eqb c waiter.client ≡ b
+grants_first : (b : Bool) (c : ℕ) (l : LockName) (waiter : Waiter) (rest queue : List Waiter) (s : LockStanding) → eqb c waiter.client ≡ b
     → cond b (suc (queued c rest)) (queued c rest) ≡ asks s → Queued c queue s → GrantsFirst c l waiter rest queue s b
 grants_first true c l waiter rest queue s e count q =
     let once = asks_once s (queued c rest) count in
@@ -192,11 +192,11 @@ grants_first false c l waiter rest queue s e count q = record {
 }
 
 -- a grant of the lock, as the client sees it
-abbrev pub lent : Bool → Level → Standing → Standing
+abbrev pub lent : Bool → Level → LockStanding → LockStanding
 lent b level s = cond b (record { lease = Some level; is_asked = false }) s
 
 -- a grant, and what follows it
-grant_then : (b : Bool) (c : ℕ) (l : LockName) (waiter : Waiter) (rest queue : List Waiter) (s : Standing) (out : List Sent) → eqb c waiter.client ≡ b → is_lock l l ≡ true
+grant_then : (b : Bool) (c : ℕ) (l : LockName) (waiter : Waiter) (rest queue : List Waiter) (s : LockStanding) (out : List Sent) → eqb c waiter.client ≡ b → is_lock l l ≡ true
     → GrantsFirst c l waiter rest queue s b → MayTell c l out (without_client waiter.client queue) (lent b waiter.level s)
     → MayTell c l (ToClient waiter.client (down.Grant l waiter.level) ∷ out) queue s
 grant_then true c l waiter rest queue s out e self g later =
@@ -229,7 +229,7 @@ module _ (p : Settings) (l : LockName) where
   pub recalls_no_grants : (k : LockName) (waiter : Waiter) (served : LeaseTable) → NoGrants l (recalls p k waiter served)
   recalls_no_grants k waiter served = no_grants_map l (λ d. d) (λ d. down.Recall k) _ (λ d. tt)
 
-  serve_one : (b : Bool) (c : ℕ) (waiter : Waiter) (rest queue : List Waiter) (served : LeaseTable) (s : Standing) → Queued c queue s
+  serve_one : (b : Bool) (c : ℕ) (waiter : Waiter) (rest queue : List Waiter) (served : LeaseTable) (s : LockStanding) → Queued c queue s
       → GrantsFirst c l waiter rest queue s (eqb c waiter.client)
       → MayTell c l (serve_queue p l rest (with_grant waiter served)) (without_client waiter.client queue) (lent (eqb c waiter.client) waiter.level s)
       → MayTell c l (cond b (recalls p l waiter served) (ToClient waiter.client (down.Grant l waiter.level) ∷ serve_queue p l rest (with_grant waiter served))) queue s
@@ -237,7 +237,7 @@ module _ (p : Settings) (l : LockName) where
   serve_one false c waiter rest queue served s q g later = grant_then (eqb c waiter.client) c l waiter rest queue s _ refl (lock_self l) g later
 
   -- what is granted of a queue may come, where the queue has a client exactly once where it asks
-  pub serve_tells : (c : ℕ) (rest queue : List Waiter) (served : LeaseTable) (s : Standing) → queued c rest ≡ asks s → Queued c queue s → MayTell c l (serve_queue p l rest served) queue s
+  pub serve_tells : (c : ℕ) (rest queue : List Waiter) (served : LeaseTable) (s : LockStanding) → queued c rest ≡ asks s → Queued c queue s → MayTell c l (serve_queue p l rest served) queue s
   serve_tells c [] queue served s count q = tells_no_grant c l [] queue s tt q
   serve_tells c (waiter ∷ rest) queue served s count q =
       let g = grants_first (eqb c waiter.client) c l waiter rest queue s refl count q in

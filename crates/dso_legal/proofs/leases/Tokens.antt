@@ -15,7 +15,7 @@ use Rattle.dso_base.specs.declared.message.Up.TheVariants as up
 use Rattle.dso_base.specs.declared.request.Event.{Event}
 use Rattle.dso_base.specs.declared.request.Request.{Request}
 use Rattle.dso_plain.proofs.keys.SameKeys.{same_number, number_self}
-use Rattle.dso_law.specs.declared.readings.Standing.{Standing}
+use Rattle.dso_law.specs.declared.readings.LockStanding.{LockStanding}
 use Rattle.dso_law.specs.Settings.{Settings}
 use Rattle.dso_law.specs.Entries.{entries_of, by_taken_up, by_sent_down, if_to}
 use Rattle.dso_law.specs.Channels.{up_in_flight, down_in_flight, IsFirst}
@@ -33,7 +33,7 @@ use Rattle.dso_legal.proofs.records.BothEnds.{server_with, client_with, ServerEn
 use Rattle.dso_legal.proofs.channels.InFlight.{told_to}
 
 -- what the server takes, where the client isn't lost
-pub heard_alive : (c : ℕ) (l : LockName) (input : Input) (s : Standing) → loses c input ≡ false → standing_by c l input s ≡ by_taken_up (if_to c (standing_up l)) input s
+pub heard_alive : (c : ℕ) (l : LockName) (input : Input) (s : LockStanding) → loses c input ≡ false → standing_by c l input s ≡ by_taken_up (if_to c (standing_up l)) input s
 heard_alive c l (TookUp d m) s h = refl
 heard_alive c l (Lose d) s h = unless_true (eqb c d) idle s h
 heard_alive c l input s h = refl
@@ -121,12 +121,12 @@ module _ (p : Settings) (next : ThreadId → List Event → Option Request) (es 
   lease_fits_up (up.Request l level) f =
       let free = may_up l (up.Request l level) f (lock_self l) in
       let q = (known p next es follow).queues c l in
-      (ap (λ (s : Standing). s.lease) free, none_asks c (queue_of l (counted (entries_of Server es))) (q.count ∙ ap asks free))
+      (ap (λ (s : LockStanding). s.lease) free, none_asks c (queue_of l (counted (entries_of Server es))) (q.count ∙ ap asks free))
   lease_fits_up (up.Return l threads) f = (may_up l (up.Return l threads) f (lock_self l)).leased
   lease_fits_up m f = tt
 
   pub lease_fits_down : (m : Down) → IsFirst m (down_in_flight c es) → LeaseFitsDown m (entries_of (Client c) es)
-  lease_fits_down (down.Grant l level) f = ap (λ (s : Standing). s.is_asked) (may_down l (down.Grant l level) f (lock_self l))
+  lease_fits_down (down.Grant l level) f = ap (λ (s : LockStanding). s.is_asked) (may_down l (down.Grant l level) f (lock_self l))
   lease_fits_down m f = tt
 
 pub leases_fit : LeasesFit

@@ -23,7 +23,7 @@ use Rattle.dso_plain.specs.KeyTests.{is_lock}
 use Rattle.dso_plain.specs.State.{PlainState}
 use Rattle.dso_plain.specs.History.{end_of, last_state}
 use Rattle.dso_plain.proofs.keys.SameKeys.{same_number}
-use Rattle.dso_law.specs.declared.readings.Standing.{Standing}
+use Rattle.dso_law.specs.declared.readings.LockStanding.{LockStanding}
 use Rattle.dso_law.specs.Settings.{Settings}
 use Rattle.dso_law.specs.Entries.{entries_of, by_taken_up}
 use Rattle.dso_law.specs.Channels.{Letter, takes_up, up_in_flight, in_flight_after, to_server, IsFirst, TakesFirst}
@@ -87,16 +87,16 @@ number_still c (input.Lose d) n still = absurd (cc still)
 number_still c other n still = refl
 
 -- a grant that may come takes no lease away
-grant_grows : (l : LockName) (m : Down) (s : Standing) (x : Level) → MayGoDown l m s → is_enough x s.lease ≡ true → is_enough x (standing_down l m s).lease ≡ true
+grant_grows : (l : LockName) (m : Down) (s : LockStanding) (x : Level) → MayGoDown l m s → is_enough x s.lease ≡ true → is_enough x (standing_down l m s).lease ≡ true
 grant_grows l (down.Grant k level) s x may e = by (is_lock l k) refl
   where
     by : (b : Bool) → is_lock l k ≡ b → is_enough x (cond b (record { lease = Some level; is_asked = false }) s).lease ≡ true
-    by true is = absurd (cc (sym (ap (λ (r : Standing). is_enough x r.lease) (may is)) ∙ e))
+    by true is = absurd (cc (sym (ap (λ (r : LockStanding). is_enough x r.lease) (may is)) ∙ e))
     by false is = e
 grant_grows l m s x may e = e
 
 -- nor do messages down that may come
-pub grants_grow : (l : LockName) (ms : List Down) (s : Standing) (x : Level) → EachMay (MayGoDown l) (standing_down l) ms s → is_enough x s.lease ≡ true → is_enough x (after (standing_down l) ms s).lease ≡ true
+pub grants_grow : (l : LockName) (ms : List Down) (s : LockStanding) (x : Level) → EachMay (MayGoDown l) (standing_down l) ms s → is_enough x s.lease ≡ true → is_enough x (after (standing_down l) ms s).lease ≡ true
 grants_grow l [] s x may e = e
 grants_grow l (m ∷ ms) s x may e = grants_grow l ms (standing_down l m s) x may.1 (grant_grows l m s x may.0 e)
 
@@ -170,7 +170,7 @@ module _ (p : Settings) (next : ThreadId → List Event → Option Request) (c :
     | inl skip ↦ absurd (cc (sym skip.skipped ∙ counts))
     | inr here ↦
         let before = counted (entries_of Server es) in
-        ap (λ (s : Standing). is_enough x s.lease) (standing_after_told c l e before)
+        ap (λ (s : LockStanding). is_enough x s.lease) (standing_after_told c l e before)
         ∙ grants_grow l (told_to c e.sent) (standing_by c l e.input (standing_with c l before)) x (tells_comes p c l e before here.tells).comes enough
   ]
 

@@ -13,7 +13,7 @@ use Rattle.dso_plain.specs.KeyTests.{is_lock}
 use Rattle.dso_plain.specs.State.{PlainState}
 use Rattle.dso_plain.specs.History.{RunsButMarks, end_of}
 use Rattle.dso_plain.proofs.independence.RunsSwap.{runs_but_marks_in_parts, ends_in_parts}
-use Rattle.dso_law.specs.declared.readings.Standing.{Standing}
+use Rattle.dso_law.specs.declared.readings.LockStanding.{LockStanding}
 use Rattle.dso_law.specs.RequestNeeds.{is_enough}
 use Rattle.dso_legal.specs.Agreement.{after}
 use Rattle.dso_legal.specs.PendingBlocks.{joined}
@@ -29,12 +29,12 @@ abbrev pub IsMore : Standings → Standings → Type 0
 IsMore st st' = (l : LockName) (x : Level) → is_enough x (st l).lease ≡ true → is_enough x (st' l).lease ≡ true
 
 -- where a standing is without a lease, the choice has no more than the other one
-less_if : (b : Bool) (q r : Standing) (x : Level) → is_enough x q.lease ≡ false → is_enough x (cond b q r).lease ≡ true → is_enough x r.lease ≡ true
+less_if : (b : Bool) (q r : LockStanding) (x : Level) → is_enough x q.lease ≡ false → is_enough x (cond b q r).lease ≡ true → is_enough x r.lease ≡ true
 less_if true q r x none e = absurd (cc (sym none ∙ e))
 less_if false q r x none e = e
 
 -- a standing that asks has the lease that it had
-asks_same : (b : Bool) (r : Standing) (x : Level) → is_enough x (cond b (record r { is_asked = true }) r).lease ≡ true → is_enough x r.lease ≡ true
+asks_same : (b : Bool) (r : LockStanding) (x : Level) → is_enough x (cond b (record r { is_asked = true }) r).lease ≡ true → is_enough x r.lease ≡ true
 asks_same true r x e = e
 asks_same false r x e = e
 
@@ -50,7 +50,7 @@ leases_shrink [] st l x e = e
 leases_shrink (m ∷ ms) st l x e = message_shrinks m st l x (leases_shrink ms (standings_up m st) l x e)
 
 -- what stands alike in both stays less
-choice_grows : (b : Bool) (q q' r r' : Standing) (x : Level) → (is_enough x q.lease ≡ true → is_enough x q'.lease ≡ true) → (is_enough x r.lease ≡ true → is_enough x r'.lease ≡ true)
+choice_grows : (b : Bool) (q q' r r' : LockStanding) (x : Level) → (is_enough x q.lease ≡ true → is_enough x q'.lease ≡ true) → (is_enough x r.lease ≡ true → is_enough x r'.lease ≡ true)
     → is_enough x (cond b q r).lease ≡ true → is_enough x (cond b q' r').lease ≡ true
 choice_grows true q q' r r' x f g e = f e
 choice_grows false q q' r r' x f g e = g e

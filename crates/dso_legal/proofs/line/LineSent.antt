@@ -19,7 +19,7 @@ use Rattle.dso_plain.specs.History.{RunsButMarks, end_of, last_state}
 use Rattle.dso_plain.specs.Touches.{TouchesIn, AreActsOf}
 use Rattle.dso_plain.proofs.keys.SameKeys.{number_self}
 use Rattle.dso_plain.proofs.independence.RunsSwap.{ends_in_parts}
-use Rattle.dso_law.specs.declared.readings.Standing.{Standing}
+use Rattle.dso_law.specs.declared.readings.LockStanding.{LockStanding}
 use Rattle.dso_law.specs.Settings.{Settings}
 use Rattle.dso_law.specs.Entries.{entries_of, by_sent_up}
 use Rattle.dso_law.specs.Channels.{posted, up_in_flight, in_flight_after, to_server, down_in_flight}
@@ -55,7 +55,7 @@ leases_at_end c es = after standings_up (messages (up_in_flight c es)) (λ l. st
 -- a lease that the client has is there at the end of what is in flight to the server
 pub lease_at_end : (c : ℕ) (l : LockName) (es : List Entry) (x : Level) → AgreeOnLock c l es → is_enough x (leased l (entries_of (Client c) es)) ≡ true → is_enough x (leases_at_end c es l).lease ≡ true
 lease_at_end c l es x agree enough =
-    ap (λ (s : Standing). is_enough x s.lease) (after_at (messages (up_in_flight c es)) (λ l. standing_with c l (counted (entries_of Server es))) l ∙ agree.meet)
+    ap (λ (s : LockStanding). is_enough x s.lease) (after_at (messages (up_in_flight c es)) (λ l. standing_with c l (counted (entries_of Server es))) l ∙ agree.meet)
     ∙ grants_grow l (messages (down_in_flight c es)) (standing l (entries_of (Client c) es)) x agree.downs enough
 
 -- what the threads of the client hold in the state is within the leases that the client has

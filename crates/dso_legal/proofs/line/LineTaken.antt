@@ -19,7 +19,7 @@ use Rattle.dso_plain.specs.History.{RunsButMarks, end_of, last_state}
 use Rattle.dso_plain.specs.Touches.{MakesIn, AreActsOf, NoCommonId}
 use Rattle.dso_plain.proofs.keys.SameKeys.{number_self}
 use Rattle.dso_plain.proofs.independence.RunsSwap.{runs_but_marks_in_parts, ends_in_parts}
-use Rattle.dso_law.specs.declared.readings.Standing.{Standing}
+use Rattle.dso_law.specs.declared.readings.LockStanding.{LockStanding}
 use Rattle.dso_law.specs.Settings.{Settings}
 use Rattle.dso_law.specs.Entries.{entries_of, by_taken_up}
 use Rattle.dso_law.specs.Channels.{Letter, takes_up, up_in_flight, in_flight_after, to_server, IsFirst, TakesFirst}
@@ -101,7 +101,7 @@ module _ (p : Settings) (next : ThreadId → List Event → Option Request) (e :
   record_grows c l x enough =
       let same : standing_by c l e.input (standing_with c l before) ≡ standing_with c l before = ap (λ i. standing_by c l i (standing_with c l before)) took ∙ same_either (eqb c d) (standing_with c l before) in
       ap (λ js. is_enough x (standing_with c l js).lease) now
-      ∙ told_grow p next c e es follow.0 (subst (λ n. NodeFollows p next n e es) is follow.1.rule) counts l x (ap (λ (s : Standing). is_enough x s.lease) same ∙ enough)
+      ∙ told_grow p next c e es follow.0 (subst (λ n. NodeFollows p next n e es) is follow.1.rule) counts l x (ap (λ (s : LockStanding). is_enough x s.lease) same ∙ enough)
 
   -- what is in flight to the server
   way_now : (c : ℕ) → up_in_flight c (e ∷ es) ≡ cond (eqb c d) (drop 1 (up_in_flight c es)) (up_in_flight c es)

@@ -38,7 +38,7 @@ use Rattle.dso_legal.specs.Committed.{block_taken, committed_by, committed_at, c
 use Rattle.dso_legal.specs.Lawful.{ServerFollows, NodeFollows, AllFollow}
 use Rattle.dso_legal.specs.Marks.{MarksAreKnown, is_kept, kept_at, lists_at}
 use Rattle.dso_legal.specs.Places.{Place, Away, Kept, Gone, place_up, place_down, MayPlaceUp, MayPlaceDown, place_of, place_with}
-use Rattle.dso_legal.specs.SoundProgram.{IsSound}
+use Rattle.dso_legal.specs.SoundProgram.{AsksSoundly}
 use Rattle.dso_legal.proofs.blocks.ResolvedBlocks.{history_resolved}
 use Rattle.dso_legal.proofs.blocks.SparedHistory.{history_spared}
 use Rattle.dso_legal.proofs.central.AllHold.{all_holds}
@@ -140,7 +140,7 @@ at_itself n = omega arith
 abbrev pub is_there : List Entry → LockName → ThreadId → Bool
 is_there es l t = not (is_lost t.client (entries_of Server es)) && is_placed (place_at es l t)
 
-module _ (p : Settings) (next : ThreadId → List Event → Option Request) (sound : IsSound p.shape next) where
+module _ (p : Settings) (next : ThreadId → List Event → Option Request) (sound : AsksSoundly p.shape next) where
   -- What is so of the history.
   pub record MarksHold (es : List Entry) : Type 0 where
     pub runs : Runs p.shape (committed es) (opening p.shape)

@@ -49,7 +49,7 @@ use Rattle.dso_legal.specs.Lawful.{next_after, ServerFollows, NodeFollows, AllFo
 use Rattle.dso_legal.specs.Marks.{MarksAreKnown, is_kept, kept_at, lists_at, kept_through, lists_through, IsAway}
 use Rattle.dso_legal.specs.PendingBlocks.{no_locks, joined, taken_in, locks_through}
 use Rattle.dso_legal.specs.Places.{Place, Away, Kept, Gone, places_noted, place_ended, place_up, place_down, MayNote, MayEnd, MayPlaceUp, MayPlaceDown, place_of, place_with}
-use Rattle.dso_legal.specs.SoundProgram.{IsSound}
+use Rattle.dso_legal.specs.SoundProgram.{AsksSoundly}
 use Rattle.dso_legal.proofs.blocks.EachEvent.{AtClient, IfEvent, EachEvent, each_follows, each_taken}
 use Rattle.dso_legal.proofs.blocks.Histories.{client_of_thread, taken_of_client}
 use Rattle.dso_legal.proofs.blocks.OwnActs.{next_act}
@@ -109,7 +109,7 @@ times_out (Act t (End fault) Done woken) locks k ends = absurd (cc ends)
 times_out (Act t request reply woken) locks k ends = absurd (cc ends)
 times_out (Lost client) locks k ends = absurd (cc ends)
 
-module _ (p : Settings) (next : ThreadId → List Event → Option Request) (sound : IsSound p.shape next) where
+module _ (p : Settings) (next : ThreadId → List Event → Option Request) (sound : AsksSoundly p.shape next) where
   -- every event of the clients wakes as an act may
   each_wakes_at : (node : Node) (e : Entry) (es : List Entry) → NodeFollows p next node e es → AtClient EventWakes node e.event
   each_wakes_at Server e es rule = tt

@@ -15,7 +15,7 @@ use Rattle.dso_base.specs.declared.shape.Shape.{Shape}
 use Rattle.dso_base.specs.declared.value.Value.{Value}
 use Rattle.dso_plain.specs.After.{after}
 use Rattle.dso_plain.specs.History.{RunsButMarks}
-use Rattle.dso_plain.specs.Possible.{MayButMarks, MayPut, Answers, AnswersPut}
+use Rattle.dso_plain.specs.Possible.{MayButMarks, MayPut, AnswersRequest, AnswersPut}
 use Rattle.dso_plain.specs.State.{PlainState, IsShared, guard_in, guard_of_object, level_of}
 use Rattle.dso_plain.specs.Touches.{AreActsOf, TouchesIn}
 use Rattle.dso_plain.proofs.keys.SameKeys.{same_number}
@@ -105,7 +105,7 @@ module _ (shape : Shape) (t : ThreadId) (o f : ℕ) where
   set_now before s work request reply woken goes may now = by answers.1
     where
       answers : AnswersPut shape t o f Done s
-      answers = subst (λ r. Answers shape t (Put o f now.value) r s) now.reply_is (subst (λ q. Answers shape t q reply s) now.request_is may.answers)
+      answers = subst (λ r. AnswersRequest shape t (Put o f now.value) r s) now.reply_is (subst (λ q. AnswersRequest shape t q reply s) now.request_is may.answers)
 
       by : MayPut shape t o f Done s → level_of (s.monitors (guard_in shape before o f, t)) ≡ Some Write
       by (inl own) = absurd (apart (goes.tells.all o own) now.not_private)

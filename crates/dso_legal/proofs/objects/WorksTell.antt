@@ -17,7 +17,7 @@ use Rattle.dso_base.specs.Block as block
 use Rattle.dso_base.specs.Block.{Work, body_in, insert_bodies, start, with_value, insert_set, is_published, publish, is_field_before, work_by, work_after, worked}
 use Rattle.dso_lookup.specs.Maps.{or_old}
 use Rattle.dso_plain.specs.State.{PlainState, IsPrivate, IsShared, opening, is_shared, size_of, hold_on_guard}
-use Rattle.dso_plain.specs.Possible.{IsOf, MayButMarks, Answers, AnswersPut}
+use Rattle.dso_plain.specs.Possible.{IsOf, MayButMarks, AnswersRequest, AnswersPut}
 use Rattle.dso_plain.specs.After.{after, apply, change_of, read, read_shared, put, published, present, notifies}
 use Rattle.dso_plain.specs.After as plain
 use Rattle.dso_plain.specs.History.{RunsButMarks, end_of, last_state}
@@ -140,7 +140,7 @@ module _ (shape : Shape) (t : ThreadId) (work : Work) (before s : PlainState) (g
   notify_tells l (Some w) = goes.tells
 
   -- what an act makes of the work tells what it made of the state
-  act_tells : (request : Request) (reply : Reply) (woken : Option ThreadId) → Answers shape t request reply s → Tells t (work_by shape request reply woken work) before (apply (change_of shape t request reply woken s) s)
+  act_tells : (request : Request) (reply : Reply) (woken : Option ThreadId) → AnswersRequest shape t request reply s → Tells t (work_by shape request reply woken work) before (apply (change_of shape t request reply woken s) s)
   act_tells (New class n) (Made o) woken a = told_new t work.privates work.news work.sets before s.objects s.heap s.past goes.tells shape class n o a.1
   act_tells (Put o f v) Done woken a = put_tells o f v a
   act_tells (Get o f) (Val v) woken a = read_tells o f (is_shared (s.objects o))
@@ -168,7 +168,7 @@ module _ (shape : Shape) (t : ThreadId) (work : Work) (before s : PlainState) (g
       news (Some body) is = absent_shared (s.objects o) absent (goes.tells.news o body is).0
 
   -- only a new object's request is answered by one
-  only_new : (request : Request) (o : ℕ) → Answers shape t request (Made o) s → IsNew request × (s.objects o ≡ None)
+  only_new : (request : Request) (o : ℕ) → AnswersRequest shape t request (Made o) s → IsNew request × (s.objects o ≡ None)
   only_new (New class n) o a = (tt, a.1)
   only_new (Look x) o a = absurd a
   only_new (Get x f) o a = absurd a
@@ -192,7 +192,7 @@ module _ (shape : Shape) (t : ThreadId) (work : Work) (before s : PlainState) (g
   few_new o p false e absent = none_before (count_in_hand p work) (goes.few p)
 
   -- after an act each object is in hand once at most
-  few_act : (request : Request) (reply : Reply) (woken : Option ThreadId) → Answers shape t request reply s → (p : ℕ) → count_in_hand p (work_by shape request reply woken work) ≤ 1
+  few_act : (request : Request) (reply : Reply) (woken : Option ThreadId) → AnswersRequest shape t request reply s → (p : ℕ) → count_in_hand p (work_by shape request reply woken work) ≤ 1
   few_act request (Made o) woken a p =
       let it = only_new request o a in
       subst (λ n. n ≤ 1) (sym (count_act p shape request (Made o) woken work (λ x e. it.0))) (few_new o p (eqb o p) refl it.1)

@@ -154,7 +154,7 @@ module _ (HasText : ℕ → Type 0) (events : List Event) (g : Point) (told : (o
   told_names q names = tt
 
 -- what a thread of sound code asks next may be asked at the point that its events lead to
-may_ask : (code : Code) → machine.IsSound code → (t : ThreadId) (events : List Event) (q : Request) → AreActsOf t events → list_any (event_tells 0) events ≡ false
+may_ask : (code : Code) → machine.IsSoundCode code → (t : ThreadId) (events : List Event) (q : Request) → AreActsOf t events → list_any (event_tells 0) events ≡ false
     → WaitsAreHeld t events no_locks → FollowsProgram (next_request code) (Listed (next_request code)) t events → next_request code t events ≡ Some q
     → Asks code.shape (IsToldText code.shape events) (through (law_keeper code.shape (IsToldText code.shape events) (λ text less. inl less)) first events) q
 may_ask code sound t events q acts untold held follows asked =
@@ -164,7 +164,7 @@ may_ask code sound t events q acts untold held follows asked =
     (follows_code code HasText own t events [] first acts untold held (λ text is. inr is) follows) asked
 
 -- what it asks keeps to what the law asks of a program
-keeps_law : (code : Code) → machine.IsSound code → (t : ThreadId) (events : List Event) (q : Request) → AreActsOf t events → list_any (event_tells 0) events ≡ false
+keeps_law : (code : Code) → machine.IsSoundCode code → (t : ThreadId) (events : List Event) (q : Request) → AreActsOf t events → list_any (event_tells 0) events ≡ false
     → WaitsAreHeld t events no_locks → FollowsProgram (next_request code) (Listed (next_request code)) t events → next_request code t events ≡ Some q → law.KeepsTo code.shape t events q
 keeps_law code sound t events q acts untold held follows asked =
     let HasText : ℕ → Type 0 = IsToldText code.shape events in

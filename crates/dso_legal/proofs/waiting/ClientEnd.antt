@@ -22,10 +22,10 @@ use Rattle.dso_base.specs.Block.{worked, start}
 use Rattle.dso_base.specs.Following.{is_thread}
 use Rattle.dso_plain.specs.KeyTests.{is_lock}
 use Rattle.dso_plain.proofs.keys.SameKeys.{same_lock, same_thread}
-use Rattle.dso_law.specs.declared.readings.Standing.{Standing}
+use Rattle.dso_law.specs.declared.readings.LockStanding.{LockStanding}
 use Rattle.dso_law.specs.ClientStep.{record_of, commits}
 use Rattle.dso_law.specs.ClientWaiters.{list_by_sent, client_list, is_marked}
-use Rattle.dso_law.specs.Closing.{is_due}
+use Rattle.dso_law.specs.Closing.{is_lease_due}
 use Rattle.dso_law.specs.FitsDown.{IsWaitingOn}
 use Rattle.dso_law.specs.Leases.{standing_up, standing, leased}
 use Rattle.dso_law.specs.Replies.{woken_by}
@@ -124,7 +124,7 @@ module _ (p : Settings) (c : ℕ) (next : ThreadId → Option Request) (own : Li
   record_list l None ts = refl
   record_list l (Some end) ts = refl
 
-  record_lease : (l : LockName) (end : Option Ending) (s : Standing) → after (standing_up l) (record_of p a event end own) s ≡ s
+  record_lease : (l : LockName) (end : Option Ending) (s : LockStanding) → after (standing_up l) (record_of p a event end own) s ≡ s
   record_lease l None s = refl
   record_lease l (Some end) s = refl
 
@@ -134,7 +134,7 @@ module _ (p : Settings) (c : ℕ) (next : ThreadId → Option Request) (own : Li
     keeps = λ l. same_keeps l (acted own a request reply woken) (after_parts own (input.Act index) (Some event) (commits p a event own))
         (λ t. place_behind l t (ending_by request reply (locks_of a own)) refl (place_of l t own))
         (record_list l (ending_by request reply (locks_of a own)) _)
-        (ap (λ (s : Standing). s.lease) (record_lease l (ending_by request reply (locks_of a own)) (standing l own)))
+        (ap (λ (s : LockStanding). s.lease) (record_lease l (ending_by request reply (locks_of a own)) (standing l own)))
         (λ u. refl) (λ u. refl) (λ u. refl)
         (acts_keep p c next own a l k request reply (fair l));
   }
@@ -149,7 +149,7 @@ module _ (own : List Entry) (k : (l : LockName) → KeepsWaiters l (view_of own)
   grant_keeps l j level b same unleased = quiet_keeps l (view_of own) (taken_view (down.Grant j level)) (record {
     place = λ t. refl;
     list = λ t. ap (λ b. list_any (is_thread t) (cond b [] (client_list l own))) same ∙ list t b unleased;
-    lease = λ t there. ap (λ b. (cond b (let r : Standing = record { lease = Some level; is_asked = false } in r) (standing l own)).lease) same ∙ lease t b unleased there;
+    lease = λ t there. ap (λ b. (cond b (let r : LockStanding = record { lease = Some level; is_asked = false } in r) (standing l own)).lease) same ∙ lease t b unleased there;
     more = λ u. [];
     notes = λ u. sym (append-nil (notes_of (open_block u own)));
     others = λ u. refl;
@@ -166,7 +166,7 @@ module _ (own : List Entry) (k : (l : LockName) → KeepsWaiters l (view_of own)
       list t true unleased = sym (out t (unleased refl))
       list t false unleased = refl
 
-      lease : (t : ThreadId) (b : Bool) → (b ≡ true → leased l own ≡ None) → is_in l (view_of own) t ≡ true → (cond b (let r : Standing = record { lease = Some level; is_asked = false } in r) (standing l own)).lease ≡ leased l own
+      lease : (t : ThreadId) (b : Bool) → (b ≡ true → leased l own ≡ None) → is_in l (view_of own) t ≡ true → (cond b (let r : LockStanding = record { lease = Some level; is_asked = false } in r) (standing l own)).lease ≡ leased l own
       lease t true unleased there = no_both (is_in l (view_of own) t) there (out t (unleased refl))
       lease t false unleased there = refl
 
@@ -208,9 +208,9 @@ module _ (own : List Entry) (k : (l : LockName) → KeepsWaiters l (view_of own)
   IsDue m = Unit {0}
 
   taken_keeps : (m : Down) → IsDue m → (l : LockName) → KeepsWaiters l (taken_view m)
-  taken_keeps (down.Grant j level) is_due l = grant_keeps l j level (is_lock l j) refl (λ same. subst (λ x. leased x own ≡ None) (same_lock l j same) is_due)
-  taken_keeps (down.Wake j w) is_due l = wake_keeps l j w (is_lock l j) refl is_due
-  taken_keeps m is_due l = k l
+  taken_keeps (down.Grant j level) is_lease_due l = grant_keeps l j level (is_lock l j) refl (λ same. subst (λ x. leased x own ≡ None) (same_lock l j same) is_lease_due)
+  taken_keeps (down.Wake j w) is_lease_due l = wake_keeps l j w (is_lock l j) refl is_lease_due
+  taken_keeps m is_lease_due l = k l
 
   pub taken_well : (m : Down) → IsDue m → SaysWell own (input.TookDown m) None []
-  taken_well m is_due = record { comes = λ l t. tt; keeps = taken_keeps m is_due }
+  taken_well m is_lease_due = record { comes = λ l t. tt; keeps = taken_keeps m is_lease_due }

@@ -24,7 +24,7 @@ use Rattle.dso_plain.specs.KeyTests.{is_lock}
 use Rattle.dso_plain.specs.State.{Hold}
 use Rattle.dso_law.specs.ClientStep.{record_of, commits, returns, asks_again, Does, Asks, DoesOrAsks, ActsOn, ClientStepOn}
 use Rattle.dso_law.specs.ClientWaiters.{list_by_taken, list_by_sent, list_by_event, client_list}
-use Rattle.dso_law.specs.Closing.{is_closing, is_free, is_due, due}
+use Rattle.dso_law.specs.Closing.{is_closing, is_free, is_lease_due, due}
 use Rattle.dso_law.specs.Entries.{unsent, by_taken_down, by_event}
 use Rattle.dso_law.specs.FitsDown.{FitsDown}
 use Rattle.dso_law.specs.Leases.{leased, is_entered, granted, leased_locks}
@@ -67,15 +67,15 @@ module _ (p : Settings) (c : ℕ) (before after_it : ThreadId → Option Request
 
   -- the leases to be given back are each once,
   due_distinct : Distinct (due p c after_it (unsent e ∷ own))
-  due_distinct = distinct_filter (λ k. is_due p c after_it k (unsent e ∷ own)) (leased_locks (unsent e ∷ own))
+  due_distinct = distinct_filter (λ k. is_lease_due p c after_it k (unsent e ∷ own)) (leased_locks (unsent e ∷ own))
       (distinct_filter (λ k. is_some (leased k (unsent e ∷ own))) (granted (unsent e ∷ own)) (rising_distinct (granted (unsent e ∷ own)) (granted_rises (unsent e ∷ own))))
 
   -- and nobody holds their locks
   module _ (well : HoldsWell p c (e ∷ own)) where
     is_let_go : (l : LockName) → list_any (is_lock l) (due p c after_it (unsent e ∷ own)) ≡ true → list_any (λ t. not (is_none (hold_of t l (e ∷ own)))) (threads_of p c) ≡ false
     is_let_go l there =
-        let is : is_due p c after_it l (unsent e ∷ own) ≡ true = has_is (λ k. is_due p c after_it k (unsent e ∷ own) ≡ true) l (due p c after_it (unsent e ∷ own))
-        (each_passes (λ k. is_due p c after_it k (unsent e ∷ own)) (leased_locks (unsent e ∷ own))) there in
+        let is : is_lease_due p c after_it l (unsent e ∷ own) ≡ true = has_is (λ k. is_lease_due p c after_it k (unsent e ∷ own) ≡ true) l (due p c after_it (unsent e ∷ own))
+        (each_passes (λ k. is_lease_due p c after_it k (unsent e ∷ own)) (leased_locks (unsent e ∷ own))) there in
         isnt (list_any (λ t. not (is_none (hold_of t l (e ∷ own)))) (threads_of p c))
         (both (is_entered l (unsent e ∷ own)) (is_free p c after_it l (unsent e ∷ own)) (both (is_closing p c after_it l (unsent e ∷ own)) (is_entered l (unsent e ∷ own) && is_free p c after_it l (unsent e ∷ own)) is).1).1
       where
@@ -139,10 +139,10 @@ module _ (p : Settings) (c : ℕ) (before after_it : ThreadId → Option Request
 
     -- By the client rule.
     pub says_well : (i : Input) → e.input ≡ i → ClientStepOn p c i before after_it e own → ((m : Down) → i ≡ input.TookDown m → FitsDown p c m own → IsDue own k m) → SaysWell own e.input e.event (said_of e.sent)
-    says_well (input.Act index) is step is_due = acts_well index (record { client = c; index = index }) (before (record { client = c; index = index })) is refl refl step.acts
-    says_well (input.TookDown m) is step is_due = subst (SaysWell own e.input e.event) (append-nil (returns p c after_it (unsent e ∷ own)) ∙ sym (ap said_of step.sends ∙ said_all (returns p c after_it (unsent e ∷ own))))
-        (gives_back well [] [] (still_well (input.TookDown m) (taken_well own k m (is_due m refl step.fits)) is step.event) (λ l ts. refl) tt)
-    says_well (input.Flush o) is step is_due = subst (SaysWell own e.input e.event) (sym (ap said_of step.sends))
+    says_well (input.Act index) is step is_lease_due = acts_well index (record { client = c; index = index }) (before (record { client = c; index = index })) is refl refl step.acts
+    says_well (input.TookDown m) is step is_lease_due = subst (SaysWell own e.input e.event) (append-nil (returns p c after_it (unsent e ∷ own)) ∙ sym (ap said_of step.sends ∙ said_all (returns p c after_it (unsent e ∷ own))))
+        (gives_back well [] [] (still_well (input.TookDown m) (taken_well own k m (is_lease_due m refl step.fits)) is step.event) (λ l ts. refl) tt)
+    says_well (input.Flush o) is step is_lease_due = subst (SaysWell own e.input e.event) (sym (ap said_of step.sends))
         (gives_back_well own e.input e.event [] [] (up.Flushed o ∷ []) (still_well (input.Flush o) (record { comes = λ l t. tt; keeps = k }) is step.event) tt (tt, tt) (λ l there. absurd (cc there)))
-    says_well (input.Rejoin d) is step is_due = subst (SaysWell own e.input e.event) (sym (ap said_of step.sends)) (still_well (input.Rejoin d) (record { comes = λ l t. tt; keeps = k }) is step.event)
-    says_well other is step is_due = absurd step
+    says_well (input.Rejoin d) is step is_lease_due = subst (SaysWell own e.input e.event) (sym (ap said_of step.sends)) (still_well (input.Rejoin d) (record { comes = λ l t. tt; keeps = k }) is step.event)
+    says_well other is step is_lease_due = absurd step

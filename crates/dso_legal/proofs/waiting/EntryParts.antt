@@ -14,7 +14,7 @@ use Rattle.dso_base.specs.Following.{is_thread}
 use Rattle.dso_plain.specs.KeyTests.{is_lock}
 use Rattle.dso_plain.specs.History.{is_act_of}
 use Rattle.dso_plain.proofs.keys.SameKeys.{same_lock}
-use Rattle.dso_law.specs.declared.readings.Standing.{Standing}
+use Rattle.dso_law.specs.declared.readings.LockStanding.{LockStanding}
 use Rattle.dso_law.specs.ClientWaiters.{list_by_taken, list_by_sent, list_by_event, client_list, marked_by_taken, marked_by_event, is_marked}
 use Rattle.dso_law.specs.Entries.{by_taken_down, by_event}
 use Rattle.dso_law.specs.Leases.{standing_up, standing_down, standing}
@@ -53,7 +53,7 @@ pub parts_tell : (e : Entry) (own : List Entry) (l : LockName) → KeepsWaiters 
 parts_tell e own l k = quiet_keeps l (after_parts own e.input e.event (said_of e.sent)) (view_of (e ∷ own)) (record {
   place = λ t. said_status (place_up l t) e.sent (by_taken_down (place_down l t) e.input (place_of l t own));
   list = λ t. ap (list_any (is_thread t)) (said_status (list_by_sent l) e.sent (by_event (list_by_event l) e.event (by_taken_down (list_by_taken l) e.input (client_list l own))));
-  lease = λ t there. ap (λ (s : Standing). s.lease) (said_status (standing_up l) e.sent (by_taken_down (standing_down l) e.input (standing l own)));
+  lease = λ t there. ap (λ (s : LockStanding). s.lease) (said_status (standing_up l) e.sent (by_taken_down (standing_down l) e.input (standing l own)));
   more = λ u. [];
   notes = λ u. sym (append-nil (notes_of (open_block u (e ∷ own))));
   others = λ u. refl;
@@ -98,16 +98,16 @@ module _ (l : LockName) where
   asks_leave_list (up.Flushed o ∷ ms) ts each = asks_leave_list ms ts each.1
   asks_leave_list (up.Request k level ∷ ms) ts each = asks_leave_list ms ts each.1
 
-  asks_leave_lease : (ms : List Up) (s : Standing) → AllByRecursion IsAsking ms → (after (standing_up l) ms s).lease ≡ s.lease
+  asks_leave_lease : (ms : List Up) (s : LockStanding) → AllByRecursion IsAsking ms → (after (standing_up l) ms s).lease ≡ s.lease
   asks_leave_lease [] s each = refl
   asks_leave_lease (up.Return k threads ∷ ms) s each = absurd each.0
   asks_leave_lease (up.Commit txn ∷ ms) s each = absurd each.0
   asks_leave_lease (up.IdAsk ∷ ms) s each = asks_leave_lease ms s each.1
   asks_leave_lease (up.Fault o ∷ ms) s each = asks_leave_lease ms s each.1
   asks_leave_lease (up.Flushed o ∷ ms) s each = asks_leave_lease ms s each.1
-  asks_leave_lease (up.Request k level ∷ ms) s each = asks_leave_lease ms (cond (is_lock l k) (let r : Standing = record s { is_asked = true } in r) s) each.1 ∙ by (is_lock l k)
+  asks_leave_lease (up.Request k level ∷ ms) s each = asks_leave_lease ms (cond (is_lock l k) (let r : LockStanding = record s { is_asked = true } in r) s) each.1 ∙ by (is_lock l k)
     where
-      by : (b : Bool) → (cond b (let r : Standing = record s { is_asked = true } in r) s).lease ≡ s.lease
+      by : (b : Bool) → (cond b (let r : LockStanding = record s { is_asked = true } in r) s).lease ≡ s.lease
       by true = refl
       by false = refl
 
@@ -170,11 +170,11 @@ module _ (l : LockName) (list : LockName → List ThreadId) where
       by false false = refl
 
   -- and of the lease, where the lock isn't among them
-  pub returned_lease : (locks : List LockName) (s : Standing) → list_any (is_lock l) locks ≡ false → (after (standing_up l) (each_return list locks) s).lease ≡ s.lease
+  pub returned_lease : (locks : List LockName) (s : LockStanding) → list_any (is_lock l) locks ≡ false → (after (standing_up l) (each_return list locks) s).lease ≡ s.lease
   returned_lease [] s none = refl
   returned_lease (k ∷ locks) s none =
       let both = neither (is_lock l k) (list_any (is_lock l) locks) none in
-      ap (λ b. (after (standing_up l) (each_return list locks) (cond b (let r : Standing = record s { lease = None } in r) s)).lease) both.0 ∙ returned_lease locks s both.1
+      ap (λ b. (after (standing_up l) (each_return list locks) (cond b (let r : LockStanding = record s { lease = None } in r) s)).lease) both.0 ∙ returned_lease locks s both.1
 
 -- What is so after what is so far, with returns of distinct locks behind it that nobody holds, and then what is asked for.
 module _ (own : List Entry) (i : Input) (event : Option Event) (front : List Up) (locks : List LockName) (rest : List Up) where
@@ -204,9 +204,9 @@ module _ (own : List Entry) (i : Input) (event : Option Event) (front : List Up)
 
     lease_then : (l : LockName) → list_any (is_lock l) locks ≡ false → (after_parts own i event (front ++ returns_then)).lease l ≡ so_far.lease l
     lease_then l none =
-        let s : Standing = by_taken_down (standing_down l) i (standing l own) in
-        let now : Standing = after (standing_up l) front s in
-        ap (λ (x : Standing). x.lease) (after_append (standing_up l) front returns_then s ∙ after_append (standing_up l) (each_return so_far.list locks) rest now)
+        let s : LockStanding = by_taken_down (standing_down l) i (standing l own) in
+        let now : LockStanding = after (standing_up l) front s in
+        ap (λ (x : LockStanding). x.lease) (after_append (standing_up l) front returns_then s ∙ after_append (standing_up l) (each_return so_far.list locks) rest now)
         ∙ asks_leave_lease l rest (after (standing_up l) (each_return so_far.list locks) now) asks ∙ returned_lease l so_far.list locks now none
 
     keeps_by : (l : LockName) (b : Bool) → list_any (is_lock l) locks ≡ b → KeepsWaiters l (after_parts own i event (front ++ returns_then))

@@ -22,7 +22,7 @@ use Rattle.dso_base.specs.declared.request.Request.{Request}
 use Rattle.dso_base.specs.Following.{is_thread}
 use Rattle.dso_plain.specs.KeyTests.{is_lock}
 use Rattle.dso_plain.proofs.keys.SameKeys.{same_lock, same_number}
-use Rattle.dso_law.specs.declared.readings.Standing.{Standing}
+use Rattle.dso_law.specs.declared.readings.LockStanding.{LockStanding}
 use Rattle.dso_law.specs.Channels.{IsFirst, TakesFirst, up_in_flight}
 use Rattle.dso_law.specs.Entries.{entries_of, by_taken_up, by_sent_down, if_to}
 use Rattle.dso_law.specs.FitsUp.{FitsEnding, FitsUp}
@@ -34,7 +34,7 @@ use Rattle.dso_law.specs.ServerStep.{HeardOrLost, ServerStepOn}
 use Rattle.dso_law.specs.Settings.{Settings}
 use Rattle.dso_legal.specs.Lawful.{ServerFollows, NodeFollows, AllFollow}
 use Rattle.dso_legal.specs.Places.{Place, Away, Kept, Gone, unkept, places_noted, place_ended, place_up, place_down, MayPlaceUp, MayPlaceDown, place_of, place_with}
-use Rattle.dso_legal.specs.SoundProgram.{IsSound}
+use Rattle.dso_legal.specs.SoundProgram.{AsksSoundly}
 use Rattle.dso_legal.proofs.leases.ClientLeases.{neither}
 use Rattle.dso_legal.proofs.leases.LeaseSteps.{no_both}
 use Rattle.dso_legal.proofs.line.LineElsewhere.{told_grow}
@@ -68,10 +68,10 @@ unkept_isnt Gone e = absurd (cc e)
 
 -- At the server: a client d's message that fits and may come.
 module _ (p : Settings) (d : ℕ) (l : LockName) (t : ThreadId) (server : List Entry) (s : Place) where
-  abbrev IsLeased : Standing → Type 0
+  abbrev IsLeased : LockStanding → Type 0
   IsLeased st = is_enough Write st.lease ≡ true
 
-  abbrev st : Standing
+  abbrev st : LockStanding
   st = standing_with d l server
 
   -- after an ending
@@ -94,7 +94,7 @@ module _ (p : Settings) (d : ℕ) (l : LockName) (t : ThreadId) (server : List E
   kept_returned : (k : LockName) (threads : List ThreadId) → MayPlaceUp l t (up.Return k threads) s → place_up l t (up.Return k threads) s ≡ Kept → (s ≡ Kept → IsLeased st) → IsLeased (standing_up l (up.Return k threads) st)
   kept_returned k threads may kept before = by (is_lock l k) (list_any (is_thread t) threads) refl refl kept
     where
-      by : (a b : Bool) → is_lock l k ≡ a → list_any (is_thread t) threads ≡ b → cond (a && b) Gone s ≡ Kept → IsLeased (cond a (let r : Standing = record st { lease = None } in r) st)
+      by : (a b : Bool) → is_lock l k ≡ a → list_any (is_thread t) threads ≡ b → cond (a && b) Gone s ≡ Kept → IsLeased (cond a (let r : LockStanding = record st { lease = None } in r) st)
       by true true same there kept = absurd (cc kept)
       by true false same out kept = no_both (list_any (is_thread t) threads) ((may same).1 kept) out
       by false b other there kept = before kept
@@ -105,14 +105,14 @@ kept_heard p d l t server s (up.Return k threads) fits may kept before = kept_re
 kept_heard p d l t server s (up.Commit txn) fits may kept before = kept_ended p d l t server (places_noted l t txn.notes s) txn.thread txn.ending fits.ending kept (λ noted. before (kept_before l t txn.notes s noted))
 kept_heard p d l t server s (up.Request k level) fits may kept before = by (is_lock l k)
   where
-    by : (b : Bool) → IsLeased p d l t server s (cond b (let st : Standing = standing_with d l server in let r : Standing = record st { is_asked = true } in r) (standing_with d l server))
+    by : (b : Bool) → IsLeased p d l t server s (cond b (let st : LockStanding = standing_with d l server in let r : LockStanding = record st { is_asked = true } in r) (standing_with d l server))
     by true = before kept
     by false = before kept
 kept_heard p d l t server s up.IdAsk fits may kept before = before kept
 kept_heard p d l t server s (up.Fault o) fits may kept before = before kept
 kept_heard p d l t server s (up.Flushed o) fits may kept before = before kept
 
-module _ (p : Settings) (next : ThreadId → List Event → Option Request) (sound : IsSound p.shape next) where
+module _ (p : Settings) (next : ThreadId → List Event → Option Request) (sound : AsksSoundly p.shape next) where
   -- who is kept has a client with the lock at Write
   abbrev pub IsKeptLeased : LockName → ThreadId → List Entry → Type 0
   IsKeptLeased l t server = place_with t.client l t server ≡ Kept → is_enough Write (leased_to t.client l server) ≡ true

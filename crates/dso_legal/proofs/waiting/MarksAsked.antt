@@ -27,7 +27,7 @@ use Rattle.dso_law.specs.Settings.{Settings}
 use Rattle.dso_law.specs.Threads.{Locks, Waiting, resumed, locks_by, locks_after, locks_of, ending_by, block_after, open_block}
 use Rattle.dso_legal.specs.Committed.{block_if, ended_by, ended_blocks}
 use Rattle.dso_legal.specs.Lawful.{next_after, ClientFollows, NodeFollows, AllFollow}
-use Rattle.dso_legal.specs.SoundProgram.{IsSound, KeepsLocks, KeepsTo}
+use Rattle.dso_legal.specs.SoundProgram.{AsksSoundly, KeepsLocks, KeepsTo}
 use Rattle.dso_legal.proofs.fitting.Untold.{AllUntold, all_untold}
 use Rattle.dso_legal.proofs.blocks.EachEvent.{each_both}
 use Rattle.dso_legal.proofs.blocks.OwnActs.{next_act, threads_follow, threads_wait, own_acts}
@@ -293,7 +293,7 @@ module _ (e : Entry) (own : List Entry) (fair : AsksFairly own) where
       at : (t : ThreadId) → ThreadAfter p own a request reply keeps answered fair taken_marks (λ u. mark_taken u e.input (is_marked u own)) t
       at t = thread_after p own a request reply keeps answered fair taken_marks (λ u. mark_taken u e.input (is_marked u own)) t (is_thread t a) refl
 
-module _ (p : Settings) (next : ThreadId → List Event → Option Request) (sound : IsSound p.shape next) where
+module _ (p : Settings) (next : ThreadId → List Event → Option Request) (sound : AsksSoundly p.shape next) where
   module _ (e : Entry) (es : List Entry) (follow : AllFollow p next es) (untold : AllUntold es) where
     -- an act keeps to the thread's locks
     keeps_at : (a : ThreadId) (request : Request) → next_after next es a ≡ Some request → KeepsLocks request (locks_of a (entries_of (Client a.client) es))

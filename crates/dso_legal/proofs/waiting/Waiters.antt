@@ -31,7 +31,7 @@ use Rattle.dso_law.specs.Threads.{hold_in, locks_after, locks_of, hold_of}
 use Rattle.dso_legal.specs.Agreement.{EachMay, messages}
 use Rattle.dso_legal.specs.Lawful.{next_after, ClientFollows, ServerFollows, NodeFollows, AllFollow}
 use Rattle.dso_legal.specs.Places.{Gone, place_up, place_down, MayPlaceUp, MayPlaceDown, place_of, place_with, AgreeOnWaiter}
-use Rattle.dso_legal.specs.SoundProgram.{IsSound, KeepsLocks, KeepsTo}
+use Rattle.dso_legal.specs.SoundProgram.{AsksSoundly, KeepsLocks, KeepsTo}
 use Rattle.dso_legal.proofs.blocks.OwnActs.{threads_follow, threads_wait, own_acts}
 use Rattle.dso_legal.proofs.blocks.SameLocks.{same_locks}
 use Rattle.dso_legal.proofs.blocks.WaitsApart.{waits_apart}
@@ -78,7 +78,7 @@ module _ (p : Settings) (c : ℕ) (own : List Entry) (well : HoldsWell p c own) 
       let a = at_write (hold_of u l own) held in
       enough_write (leased l own) (subst (λ x. is_enough x (leased l own) ≡ true) a.1.1 (well.within u l a.0 a.1.0).enough)
 
-module _ (p : Settings) (next : ThreadId → List Event → Option Request) (sound : IsSound p.shape next) where
+module _ (p : Settings) (next : ThreadId → List Event → Option Request) (sound : AsksSoundly p.shape next) where
   -- A client's act is fair.
   module _ (e : Entry) (es : List Entry) (follow : AllFollow p next es) (untold : AllUntold es) where
     fair_at : (a : ThreadId) (request : Request) (reply : Reply) → HoldsWell p a.client (e ∷ entries_of (Client a.client) es) → next_after next es a ≡ Some request
@@ -135,18 +135,18 @@ module _ (p : Settings) (next : ThreadId → List Event → Option Request) (sou
 
   module _ (e : Entry) (es : List Entry) (follow : AllFollow p next (e ∷ es)) (untold : AllUntold es) (stand : WaitersStand es) where
     -- who is woken is gone to the server, and what is granted isn't leased
-    is_due : (c : ℕ) → TakesFirst e.input (Client c) es → (m : Down) → e.input ≡ input.TookDown m → FitsDown p c m (entries_of (Client c) es) → IsDue (entries_of (Client c) es) (stand.client c) m
-    is_due c first (down.Grant j level) is fits = (known p next es follow.0).plain c j fits
-    is_due c first (down.Wake j w) is fits =
+    is_loss_or_break_due : (c : ℕ) → TakesFirst e.input (Client c) es → (m : Down) → e.input ≡ input.TookDown m → FitsDown p c m (entries_of (Client c) es) → IsDue (entries_of (Client c) es) (stand.client c) m
+    is_loss_or_break_due c first (down.Grant j level) is fits = (known p next es follow.0).plain c j fits
+    is_loss_or_break_due c first (down.Wake j w) is fits =
         let mine : IsFirst (down.Wake j w) (down_in_flight w.client es) = subst (λ n. IsFirst (down.Wake j w) (down_in_flight n es)) (sym fits.its) (subst (λ i. TakesFirst i (Client c) es) is first) in
         let gone : place_of j w (entries_of (Client w.client) es) ≡ Gone = first_down p next w.client (MayPlaceUp j w) (place_up j w) (MayPlaceDown j w) (place_down j w) (place_of j w) (place_with w.client j w)
         (down.Wake j w) (down_in_flight w.client es) (place_of j w (entries_of (Client w.client) es)) mine (stand.downs j w) (ap (λ b. b && is_thread w w) (lock_self j) ∙ thread_self w) in
         subst (λ n. place_of j w (entries_of (Client n) es) ≡ Gone) fits.its gone
-    is_due c first (down.Ids first_id) is fits = tt
-    is_due c first (down.Object body) is fits = tt
-    is_due c first (down.Recall j) is fits = tt
-    is_due c first (down.Ack seq) is fits = tt
-    is_due c first (down.Changes sets) is fits = tt
+    is_loss_or_break_due c first (down.Ids first_id) is fits = tt
+    is_loss_or_break_due c first (down.Object body) is fits = tt
+    is_loss_or_break_due c first (down.Recall j) is fits = tt
+    is_loss_or_break_due c first (down.Ack seq) is fits = tt
+    is_loss_or_break_due c first (down.Changes sets) is fits = tt
 
     -- what a client's entry says
     client_says : (c : ℕ) → TakesFirst e.input (Client c) es → ClientFollows p next c e es → SaysWell (entries_of (Client c) es) e.input e.event (said_of e.sent)
@@ -155,7 +155,7 @@ module _ (p : Settings) (next : ThreadId → List Event → Option Request) (sou
         let before : ThreadId → Option Request = next_after next es in
         let after_it : ThreadId → Option Request = next_after next (e ∷ es) in
         let well_now : HoldsWell p c (e ∷ own) = well_after p c before after_it e own (holds_well p next es follow.0 c) (moves p c before after_it e own rule.step) (keeps_leases p c before after_it e own ((known p next es follow.0).plain c) rule.step) in
-        says_well p c before after_it e own well_now (fair e es follow.0 untold c well_now) (stand.client c) e.input refl rule.step (is_due c first)
+        says_well p c before after_it e own well_now (fair e es follow.0 untold c well_now) (stand.client c) e.input refl rule.step (is_loss_or_break_due c first)
 
     -- what the server's makes of a thread
     pub server_does : (l : LockName) (t : ThreadId) → is_lost t.client (entries_of Server es) ≡ false → TakesFirst e.input Server es → ServerFollows p next e es → is_of_lost e.input (entries_of Server es) ≡ false → loses t.client e.input ≡ false

@@ -13,7 +13,7 @@ use Rattle.dso_base.specs.declared.value.Value.TheVariants as value
 use Rattle.dso_law.specs.Settings.{Settings}
 use Rattle.dso_legal.specs.WithoutWaits.{WithoutWaits}
 use Rattle.dso_legal.specs.Lawful.{IsLawful}
-use Rattle.dso_legal.specs.SoundProgram.{IsSound}
+use Rattle.dso_legal.specs.SoundProgram.{AsksSoundly}
 use Rattle.dso_legal.specs.examples.Courses.{Course, Stops, Makes, Looks, Reads, Ticks, TimesOut, Does, program_of}
 use Rattle.dso_legal.specs.examples.Words.{thread}
 use Rattle.dso_legal.specs.examples.Counter as counter
@@ -29,7 +29,7 @@ use Rattle.dso_legal.specs.examples.TimedOutThere as there
 
 -- all that the central law asks of a cluster's settings, its program and its journal
 pub record MeetsPremises (p : Settings) (next : ThreadId → List Event → Option Request) (es : List Entry) : Type 0 where
-  pub sound : IsSound p.shape next
+  pub sound : AsksSoundly p.shape next
   pub lawful : IsLawful p next es
 
 -- and what its clause on journals without waits asks besides

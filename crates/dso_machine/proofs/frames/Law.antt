@@ -18,7 +18,7 @@ use Rattle.dso_machine.specs.Calls.{held_by}
 use Rattle.dso_machine.specs.Frames.{request_values, frames_of, frames_by, frames_after, holds_then, KeepsFrames}
 use Rattle.dso_machine.specs.Next.{finish, opening, whole, enough_for, request_of, replies_in, body_of, next_of, next_request}
 use Rattle.dso_machine.specs.Outcome.{Outcome, Wants, Gives, Leaves, Fails, Hears, Over, Stopped}
-use Rattle.dso_machine.specs.Sound.{IsSoundBody, IsSound}
+use Rattle.dso_machine.specs.Sound.{IsSoundBody, IsSoundCode}
 use Rattle.dso_machine.specs.Statements.{methods}
 use Rattle.dso_machine.proofs.moves.Enough.{never_stopped}
 use Rattle.dso_machine.proofs.moves.MoreReplies.{Extends}
@@ -88,7 +88,7 @@ ends_thread k Over end = absurd end
 ends_thread k Stopped end = absurd end
 
 -- a thread of sound code holds only what is known: at first nothing is
-holds_whole : (c : Code) → IsSound c → (body : ThreadBody) → IsSoundBody c body → (n : ℕ) → HoldsOnly [] (λ o. false) (λ rs. whole c body n rs)
+holds_whole : (c : Code) → IsSoundCode c → (body : ThreadBody) → IsSoundBody c body → (n : ℕ) → HoldsOnly [] (λ o. false) (λ rs. whole c body n rs)
 holds_whole c sound body fine n = goes_on finish (record { wants = λ q env. refl; stopped = refl; over = refl }) (λ o e. e)
     ((part_block c (methods c n) (part_methods c sound n) body.vars false n fine.statements).from (λ o. false) [] (opening body.vars [])
     (record { this = tt; vars = known_variables (λ t. Unit {0}) (IsOne (λ o. false)) body.vars [] tt; outer = tt; stays = λ o e. e }) tt) ends_thread
@@ -117,7 +117,7 @@ held_after c t body its events x =
     ap (λ b. has_reference x (frames_by c (replies_in events) b) || option_map_or (λ q. request_names q x) (next_of c (replies_in events) b) false) its
 
 -- a thread that is there keeps its frames
-keeps_there : (c : Code) → IsSound c → (t : ThreadId) (body : ThreadBody) → body_of t c.bodies ≡ Some body
+keeps_there : (c : Code) → IsSoundCode c → (t : ThreadId) (body : ThreadBody) → body_of t c.bodies ≡ Some body
     → (events : List Event) (thread : ThreadId) (q : Request) (r : Reply) (woken : Option ThreadId) (x : ℕ)
     → holds_then (next_request c) (frames_after c) t (events ++ Act thread q r woken ∷ []) x ≡ true
     → (x ≡ 0) ⊎ ((holds_then (next_request c) (frames_after c) t events x || reply_names r x) ≡ true)
@@ -139,12 +139,12 @@ none_there c t body its none events x =
     ap (λ b. has_reference x (frames_by c (replies_in events) b) || option_map_or (λ q. request_names q x) (next_of c (replies_in events) b) false) (its ∙ none)
 
 -- The law: each thread of sound code keeps its frames.
-keeps_found : (c : Code) → IsSound c → (t : ThreadId) (body : Option ThreadBody) → body_of t c.bodies ≡ body
+keeps_found : (c : Code) → IsSoundCode c → (t : ThreadId) (body : Option ThreadBody) → body_of t c.bodies ≡ body
     → (events : List Event) (thread : ThreadId) (q : Request) (r : Reply) (woken : Option ThreadId) (x : ℕ)
     → holds_then (next_request c) (frames_after c) t (events ++ Act thread q r woken ∷ []) x ≡ true
     → (x ≡ 0) ⊎ ((holds_then (next_request c) (frames_after c) t events x || reply_names r x) ≡ true)
 keeps_found c sound t (Some body) its events thread q r woken x held = keeps_there c sound t body its events thread q r woken x held
 keeps_found c sound t None its events thread q r woken x held = absurd (cc (sym (none_there c t None its refl (events ++ Act thread q r woken ∷ []) x) ∙ held))
 
-pub keeps_frames : (c : Code) → IsSound c → KeepsFrames (next_request c) (frames_after c)
+pub keeps_frames : (c : Code) → IsSoundCode c → KeepsFrames (next_request c) (frames_after c)
 keeps_frames c sound t events thread q r woken x held = keeps_found c sound t (body_of t c.bodies) refl events thread q r woken x held

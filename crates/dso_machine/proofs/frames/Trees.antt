@@ -14,7 +14,7 @@ use Rattle.dso_machine.specs.declared.tree.Stmt.{Stmt}
 use Rattle.dso_machine.specs.Calls.{call_on, arguments, MethodMeanings}
 use Rattle.dso_machine.specs.Expressions.{field_of, element_of, new_array, second, expr}
 use Rattle.dso_machine.specs.Outcome.{Gives, Leaves, Meaning, on_value, on_next, on_next_beside, on_object, holding, result_of, tell}
-use Rattle.dso_machine.specs.Sound.{Scope, SoundExpr, SoundExprs, SoundStmt, SoundBlock, IsSoundMethod, IsSound}
+use Rattle.dso_machine.specs.Sound.{Scope, SoundExpr, SoundExprs, SoundStmt, SoundBlock, IsSoundMethod, IsSoundCode}
 use Rattle.dso_machine.specs.Statements.{assign, put_field, put_element, put_root, sync, wait, timed_wait, branch, spun, seq, stmt, block, methods, statements_of}
 use Rattle.dso_machine.specs.Values.{unary}
 use Rattle.dso_machine.proofs.forms.Equations.{expr_Const, expr_Var, expr_This, expr_Root, expr_Field, expr_Elem, expr_Call, expr_NewObject, expr_NewArray, expr_Unary, expr_Binary}
@@ -118,7 +118,7 @@ module _ (c : Code) (w : MethodMeanings) (bodies : Bodies w) (count : ℕ) (in_m
       part_block SoundBlock.done = part_null []
       part_block (SoundBlock.next {a = a} {rest = rest} one others) = part_value [] (λ v. seq (map (stmt c w n) rest)) (stmt c w n a) (part_stmt one) (λ v. part_any (v ∷ []) (part_block others))
 
-module _ (c : Code) (sound : IsSound c) where
+module _ (c : Code) (sound : IsSoundCode c) where
   -- the statements of a method that may be there
   part_statements : (n : ℕ) → Bodies (methods c n) → (m : ℕ) (method : Option Method) → slice_get c.methods m ≡ method → Part [] (block c (methods c n) n (statements_of method))
   part_statements n bodies m None is = part_null []

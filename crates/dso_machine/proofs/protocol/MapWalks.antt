@@ -27,7 +27,7 @@ use Rattle.dso_machine.specs.MapCalls.Phase.{Outside, Inside}
 use Rattle.dso_machine.specs.Next as next
 use Rattle.dso_machine.specs.Next.{whole, enough_for, replies_in, body_of, next_of, next_request}
 use Rattle.dso_machine.specs.Outcome.{Environment, Outcome, Wants}
-use Rattle.dso_machine.specs.Sound.{IsSound, IsSoundBody}
+use Rattle.dso_machine.specs.Sound.{IsSoundCode, IsSoundBody}
 use Rattle.dso_machine.specs.Unwinding.{FollowsCode}
 use Rattle.dso_machine.proofs.moves.MoreRepliesInTrees.{moves_enough, same_wanted}
 use Rattle.dso_machine.proofs.protocol.Protocol.{Keeper, FollowsAt}
@@ -181,7 +181,7 @@ leads_on : (b : Bool) (further : Option Request) (q : Request) → cond b furthe
 leads_on true further q is = (refl, is)
 leads_on false further q is = absurd (cc is)
 
-module _ (c : Code) (sound : IsSound c) where
+module _ (c : Code) (sound : IsSoundCode c) where
   abbrev k : Keeper c.shape
   k = map_keeper c.shape
 
@@ -392,7 +392,7 @@ none_asked c t [] none follows = refl
 none_asked c t (Act u q r woken ∷ events) none follows = absurd (cc (sym (ap (next_of c []) none) ∙ follows.0.0))
 none_asked c t (Lost client ∷ events) none follows = absurd follows.0
 
-walks_found : (c : Code) → IsSound c → (t : ThreadId) (events : List Event) → FollowsCode c t events → (body : Option ThreadBody) → body_of t c.bodies ≡ body
+walks_found : (c : Code) → IsSoundCode c → (t : ThreadId) (events : List Event) → FollowsCode c t events → (body : Option ThreadBody) → body_of t c.bodies ≡ body
     → (last : Phase) × Walks c.shape (next_request c) t [] Outside events last
 walks_found c sound t events follows None found = subst (λ all. (last : Phase) × Walks c.shape (next_request c) t [] Outside all last) (sym (none_asked c t events found follows)) (Outside, refl)
 walks_found c sound t events follows (Some body) found =

@@ -27,7 +27,7 @@ use Rattle.dso_machine.specs.declared.code.ThreadBody.{ThreadBody}
 use Rattle.dso_machine.specs.MapCalls.{entry_of}
 use Rattle.dso_machine.specs.Next.{finish, opening, whole, enough_for, request_of, replies_in, body_of, next_of, next_request}
 use Rattle.dso_machine.specs.Outcome.{Environment, Outcome, Wants, Gives, Leaves, Fails, Hears, Over, Stopped}
-use Rattle.dso_machine.specs.Sound.{IsSoundClass, IsMethodLock, IsSoundMethod, IsSoundBody, IsSound}
+use Rattle.dso_machine.specs.Sound.{IsSoundClass, IsMethodLock, IsSoundMethod, IsSoundBody, IsSoundCode}
 use Rattle.dso_machine.specs.Statements.{block, statements_of, methods}
 use Rattle.dso_machine.proofs.protocol.Protocol.{Keeper, through, FollowsAt, KeepsTo}
 use Rattle.dso_machine.proofs.protocol.Parts.{refilled, Obeys, InCall, keeps_on, one_function, Fine, Part, part_stopped, part_gives}
@@ -54,7 +54,7 @@ pub body_sound : (P : ThreadBody → Type 0) (t : ThreadId) (body : ThreadBody) 
 body_sound P t body [] all is = absurd (cc is)
 body_sound P t body (first ∷ rest) all is = one_of P (is_thread t first.thread) first (body_of t rest) body (All-head P first rest all) (body_sound P t body rest (All-tail P first rest all)) is
 
-module _ (c : Code) (k : Keeper c.shape) (sound : IsSound c) where
+module _ (c : Code) (k : Keeper c.shape) (sound : IsSoundCode c) where
   -- the statements of a method that may be there
   part_statements : (n : ℕ) → Bodies k c (methods c n) → (m : ℕ) (method : Option Method) → slice_get c.methods m ≡ method → (g : k.Point) → Part k g (block c (methods c n) n (statements_of method))
   part_statements n bodies m None is g = part_gives k g value.Null tt
@@ -206,7 +206,7 @@ replies_more [] t q r woken rs = refl
 replies_more (Act u p s by ∷ before) t q r woken rs = ap (λ all. s ∷ all) (replies_more before t q r woken rs)
 replies_more (Lost client ∷ before) t q r woken rs = replies_more before t q r woken rs
 
-module _ (c : Code) (k : Keeper c.shape) (sound : IsSound c) (t : ThreadId) (body : ThreadBody) (found : body_of t c.bodies ≡ Some body) where
+module _ (c : Code) (k : Keeper c.shape) (sound : IsSoundCode c) (t : ThreadId) (body : ThreadBody) (found : body_of t c.bodies ≡ Some body) where
   -- the next request is what is wanted, for any number of moves that is enough
   next_is : (before : List Event) (n : ℕ) → enough_for (replies_in before) ≤ n → next_request c t before ≡ request_of (whole c body n (replies_in before))
   next_is before n le = ap (next_of c (replies_in before)) found ∙ sym (moves_enough c body n (replies_in before) le)
@@ -233,10 +233,10 @@ module _ (c : Code) (k : Keeper c.shape) (sound : IsSound c) (t : ThreadId) (bod
       (follows_of n events [] k.start (omega arith) follows) (sym (next_is events n (omega arith)) ∙ wanted)
 
 -- what a thread's body asks keeps to what may be asked
-keeps_found : (c : Code) (k : Keeper c.shape) → IsSound c → (t : ThreadId) (body : Option ThreadBody) → body_of t c.bodies ≡ body → KeepsTo c k t
+keeps_found : (c : Code) (k : Keeper c.shape) → IsSoundCode c → (t : ThreadId) (body : Option ThreadBody) → body_of t c.bodies ≡ body → KeepsTo c k t
 keeps_found c k sound t (Some body) found = keeps_there c k sound t body found
 keeps_found c k sound t None found = λ events q follows wanted. absurd (cc (sym (ap (next_of c (replies_in events)) found) ∙ wanted))
 
 -- Each thread of sound code keeps to what may be asked.
-pub keeps_to : (c : Code) (k : Keeper c.shape) → IsSound c → (t : ThreadId) → KeepsTo c k t
+pub keeps_to : (c : Code) (k : Keeper c.shape) → IsSoundCode c → (t : ThreadId) → KeepsTo c k t
 keeps_to c k sound t = keeps_found c k sound t (body_of t c.bodies) refl

@@ -12,7 +12,7 @@ use Rattle.dso_base.specs.declared.shape.Shape.{Shape}
 use Rattle.dso_base.specs.declared.value.Value.{Value}
 use Rattle.dso_base.specs.declared.value.Value.TheVariants as value
 use Rattle.dso_plain.specs.State.{Hold, PlainState, is_shared, hold_on_guard}
-use Rattle.dso_plain.specs.Possible.{Answers, IsPrivateMonitor, IsClusterLock, IsAwakeFor}
+use Rattle.dso_plain.specs.Possible.{AnswersRequest, IsPrivateMonitor, IsClusterLock, IsAwakeFor}
 use Rattle.dso_plain.specs.After.{change_of, apply, put, read, read_shared, notifies}
 use Rattle.dso_plain.specs.SameActs.{with_marks}
 
@@ -28,7 +28,7 @@ module _ (shape : Shape) (t : ThreadId) (s : PlainState) (marks : LockName × Th
   cluster_lock_marked (Name n) a = tt
 
   -- no reply depends on marks
-  pub answers_marked : (request : Request) (reply : Reply) → Answers shape t request reply s → Answers shape t request reply (with_marks marks s)
+  pub answers_marked : (request : Request) (reply : Reply) → AnswersRequest shape t request reply s → AnswersRequest shape t request reply (with_marks marks s)
   answers_marked (Tick l) (Val (value.Bool told)) a = a
   answers_marked (Timeout l) Done a = a
   answers_marked (Timeout l) (Val (value.Bool true)) a = a

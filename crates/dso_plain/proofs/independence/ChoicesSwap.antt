@@ -16,7 +16,7 @@ use Rattle.dso_base.specs.declared.value.Value.TheVariants as value
 use Rattle.dso_plain.specs.KeyTests.{is_lock, is_place}
 use Rattle.dso_lookup.specs.Maps.{writes}
 use Rattle.dso_plain.specs.State.{Hold, PlainState, is_shared, hold_on_guard}
-use Rattle.dso_plain.specs.Possible.{Answers, FindsMark, Wakes, IsUnmarkedWaiter, MayButMarks, FitsMarks}
+use Rattle.dso_plain.specs.Possible.{AnswersRequest, FindsMark, Wakes, IsUnmarkedWaiter, MayButMarks, FitsMarks}
 use Rattle.dso_plain.specs.After.{change_of, after, put, read, read_shared}
 use Rattle.dso_plain.specs.History.{Runs, ChoicesFit, end_of}
 use Rattle.dso_plain.specs.Touches.{ActTouches, ActMakes, TimesOut, NobodyTimesOut, NoClash}
@@ -49,7 +49,7 @@ module _ (shape : Shape) (t : ThreadId) (s : PlainState) where
   at_lock request reply l w mark h key v e = subst (λ k. ActTouches t request reply s k Write) (sym (ap (λ k. k.0) (same_place l w key (written_there (is_place l w) (λ _. mark) key v e).0))) h
 
   -- an act that does not time out writes marks of locks alone that it touches at Write
-  marks_touched : (request : Request) (reply : Reply) (woken : Option ThreadId) → (TimesOut (Act t request reply woken) → ⊥) → Answers shape t request reply s → Wherever (change_of shape t request reply woken s).marked (λ key _. ActTouches t request reply s key.0 Write)
+  marks_touched : (request : Request) (reply : Reply) (woken : Option ThreadId) → (TimesOut (Act t request reply woken) → ⊥) → AnswersRequest shape t request reply s → Wherever (change_of shape t request reply woken s).marked (λ key _. ActTouches t request reply s key.0 Write)
   marks_touched (New class n) (Made o) woken never a key v e = none e
   marks_touched (Get o f) (Val x) woken never a key v e = read_marks_nobody (λ key _. ActTouches t (Get o f) (Val x) s key.0 Write) o f (is_shared (s.objects o)) key v e
   marks_touched (Put o f x) Done woken never a key v e = put_marks_nobody (λ key _. ActTouches t (Put o f x) Done s key.0 Write) o f x (is_shared (s.objects o)) key v e
@@ -95,7 +95,7 @@ module _ (shape : Shape) (t u : ThreadId) (touch : LockName → Level → Type 0
     waited_before l w free h = ((λ e. h.0 (q.asleep l w free ∙ e)), sym (same_mark l w free) ∙ h.1)
 
     -- so an act of u can wake whom it could wake
-    still_wakes : (request : Request) (reply : Reply) (woken : Option ThreadId) → NoClash touch (ActTouches u request reply s) → Answers shape u request reply s → Wakes request reply woken s → Wakes request reply woken r
+    still_wakes : (request : Request) (reply : Reply) (woken : Option ThreadId) → NoClash touch (ActTouches u request reply s) → AnswersRequest shape u request reply s → Wakes request reply woken s → Wakes request reply woken r
     still_wakes (Notify l) Done None locks a nobody = λ w h. nobody w (waited_before l w (λ k. not_both touch (ActTouches u (Notify l) Done s) locks l k (inl a)) h)
     still_wakes (Notify l) Done (Some w) locks a h = still_waits l w (λ k. not_both touch (ActTouches u (Notify l) Done s) locks l k (inl a)) h
     still_wakes request reply woken locks a e = e

@@ -15,7 +15,7 @@ use Rattle.dso_base.specs.declared.value.ClassId.{ClassId}
 use Rattle.dso_base.specs.declared.value.Value.TheVariants as value
 use Rattle.dso_base.specs.Following.{is_thread}
 use Rattle.dso_plain.specs.State.{Hold, PlainState, is_shared, size_of, IsPrivate, IsShared, HasField, HoldsNothing, level_of, guard_in, guard_of_object, hold_on_guard}
-use Rattle.dso_plain.specs.Possible.{IsPossibleButMarks, Answers, AnswersNew, AnswersLook, AnswersGet, AnswersPut, AnswersEnter, AnswersExit, AnswersMonitor, AnswersTick, AnswersTimeout, AnswersResume, AnswersEnd, IsOf, StandsFrom, IsPrivateMonitor, IsClusterLock, IsUpgrade, IsCompatible, NoConflict, HoldsWrite, IsAwakeFor}
+use Rattle.dso_plain.specs.Possible.{IsPossibleButMarks, AnswersRequest, AnswersNew, AnswersLook, AnswersGet, AnswersPut, AnswersEnter, AnswersExit, AnswersMonitor, AnswersTick, AnswersTimeout, AnswersResume, AnswersEnd, IsOf, StandsFrom, IsPrivateMonitor, IsClusterLock, IsUpgrade, IsCompatible, NoConflict, HoldsWrite, IsAwakeFor}
 use Rattle.dso_plain.specs.Touches.{ActTouches, ActMakes, NoClash, NoCommonId}
 use Rattle.dso_plain.proofs.keys.SameKeys.{same_thread, thread_self}
 use Rattle.dso_plain.proofs.independence.LeavesOthers.{IsQuiet, absent_private, absent_shared, private_or_shared, private_to_one, differ}
@@ -195,7 +195,7 @@ module _ (shape : Shape) (t u : ThreadId) (touch : LockName → Level → Type 0
   still_end reply a = absurd a
 
   -- each reply is still possible
-  still_answers : (request : Request) (reply : Reply) → NoClash touch (ActTouches u request reply s) → NoCommonId makes (ActMakes request reply) → Answers shape u request reply s → Answers shape u request reply r
+  still_answers : (request : Request) (reply : Reply) → NoClash touch (ActTouches u request reply s) → NoCommonId makes (ActMakes request reply) → AnswersRequest shape u request reply s → AnswersRequest shape u request reply r
   still_answers (New class n) reply locks ids a = still_new class n reply ids a
   still_answers (Look o) reply locks ids a = still_look o reply a
   still_answers (Get o f) reply locks ids a = still_get o f reply locks a

@@ -18,7 +18,7 @@ use Rattle.dso_base.specs.Following.{is_thread}
 use Rattle.dso_plain.specs.KeyTests.{is_lock, is_field, is_place, is_view}
 use Rattle.dso_lookup.specs.Maps.{writes}
 use Rattle.dso_plain.specs.State.{Object, Hold, PlainState, is_private_to, is_mine, is_shared, is_owner, IsPrivate, IsShared, level_of, guard_in, hold_on_guard}
-use Rattle.dso_plain.specs.Possible.{Answers}
+use Rattle.dso_plain.specs.Possible.{AnswersRequest}
 use Rattle.dso_plain.specs.After.{Change, nothing, made_new, new_object, read, read_shared, put, times_out, notifies, notifies_all, entered, exited, count_of, resumed, change_of, published, shared, present, opening_field, names}
 use Rattle.dso_plain.specs.Touches.{ActTouches, ActMakes}
 use Rattle.dso_plain.proofs.keys.SameKeys.{Wherever, none, written_there, same_number, same_thread, same_lock, same_field, same_place, same_view}
@@ -285,7 +285,7 @@ private_unshared t (Some object) e = by object.owner e
 
 module _ (shape : Shape) (t : ThreadId) (s : PlainState) where
   -- Each act writes only what it may. What an act writes whose reply has no line is nothing.
-  pub guarded : (request : Request) (reply : Reply) (woken : Option ThreadId) → Answers shape t request reply s → IsGuarded shape t (ActTouches t request reply s) (ActMakes request reply) s (change_of shape t request reply woken s)
+  pub guarded : (request : Request) (reply : Reply) (woken : Option ThreadId) → AnswersRequest shape t request reply s → IsGuarded shape t (ActTouches t request reply s) (ActMakes request reply) s (change_of shape t request reply woken s)
   guarded (New class n) (Made o) woken a = guarded_new shape t (ActTouches t (New class n) (Made o) s) (ActMakes (New class n) (Made o)) s class n o a.1 refl
   guarded (Get o f) (Val v) woken a = guarded_read shape t (ActTouches t (Get o f) (Val v) s) (ActMakes (Get o f) (Val v)) s o f (is_shared (s.objects o))
   guarded (Put o f v) Done woken a = elim a.1 [

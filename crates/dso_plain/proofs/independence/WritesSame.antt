@@ -17,7 +17,7 @@ use Rattle.dso_base.specs.Following.{is_thread}
 use Rattle.dso_plain.specs.KeyTests.{is_lock, is_field, is_place, is_view}
 use Rattle.dso_lookup.specs.Maps.{writes}
 use Rattle.dso_plain.specs.State.{Hold, PlainState, is_private_to, is_mine, is_shared, size_of, IsPrivate, IsShared, guard_in, hold_on_guard}
-use Rattle.dso_plain.specs.Possible.{Answers, AnswersGet, AnswersPut}
+use Rattle.dso_plain.specs.Possible.{AnswersRequest, AnswersGet, AnswersPut}
 use Rattle.dso_plain.specs.After.{nothing, new_object, read, read_shared, put, notifies_all, entered, exited, count_of, resumed, change_of, published, shared, present, opening_field, names, names_below, holds_reference}
 use Rattle.dso_plain.specs.Touches.{ActTouches, NoClash}
 use Rattle.dso_plain.proofs.keys.SameKeys.{same_lock}
@@ -133,7 +133,7 @@ module _ (shape : Shape) (t u : ThreadId) (touch : LockName → Level → Type 0
       by key true e = ap (λ x. is_some x) (q.asleep key.0 key.1 (λ w. never (subst (λ k. touch k Write) (same_lock l key.0 e) w)))
 
   -- the act writes the same
-  pub alike : (request : Request) (reply : Reply) (woken : Option ThreadId) → NoClash touch (ActTouches u request reply s) → Answers shape u request reply s → change_of shape u request reply woken r ≡ change_of shape u request reply woken s
+  pub alike : (request : Request) (reply : Reply) (woken : Option ThreadId) → NoClash touch (ActTouches u request reply s) → AnswersRequest shape u request reply s → change_of shape u request reply woken r ≡ change_of shape u request reply woken s
   alike (New class n) (Made o) woken locks a = ap (λ m. record nothing {
     objects = writes (λ key. eqb key o) (λ key. Some (new_object u class n));
     made = writes (is_thread u) (λ key. o ∷ m);

@@ -19,7 +19,7 @@ use Rattle.dso_base.specs.Following.{is_thread}
 use Rattle.dso_plain.specs.KeyTests.{is_field, is_view}
 use Rattle.dso_lookup.specs.Maps.{or_old}
 use Rattle.dso_plain.specs.State.{Object, Hold, PlainState, opening, roots_object, is_private_to, is_shared, size_of, IsPrivate, IsShared, HasField, hold_on_guard}
-use Rattle.dso_plain.specs.Possible.{MayButMarks, Answers, AnswersPut}
+use Rattle.dso_plain.specs.Possible.{MayButMarks, AnswersRequest, AnswersPut}
 use Rattle.dso_base.specs.Block.{opening_value}
 use Rattle.dso_plain.specs.After.{change_of, apply, after, read, read_shared, put, published, shared, present, opening_field, new_object, made_new, notifies}
 use Rattle.dso_plain.specs.History.{RunsButMarks, end_of, last_state}
@@ -255,7 +255,7 @@ module _ (shape : Shape) (t : ThreadId) (s : PlainState) where
   notify_kept l (Some w) k = k
 
   -- each act keeps it
-  act_kept : (request : Request) (reply : Reply) (woken : Option ThreadId) → Answers shape t request reply s → PastInvariant s → PastInvariant (apply (change_of shape t request reply woken s) s)
+  act_kept : (request : Request) (reply : Reply) (woken : Option ThreadId) → AnswersRequest shape t request reply s → PastInvariant s → PastInvariant (apply (change_of shape t request reply woken s) s)
   act_kept (New class n) (Made o) woken a k = new_kept shape t class n o s k a.1
   act_kept (Get o f) (Val v) woken a k = read_kept t o f s k shape (is_shared (s.objects o))
   act_kept (Put o f v) Done woken a k = put_kept o f v a k
@@ -285,7 +285,7 @@ pub past : (shape : Shape) (h : List Event) → RunsButMarks shape h (opening sh
 past shape h m = kept_past (last_state shape h) (run_kept shape h (opening shape) m (opening_kept shape))
 
 -- a step lets pasts grow
-act_grows : (shape : Shape) (t : ThreadId) (request : Request) (reply : Reply) (woken : Option ThreadId) (s : PlainState) → Answers shape t request reply s → PastsGrow s (apply (change_of shape t request reply woken s) s)
+act_grows : (shape : Shape) (t : ThreadId) (request : Request) (reply : Reply) (woken : Option ThreadId) (s : PlainState) → AnswersRequest shape t request reply s → PastsGrow s (apply (change_of shape t request reply woken s) s)
 act_grows shape t request reply woken s a =
     let g = guarded shape t s request reply woken a in
     let c = change_of shape t request reply woken s in

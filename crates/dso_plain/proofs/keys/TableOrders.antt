@@ -12,7 +12,7 @@ use Rattle.dso_plain.specs.KeyTests.{is_lock, is_field, is_place, is_view}
 use Rattle.dso_lookup.specs.Rows.{is_at_pair}
 use Rattle.dso_lookup.proofs.Tests.{number_at}
 use Rattle.dso_lookup.specs.Orders.{lock_order, thread_order}
-use Rattle.dso_plain.specs.Tables.{field_order, view_order}
+use Rattle.dso_plain.specs.HeapTables.{field_order, view_order}
 
 -- two orders one after the other take for the same what both take for the same
 both_equal : (a b : Ordering) → is_eq (ordering_then a b) ≡ (is_eq a && is_eq b)

@@ -5,7 +5,7 @@ use Rattle.std.proofs.lemmas.Bool.{lt-ltb, le-ltb, ltb-true, ltb-false}
 use Rattle.std.proofs.Math.Path.{fun_ext}
 use Rattle.dso_plain.specs.KeyTests.{is_field}
 use Rattle.dso_lookup.specs.Maps.{writes, or_old, written}
-use Rattle.dso_plain.specs.Tables.{is_below}
+use Rattle.dso_plain.specs.HeapTables.{is_below}
 use Rattle.dso_plain.proofs.keys.SameKeys.{same_field}
 
 -- one value, seen through a function

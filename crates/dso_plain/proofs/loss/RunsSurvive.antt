@@ -19,7 +19,7 @@ use Rattle.dso_base.specs.declared.value.Value.TheVariants as value
 use Rattle.dso_plain.specs.KeyTests.{is_lock, is_place}
 use Rattle.dso_lookup.specs.Maps.{writes, or_old, written}
 use Rattle.dso_plain.specs.State.{Hold, PlainState, is_shared, level_of, guard_in, hold_on_guard}
-use Rattle.dso_plain.specs.Possible.{IsPossible, May, MayButMarks, Answers, AnswersNew, AnswersLook, AnswersGet, MayPut, IsPrivateMonitor, IsClusterLock, AnswersEnter, AnswersExit, AnswersMonitor, AnswersTick, AnswersTimeout, AnswersResume, AnswersEnd, IsCompatible, NoConflict, IsUpgrade, FindsMark, Wakes, IsAwakeFor, IsUnmarkedWaiter}
+use Rattle.dso_plain.specs.Possible.{IsPossible, May, MayButMarks, AnswersRequest, AnswersNew, AnswersLook, AnswersGet, MayPut, IsPrivateMonitor, IsClusterLock, AnswersEnter, AnswersExit, AnswersMonitor, AnswersTick, AnswersTimeout, AnswersResume, AnswersEnd, IsCompatible, NoConflict, IsUpgrade, FindsMark, Wakes, IsAwakeFor, IsUnmarkedWaiter}
 use Rattle.dso_plain.specs.After.{nothing, change_of, apply, after, loses, put, read, read_shared, notifies_all, entered, exited, count_of, resumed}
 use Rattle.dso_plain.specs.History.{Runs, RunsButMarks, end_of}
 use Rattle.dso_plain.specs.Touches.{ActTouches, Touches, TouchesIn}
@@ -143,7 +143,7 @@ module _ (shape : Shape) (client : ℕ) (s : PlainState) (t : ThreadId) (other :
   still_end reply a = absurd a
 
   -- each reply is still possible
-  pub still_answers : (request : Request) (reply : Reply) → Answers shape t request reply s → Answers shape t request reply (left client s)
+  pub still_answers : (request : Request) (reply : Reply) → AnswersRequest shape t request reply s → AnswersRequest shape t request reply (left client s)
   still_answers (New class n) reply a = by reply a
     where
       by : (reply : Reply) → AnswersNew shape class n reply s → AnswersNew shape class n reply (left client s)
@@ -255,7 +255,7 @@ module _ (shape : Shape) (client : ℕ) (s : PlainState) (t : ThreadId) (other :
   marks request reply woken n apart key v e = none e
 
   -- what the act writes and what the loss clears have no key in common
-  apart_from_loss : (request : Request) (reply : Reply) (woken : Option ThreadId) → Answers shape t request reply s → NotAll request → WakesNoneOf client woken → AreDisjoint (change_of shape t request reply woken s) (loses client)
+  apart_from_loss : (request : Request) (reply : Reply) (woken : Option ThreadId) → AnswersRequest shape t request reply s → NotAll request → WakesNoneOf client woken → AreDisjoint (change_of shape t request reply woken s) (loses client)
   apart_from_loss request reply woken a n apart =
       let g = guarded shape t s request reply woken a in
       record {
@@ -315,7 +315,7 @@ module _ (shape : Shape) (client : ℕ) (s : PlainState) (t : ThreadId) (other :
   alike request reply woken n = refl
 
   -- any other act than a notification of all comes to the same before and after the loss
-  swap_one : (request : Request) (reply : Reply) (woken : Option ThreadId) → Answers shape t request reply s → NotAll request → WakesNoneOf client woken → apply (change_of shape t request reply woken (left client s)) (left client s) ≡ left client (apply (change_of shape t request reply woken s) s)
+  swap_one : (request : Request) (reply : Reply) (woken : Option ThreadId) → AnswersRequest shape t request reply s → NotAll request → WakesNoneOf client woken → apply (change_of shape t request reply woken (left client s)) (left client s) ≡ left client (apply (change_of shape t request reply woken s) s)
   swap_one request reply woken a n apart =
       ap (λ c. apply c (left client s)) (alike request reply woken n)
       ∙ sym (apply_swap (change_of shape t request reply woken s) (loses client) s (apart_from_loss request reply woken a n apart))
@@ -327,7 +327,7 @@ module _ (shape : Shape) (client : ℕ) (s : PlainState) (t : ThreadId) (other :
       λ i. record (left client s) { marked = marks i }
 
   -- any act comes to the same before and after the loss
-  pub swap : (request : Request) (reply : Reply) (woken : Option ThreadId) → Answers shape t request reply s → WakesNoneOf client woken → apply (change_of shape t request reply woken (left client s)) (left client s) ≡ left client (apply (change_of shape t request reply woken s) s)
+  pub swap : (request : Request) (reply : Reply) (woken : Option ThreadId) → AnswersRequest shape t request reply s → WakesNoneOf client woken → apply (change_of shape t request reply woken (left client s)) (left client s) ≡ left client (apply (change_of shape t request reply woken s) s)
   swap (NotifyAll l) Done woken a apart = swap_all l
   swap (NotifyAll l) reply woken a apart = refl
   swap request reply woken a apart = swap_one request reply woken a tt apart

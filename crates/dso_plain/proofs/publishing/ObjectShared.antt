@@ -7,12 +7,12 @@ use Rattle.std.specs.Option.{option_map}
 use Rattle.std.specs.BTreeMap.{is_at}
 use Rattle.dso_base.specs.declared.value.Value.{Value}
 use Rattle.dso_plain.specs.declared.tables.Object as table
-use Rattle.dso_plain.specs.declared.tables.Tables.{Tables}
+use Rattle.dso_plain.specs.declared.tables.HeapTables.{HeapTables}
 use Rattle.dso_lookup.specs.Maps.{writes, or_old, written, look}
 use Rattle.dso_plain.specs.State.{PlainState, size_of}
 use Rattle.dso_plain.specs.After.{shared, present}
 use Rattle.dso_plain.specs.Publishing.{with_shared, HasItsFields}
-use Rattle.dso_plain.specs.Tables.{object_of, field_order, pasts_of, is_below, state_of}
+use Rattle.dso_plain.specs.HeapTables.{object_of, field_order, pasts_of, is_below, state_of}
 use Rattle.dso_plain.proofs.keys.SameKeys.{same_number}
 use Rattle.dso_lookup.proofs.Tests.{number_at}
 use Rattle.dso_plain.proofs.keys.Writes.{through, at_key}
@@ -40,14 +40,14 @@ shared_object : (o : ℕ) (private changed : table.Object) (old new : ℕ → Op
 shared_object o private changed old new there is puts = through (λ v. option_map object_of v) (is_at (nat_cmp o)) (λ x. eqb x o) (Some changed) old new (number_at o) puts ∙ (ap (λ v. written (writes (λ x. eqb x o) (λ _. v)) (λ x. option_map object_of (old x))) (is ∙ ap (λ v. shared (option_map object_of v)) (sym there)) ∙ at_key (λ x. eqb x o) o (λ x. shared (option_map object_of (old x))) (λ x. option_map object_of (old x)) (λ key e. same_number key o e))
 
 -- the tables with one object more shared
-pub object_shared : (o : ℕ) (private changed : table.Object) (old : Tables) (objects : ℕ → Option table.Object) (pasts : ℕ × ℕ → List Value) → look nat_cmp old.objects o ≡ Some private → Some (object_of changed) ≡ shared (Some (object_of private)) → objects ≡ written (writes (is_at (nat_cmp o)) (λ _. Some changed)) (look nat_cmp old.objects) → ((f : ℕ) → ltb f private.size ≡ false → pasts_of old.past (o, f) ≡ []) → ((f : ℕ) → is_some (look field_order old.heap (o, f)) ≡ ltb f private.size) → pasts ≡ written (writes (is_below o private.size) (λ key. present (look field_order old.heap key))) (pasts_of old.past) → record (state_of old) { objects = λ x. option_map object_of (objects x); past = pasts } ≡ with_shared (λ x. eqb x o) (state_of old)
+pub object_shared : (o : ℕ) (private changed : table.Object) (old : HeapTables) (objects : ℕ → Option table.Object) (pasts : ℕ × ℕ → List Value) → look nat_cmp old.objects o ≡ Some private → Some (object_of changed) ≡ shared (Some (object_of private)) → objects ≡ written (writes (is_at (nat_cmp o)) (λ _. Some changed)) (look nat_cmp old.objects) → ((f : ℕ) → ltb f private.size ≡ false → pasts_of old.past (o, f) ≡ []) → ((f : ℕ) → is_some (look field_order old.heap (o, f)) ≡ ltb f private.size) → pasts ≡ written (writes (is_below o private.size) (λ key. present (look field_order old.heap key))) (pasts_of old.past) → record (state_of old) { objects = λ x. option_map object_of (objects x); past = pasts } ≡ with_shared (λ x. eqb x o) (state_of old)
 object_shared o private changed old objects pasts there is puts unpublished fields opens =
     let first = shared_object o private changed (look nat_cmp old.objects) objects there is puts in
     let second = opens ∙ all_fields o private.size (look field_order old.heap) (pasts_of old.past) unpublished fields in
     λ i. record (state_of old) { objects = first i; past = second i }
 
 -- an object that is not there is shared as it is
-pub absent_shared : (o : ℕ) (old : Tables) → None ≡ look nat_cmp old.objects o → HasItsFields o (state_of old) → state_of old ≡ with_shared (λ x. eqb x o) (state_of old)
+pub absent_shared : (o : ℕ) (old : HeapTables) → None ≡ look nat_cmp old.objects o → HasItsFields o (state_of old) → state_of old ≡ with_shared (λ x. eqb x o) (state_of old)
 absent_shared o old none h =
     let objects = fun_ext (λ x. object x (eqb x o) refl) in
     let pasts = fun_ext (λ (key : ℕ × ℕ). past key (eqb key.0 o) refl) in

@@ -1,4 +1,4 @@
--- Tables that agree still do after a hold or a wait was changed in each.
+-- HeapTables that agree still do after a hold or a wait was changed in each.
 use Rattle.std.proofs.Common.{ℕ, ◌≡◌, refl, sym, ◌∙◌, ap, Bool, true, false, cond, ◌&&◌, is_some, Option, Some, None}
 use Rattle.std.specs.Option.{option_map}
 use Rattle.std.specs.Ordering.{nat_cmp}
@@ -11,7 +11,7 @@ use Rattle.dso_plain.specs.KeyTests.{is_lock, is_place}
 use Rattle.dso_lookup.specs.Maps.{writes, or_old, written}
 use Rattle.dso_lookup.specs.Rows.{is_at_pair}
 use Rattle.dso_lookup.specs.Orders.{lock_order, thread_order}
-use Rattle.dso_plain.specs.Tables.{hold_of}
+use Rattle.dso_plain.specs.HeapTables.{hold_of}
 use Rattle.dso_plain.proofs.keys.SameKeys.{number_self, thread_self}
 use Rattle.dso_lookup.proofs.Tests.{number_at}
 use Rattle.dso_plain.proofs.keys.TableOrders.{place_at, thread_at, lock_at}

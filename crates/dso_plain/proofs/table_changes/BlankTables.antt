@@ -12,7 +12,7 @@ use Rattle.dso_base.specs.declared.value.ClassId.TheVariants as class
 use Rattle.dso_base.specs.declared.value.Value.{Value}
 use Rattle.dso_base.specs.declared.value.Value.TheVariants as value
 use Rattle.dso_plain.specs.declared.tables.Object as table
-use Rattle.dso_plain.specs.declared.tables.Tables.{Tables}
+use Rattle.dso_plain.specs.declared.tables.HeapTables.{HeapTables}
 use Rattle.dso_lookup.specs.Maps.{writes, or_old, written, look}
 use Rattle.dso_lookup.specs.Rows.{in_row, look_in}
 use Rattle.dso_plain.specs.State.{opening, roots_object}
@@ -20,7 +20,7 @@ use Rattle.dso_plain.specs.After.{present}
 use Rattle.dso_plain.specs.StepInvariants.{PastInvariant, MonitorInvariant}
 use Rattle.dso_plain.specs.TableInvariants.{IndexesAgree, TablesInvariant}
 use Rattle.dso_lookup.specs.Orders.{lock_order, thread_order}
-use Rattle.dso_plain.specs.Tables.{field_order, view_order, object_of, hold_of, pasts_of, either, state_of, is_below, blank, IsBlank}
+use Rattle.dso_plain.specs.HeapTables.{field_order, view_order, object_of, hold_of, pasts_of, either, state_of, is_below, blank, IsBlank}
 use Rattle.dso_lookup.specs.Lists.{newest_first}
 use Rattle.dso_lookup.proofs.Tests.{number_at}
 use Rattle.dso_plain.proofs.keys.Writes.{through}
@@ -33,7 +33,7 @@ no_row : {J K V : Type 0} (outer : J → J → Ordering) (inner : K → K → Or
 no_row {J} {K} {V} outer inner m e = fun_ext (λ key. ap (λ f. in_row inner (f key.0) key.1) (nothing_found outer m e))
 
 -- the state of empty tables
-pub blank_state : (tables : Tables) → IsBlank tables → state_of tables ≡ blank
+pub blank_state : (tables : HeapTables) → IsBlank tables → state_of tables ≡ blank
 blank_state tables b =
     let objects = nothing_found nat_cmp tables.objects b.objects in
     let made = nothing_found thread_order tables.made b.made in
@@ -82,7 +82,7 @@ blank_monitors = record {
 }
 
 -- empty tables agree
-blank_agrees : (tables : Tables) → IsBlank tables → IndexesAgree tables
+blank_agrees : (tables : HeapTables) → IsBlank tables → IndexesAgree tables
 blank_agrees tables b =
     let is = blank_state tables b in
     record {
@@ -93,7 +93,7 @@ blank_agrees tables b =
     }
 
 -- empty tables keep what is kept
-pub blank_keeps : (tables : Tables) → IsBlank tables → TablesInvariant tables
+pub blank_keeps : (tables : HeapTables) → IsBlank tables → TablesInvariant tables
 blank_keeps tables b = record {
   past = subst (λ s. PastInvariant s) (sym (blank_state tables b)) blank_past;
   monitors = subst (λ s. MonitorInvariant s) (sym (blank_state tables b)) blank_monitors;
@@ -104,7 +104,7 @@ blank_keeps tables b = record {
 abbrev pub table_roots : Shape → table.Object
 table_roots shape = record { class = class.Roots; size = shape.roots; owner = None }
 
-module _ (shape : Shape) (b : Tables) (is : IsBlank b) (objects : ℕ → Option table.Object) (heap : ℕ × ℕ → Option Value) (pasts : ℕ × ℕ → List Value) where
+module _ (shape : Shape) (b : HeapTables) (is : IsBlank b) (objects : ℕ → Option table.Object) (heap : ℕ × ℕ → Option Value) (pasts : ℕ × ℕ → List Value) where
   opened_objects : objects ≡ written (writes (is_at (nat_cmp 0)) (λ _. Some (table_roots shape))) (look nat_cmp b.objects) → (λ o. option_map object_of (objects o)) ≡ (opening shape).objects
   opened_objects puts = through (λ x. option_map object_of x) (is_at (nat_cmp 0)) (λ x. eqb x 0) (Some (table_roots shape)) (look nat_cmp b.objects) objects (number_at 0) puts ∙ (ap (λ f. written (writes (λ x. eqb x 0) (λ _. Some (roots_object shape))) (λ x. option_map object_of (f x))) (nothing_found nat_cmp b.objects is.objects) ∙ fun_ext (λ x. by (eqb x 0)))
     where

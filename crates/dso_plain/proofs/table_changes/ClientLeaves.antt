@@ -8,7 +8,7 @@ use Rattle.std.specs.BTreeMap.{BTreeMap, is_at}
 use Rattle.dso_base.specs.declared.lock.LockName.{LockName}
 use Rattle.dso_base.specs.declared.lock.ThreadId.{ThreadId}
 use Rattle.dso_base.specs.Following.{is_thread}
-use Rattle.dso_plain.specs.declared.tables.Tables.{Tables}
+use Rattle.dso_plain.specs.declared.tables.HeapTables.{HeapTables}
 use Rattle.dso_lookup.specs.Maps.{writes, or_old, written, look}
 use Rattle.dso_lookup.specs.Rows.{look_in, in_row}
 use Rattle.dso_plain.specs.State.{PlainState}
@@ -16,7 +16,7 @@ use Rattle.dso_plain.specs.After.{apply, loses}
 use Rattle.dso_plain.specs.TableInvariants.{IndexesAgree}
 use Rattle.dso_plain.specs.Changes.{without, Mirrors, ClearsRow}
 use Rattle.dso_lookup.specs.Orders.{lock_order, thread_order}
-use Rattle.dso_plain.specs.Tables.{either, state_of}
+use Rattle.dso_plain.specs.HeapTables.{either, state_of}
 use Rattle.dso_plain.proofs.keys.SameKeys.{same_number, same_thread}
 use Rattle.dso_lookup.proofs.Tests.{both, number_at}
 use Rattle.dso_plain.proofs.keys.TableOrders.{thread_at}
@@ -35,7 +35,7 @@ without_both p q s =
     twice false b v x = refl
 
 -- How far it has come: the threads of the row that are the client's have left, or they are still to be looked at.
-pub record ClearsSoFar (client : ℕ) (row rest : ThreadId → Option (Unit {0})) (old new : Tables) : Type 0 where
+pub record ClearsSoFar (client : ℕ) (row rest : ThreadId → Option (Unit {0})) (old new : HeapTables) : Type 0 where
   pub marks : ThreadId → Bool
   pub is : state_of new ≡ without marks (state_of old)
   pub only : (u : ThreadId) → marks u ≡ true → eqb u.client client ≡ true
@@ -43,7 +43,7 @@ pub record ClearsSoFar (client : ℕ) (row rest : ThreadId → Option (Unit {0})
   pub mirrors : Mirrors new
   pub threads : new.threads ≡ old.threads
 
-pub clears_first : (client : ℕ) (row : ThreadId → Option (Unit {0})) (old : Tables) → Mirrors old → ClearsSoFar client row row old old
+pub clears_first : (client : ℕ) (row : ThreadId → Option (Unit {0})) (old : HeapTables) → Mirrors old → ClearsSoFar client row row old old
 clears_first client row old m = record { marks = λ _. false; is = refl; only = λ u e. absurd (cc e); all = λ u e c. inr e; mirrors = m; threads = refl }
 
 left_of : (a b : Bool) → a ≡ true → (a || b) ≡ true
@@ -54,7 +54,7 @@ right_of : (a b : Bool) → b ≡ true → (a || b) ≡ true
 right_of true b e = refl
 right_of false b e = e
 
-pub clears_next : (client : ℕ) (row rest rest' : ThreadId → Option (Unit {0})) (old mid new : Tables) (t : ThreadId) → ClearsSoFar client row rest old mid → rest' ≡ written (writes (is_at (thread_order t)) (λ _. None)) rest → state_of new ≡ without (λ u. eqb t.client client && is_thread t u) (state_of mid) → Mirrors new → new.threads ≡ mid.threads → ClearsSoFar client row rest' old new
+pub clears_next : (client : ℕ) (row rest rest' : ThreadId → Option (Unit {0})) (old mid new : HeapTables) (t : ThreadId) → ClearsSoFar client row rest old mid → rest' ≡ written (writes (is_at (thread_order t)) (λ _. None)) rest → state_of new ≡ without (λ u. eqb t.client client && is_thread t u) (state_of mid) → Mirrors new → new.threads ≡ mid.threads → ClearsSoFar client row rest' old new
 clears_next client row rest rest' old mid new t so pops is mirrors threads = record {
   marks = λ u. (eqb t.client client && is_thread t u) || so.marks u;
   is = is ∙ (ap (λ s. without (λ u. eqb t.client client && is_thread t u) s) so.is ∙ without_both (λ u. eqb t.client client && is_thread t u) so.marks (state_of old));
@@ -78,7 +78,7 @@ clears_next client row rest rest' old mid new t so pops is mirrors threads = rec
         inl (left_of (eqb t.client client && is_thread t u) (so.marks u) (λ i. own i && e i))
     by u c (inr h) false e = inr (ap (λ x. is_some x) (remains u false e refl) ∙ h)
 
-pub clears_last : (client : ℕ) (row rest : ThreadId → Option (Unit {0})) (old new : Tables) → ClearsSoFar client row rest old new → rest ≡ (λ _. None) → ClearsRow client row old new
+pub clears_last : (client : ℕ) (row rest : ThreadId → Option (Unit {0})) (old new : HeapTables) → ClearsSoFar client row rest old new → rest ≡ (λ _. None) → ClearsRow client row old new
 clears_last client row rest old new so none = record {
   marks = so.marks;
   is = so.is;
@@ -92,7 +92,7 @@ clears_last client row rest old new so none = record {
 }
 
 -- a client with its threads' row taken out, whose threads have left, is lost
-module _ (client : ℕ) (old : Tables) (agrees : IndexesAgree old) (threads : BTreeMap ℕ (BTreeMap ThreadId (Unit {0}))) (row : BTreeMap ThreadId (Unit {0})) (mid : Tables) (lost : ℕ → Option Bool) (was : (u : ThreadId) → look thread_order row u ≡ in_row thread_order (look nat_cmp old.threads client) u) (gone : look nat_cmp threads ≡ written (writes (is_at (nat_cmp client)) (λ _. None)) (look nat_cmp old.threads)) (clears : ClearsRow client (look thread_order row) (record old { threads = threads }) mid) (loss : lost ≡ written (writes (is_at (nat_cmp client)) (λ _. Some true)) (look nat_cmp mid.lost)) where
+module _ (client : ℕ) (old : HeapTables) (agrees : IndexesAgree old) (threads : BTreeMap ℕ (BTreeMap ThreadId (Unit {0}))) (row : BTreeMap ThreadId (Unit {0})) (mid : HeapTables) (lost : ℕ → Option Bool) (was : (u : ThreadId) → look thread_order row u ≡ in_row thread_order (look nat_cmp old.threads client) u) (gone : look nat_cmp threads ≡ written (writes (is_at (nat_cmp client)) (λ _. None)) (look nat_cmp old.threads)) (clears : ClearsRow client (look thread_order row) (record old { threads = threads }) mid) (loss : lost ≡ written (writes (is_at (nat_cmp client)) (λ _. Some true)) (look nat_cmp mid.lost)) where
   -- a thread of the client that has a part in a lock is in the row
   in_row_if : (l : LockName) (u : ThreadId) → eqb u.client client ≡ true → (is_some ((state_of old).monitors (l, u)) || is_some ((state_of old).asleep (l, u))) ≡ true → is_some (look thread_order row u) ≡ true
   in_row_if l u c e = ap (λ x. is_some x) (was u) ∙ (ap (λ k. is_some (in_row thread_order (look nat_cmp old.threads k) u)) (sym (same_number u.client client c)) ∙ agrees.listed l u e)

@@ -7,7 +7,7 @@ use Rattle.std.specs.BTreeMap.{BTreeMap}
 use Rattle.dso_base.specs.declared.lock.LockName.{LockName}
 use Rattle.dso_base.specs.declared.lock.ThreadId.{ThreadId}
 use Rattle.dso_plain.specs.declared.tables.Hold as table
-use Rattle.dso_plain.specs.declared.tables.Tables.{Tables}
+use Rattle.dso_plain.specs.declared.tables.HeapTables.{HeapTables}
 use Rattle.dso_plain.specs.KeyTests.{is_place}
 use Rattle.dso_lookup.specs.Maps.{writes, or_old, written}
 use Rattle.dso_lookup.specs.Rows.{look_in, is_at_pair}
@@ -15,7 +15,7 @@ use Rattle.dso_plain.specs.State.{Hold}
 use Rattle.dso_plain.specs.TableInvariants.{IndexesAgree}
 use Rattle.dso_plain.specs.Changes.{with_hold, with_wait}
 use Rattle.dso_lookup.specs.Orders.{lock_order, thread_order}
-use Rattle.dso_plain.specs.Tables.{hold_of, either, state_of}
+use Rattle.dso_plain.specs.HeapTables.{hold_of, either, state_of}
 use Rattle.dso_plain.proofs.keys.SameKeys.{same_place}
 use Rattle.dso_plain.proofs.keys.TableOrders.{place_at}
 use Rattle.dso_plain.proofs.keys.Writes.{renamed}
@@ -36,7 +36,7 @@ either_place : {A : Type 0} (b : Bool) (new x : Option A) → (b ≡ true) ⊎ (
 either_place true new x = inl refl
 either_place false new x = inr refl
 
-module _ (old : Tables) (agrees : IndexesAgree old) (l : LockName) (t : ThreadId) where
+module _ (old : HeapTables) (agrees : IndexesAgree old) (l : LockName) (t : ThreadId) where
   -- a hold is set
   module _ (hold : table.Hold) (holds : BTreeMap LockName (BTreeMap ThreadId table.Hold)) (held : BTreeMap ThreadId (BTreeMap LockName (Unit {0}))) (threads : BTreeMap ℕ (BTreeMap ThreadId (Unit {0}))) (first : ByLock l t (Some hold) old.holds holds) (second : ByThread l t (Some tt) old.held held) (third : ByClient t old.threads threads) where
     set_monitors : (λ key. option_map hold_of (look_in lock_order thread_order holds key)) ≡ written (writes (is_place l t) (λ _. Some (hold_of hold))) (state_of old).monitors

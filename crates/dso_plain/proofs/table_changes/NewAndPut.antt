@@ -12,7 +12,7 @@ use Rattle.dso_base.specs.declared.value.Value.{Value}
 use Rattle.dso_base.specs.Shape.{kind_of}
 use Rattle.dso_base.specs.Following.{is_thread}
 use Rattle.dso_plain.specs.declared.tables.Object as table
-use Rattle.dso_plain.specs.declared.tables.Tables.{Tables}
+use Rattle.dso_plain.specs.declared.tables.HeapTables.{HeapTables}
 use Rattle.dso_plain.specs.KeyTests.{is_field, is_view}
 use Rattle.dso_lookup.specs.Maps.{writes, or_old, written, look}
 use Rattle.dso_plain.specs.State.{PlainState, IsShared, is_shared, size_of}
@@ -21,7 +21,7 @@ use Rattle.dso_plain.specs.After.{apply, made_new, put, published, present, open
 use Rattle.dso_plain.specs.StepInvariants.{PastInvariant}
 use Rattle.dso_plain.specs.Publishing.{with_shared}
 use Rattle.dso_lookup.specs.Orders.{thread_order}
-use Rattle.dso_plain.specs.Tables.{field_order, view_order, object_of, pasts_of, is_below, state_of}
+use Rattle.dso_plain.specs.HeapTables.{field_order, view_order, object_of, pasts_of, is_below, state_of}
 use Rattle.dso_lookup.specs.Lists.{lists_of}
 use Rattle.dso_plain.proofs.keys.SameKeys.{same_number}
 use Rattle.dso_plain.proofs.independence.WritesGuarded.{published_private, private_unshared}
@@ -34,7 +34,7 @@ no_value : (v : Option Value) → is_some v ≡ false → v ≡ None
 no_value None e = refl
 no_value (Some v) e = absurd (cc e)
 
-module _ (shape : Shape) (t : ThreadId) (class : ClassId) (n o : ℕ) (old : Tables) (kept : PastInvariant (state_of old)) (absent : (state_of old).objects o ≡ None) where
+module _ (shape : Shape) (t : ThreadId) (class : ClassId) (n o : ℕ) (old : HeapTables) (kept : PastInvariant (state_of old)) (absent : (state_of old).objects o ≡ None) where
   -- an object that is not there has no fields
   no_field : (f : ℕ) → (state_of old).heap (o, f) ≡ None
   no_field f = no_value ((state_of old).heap (o, f)) (kept.fields o f ∙ (ap (λ x. ltb f (size_of x)) absent ∙ le-ltb f 0 (omega arith)))
@@ -57,7 +57,7 @@ module _ (shape : Shape) (t : ThreadId) (class : ClassId) (n o : ℕ) (old : Tab
       λ i. record (state_of old) { objects = first i; made = second i; heap = third i }
 
 -- a put into a private object
-pub own_put : (t : ThreadId) (o f : ℕ) (v : Value) (old : Tables) (heap : ℕ × ℕ → Option Value) → heap ≡ written (writes (is_at (field_order (o, f))) (λ _. Some v)) (look field_order old.heap) → record (state_of old) { heap = heap } ≡ apply (put t o f v false (state_of old)) (state_of old)
+pub own_put : (t : ThreadId) (o f : ℕ) (v : Value) (old : HeapTables) (heap : ℕ × ℕ → Option Value) → heap ≡ written (writes (is_at (field_order (o, f))) (λ _. Some v)) (look field_order old.heap) → record (state_of old) { heap = heap } ≡ apply (put t o f v false (state_of old)) (state_of old)
 own_put t o f v old heap puts =
     let e = renamed (is_at (field_order (o, f))) (is_field o f) (Some v) (look field_order old.heap) heap (field_at o f) puts in
     λ i. record (state_of old) { heap = e i }
@@ -83,7 +83,7 @@ module _ (t : ThreadId) (o f : ℕ) (v : Value) (s n : PlainState) (common : IsS
       by key false false = refl
 
 -- a put into a shared object
-pub shared_put : (t : ThreadId) (o f : ℕ) (v : Value) (place : ℕ) (old mid : Tables) (past : ℕ × ℕ → List Value) (heap : ℕ × ℕ → Option Value) (seen : ThreadId × ℕ × ℕ → Option ℕ) → IsShared o (state_of old) → place ≡ length ((state_of old).past (o, f)) → state_of mid ≡ with_shared (published t v (state_of old)) (state_of old) → past ≡ written (writes (is_at (field_order (o, f))) (λ _. v ∷ pasts_of mid.past (o, f))) (pasts_of mid.past) → heap ≡ written (writes (is_at (field_order (o, f))) (λ _. Some v)) (look field_order mid.heap) → seen ≡ written (writes (is_at (view_order (t, o, f))) (λ _. Some place)) (look view_order mid.seen) → record (state_of mid) { past = past; heap = heap; seen = λ key. unwrap_or (seen key) 0 } ≡ apply (put t o f v true (state_of old)) (state_of old)
+pub shared_put : (t : ThreadId) (o f : ℕ) (v : Value) (place : ℕ) (old mid : HeapTables) (past : ℕ × ℕ → List Value) (heap : ℕ × ℕ → Option Value) (seen : ThreadId × ℕ × ℕ → Option ℕ) → IsShared o (state_of old) → place ≡ length ((state_of old).past (o, f)) → state_of mid ≡ with_shared (published t v (state_of old)) (state_of old) → past ≡ written (writes (is_at (field_order (o, f))) (λ _. v ∷ pasts_of mid.past (o, f))) (pasts_of mid.past) → heap ≡ written (writes (is_at (field_order (o, f))) (λ _. Some v)) (look field_order mid.heap) → seen ≡ written (writes (is_at (view_order (t, o, f))) (λ _. Some place)) (look view_order mid.seen) → record (state_of mid) { past = past; heap = heap; seen = λ key. unwrap_or (seen key) 0 } ≡ apply (put t o f v true (state_of old)) (state_of old)
 shared_put t o f v place old mid past heap seen common size is pushes puts sees =
     let first = one_write t o f v (state_of old) (state_of mid) common is past (renamed (is_at (field_order (o, f))) (is_field o f) (v ∷ pasts_of mid.past (o, f)) (pasts_of mid.past) past (field_at o f) pushes) in
     let second = renamed (is_at (field_order (o, f))) (is_field o f) (Some v) (look field_order mid.heap) heap (field_at o f) puts ∙ ap (λ r. written (writes (is_field o f) (λ _. Some v)) r.heap) is in

@@ -5,7 +5,7 @@ use Rattle.std.specs.BTreeMap.{BTreeMap, is_at}
 use Rattle.dso_base.specs.declared.lock.LockName.{LockName}
 use Rattle.dso_base.specs.declared.lock.ThreadId.{ThreadId}
 use Rattle.dso_base.specs.Following.{is_thread}
-use Rattle.dso_plain.specs.declared.tables.Tables.{Tables}
+use Rattle.dso_plain.specs.declared.tables.HeapTables.{HeapTables}
 use Rattle.dso_plain.specs.KeyTests.{is_lock, is_place}
 use Rattle.dso_lookup.specs.Maps.{writes, or_old, written, look}
 use Rattle.dso_lookup.specs.Rows.{look_in, in_row, is_at_pair}
@@ -13,12 +13,12 @@ use Rattle.dso_plain.specs.After.{apply, times_out, notifies_all}
 use Rattle.dso_plain.specs.Changes.{moved}
 use Rattle.dso_plain.specs.TableInvariants.{IndexesAgree}
 use Rattle.dso_lookup.specs.Orders.{lock_order, thread_order}
-use Rattle.dso_plain.specs.Tables.{either, state_of}
+use Rattle.dso_plain.specs.HeapTables.{either, state_of}
 use Rattle.dso_plain.proofs.keys.SameKeys.{same_place, same_lock, same_thread}
 use Rattle.dso_plain.proofs.keys.TableOrders.{place_at, lock_at, thread_at}
 use Rattle.dso_plain.proofs.keys.Writes.{renamed}
 
-module _ (old : Tables) (agrees : IndexesAgree old) (l : LockName) (t : ThreadId) (count : ℕ) (waits marked : BTreeMap LockName (BTreeMap ThreadId ℕ)) (was : Some count ≡ look_in lock_order thread_order old.waits (l, t)) (first : look_in lock_order thread_order waits ≡ written (writes (is_at_pair lock_order thread_order l t) (λ _. None)) (look_in lock_order thread_order old.waits)) (second : look_in lock_order thread_order marked ≡ written (writes (is_at_pair lock_order thread_order l t) (λ _. Some count)) (look_in lock_order thread_order old.marked)) where
+module _ (old : HeapTables) (agrees : IndexesAgree old) (l : LockName) (t : ThreadId) (count : ℕ) (waits marked : BTreeMap LockName (BTreeMap ThreadId ℕ)) (was : Some count ≡ look_in lock_order thread_order old.waits (l, t)) (first : look_in lock_order thread_order waits ≡ written (writes (is_at_pair lock_order thread_order l t) (λ _. None)) (look_in lock_order thread_order old.waits)) (second : look_in lock_order thread_order marked ≡ written (writes (is_at_pair lock_order thread_order l t) (λ _. Some count)) (look_in lock_order thread_order old.marked)) where
   waits_then : LockName × ThreadId → Option ℕ
   waits_then = look_in lock_order thread_order old.waits
 
@@ -65,7 +65,7 @@ marked_then_is : (x y : Option ℕ) → either x y ≢ None → None ≡ x → i
 marked_then_is x None some e = absurd (some (ap (λ z. either z None) (sym e)))
 marked_then_is x (Some y) some e = refl
 
-module _ (old : Tables) (agrees : IndexesAgree old) (l : LockName) (t : ThreadId) (waits : BTreeMap LockName (BTreeMap ThreadId ℕ)) (asleep : (state_of old).asleep (l, t) ≢ None) (was : None ≡ look_in lock_order thread_order old.waits (l, t)) (first : look_in lock_order thread_order waits ≡ written (writes (is_at_pair lock_order thread_order l t) (λ _. None)) (look_in lock_order thread_order old.waits)) where
+module _ (old : HeapTables) (agrees : IndexesAgree old) (l : LockName) (t : ThreadId) (waits : BTreeMap LockName (BTreeMap ThreadId ℕ)) (asleep : (state_of old).asleep (l, t) ≢ None) (was : None ≡ look_in lock_order thread_order old.waits (l, t)) (first : look_in lock_order thread_order waits ≡ written (writes (is_at_pair lock_order thread_order l t) (λ _. None)) (look_in lock_order thread_order old.waits)) where
   -- the waits that are not marked stay as they were
   same_waits : look_in lock_order thread_order waits ≡ look_in lock_order thread_order old.waits
   same_waits = renamed (is_at_pair lock_order thread_order l t) (is_place l t) None (look_in lock_order thread_order old.waits) (look_in lock_order thread_order waits) (place_at l t) first ∙ fun_ext (λ key. by key (is_place l t key) refl)
@@ -114,7 +114,7 @@ none_moved l row marked none = sym ((λ i. moved l (none i) marked) ∙ fun_ext 
     by true x = refl
     by false x = refl
 
-module _ (old : Tables) (agrees : IndexesAgree old) (l : LockName) (row : BTreeMap ThreadId ℕ) (waits marked : BTreeMap LockName (BTreeMap ThreadId ℕ)) (was : (u : ThreadId) → look thread_order row u ≡ in_row thread_order (look lock_order old.waits l) u) (first : look lock_order waits ≡ written (writes (is_at (lock_order l)) (λ _. None)) (look lock_order old.waits)) (second : look_in lock_order thread_order marked ≡ moved l (look thread_order row) (look_in lock_order thread_order old.marked)) where
+module _ (old : HeapTables) (agrees : IndexesAgree old) (l : LockName) (row : BTreeMap ThreadId ℕ) (waits marked : BTreeMap LockName (BTreeMap ThreadId ℕ)) (was : (u : ThreadId) → look thread_order row u ≡ in_row thread_order (look lock_order old.waits l) u) (first : look lock_order waits ≡ written (writes (is_at (lock_order l)) (λ _. None)) (look lock_order old.waits)) (second : look_in lock_order thread_order marked ≡ moved l (look thread_order row) (look_in lock_order thread_order old.marked)) where
   -- the waits that are not marked, without those of the lock
   others : (key : LockName × ThreadId) → look_in lock_order thread_order waits key ≡ cond (is_lock l key.0) None (look_in lock_order thread_order old.waits key)
   others key = (λ i. in_row thread_order (first i key.0) key.1) ∙ ((λ i. in_row thread_order (or_old (cond (lock_at l key.0 i) (Some None) None) (look lock_order old.waits key.0)) key.1) ∙ by (is_lock l key.0))

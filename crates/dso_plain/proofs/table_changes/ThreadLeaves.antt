@@ -7,13 +7,13 @@ use Rattle.dso_base.specs.declared.lock.LockName.{LockName}
 use Rattle.dso_base.specs.declared.lock.ThreadId.{ThreadId}
 use Rattle.dso_base.specs.Following.{is_thread}
 use Rattle.dso_plain.specs.declared.tables.Hold as table
-use Rattle.dso_plain.specs.declared.tables.Tables.{Tables}
+use Rattle.dso_plain.specs.declared.tables.HeapTables.{HeapTables}
 use Rattle.dso_plain.specs.KeyTests.{is_lock}
 use Rattle.dso_lookup.specs.Maps.{writes, or_old, written, look}
 use Rattle.dso_lookup.specs.Rows.{look_in, in_row, is_at_pair}
 use Rattle.dso_plain.specs.Changes.{dropped, without, Mirrors}
 use Rattle.dso_lookup.specs.Orders.{lock_order, thread_order}
-use Rattle.dso_plain.specs.Tables.{hold_of, either, state_of}
+use Rattle.dso_plain.specs.HeapTables.{hold_of, either, state_of}
 use Rattle.dso_plain.proofs.keys.SameKeys.{same_lock, same_thread}
 use Rattle.dso_plain.proofs.keys.TableOrders.{place_at, lock_at, thread_at}
 
@@ -45,7 +45,7 @@ clears g none true (Some r) x e = none
 clears g none true None x e = gone_where (g x) (sym (e refl))
 clears g none false r x e = refl
 
-module _ (old : Tables) (mirrors : Mirrors old) (t : ThreadId) (held' : BTreeMap ThreadId (BTreeMap LockName (Unit {0}))) (held_row : BTreeMap LockName (Unit {0})) (holds' : BTreeMap LockName (BTreeMap ThreadId table.Hold)) (waiting' : BTreeMap ThreadId (BTreeMap LockName (Unit {0}))) (waiting_row : BTreeMap LockName (Unit {0})) (waits' marked' : BTreeMap LockName (BTreeMap ThreadId ℕ))
+module _ (old : HeapTables) (mirrors : Mirrors old) (t : ThreadId) (held' : BTreeMap ThreadId (BTreeMap LockName (Unit {0}))) (held_row : BTreeMap LockName (Unit {0})) (holds' : BTreeMap LockName (BTreeMap ThreadId table.Hold)) (waiting' : BTreeMap ThreadId (BTreeMap LockName (Unit {0}))) (waiting_row : BTreeMap LockName (Unit {0})) (waits' marked' : BTreeMap LockName (BTreeMap ThreadId ℕ))
     (row_held : (l : LockName) → look lock_order held_row l ≡ in_row lock_order (look thread_order old.held t) l) (gone_held : look thread_order held' ≡ written (writes (is_at (thread_order t)) (λ _. None)) (look thread_order old.held)) (drops_holds : look_in lock_order thread_order holds' ≡ dropped t (look lock_order held_row) (look_in lock_order thread_order old.holds))
     (row_waiting : (l : LockName) → look lock_order waiting_row l ≡ in_row lock_order (look thread_order old.waiting t) l) (gone_waiting : look thread_order waiting' ≡ written (writes (is_at (thread_order t)) (λ _. None)) (look thread_order old.waiting)) (drops_waits : look_in lock_order thread_order waits' ≡ dropped t (look lock_order waiting_row) (look_in lock_order thread_order old.waits)) (drops_marked : look_in lock_order thread_order marked' ≡ dropped t (look lock_order waiting_row) (look_in lock_order thread_order old.marked)) where
   monitors_cleared : (λ key. option_map hold_of (look_in lock_order thread_order holds' key)) ≡ written (writes (λ key. is_thread t key.1) (λ _. None)) (state_of old).monitors

@@ -9,7 +9,7 @@ use Rattle.dso_lookup.specs.Maps.{writes, or_old, written}
 use Rattle.dso_plain.specs.State.{Hold, PlainState}
 use Rattle.dso_plain.specs.After.{apply, waits, resumes, count_of, resumed}
 use Rattle.dso_plain.specs.Changes.{with_hold, with_wait}
-use Rattle.dso_plain.specs.Tables.{either}
+use Rattle.dso_plain.specs.HeapTables.{either}
 
 -- the second of two writes at one place is what stands there
 over : {K V : Type 0} (p : K → Bool) (a b : V) (f : K → V) → written (writes p (λ _. a)) (written (writes p (λ _. b)) f) ≡ written (writes p (λ _. a)) f

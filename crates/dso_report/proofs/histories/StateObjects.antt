@@ -14,7 +14,7 @@ use Rattle.dso_base.specs.declared.value.Value.{Value}
 use Rattle.dso_plain.specs.After.{apply, change_of, after, made_new, new_object, read, read_shared, put, published, shared, notifies}
 use Rattle.dso_plain.specs.History.{Runs, end_of}
 use Rattle.dso_lookup.specs.Maps.{or_old}
-use Rattle.dso_plain.specs.Possible.{May, Answers, CanBeMade}
+use Rattle.dso_plain.specs.Possible.{May, AnswersRequest, CanBeMade}
 use Rattle.dso_plain.specs.State.{Object, Hold, PlainState, opening, roots_object, size_of, is_shared, hold_on_guard}
 use Rattle.dso_plain.proofs.keys.SameKeys.{same_number, number_self}
 use Rattle.dso_plain.proofs.invariants.PastsHold.{shared_size}
@@ -134,7 +134,7 @@ module _ (shape : Shape) where
     notify_grows l (Some w) = grows_same s (apply (notifies l (Some w)) s) refl
 
     -- each act leaves the objects that were there
-    act_grows : (request : Request) (reply : Reply) (woken : Option ThreadId) → Answers shape t request reply s → Grows s (apply (change_of shape t request reply woken s) s)
+    act_grows : (request : Request) (reply : Reply) (woken : Option ThreadId) → AnswersRequest shape t request reply s → Grows s (apply (change_of shape t request reply woken s) s)
     act_grows (New class n) (Made o) woken may = new_grows class n o may.0 may.2
     act_grows (Get o f) (Val v) woken may = read_grows o f (is_shared (s.objects o))
     act_grows (Put o f v) Done woken may = put_grows o f v (is_shared (s.objects o))

@@ -12,13 +12,13 @@ use Rattle.dso_base.specs.declared.value.Value.TheVariants as value
 use Rattle.dso_base.specs.Following.{IsListedFor, Listed, FollowsFrom, FollowsProgram}
 use Rattle.dso_machine.specs.declared.code.Code.{Code}
 use Rattle.dso_machine.specs.Next.{next_request}
-use Rattle.dso_machine.specs.Sound.{IsSound}
+use Rattle.dso_machine.specs.Sound.{IsSoundCode}
 use Rattle.dso_machine.proofs.protocol.Protocol.{FollowsAt}
 use Rattle.dso_machine.proofs.protocol.Threads.{keeps_to}
 use Rattle.dso_report.specs.Told.{NamesOnlyKnown, Tells, WasTold, IsTextOf, IsObjectOf}
 use Rattle.dso_report.proofs.histories.KnownNames.{TellsKnown, MayCome, name_keeper, follows_more}
 
-module _ (code : Code) (sound : IsSound code) (t : ThreadId) (all : List Event) where
+module _ (code : Code) (sound : IsSoundCode code) (t : ThreadId) (all : List Event) where
   -- what the thread is told in some of the events it is told in all of them
   record IsAmong (events : List Event) : Type 0 where
     told : (v : Value) → WasTold events v → WasTold all v
@@ -55,7 +55,7 @@ module _ (code : Code) (sound : IsSound code) (t : ThreadId) (all : List Event) 
   follows_known so_far (Lost client ∷ left) follows ahead among = absurd ahead.0
 
 -- each request of a thread of sound code names only texts of the program, and what the thread was told of
-pub threads_name_what_they_were_told : (code : Code) (t : ThreadId) (events : List Event) (q : Request) → IsSound code → FollowsProgram (next_request code) (Listed (next_request code)) t events
+pub threads_name_what_they_were_told : (code : Code) (t : ThreadId) (events : List Event) (q : Request) → IsSoundCode code → FollowsProgram (next_request code) (Listed (next_request code)) t events
     → next_request code t events ≡ Some q → NamesOnlyKnown (IsTextOf code events) (IsObjectOf events) q
 threads_name_what_they_were_told code t events q sound follows asked =
     names_told code sound t events events q (follows_known code sound t events [] events tt follows (record { told = λ v told. told })) asked

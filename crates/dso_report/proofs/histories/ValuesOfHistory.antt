@@ -19,7 +19,7 @@ use Rattle.dso_machine.proofs.protocol.Protocol.{FollowsAt}
 use Rattle.dso_machine.proofs.protocol.Threads.{keeps_to}
 use Rattle.dso_plain.specs.After.{after}
 use Rattle.dso_plain.specs.History.{Runs, end_of, events_of, IsLegal, last_state}
-use Rattle.dso_plain.specs.Possible.{Answers}
+use Rattle.dso_plain.specs.Possible.{AnswersRequest}
 use Rattle.dso_plain.specs.State.{PlainState, opening}
 use Rattle.dso_plain.proofs.keys.SameKeys.{thread_self}
 use Rattle.dso_report.specs.Told.{IsKnownValue, NamesOnlyKnown}
@@ -63,7 +63,7 @@ module _ (code : Code) (last : PlainState) where
 
   -- a possible reply tells only of what is there, where the values so far do, and what is there after it stays
   reply_known : (t : ThreadId) (q : Request) (r : Reply) (woken : Option ThreadId) (s : PlainState) → Grows code.shape (after code.shape (Act t q r woken) s) last
-      → HasOnly (IsKnownValue (IsOwnText code.shape) (IsObject last)) s → Answers code.shape t q r s → IsListed q r
+      → HasOnly (IsKnownValue (IsOwnText code.shape) (IsObject last)) s → AnswersRequest code.shape t q r s → IsListed q r
       → TellsKnown code.shape (IsOwnText code.shape) (IsObject last) (λ text own. own) r
   reply_known t (New class n) (Made o) woken s grows has may listed =
       let real : o ≢ 0 = λ none. omega (arith, may.0, none) in
@@ -75,7 +75,7 @@ module _ (code : Code) (last : PlainState) where
   reply_known t q (Val v) woken s grows has may listed = absurd listed
   reply_known t q r woken s grows has may listed = tt
 
-  module _ (sound : machine.IsSound code) where
+  module _ (sound : machine.IsSoundCode code) where
     -- Each event of a run to the last state leaves only values that name what is there.
     walk : (es : List Event) (s : PlainState) (so_far : ThreadId → List Event) → Runs code.shape es s → end_of code.shape es s ≡ last → ((t : ThreadId) → IsUnderWay t (so_far t) (events_of t es))
         → HasOnly (IsKnownValue (IsOwnText code.shape) (IsObject last)) s → HasOnly (IsKnownValue (IsOwnText code.shape) (IsObject last)) last
@@ -99,7 +99,7 @@ module _ (code : Code) (last : PlainState) where
         (act_has Known first_known code.shape t q r woken s gives has)
 
 -- the values of the last state of a legal history name only what is there
-pub last_known : (code : Code) → machine.IsSound code → (h : List Event) → IsLegal (next_request code) (Listed (next_request code)) code.shape h
+pub last_known : (code : Code) → machine.IsSoundCode code → (h : List Event) → IsLegal (next_request code) (Listed (next_request code)) code.shape h
     → HasOnly (IsKnownValue (IsOwnText code.shape) (IsObject (last_state code.shape h))) (last_state code.shape h)
 last_known code sound h legal =
     let last : PlainState = last_state code.shape h in

@@ -10,7 +10,7 @@ use Rattle.dso_base.specs.declared.value.ClassId.TheVariants as class
 use Rattle.dso_base.specs.declared.value.Value.{Value}
 use Rattle.dso_base.specs.declared.value.Value.TheVariants as value
 use Rattle.dso_class.specs.declared.program.Program.{Program}
-use Rattle.dso_class.specs.Sound.{HasNames, IsSound}
+use Rattle.dso_class.specs.Sound.{HasNames, IsSoundProgram}
 use Rattle.dso_plain.specs.History.{last_state}
 use Rattle.dso_plain.specs.Past.{KeepsPast}
 use Rattle.dso_plain.specs.Possible.{IsFieldCount, CanBeMade}
@@ -73,7 +73,7 @@ module _ (p : Program) (names : HasNames p) where
   }
 
 -- in a state of a sound program nothing is missing
-pub whole : (p : Program) (s : PlainState) → IsSound p → IsLastStateOf p s → IsWholeState p.names s
+pub whole : (p : Program) (s : PlainState) → IsSoundProgram p → IsLastStateOf p s → IsWholeState p.names s
 whole p s sound state =
     let last : PlainState = last_state p.code.shape state.history in
     let has : HasObjects p.code.shape last = (run_grows p.code.shape state.history (opening p.code.shape) state.legal.runs).has (opening_objects p.code.shape) in

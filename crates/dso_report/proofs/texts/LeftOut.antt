@@ -8,7 +8,7 @@ use Rattle.dso_base.specs.declared.value.Value.{Value}
 use Rattle.dso_base.specs.declared.value.ClassId.TheVariants as class
 use Rattle.dso_class.specs.declared.program.Names.{Names}
 use Rattle.dso_plain.specs.State.{Object, PlainState}
-use Rattle.dso_report.specs.declared.thread_lines.Standing.{Standing}
+use Rattle.dso_report.specs.declared.thread_lines.ThreadStanding.{ThreadStanding}
 use Rattle.dso_report.specs.LeftOut.{LeavesNothingOut}
 use Rattle.dso_report.specs.Numbering.{IsOrder, fields_of}
 use Rattle.dso_report.specs.Report.{IsReport, IsThreadsText, body_text, fields_text, graph_text, object_line, object_text, output_line, root_line, root_name, thread_line, thread_text, unguarded_line}
@@ -39,7 +39,7 @@ module _ (names : Names) (s : PlainState) where
   HasOutput t = All (λ v. printed names.texts v ≢ None) (s.output t)
 
   -- each value that a thread printed has a text, where the thread's lines are there
-  output_there : (p : ThreadId × Standing) → HasText (thread_text names s p.0 p.1) → HasOutput p.0
+  output_there : (p : ThreadId × ThreadStanding) → HasText (thread_text names s p.0 p.1) → HasOutput p.0
   output_there p there =
       let Has = λ (v : Value). printed names.texts v ≢ None in
       let values = s.output p.0 in

@@ -10,8 +10,8 @@ use Rattle.dso_base.specs.declared.request.Fault.{Fault}
 use Rattle.dso_class.specs.declared.program.Names.{Names}
 use Rattle.dso_plain.specs.State.{PlainState}
 use Rattle.dso_report.specs.Numbering.{IsOrder, visit, visited}
-use Rattle.dso_report.specs.declared.thread_lines.Standing.{Standing}
-use Rattle.dso_report.specs.declared.thread_lines.Standing.TheVariants.{Ended, Faulted, Lost, Waiting, Open}
+use Rattle.dso_report.specs.declared.thread_lines.ThreadStanding.{ThreadStanding}
+use Rattle.dso_report.specs.declared.thread_lines.ThreadStanding.TheVariants.{Ended, Faulted, Lost, Waiting, Open}
 use Rattle.dso_report.specs.Report.{HasStanding, IsThreadsText, IsReport, thread_text, unguarded_line, graph_text}
 use Rattle.dso_report.specs.Texts.{each_of}
 
@@ -41,7 +41,7 @@ one_order s a b one other = elim (cases_lt (length a) (length b)) [
 ]
 
 -- a thread stands in one way
-pub one_standing : (s : PlainState) (t : ThreadId) (x y : Standing) → HasStanding s t x → HasStanding s t y → x ≡ y
+pub one_standing : (s : PlainState) (t : ThreadId) (x y : ThreadStanding) → HasStanding s t x → HasStanding s t y → x ≡ y
 one_standing s t Ended Ended a b = refl
 one_standing s t (Faulted f) (Faulted g) a b = same_fault f g (sym a ∙ b)
   where
@@ -63,21 +63,21 @@ tails : {A : Type 0} (x y : A) (xs ys : List A) → x ∷ xs ≡ y ∷ ys → xs
 tails x y xs ys same = ap (λ items. drop 1 items) same
 
 -- pairs of the same are the same
-same_pair : (p q : ThreadId × Standing) → p.0 ≡ q.0 → p.1 ≡ q.1 → p ≡ q
+same_pair : (p q : ThreadId × ThreadStanding) → p.0 ≡ q.0 → p.1 ≡ q.1 → p ≡ q
 same_pair p q first second = λ i. (first i, second i)
 
 module _ (s : PlainState) where
   -- the thread of the pair stands so
-  abbrev Stands : ThreadId × Standing → Type 0
+  abbrev Stands : ThreadId × ThreadStanding → Type 0
   Stands p = HasStanding s p.0 p.1
 
   -- two pairs of one thread are the same
-  one_pair : (p q : ThreadId × Standing) → p.0 ≡ q.0 → Stands p → Stands q → p ≡ q
+  one_pair : (p q : ThreadId × ThreadStanding) → p.0 ≡ q.0 → Stands p → Stands q → p ≡ q
   one_pair p q same a b =
       same_pair p q same (one_standing s q.0 p.1 q.1 (subst (λ t. HasStanding s t p.1) same a) b)
 
   -- threads stand in one way
-  one_list : (ps qs : List (ThreadId × Standing)) → map (λ p. p.0) ps ≡ map (λ p. p.0) qs → All Stands ps → All Stands qs → ps ≡ qs
+  one_list : (ps qs : List (ThreadId × ThreadStanding)) → map (λ p. p.0) ps ≡ map (λ p. p.0) qs → All Stands ps → All Stands qs → ps ≡ qs
   one_list [] [] same a b = refl
   one_list [] (q ∷ qs) same a b = absurd (omega (arith, ap length same))
   one_list (p ∷ ps) [] same a b = absurd (omega (arith, ap length same))

@@ -8,7 +8,7 @@ use Rattle.dso_base.specs.declared.value.Value.{Value}
 use Rattle.dso_base.specs.declared.value.Value.TheVariants as value
 use Rattle.dso_class.specs.declared.program.Names.{Names}
 use Rattle.dso_plain.specs.State.{PlainState}
-use Rattle.dso_report.specs.declared.thread_lines.Standing.{Standing}
+use Rattle.dso_report.specs.declared.thread_lines.ThreadStanding.{ThreadStanding}
 use Rattle.dso_report.specs.MissingText.{IsReportTextMissing}
 use Rattle.dso_report.specs.Numbering.{IsOrder, fields_of}
 use Rattle.dso_report.specs.Report.{graph_text, object_line, output_line, root_line, root_name, thread_line, thread_text}
@@ -34,7 +34,7 @@ module _ (names : Names) (s : PlainState) (whole : IsWholeState names s) where
       behind (codes "| ") (text ++? Some (codes "\n")) (both text (Some (codes "\n")) (printed_there names s v there) given)
 
   -- the lines of a thread are there
-  thread_there : (t : ThreadId) (standing : Standing) → HasText (thread_text names s t standing)
+  thread_there : (t : ThreadId) (standing : ThreadStanding) → HasText (thread_text names s t standing)
   thread_there t standing =
       let there = λ (v : Value). HasText (output_line names.texts v) in
       let each = All-weaker (NamesWhatIsThere names s) there output_there (s.output t) (whole.printed t) in

@@ -7,12 +7,12 @@ use Rattle.std.proofs.lemmas.List.Elements.{All-push}
 use Rattle.dso_base.specs.declared.lock.ThreadId.{ThreadId}
 use Rattle.dso_class.specs.declared.program.Names.{Names}
 use Rattle.dso_plain.specs.State.{PlainState}
-use Rattle.dso_report.specs.declared.thread_lines.Standing.{Standing}
+use Rattle.dso_report.specs.declared.thread_lines.ThreadStanding.{ThreadStanding}
 use Rattle.dso_report.specs.Report.{HasStanding, IsThreadsText, thread_text}
 use Rattle.dso_report.proofs.texts.Appends.{each_append}
 
 -- the text of a thread more
-pub threads_more : (names : Names) (s : PlainState) (threads : List ThreadId) (text next : List ℕ) (n : ℕ) (t : ThreadId) (standing : Standing) → n < length threads → IsThreadsText names s (take n threads) text
+pub threads_more : (names : Names) (s : PlainState) (threads : List ThreadId) (text next : List ℕ) (n : ℕ) (t : ThreadId) (standing : ThreadStanding) → n < length threads → IsThreadsText names s (take n threads) text
     → HasStanding s (get_or threads n t) standing → Some text ++? thread_text names s (get_or threads n t) standing ≡ Some next → IsThreadsText names s (take (n + 1) threads) next
 threads_more names s threads text next n t standing within before stands is =
     let here = get_or threads n t in

@@ -5,7 +5,7 @@ use Rattle.std.proofs.lemmas.List.{length-reverse, reverse-append}
 use Rattle.dso_base.specs.declared.journal.Entry.{Entry}
 use Rattle.dso_base.specs.declared.no_memory.NoMemory.{NoMemory}
 use Rattle.dso_class.specs.declared.program.Program.{Program}
-use Rattle.dso_class.specs.Sound.{IsSound}
+use Rattle.dso_class.specs.Sound.{IsSoundProgram}
 use Rattle.dso_legal.specs.Central.{CommitsLegally}
 use Rattle.dso_legal.specs.Slots.{is_any, is_finished, open_slots, weight}
 use Rattle.dso_legal.proofs.central.CentralLaw.{central_law}
@@ -81,7 +81,7 @@ module _ (program : Program) (seed : Option ℕ) where
               (runs.turns, record { unfinished = unfinished; light = light; unstuck = rw unfinished (rw there refl) }, turn.at ∙ sym turn.chosen);
         }
 
-    module _ (sound : IsSound program) (world : World) (runs : RunsOn program seed budget world) where
+    module _ (sound : IsSoundProgram program) (world : World) (runs : RunsOn program seed budget world) where
       commits : CommitsLegally (settings_of program) (next_request program.code) (entries_in world)
       commits = central_law (settings_of program) (next_request program.code) (sound_program program.code sound.code) (entries_in world) runs.stands.lawful
 

@@ -7,7 +7,7 @@ use Rattle.dso_base.specs.declared.message.Up.TheVariants as up
 use Rattle.dso_ids.specs.Ids.{first_of_batch}
 use Rattle.dso_law.specs.ServerReadings.{batches_given, counted, next_batch}
 use Rattle.dso_server.specs.declared.server.Server.{Server}
-use Rattle.dso_server.specs.Answering.{Answers}
+use Rattle.dso_server.specs.Answering.{AnswersMessage}
 use Rattle.dso_server.specs.Batches.{batches_to}
 use Rattle.dso_server.specs.Sending.{sent_of, took}
 use Rattle.dso_server.specs.ServerStands.{ServerStands}
@@ -20,7 +20,7 @@ use Rattle.dso_server.proofs.standing.ThreadsTook.{threads_same}
 use Rattle.dso_server.proofs.standing.WaitersTook.{waiters_same}
 
 pub answered_ids : (old : Server) (ids : List ℕ) (c first : ℕ) (messages : List (ℕ × Down)) → first ≡ first_of_batch (length old.ids) → ids ≡ c ∷ old.ids → messages ≡ (c, down.Ids first) ∷ []
-    → Answers c up.IdAsk messages old (record old { ids = ids })
+    → AnswersMessage c up.IdAsk messages old (record old { ids = ids })
 answered_ids old ids c first messages is given alone p es s its here fits knows =
     let next : first ≡ next_batch (counted es) = is ∙ ap (λ n. 1 + 256 * n) (sym (ap length s.ids ∙ length_to old.ids)) in
     let batch : record { client = c; first = first } ∷ batches_given (counted es) ≡ batches_to ids = ap (λ n. record { client = c; first = n } ∷ batches_given (counted es)) is ∙ (ap (λ rest. record { client = c; first = first_of_batch (length old.ids) } ∷ rest) s.ids ∙ ap batches_to (sym given)) in

@@ -13,12 +13,12 @@ use Rattle.dso_law.specs.Leases.{insert_lock}
 use Rattle.dso_law.specs.ServerReadings.{counted}
 use Rattle.dso_law.specs.ServerWaiters.{waiters_of}
 use Rattle.dso_law.specs.Settings.{Settings}
-use Rattle.dso_locks.specs.declared.tables.Tables.{Tables}
+use Rattle.dso_locks.specs.declared.tables.LockRows.{LockRows}
 use Rattle.dso_locks.specs.declared.told.Told.{Told}
 use Rattle.dso_locks.specs.Locks.{IsWithin, after_told, at_lock, messages_of, requested_by, returned_by, serves}
-use Rattle.dso_locks.specs.Tables.{locks_in, requested_in}
+use Rattle.dso_locks.specs.LockRows.{locks_in, requested_in}
 use Rattle.dso_server.specs.declared.server.Server.{Server}
-use Rattle.dso_server.specs.Answering.{Answers}
+use Rattle.dso_server.specs.Answering.{AnswersMessage}
 use Rattle.dso_server.specs.Sending.{sent_of}
 use Rattle.dso_server.specs.Waiters.{lists_in, lists_returned}
 use Rattle.dso_server.proofs.lists.Each.{each_weaker}
@@ -30,10 +30,10 @@ use Rattle.dso_server.proofs.standing.Taking.{stands_took}
 use Rattle.dso_server.proofs.standing.ThreadsTook.{threads_same}
 use Rattle.dso_server.proofs.standing.WaitersTook.{waiters_returned, waiters_same}
 
-pub answered_request : (old : Server) (table : Tables) (c : ℕ) (l : LockName) (level : Level) (told : List Told) (messages : List (ℕ × Down))
+pub answered_request : (old : Server) (table : LockRows) (c : ℕ) (l : LockName) (level : Level) (told : List Told) (messages : List (ℕ × Down))
     → ((p : Settings) → IsWithin p (requested_by c level (locks_in old.locks l)) → messages_of told ≡ serves p l (requested_by c level (locks_in old.locks l)))
     → locks_in table ≡ after_told told (at_lock l (requested_by c level) (locks_in old.locks)) → requested_in table ≡ insert_lock l (requested_in old.locks) → sent_of messages ≡ messages_of told
-    → Answers c (up.Request l level) messages old (record old { locks = table })
+    → AnswersMessage c (up.Request l level) messages old (record old { locks = table })
 answered_request old table c l level told messages sends stands asked is p es s its here fits knows =
     let within = requested_within p c level (locks_in old.locks l) its (s.locks.within l) in
     record {
@@ -46,11 +46,11 @@ answered_request old table c l level told messages sends stands asked is p es s 
       lacks = λ clock. lacked_before p old (record old { locks = table }) clock c (up.Request l level) (sent_of messages) es here refl s.store;
     }
 
-pub answered_return : (old : Server) (table : Tables) (waiters : BTreeMap LockName (List ThreadId)) (c : ℕ) (l : LockName) (threads : List ThreadId) (told : List Told) (messages : List (ℕ × Down))
+pub answered_return : (old : Server) (table : LockRows) (waiters : BTreeMap LockName (List ThreadId)) (c : ℕ) (l : LockName) (threads : List ThreadId) (told : List Told) (messages : List (ℕ × Down))
     → lists_in waiters ≡ lists_returned l threads (lists_in old.waiters)
     → ((p : Settings) → IsWithin p (returned_by c (locks_in old.locks l)) → messages_of told ≡ serves p l (returned_by c (locks_in old.locks l)))
     → locks_in table ≡ after_told told (at_lock l (returned_by c) (locks_in old.locks)) → requested_in table ≡ requested_in old.locks → sent_of messages ≡ messages_of told
-    → Answers c (up.Return l threads) messages old (record old { waiters = waiters; locks = table })
+    → AnswersMessage c (up.Return l threads) messages old (record old { waiters = waiters; locks = table })
 answered_return old table waiters c l threads told messages put sends stands asked is p es s its here fits knows =
     let within = returned_within p c (locks_in old.locks l) (s.locks.within l) in
     let new : AllByRecursion (λ t. list_any (is_thread t) (waiters_of l (counted es)) ≡ false) threads = each_weaker (IsNewWaiter p c l (counted es)) (λ t. list_any (is_thread t) (waiters_of l (counted es)) ≡ false) (λ t h. h.1) threads fits.new in

@@ -13,11 +13,11 @@ use Rattle.dso_base.specs.declared.message.Down.{Down}
 use Rattle.dso_law.specs.ServerReadings.{counted}
 use Rattle.dso_law.specs.Settings.{Settings}
 use Rattle.dso_law.specs.Store.{held_by}
-use Rattle.dso_locks.specs.declared.tables.Tables.{Tables}
+use Rattle.dso_locks.specs.declared.tables.LockRows.{LockRows}
 use Rattle.dso_locks.specs.declared.told.Told.{Told}
 use Rattle.dso_locks.specs.Laws.{stands_after}
 use Rattle.dso_locks.specs.Locks.{IsWithin, after_told, lost_by, messages_of, serves}
-use Rattle.dso_locks.specs.Tables.{locks_in, requested_in}
+use Rattle.dso_locks.specs.LockRows.{locks_in, requested_in}
 use Rattle.dso_locks.proofs.Following.{follows_entries}
 use Rattle.dso_lookup.proofs.Tests.{number_at}
 use Rattle.dso_server.specs.declared.server.Server.{Server}
@@ -40,7 +40,7 @@ lost_inserted old new c put = fun_ext (λ d. put d ∙ (ap (λ b. cond b true (c
     by true b = refl
     by false b = refl
 
-pub answered_loss : (old : Server) (gone : BTreeSet ℕ) (store : Store) (table : Tables) (waiters : BTreeMap LockName (List ThreadId)) (c : ℕ) (told : List Told) (messages : List (ℕ × Down))
+pub answered_loss : (old : Server) (gone : BTreeSet ℕ) (store : Store) (table : LockRows) (waiters : BTreeMap LockName (List ThreadId)) (c : ℕ) (told : List Told) (messages : List (ℕ × Down))
     → contains nat_cmp gone ≡ (λ d. eqb d c || contains nat_cmp old.lost d)
     → body_in store ≡ body_in old.store → holds_in store ≡ (λ d o. held_by d o (Lose c) (holds_in old.store d o)) → last_in store ≡ last_in old.store
     → lists_in waiters ≡ lists_without c (lists_in old.waiters)

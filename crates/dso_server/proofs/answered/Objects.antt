@@ -10,7 +10,7 @@ use Rattle.dso_law.specs.ServerReadings.{counted}
 use Rattle.dso_law.specs.ServerStep.{object_to}
 use Rattle.dso_law.specs.Store.{held_by}
 use Rattle.dso_server.specs.declared.server.Server.{Server}
-use Rattle.dso_server.specs.Answering.{Answers}
+use Rattle.dso_server.specs.Answering.{AnswersMessage}
 use Rattle.dso_server.specs.Sending.{sent_of}
 use Rattle.dso_server.proofs.standing.GraphTook.{graph_took}
 use Rattle.dso_server.proofs.standing.Lacking.{lacked_before}
@@ -37,7 +37,7 @@ off_waiters c (Some body) = (λ l list. refl, tt)
 
 pub answered_fault : (old : Server) (store : Store) (c o : ℕ) (body : Option Body) (messages : List (ℕ × Down)) → body ≡ body_in old.store o → sent_of messages ≡ object_to c body
     → body_in store ≡ body_in old.store → holds_in store ≡ (λ d x. held_by d x (TookUp c (up.Fault o)) (holds_in old.store d x)) → last_in store ≡ last_in old.store
-    → Answers c (up.Fault o) messages old (record old { store = store })
+    → AnswersMessage c (up.Fault o) messages old (record old { store = store })
 answered_fault old store c o body messages found is bodies holds last p es s its here fits knows = record {
   sends = λ clock. is ∙ ap (object_to c) (found ∙ knows here o (eq-eqb o o refl));
   stands = λ clock. stands_took p (record old { store = store }) clock c (up.Fault o) (sent_of messages) es here s.lost (ids_stay (sent_of messages) _ (subst (AllByRecursion OffIds) (sym is) (off_ids c body)) ∙ s.ids)
@@ -50,7 +50,7 @@ answered_fault old store c o body messages found is bodies holds last p es s its
 
 pub answered_flush : (old : Server) (store : Store) (c o : ℕ) (messages : List (ℕ × Down)) → messages ≡ []
     → body_in store ≡ body_in old.store → holds_in store ≡ (λ d x. held_by d x (TookUp c (up.Flushed o)) (holds_in old.store d x)) → last_in store ≡ last_in old.store
-    → Answers c (up.Flushed o) messages old (record old { store = store })
+    → AnswersMessage c (up.Flushed o) messages old (record old { store = store })
 answered_flush old store c o messages none bodies holds last p es s its here fits knows =
     let is : sent_of messages ≡ [] = ap sent_of none in
     record {

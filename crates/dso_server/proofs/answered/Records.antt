@@ -20,7 +20,7 @@ use Rattle.dso_law.specs.ServerWaiters.{wakes_of}
 use Rattle.dso_law.specs.Settings.{Settings}
 use Rattle.dso_law.specs.Store.{body_by, held_by, holds_object}
 use Rattle.dso_server.specs.declared.server.Server.{Server}
-use Rattle.dso_server.specs.Answering.{Answers}
+use Rattle.dso_server.specs.Answering.{AnswersMessage}
 use Rattle.dso_server.specs.Sending.{sent_of}
 use Rattle.dso_server.specs.Threads.{known_in, last_in}
 use Rattle.dso_server.specs.Waiters.{lists_in, lists_woken}
@@ -58,7 +58,7 @@ module _ {Z : Type 0} (old : Server) (store : Store) (threads : BTreeMap ThreadI
   unfolding first
   off_locks = subst (AllByRecursion OffLocks) (sym is) (each_append OffLocks first (wakes_of txn (lists_in old.waiters)) (λ l s. refl, changes_off_locks changes) (wakes_off_locks txn (lists_in old.waiters)))
 
-  pub answered_record : Answers c (up.Commit txn) messages old (record old { store = store; threads = threads; waiters = waiters })
+  pub answered_record : AnswersMessage c (up.Commit txn) messages old (record old { store = store; threads = threads; waiters = waiters })
   answered_record p es s its here fits knows =
       let graph_now = λ (clock : ℕ) (sent : List Sent). graph_took p old.store store clock c (up.Commit txn) sent (counted es) its bodies holds last s.store in
       let there : known_in old.threads txn.thread ≡ true = ap (λ f. f txn.thread) s.threads.known ∙ (both (eqb txn.thread.client c) (list_any (is_thread txn.thread) p.threads) (sym (threads_of_client txn.thread c p.threads) ∙ fits.thread)).1 in

@@ -15,12 +15,12 @@ use Rattle.dso_law.specs.Granting.{LeaseTable, Waiter, is_against, recalls, requ
 use Rattle.dso_law.specs.Settings.{Settings, clients_of}
 use Rattle.dso_law.proofs.client.ClientLaws.{lock_either_way}
 use Rattle.dso_law.proofs.client.TimedOut.{lock_self}
-use Rattle.dso_locks.specs.declared.tables.Tables.{Tables}
+use Rattle.dso_locks.specs.declared.tables.LockRows.{LockRows}
 use Rattle.dso_locks.specs.declared.told.Told.{Told}
 use Rattle.dso_locks.specs.Laws.{heard_from, stands_after}
 use Rattle.dso_locks.specs.Locks as locks
 use Rattle.dso_locks.specs.Locks.{IsClient, IsWithin, LockState, after_told, at_lock, lease_of, lost_by, messages_of, returned_by, serves, told_to, waits, with_recall}
-use Rattle.dso_locks.specs.Tables.{locks_in, requested_in}
+use Rattle.dso_locks.specs.LockRows.{locks_in, requested_in}
 use Rattle.dso_locks.proofs.Following.{follows_entries}
 use Rattle.dso_plain.proofs.keys.SameKeys.{number_self, same_lock, same_number}
 use Rattle.dso_plain.specs.KeyTests.{is_lock}
@@ -123,7 +123,7 @@ module _ (p : Settings) where
   lost_within c s w = record { leased = λ d there. w.leased d (no_lease c d s there); waiting = λ d there. w.waiting d (has_more d c s.queue there) }
 
 -- a message that is nothing to locks
-pub locks_same : (p : Settings) (table : Tables) (clock c : ℕ) (m : Up) (sent : List Sent) (es : List Entry) → ((l : LockName) (s : LockState) → heard_from l c m s ≡ s) → requested_by (TookUp c m) (requested es) ≡ requested es
+pub locks_same : (p : Settings) (table : LockRows) (clock c : ℕ) (m : Up) (sent : List Sent) (es : List Entry) → ((l : LockName) (s : LockState) → heard_from l c m s ≡ s) → requested_by (TookUp c m) (requested es) ≡ requested es
     → AllByRecursion OffLocks sent → LocksStand p table es → LocksStand p table (took clock c m sent ∷ es)
 locks_same p table clock c m sent es heard asked off s = record {
   locks = s.locks ∙ fun_ext (λ l. sym (follows_entries l (took clock c m sent) es ∙ (locks_stay l sent (heard_from l c m (stands_after l es)) off ∙ heard l (stands_after l es))));
@@ -132,7 +132,7 @@ locks_same p table clock c m sent es heard asked off s = record {
 }
 
 -- a message of one lock, which is served
-module _ (p : Settings) (old new : Tables) (clock c : ℕ) (m : Up) (lock : LockName) (hears : LockState → LockState) (told : List Told) (sent : List Sent) (es : List Entry) (s : LocksStand p old es)
+module _ (p : Settings) (old new : LockRows) (clock c : ℕ) (m : Up) (lock : LockName) (hears : LockState → LockState) (told : List Told) (sent : List Sent) (es : List Entry) (s : LocksStand p old es)
     (heard : (l : LockName) (s : LockState) → heard_from l c m s ≡ cond (is_lock l lock) (hears s) s) (within : IsWithin p (hears (locks_in old lock))) where
   -- how the lock stands as it is served
   as_heard : (l : LockName) → at_lock lock hears (locks_in old) l ≡ heard_from l c m (stands_after l es)
@@ -157,7 +157,7 @@ module _ (p : Settings) (old new : Tables) (clock c : ℕ) (m : Up) (lock : Lock
       there l false e = s.within l
 
 -- a client is lost
-pub locks_lost : (p : Settings) (old new : Tables) (clock c : ℕ) (told : List Told) (sent : List Sent) (es : List Entry)
+pub locks_lost : (p : Settings) (old new : LockRows) (clock c : ℕ) (told : List Told) (sent : List Sent) (es : List Entry)
     → ((p : Settings) → ((l : LockName) → IsWithin p (lost_by c (locks_in old l))) → messages_of told ≡ flat_map (λ l. serves p l (lost_by c (locks_in old l))) (requested_in old))
     → locks_in new ≡ after_told told (λ l. lost_by c (locks_in old l)) → requested_in new ≡ requested_in old → sent ≡ messages_of told
     → LocksStand p old es → LocksStand p new (lost clock c sent ∷ es)

@@ -15,7 +15,7 @@ use Rattle.dso_law.specs.ServerReadings.{counted}
 use Rattle.dso_law.specs.Store.{opening_roots, stored}
 use Rattle.dso_lookup.specs.Orders.{lock_order}
 use Rattle.dso_locks.specs.Locks.{IsWithin, unused}
-use Rattle.dso_locks.specs.Tables.{locks_in, requested_in}
+use Rattle.dso_locks.specs.LockRows.{locks_in, requested_in}
 use Rattle.dso_server.specs.declared.server.Server.{Server}
 use Rattle.dso_server.specs.Batches.{batches_to}
 use Rattle.dso_server.specs.ServerStands.{ServerStands}

@@ -20,7 +20,7 @@ use Rattle.dso_syntax.specs.ProgramReader.{program, items_from}
 use Rattle.dso_tokens.specs.Gives.{Fails}
 use Rattle.dso_syntax.specs.ExpressionLevels.{whole}
 use Rattle.dso_syntax.specs.StatementLevels.{body, block}
-use Rattle.dso_syntax.specs.ParseAnswer.{fault_behind, fault_by, place_of, fault_of, answer_by, answer_of, Answers, Refuses}
+use Rattle.dso_syntax.specs.ParseAnswer.{fault_behind, fault_by, place_of, fault_of, answer_by, answer_of, AnswersAs, Refuses}
 use Rattle.dso_syntax.proofs.completeness.ReadPrograms.{program_read}
 use Rattle.dso_syntax.proofs.soundness.SoundPrograms.{program_came}
 use Rattle.dso_tokens.proofs.tokens.ReadingLaws.{one_reading}
@@ -50,10 +50,10 @@ end_answered tokens end items j read other = sym (answered tokens end (Ok (items
     by_end (ending.BadByte place) is = refl
     by_end (ending.BadToken place) is = refl
 
-by_fault : (cause : StopCause) (rest tokens : Tokens) (end : Ending) → items_from body (length tokens) 64 tokens ≡ Err (cause, rest) → Answers (Err (fault_by cause (place_of rest) end)) (answer_of tokens end)
+by_fault : (cause : StopCause) (rest tokens : Tokens) (end : Ending) → items_from body (length tokens) 64 tokens ≡ Err (cause, rest) → AnswersAs (Err (fault_by cause (place_of rest) end)) (answer_of tokens end)
 by_fault cause rest tokens end read = is_answer (fault_by cause (place_of rest) end) (sym (answered tokens end (Err (cause, rest)) read))
   where
-    is_answer : (f : SyntaxFault) → Err f ≡ answer_of tokens end → Answers (Err f) (answer_of tokens end)
+    is_answer : (f : SyntaxFault) → Err f ≡ answer_of tokens end → AnswersAs (Err f) (answer_of tokens end)
     is_answer (fault.NoMemory refused) same = tt
     is_answer (fault.BadByte place) same = same
     is_answer (fault.BadToken place) same = same
@@ -63,7 +63,7 @@ by_fault cause rest tokens end read = is_answer (fault_by cause (place_of rest) 
     is_answer (fault.NestTooDeep place) same = same
 
 -- reading stops
-pub stop_answered : (why : Stop) (tokens : Tokens) (end : Ending) → Fails why (items_from body (length tokens) 64 tokens) → Answers (Err (fault_of why end)) (answer_of tokens end)
+pub stop_answered : (why : Stop) (tokens : Tokens) (end : Ending) → Fails why (items_from body (length tokens) 64 tokens) → AnswersAs (Err (fault_of why end)) (answer_of tokens end)
 stop_answered (stop.NoMemory refused) tokens end fails = tt
 stop_answered (stop.Unexpected rest) tokens end fails = by_fault unexpected rest.now tokens end fails
 stop_answered (stop.TooWide rest) tokens end fails = by_fault too_wide rest.now tokens end fails
@@ -127,12 +127,12 @@ never_long tokens end is = by_outcome (program most_levels tokens) is
     by_outcome (Err stop) same = by_trouble stop.0 (place_of stop.1) same
 
 -- a tree that is answered is the text's
-pub tree_given : (r : Result Ast SyntaxFault) (text : Text) (tokens : Tokens) (end : Ending) → Reads 0 1 text tokens end → Answers r (answer_of tokens end) → IfOk r (λ ast. IsText text ast)
+pub tree_given : (r : Result Ast SyntaxFault) (text : Text) (tokens : Tokens) (end : Ending) → Reads 0 1 text tokens end → AnswersAs r (answer_of tokens end) → IfOk r (λ ast. IsText text ast)
 tree_given (Ok ast) text tokens end reads same = is_text text tokens end ast reads (sym same)
 tree_given (Err which) text tokens end reads same = tt
 
 -- a fault that is answered is the text's
-pub refusal_given : (r : Result Ast SyntaxFault) (text : Text) (tokens : Tokens) (end : Ending) → length text ≤ 1048576 → Reads 0 1 text tokens end → Answers r (answer_of tokens end) → IfErr r (λ which. Refuses text which)
+pub refusal_given : (r : Result Ast SyntaxFault) (text : Text) (tokens : Tokens) (end : Ending) → length text ≤ 1048576 → Reads 0 1 text tokens end → AnswersAs r (answer_of tokens end) → IfErr r (λ which. Refuses text which)
 refusal_given (Ok ast) text tokens end short reads same = tt
 refusal_given (Err (fault.NoMemory refused)) text tokens end short reads same = tt
 refusal_given (Err fault.TooLong) text tokens end short reads same = absurd (never_long tokens end (sym same))

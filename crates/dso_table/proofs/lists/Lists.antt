@@ -6,7 +6,7 @@ use Rattle.std.specs.Map.{keys_of, remove_entry, lookup, lookup_entry}
 use Rattle.lru.specs.LruCache.{promoted}
 use Rattle.dso_lookup.specs.Search.{is_listed}
 use Rattle.dso_table.specs.States.{without}
-use Rattle.dso_table.specs.Tables.{IsEachOnce}
+use Rattle.dso_table.specs.ObjectTables.{IsEachOnce}
 use Rattle.dso_table.proofs.lists.Numbers.{either_way}
 
 -- neither of two tests holds

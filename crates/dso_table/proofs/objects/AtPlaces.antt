@@ -13,7 +13,7 @@ use Rattle.dso_table.specs.declared.places.Places.{Places}
 use Rattle.dso_table.specs.declared.slot.Slot.{Slot}
 use Rattle.dso_table.specs.Slots.{has_value, has_slot_value, wrote}
 use Rattle.dso_table.specs.States.{with_at}
-use Rattle.dso_table.specs.Tables.{at_place, slot_in, PlacesAgree}
+use Rattle.dso_table.specs.ObjectTables.{at_place, slot_in, PlacesAgree}
 use Rattle.dso_table.proofs.lists.Numbers.{at_it, is_at_itself, with_at_same}
 
 -- the object of what stands at a place, if there is one

@@ -11,8 +11,8 @@ use Rattle.std.specs.Map.{keys_of}
 use Rattle.std.specs.Ordering.{is_lt, nat_cmp, ordering_reverse}
 use Rattle.std.specs.declared.cmp.Ordering.TheVariants.{Less}
 use Rattle.dso_lookup.specs.Search.{is_listed}
-use Rattle.dso_table.specs.declared.tables.Tables.{Tables}
-use Rattle.dso_table.specs.Tables.{used_in, state_in, TablesAgree}
+use Rattle.dso_table.specs.declared.tables.ObjectTables.{ObjectTables}
+use Rattle.dso_table.specs.ObjectTables.{used_in, state_in, TablesAgree}
 use Rattle.dso_table.specs.Victims.{IsFlushable, IsLeastUnused, IsLeastRecent}
 use Rattle.dso_table.proofs.lists.Numbers.{at_it, is_at_itself}
 
@@ -21,7 +21,7 @@ abbrev pub among : ℕ → List ℕ → Bool
 among p objects = list_any (is_at (nat_cmp p)) objects
 
 -- These of the others are left, by rising id, and each flushable one is among them.
-pub record AreLeft (tables : Tables) (rest : List ℕ) : Type 0 where
+pub record AreLeft (tables : ObjectTables) (rest : List ℕ) : Type 0 where
   pub rising : IsStrictlySortedBy nat_cmp rest
   pub others : (p : ℕ) → among p rest ≡ true → contains nat_cmp tables.order.others p ≡ true
   pub flushable : (p : ℕ) → IsFlushable (state_in tables) p → contains nat_cmp tables.order.others p ≡ true → among p rest ≡ true
@@ -35,7 +35,7 @@ first_or_rest x p rest e other = by (is_at (nat_cmp p) x) refl e
     by false at e = e
 
 -- all of them are left at first
-pub all_left : (tables : Tables) (rest : List ℕ) → rest ≡ tables.order.others.keys → IsStrictlySortedBy nat_cmp tables.order.others.keys → AreLeft tables rest
+pub all_left : (tables : ObjectTables) (rest : List ℕ) → rest ≡ tables.order.others.keys → IsStrictlySortedBy nat_cmp tables.order.others.keys → AreLeft tables rest
 all_left tables rest is sorted = record {
   rising = subst (λ xs. IsStrictlySortedBy nat_cmp xs) (sym is) sorted;
   others = λ p e. ap (λ xs. among p xs) (sym is) ∙ e;
@@ -43,7 +43,7 @@ all_left tables rest is sorted = record {
 }
 
 -- the first isn't flushable: the others are left
-pub fewer_left : (tables : Tables) (x : ℕ) (rest : List ℕ) → AreLeft tables (x ∷ rest) → (IsFlushable (state_in tables) x → ⊥) → AreLeft tables rest
+pub fewer_left : (tables : ObjectTables) (x : ℕ) (rest : List ℕ) → AreLeft tables (x ∷ rest) → (IsFlushable (state_in tables) x → ⊥) → AreLeft tables rest
 unfolding IsStrictlySortedBy
 fewer_left tables x rest left not_it = record {
   rising = left.rising.1;
@@ -69,7 +69,7 @@ below x p (y ∷ rest) all e = by (below x p rest all.1) (is_at (nat_cmp p) y) r
     by later true at e = omega (arith, at_it p y at, ge_from_not_lt y x (ap (λ r. is_lt r) (nat_cmp_total.antisymm y x ∙ ap (λ r. ordering_reverse r) all.0)))
     by later false at e = later e
 
-module _ (tables : Tables) (agree : TablesAgree tables) where
+module _ (tables : ObjectTables) (agree : TablesAgree tables) where
   -- a flushable object that isn't among those used last is among the others
   in_others : (p : ℕ) → IsFlushable (state_in tables) p → is_listed p (used_in tables.order) ≡ false → contains nat_cmp tables.order.others p ≡ true
   in_others p f unused = sym (ap (λ b. b || contains nat_cmp tables.order.others p) unused) ∙ (sym (agree.residents p) ∙ f.resident)
@@ -102,17 +102,17 @@ module _ (tables : Tables) (agree : TablesAgree tables) where
           by false at e = below x p rest left.rising.0 e
 
 -- Of the objects used last these are left, the later ones; of the others none is flushable.
-pub record AreLater (tables : Tables) (rest : List ℕ) : Type 0 where
+pub record AreLater (tables : ObjectTables) (rest : List ℕ) : Type 0 where
   pub passed : List ℕ
   pub splits : used_in tables.order ≡ rest ++ passed
   pub unflushable : (p : ℕ) → IsFlushable (state_in tables) p → is_listed p passed ≡ false
 
 -- all of them are left at first
-pub all_later : (tables : Tables) (rest : List ℕ) → used_in tables.order ≡ rest → AreLater tables rest
+pub all_later : (tables : ObjectTables) (rest : List ℕ) → used_in tables.order ≡ rest → AreLater tables rest
 all_later tables rest is = record { passed = []; splits = is ∙ sym (append-nil rest); unflushable = λ p f. refl }
 
 -- the last isn't flushable: the others are left
-pub fewer_later : (tables : Tables) (x : ℕ) (all rest : List ℕ) → all ≡ rest ++ x ∷ [] → AreLater tables all → (IsFlushable (state_in tables) x → ⊥) → AreLater tables rest
+pub fewer_later : (tables : ObjectTables) (x : ℕ) (all rest : List ℕ) → all ≡ rest ++ x ∷ [] → AreLater tables all → (IsFlushable (state_in tables) x → ⊥) → AreLater tables rest
 fewer_later tables x all rest is left not_it = record {
   passed = x ∷ left.passed;
   splits = left.splits ∙ (ap (λ xs. xs ++ left.passed) is ∙ append_assoc rest (x ∷ []) left.passed);
@@ -124,7 +124,7 @@ fewer_later tables x all rest is left not_it = record {
     by p f false e = left.unflushable p f
 
 -- the last that is left is flushable: it is the one that was used longest ago
-pub found_later : (tables : Tables) (x : ℕ) (all rest : List ℕ) → all ≡ rest ++ x ∷ [] → AreLater tables all → ((p : ℕ) → IsFlushable (state_in tables) p → is_listed p (used_in tables.order) ≡ true) → IsFlushable (state_in tables) x → IsLeastRecent (state_in tables) x
+pub found_later : (tables : ObjectTables) (x : ℕ) (all rest : List ℕ) → all ≡ rest ++ x ∷ [] → AreLater tables all → ((p : ℕ) → IsFlushable (state_in tables) p → is_listed p (used_in tables.order) ≡ true) → IsFlushable (state_in tables) x → IsLeastRecent (state_in tables) x
 found_later tables x all rest is left used f = record {
   flushable = f;
   all_used = used;
@@ -135,7 +135,7 @@ found_later tables x all rest is left used f = record {
 }
 
 -- none is left: no object is flushable
-pub none_later : (tables : Tables) → AreLater tables [] → ((p : ℕ) → IsFlushable (state_in tables) p → is_listed p (used_in tables.order) ≡ true) → (p : ℕ) → IsFlushable (state_in tables) p → ⊥
+pub none_later : (tables : ObjectTables) → AreLater tables [] → ((p : ℕ) → IsFlushable (state_in tables) p → is_listed p (used_in tables.order) ≡ true) → (p : ℕ) → IsFlushable (state_in tables) p → ⊥
 none_later tables left used p f = absurd (cc (sym (left.unflushable p f) ∙ (ap (λ xs. is_listed p xs) (sym left.splits) ∙ used p f)))
 
 -- the keys of entries with one more behind them

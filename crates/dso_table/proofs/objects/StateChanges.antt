@@ -6,11 +6,11 @@ use Rattle.dso_base.specs.declared.record.Body.{Body}
 use Rattle.dso_base.specs.declared.record.Set.{Set}
 use Rattle.dso_lookup.specs.Maps.{writes, or_old, written}
 use Rattle.dso_table.specs.declared.slot.Slot.{Slot}
-use Rattle.dso_table.specs.declared.slot.Standing.TheVariants as standing
-use Rattle.dso_table.specs.declared.tables.Tables.{Tables}
+use Rattle.dso_table.specs.declared.slot.ObjectStanding.TheVariants as standing
+use Rattle.dso_table.specs.declared.tables.ObjectTables.{ObjectTables}
 use Rattle.dso_table.specs.Slots.{wrote, changed_last, changed_before, has_slot_value}
 use Rattle.dso_table.specs.States.{is_resident, later_than, with_at, with_value, marked, put}
-use Rattle.dso_table.specs.Tables.{slot_in, standing_of, mark_of, is_ordered, state_in, put_slot, TablesAgree}
+use Rattle.dso_table.specs.ObjectTables.{slot_in, standing_of, mark_of, is_ordered, state_in, put_slot, TablesAgree}
 use Rattle.dso_table.proofs.lists.Numbers.{with_at_map, with_at_same}
 
 -- notes of which one more is there
@@ -21,7 +21,7 @@ note_added at f g is = fun_ext (λ key. ap (λ h. is_some (h key)) is ∙ by (at
     by true x = refl
     by false x = refl
 
-module _ (old new : Tables) (o : ℕ) (slot : Option Slot) (is : slot_in new.places ≡ with_at o slot (slot_in old.places)) where
+module _ (old new : ObjectTables) (o : ℕ) (slot : Option Slot) (is : slot_in new.places ≡ with_at o slot (slot_in old.places)) where
   -- how the objects stand
   pub standing_is : (state_in new).standing ≡ with_at o (standing_of slot) (state_in old).standing
   standing_is = ap (λ f. λ p. standing_of (f p)) is ∙ with_at_map (λ s. standing_of s) o slot (slot_in old.places)
@@ -44,16 +44,16 @@ mark_before acked None = refl
 mark_before acked (Some slot) = refl
 
 -- the marks where a record may have changed the object of a slot
-pub marks_last : (tables : Tables) (o : ℕ) (changed : Option ℕ) → with_at o (later_than tables.acked (changed_last changed (changed_before (slot_in tables.places o)))) (state_in tables).marks ≡ marked o changed (state_in tables)
+pub marks_last : (tables : ObjectTables) (o : ℕ) (changed : Option ℕ) → with_at o (later_than tables.acked (changed_last changed (changed_before (slot_in tables.places o)))) (state_in tables).marks ≡ marked o changed (state_in tables)
 marks_last tables o None = with_at_same o (later_than tables.acked (changed_before (slot_in tables.places o))) (state_in tables).marks (mark_before tables.acked (slot_in tables.places o))
 marks_last tables o (Some n) = refl
 
 -- the slot of an object that a body is put into
-abbrev pub slot_of : Tables → Body → Option ℕ → Slot
+abbrev pub slot_of : ObjectTables → Body → Option ℕ → Slot
 slot_of tables body changed = record { object = body.object; standing = standing.Resident body; changed = changed_last changed (changed_before (slot_in tables.places body.object)) }
 
 -- what is told after its slot was put
-pub put_as_slot : (tables : Tables) (body : Body) (changed : Option ℕ) (more : ℕ) → more ≡ cond (is_resident ((state_in tables).standing body.object)) 0 1 → put_slot (slot_of tables body changed) more (state_in tables) ≡ put body changed (state_in tables)
+pub put_as_slot : (tables : ObjectTables) (body : Body) (changed : Option ℕ) (more : ℕ) → more ≡ cond (is_resident ((state_in tables).standing body.object)) 0 1 → put_slot (slot_of tables body changed) more (state_in tables) ≡ put body changed (state_in tables)
 put_as_slot tables body changed more is = λ i. record (state_in tables) {
   standing = with_at body.object (Some (standing.Resident body)) (state_in tables).standing;
   marks = marks_last tables body.object changed i;

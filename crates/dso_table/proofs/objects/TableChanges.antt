@@ -10,13 +10,13 @@ use Rattle.dso_lookup.specs.Search.{is_listed}
 use Rattle.dso_table.specs.declared.order.Order.{Order}
 use Rattle.dso_table.specs.declared.places.Places.{Places}
 use Rattle.dso_table.specs.declared.slot.Slot.{Slot}
-use Rattle.dso_table.specs.declared.slot.Standing.{Standing}
-use Rattle.dso_table.specs.declared.slot.Standing.TheVariants as standing
-use Rattle.dso_table.specs.declared.tables.Tables.{Tables}
+use Rattle.dso_table.specs.declared.slot.ObjectStanding.{ObjectStanding}
+use Rattle.dso_table.specs.declared.slot.ObjectStanding.TheVariants as standing
+use Rattle.dso_table.specs.declared.tables.ObjectTables.{ObjectTables}
 use Rattle.dso_table.specs.Slots.{wrote, has_slot_value}
 use Rattle.dso_table.specs.States.{State, is_resident, later_than, with_at, with_note, without, asked, flushed}
 use Rattle.dso_table.specs.States as states
-use Rattle.dso_table.specs.Tables.{slot_in, standing_of, mark_of, notes_in, used_in, limit_in, number_in, is_ordered, state_in, put_slot, PlacesAgree, OrderAgrees, TablesAgree}
+use Rattle.dso_table.specs.ObjectTables.{slot_in, standing_of, mark_of, notes_in, used_in, limit_in, number_in, is_ordered, state_in, put_slot, PlacesAgree, OrderAgrees, TablesAgree}
 use Rattle.dso_table.proofs.lists.Lists.{neither, without_absent}
 use Rattle.dso_table.proofs.lists.Numbers.{with_at_same, with_at_again}
 use Rattle.dso_table.proofs.objects.StateChanges.{standing_is, marks_are, residents_agree, residents_kept, marks_last, standing_written, mark_written}
@@ -36,7 +36,7 @@ pub record IsSameOrder (old new : Order) : Type 0 where
 pub same_order : (order : Order) → IsSameOrder order order
 same_order order = record { used = refl; limit = refl; ordered = refl; number = refl }
 
-module _ (old : Tables) (places : Places) (order : Order) (wanted : Notes) (is : slot_in places ≡ slot_in old.places) where
+module _ (old : ObjectTables) (places : Places) (order : Order) (wanted : Notes) (is : slot_in places ≡ slot_in old.places) where
   -- tables with other insides tell the same
   pub told_same : IsSameOrder old.order order → notes_in wanted ≡ notes_in old.wanted → state_in (record old { places = places; order = order; wanted = wanted }) ≡ state_in old
   told_same same notes = λ i. record (state_in old) {
@@ -56,7 +56,7 @@ module _ (old : Tables) (places : Places) (order : Order) (wanted : Notes) (is :
     residents = λ o. ap (λ f. is_resident (standing_of (f o))) is ∙ (agree.residents o ∙ sym (ap (λ f. f o) same.ordered));
   }
 
-module _ (old : Tables) (agree : TablesAgree old) (o : ℕ) where
+module _ (old : ObjectTables) (agree : TablesAgree old) (o : ℕ) where
   -- an object that isn't resident isn't in the order
   pub not_ordered : is_resident (standing_of (slot_in old.places o)) ≡ false → is_ordered old.order o ≡ false
   not_ordered absent = sym (agree.residents o) ∙ absent
@@ -155,7 +155,7 @@ module _ (old : Tables) (agree : TablesAgree old) (o : ℕ) where
     }
 
 -- a field was written
-pub told_written : (old : Tables) (places : Places) (change : Set) (changed : Option ℕ) → has_slot_value change.field (slot_in old.places change.object) ≡ true → slot_in places ≡ with_at change.object (option_map (wrote change changed) (slot_in old.places change.object)) (slot_in old.places) → state_in (record old { places = places }) ≡ states.set change changed (state_in old)
+pub told_written : (old : ObjectTables) (places : Places) (change : Set) (changed : Option ℕ) → has_slot_value change.field (slot_in old.places change.object) ≡ true → slot_in places ≡ with_at change.object (option_map (wrote change changed) (slot_in old.places change.object)) (slot_in old.places) → state_in (record old { places = places }) ≡ states.set change changed (state_in old)
 told_written old places change changed there is =
     let new = record old { places = places } in
     let o = change.object in
@@ -170,6 +170,6 @@ pub written_resident : (change : Set) (changed : Option ℕ) (slot : Option Slot
 written_resident change changed None = refl
 written_resident change changed (Some slot) = by slot.standing
   where
-    by : (s : Standing) → is_resident (standing_of (option_map (wrote change changed) (Some (record slot { standing = s })))) ≡ is_resident (Some s)
+    by : (s : ObjectStanding) → is_resident (standing_of (option_map (wrote change changed) (Some (record slot { standing = s })))) ≡ is_resident (Some s)
     by standing.Asked = refl
     by (standing.Resident body) = refl

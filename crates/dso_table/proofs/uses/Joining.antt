@@ -10,7 +10,7 @@ use Rattle.std.proofs.lemmas.List.{take-append-drop}
 use Rattle.std.proofs.lemmas.List.Folds.{list_any-append}
 use Rattle.lru.specs.LruCache.{LruCache, put_entries}
 use Rattle.dso_lookup.specs.Search.{is_listed}
-use Rattle.dso_table.specs.Tables.{JoinedBy}
+use Rattle.dso_table.specs.ObjectTables.{JoinedBy}
 use Rattle.dso_table.proofs.lists.Lists.{entry_absent, listed_keys}
 use Rattle.dso_table.proofs.lists.Numbers.{at_number, either_way}
 

@@ -9,7 +9,7 @@ use Rattle.lru.specs.LruCache.{LruCache, lru_cache, promoted}
 use Rattle.dso_lookup.specs.Search.{is_listed}
 use Rattle.dso_table.specs.declared.order.Order.{Order}
 use Rattle.dso_table.specs.States.{without, with_at}
-use Rattle.dso_table.specs.Tables.{used_in, limit_in, is_ordered, number_in, JoinedBy, IsEachOnce, OrderAgrees}
+use Rattle.dso_table.specs.ObjectTables.{used_in, limit_in, is_ordered, number_in, JoinedBy, IsEachOnce, OrderAgrees}
 use Rattle.dso_table.proofs.lists.Lists.{keys_removed, keys_promoted, keys_taken, listed_keys}
 use Rattle.dso_table.proofs.lists.Numbers.{at_number}
 use Rattle.dso_table.proofs.uses.Orders.{IsMoved, moved_first, moved_in, moved_out}

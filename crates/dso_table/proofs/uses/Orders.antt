@@ -9,7 +9,7 @@ use Rattle.std.specs.Ordering.{nat_cmp}
 use Rattle.dso_lookup.specs.Search.{is_listed}
 use Rattle.dso_table.specs.declared.order.Order.{Order}
 use Rattle.dso_table.specs.States.{without, with_at}
-use Rattle.dso_table.specs.Tables.{used_in, limit_in, is_ordered, number_in, IsEachOnce, OrderAgrees}
+use Rattle.dso_table.specs.ObjectTables.{used_in, limit_in, is_ordered, number_in, IsEachOnce, OrderAgrees}
 use Rattle.dso_table.proofs.lists.Lists.{neither, listed_without, without_absent, length_without, once_without, once_front, apart_rest}
 use Rattle.dso_table.proofs.lists.Numbers.{either_way, with_at_told}
 

@@ -45,11 +45,11 @@ module _ (p : Settings) (next : ThreadId → List Event → Option Request) (es 
 
   module _ (lawful : IsLawful p next es) (link : LinkStands (course_of p c es) past line) (can : slots.can_take_up p c es ≡ true) where
     -- both halves of the test
-    halves : (not (slots.is_due p c es) ≡ true) × (can_take_up (course_of p c es) past ≡ true)
-    halves = each (not (slots.is_due p c es)) (can_take_up (course_of p c es) past) (sym (letters_are_left.takes p next es lawful both.Up both.Down c).up ∙ can)
+    halves : (not (slots.is_loss_or_break_due p c es) ≡ true) × (can_take_up (course_of p c es) past ≡ true)
+    halves = each (not (slots.is_loss_or_break_due p c es)) (can_take_up (course_of p c es) past) (sym (letters_are_left.takes p next es lawful both.Up both.Down c).up ∙ can)
 
-    pub none_due : slots.is_due p c es ≡ false
-    none_due = not_false (slots.is_due p c es) halves.0
+    pub none_due : slots.is_loss_or_break_due p c es ≡ false
+    none_due = not_false (slots.is_loss_or_break_due p c es) halves.0
 
     pub comes_up : MessageComes ⊎ RejoinComes
     comes_up = by (course_of p c es) refl link halves.1

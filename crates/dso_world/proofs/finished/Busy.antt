@@ -10,7 +10,7 @@ use Rattle.dso_law.specs.Settings.{Settings, clients_of, threads_of}
 use Rattle.dso_law.specs.Channels.{down_in_flight, up_in_flight}
 use Rattle.dso_law.specs.Entries.{entries_of}
 use Rattle.dso_law.specs.ServerReadings.{is_lost}
-use Rattle.dso_legal.specs.Slots.{has_ended, is_any, is_due, is_finished, is_over, is_quiet}
+use Rattle.dso_legal.specs.Slots.{has_ended, is_any, is_loss_or_break_due, is_finished, is_over, is_quiet}
 use Rattle.dso_world.specs.Busy.{is_busy}
 
 -- ---- lists of which one passes
@@ -143,9 +143,9 @@ module _ (p : Settings) (es : List Entry) where
       let threads : list_any (λ t. not (is_over p es t)) p.threads ≡ list_any has_on cs =
       any_same (λ t. not (is_over p es t)) (goes (λ c. not (is_lost c (entries_of Server es))) (λ t. not (has_ended t es))) (λ t. nor (is_lost t.client (entries_of Server es)) (has_ended t es)) p.threads
       ∙ by_client (λ c. not (is_lost c (entries_of Server es))) (λ t. not (has_ended t es)) cs p.threads there in
-      none_of_three (list_any (λ t. not (is_over p es t)) p.threads) (list_any (λ c. not (is_quiet p c es)) cs) (list_any (λ c. is_due p c es) cs)
-      ∙ ap (λ b. not (b || (list_any (λ c. not (is_quiet p c es)) cs || list_any (λ c. is_due p c es) cs))) threads
-      ∙ ap (λ b. not (list_any has_on cs || b)) (sym (any_either (λ c. not (is_quiet p c es)) (λ c. is_due p c es) cs))
-      ∙ ap not (sym (any_either has_on (λ c. not (is_quiet p c es) || is_due p c es) cs))
-      ∙ ap not (any_same (λ c. has_on c || (not (is_quiet p c es) || is_due p c es)) (λ c. is_busy p c es)
-      (λ c. side_by_side (is_due p c es) (is_lost c (entries_of Server es)) (list_any (λ t. not (has_ended t es)) (threads_of p c)) (is_any (up_in_flight c es) || is_any (down_in_flight c es))) cs)
+      none_of_three (list_any (λ t. not (is_over p es t)) p.threads) (list_any (λ c. not (is_quiet p c es)) cs) (list_any (λ c. is_loss_or_break_due p c es) cs)
+      ∙ ap (λ b. not (b || (list_any (λ c. not (is_quiet p c es)) cs || list_any (λ c. is_loss_or_break_due p c es) cs))) threads
+      ∙ ap (λ b. not (list_any has_on cs || b)) (sym (any_either (λ c. not (is_quiet p c es)) (λ c. is_loss_or_break_due p c es) cs))
+      ∙ ap not (sym (any_either has_on (λ c. not (is_quiet p c es) || is_loss_or_break_due p c es) cs))
+      ∙ ap not (any_same (λ c. has_on c || (not (is_quiet p c es) || is_loss_or_break_due p c es)) (λ c. is_busy p c es)
+      (λ c. side_by_side (is_loss_or_break_due p c es) (is_lost c (entries_of Server es)) (list_any (λ t. not (has_ended t es)) (threads_of p c)) (is_any (up_in_flight c es) || is_any (down_in_flight c es))) cs)

@@ -17,12 +17,12 @@ use Rattle.dso_law.specs.Threads.{ends_thread}
 use Rattle.dso_machine.specs.declared.code.Code.{Code}
 use Rattle.dso_machine.specs.declared.code.ThreadBody.{ThreadBody}
 use Rattle.dso_machine.specs.Next.{body_of, next_request}
-use Rattle.dso_machine.specs.Sound.{IsSound}
+use Rattle.dso_machine.specs.Sound.{IsSoundCode}
 use Rattle.dso_legal.specs.Lawful.{next_after, AllFollow}
 use Rattle.dso_legal.specs.Slots.{ends, has_ended}
 use Rattle.dso_legal.proofs.blocks.OwnActs.{threads_follow}
 use Rattle.dso_legal.proofs.fitting.Untold.{keeps_to}
-use Rattle.dso_world.specs.Finishing.{EndedAsksNothing}
+use Rattle.dso_world.specs.FinishedRuns.{EndedAsksNothing}
 use Rattle.dso_world.proofs.links.Ends.{below}
 use Rattle.dso_world.proofs.finished.CodeEnds.{code_ends}
 use Rattle.dso_world.proofs.premises.OwnRun.{own_next}
@@ -47,7 +47,7 @@ twice : (b : Bool) → not (not b) ≡ b
 twice true = refl
 twice false = refl
 
-module _ (code : Code) (sound : IsSound code) (p : Settings) (shaped : p.shape ≡ code.shape) (es : List Entry) (follow : AllFollow p (next_request code) es) where
+module _ (code : Code) (sound : IsSoundCode code) (p : Settings) (shaped : p.shape ≡ code.shape) (es : List Entry) (follow : AllFollow p (next_request code) es) where
   -- A thread of the code has ended where it has no next request.
   pub ended_is : (t : ThreadId) → body_of t code.bodies ≢ None → has_ended t es ≡ not (is_some (next_after (next_request code) es t))
   ended_is t there = by (body_of t code.bodies) refl (next_after (next_request code) es t) refl

@@ -12,9 +12,9 @@ use Rattle.dso_law.specs.Entries.{entries_of}
 use Rattle.dso_law.specs.ServerReadings.{is_lost}
 use Rattle.dso_machine.specs.declared.code.Code.{Code}
 use Rattle.dso_machine.specs.Next.{body_of, next_request}
-use Rattle.dso_machine.specs.Sound.{IsSound}
+use Rattle.dso_machine.specs.Sound.{IsSoundCode}
 use Rattle.dso_legal.specs.Lawful.{IsLawful}
-use Rattle.dso_legal.specs.Slots.{is_any, is_due}
+use Rattle.dso_legal.specs.Slots.{is_any, is_loss_or_break_due}
 use Rattle.dso_base.specs.declared.both.Both.{Both}
 use Rattle.dso_base.specs.declared.both.Both.TheVariants as both
 use Rattle.dso_world.specs.Busy.{is_busy, is_working}
@@ -42,7 +42,7 @@ told_so false false true false = refl
 told_so false true false all_down = refl
 told_so false false false all_down = refl
 
-module _ (code : Code) (sound : IsSound code) (p : Settings) (shaped : p.shape ≡ code.shape) (there : AllByRecursion (λ t. body_of t code.bodies ≢ None) p.threads)
+module _ (code : Code) (sound : IsSoundCode code) (p : Settings) (shaped : p.shape ≡ code.shape) (there : AllByRecursion (λ t. body_of t code.bodies ≢ None) p.threads)
     (es : List Entry) (lawful : IsLawful p (next_request code) es) (c : ℕ) where
   abbrev past : Past Both
   past = past_of both.Up both.Down c es
@@ -68,5 +68,5 @@ module _ (code : Code) (sound : IsSound code) (p : Settings) (shaped : p.shape �
         ∙ told_so lost (ltb 0 alive) (eqb up_sent up_taken) (eqb down_sent down_taken)
 
     -- And it is busy where a trigger is due or it is working.
-    pub busy_is : is_busy p c es ≡ (is_due p c es || (not (is_lost c (entries_of Server es)) && (not (eqb up_sent up_taken && eqb down_sent down_taken) || ltb 0 alive)))
-    busy_is = ap (λ b. is_due p c es || b) working_is
+    pub busy_is : is_busy p c es ≡ (is_loss_or_break_due p c es || (not (is_lost c (entries_of Server es)) && (not (eqb up_sent up_taken && eqb down_sent down_taken) || ltb 0 alive)))
+    busy_is = ap (λ b. is_loss_or_break_due p c es || b) working_is

@@ -18,7 +18,7 @@ use Rattle.dso_law.specs.Settings.{Settings}
 use Rattle.dso_law.specs.Entries.{by_sent_down, by_sent_up, entries_of, if_to}
 use Rattle.dso_law.specs.Channels.{IsFirst, Letter, TakesFirst, count_inputs, down_in_flight, is_broken, posted, takes_down, takes_up, to_client, to_server, up_in_flight}
 use Rattle.dso_legal.specs.Lawful.{AllFollow, IsLawful}
-use Rattle.dso_legal.specs.Slots.{has_rejoined, is_any, is_due}
+use Rattle.dso_legal.specs.Slots.{has_rejoined, is_any, is_loss_or_break_due}
 use Rattle.dso_world.specs.LinkStands.{Joined, Broken, Half, can_take_down, can_take_up}
 use Rattle.dso_world.specs.PastOf.{CanTake, LettersAreLeft, letters_posted, letters_taken, past_of, post_of}
 use Rattle.dso_world.proofs.links.Ends.{below}
@@ -156,7 +156,7 @@ any_left {N = N} one n letters flight left = by flight left
 
 module _ {M : Type 0} (p : Settings) (next : ThreadId → List Event → Option Request) (es : List Entry) (lawful : IsLawful p next es) (as_up : Up → M) (as_down : Down → M) (c : ℕ) where
   takes_so : CanTake p es as_up as_down c
-  takes_so = record { down = down (is_broken c (entries_of Server es)) (has_rejoined p c es); up = ap (λ b. not (is_due p c es) && b) (up (is_broken c (entries_of Server es)) (has_rejoined p c es)) }
+  takes_so = record { down = down (is_broken c (entries_of Server es)) (has_rejoined p c es); up = ap (λ b. not (is_loss_or_break_due p c es) && b) (up (is_broken c (entries_of Server es)) (has_rejoined p c es)) }
     where
       down : (broken rejoined : Bool) → cond broken (not rejoined) (is_any (down_in_flight c es)) ≡ can_take_down (cond broken (cond rejoined Half Broken) Joined) (past_of as_up as_down c es)
       down true true = refl

@@ -13,34 +13,34 @@ use Rattle.dso_server.specs.declared.taken.Taken.TheVariants.{BadMessage}
 use Rattle.dso_server.specs.Answering.{IsTaken}
 use Rattle.dso_base.specs.declared.both.Both.{Both}
 use Rattle.dso_base.specs.declared.both.Both.TheVariants as both
-use Rattle.dso_world.specs.declared.member.Member.{Member}
+use Rattle.dso_world.specs.declared.client_node.ClientNode.{ClientNode}
 use Rattle.dso_world.specs.declared.nodes.Nodes.{Nodes}
 use Rattle.dso_world.specs.LinkStands.{Course, Past}
-use Rattle.dso_world.specs.MemberSteps.{IsJournal}
+use Rattle.dso_world.specs.ClientSteps.{IsJournal}
 use Rattle.dso_world.specs.NodeSteps.{HaveRoom, Heard, past_heard}
-use Rattle.dso_world.specs.NodesStand.{MemberStandsBy, NodesStand, NodesStandBy}
+use Rattle.dso_world.specs.NodesStand.{ClientNodeStandsBy, NodesStand, NodesStandBy}
 use Rattle.dso_world.specs.PastOf.{course_of, past_of}
-use Rattle.dso_world.specs.Sending.{clock_after}
+use Rattle.dso_world.specs.SentMessages.{clock_after}
 use Rattle.dso_world.specs.WorldSteps.{settings_of}
 use Rattle.dso_world.proofs.journals.Clocks.{Below, clocks_are_few}
-use Rattle.dso_world.proofs.members.Fits.{node_count_few}
+use Rattle.dso_world.proofs.client_nodes.Fits.{node_count_few}
 use Rattle.dso_world.proofs.premises.WhatComes.{comes_up}
 
 module _ (program : Program) (es : List Entry) (journal : IsJournal program es) where
   -- where no client has seen more than there are entries, there is room
-  pub room_by : (course : ℕ → Course) (past : ℕ → Past Both) (nodes : Nodes) → ((d : ℕ) → (past d).down_taken ≤ length es) → NodesStandBy program course past nodes es → HaveRoom nodes.members.items
-  room_by course past nodes few stands place member is =
-      let link = (stands.members place member is).link in
-      let seen : member.link.server.seen ≤ (past (suc place)).down_taken = link.down_seen in
+  pub room_by : (course : ℕ → Course) (past : ℕ → Past Both) (nodes : Nodes) → ((d : ℕ) → (past d).down_taken ≤ length es) → NodesStandBy program course past nodes es → HaveRoom nodes.client_nodes.items
+  room_by course past nodes few stands place client_node is =
+      let link = (stands.client_nodes place client_node is).link in
+      let seen : client_node.link.server.seen ≤ (past (suc place)).down_taken = link.down_seen in
       let taken : (past (suc place)).down_taken ≤ length es = few (suc place) in
       let short : length es ≤ 2 ^ 28 = journal.few in
       omega (arith, seen, taken, short)
 
-  pub room_of : (course : ℕ → Course) (past : ℕ → Past Both) (members : List Member) → ((d : ℕ) → (past d).down_taken ≤ length es)
-      → ((place : ℕ) (member : Member) → slice_get members place ≡ Some member → MemberStandsBy program (suc place) (course (suc place)) (past (suc place)) member es) → HaveRoom members
-  room_of course past members few stands place member is =
-      let link = (stands place member is).link in
-      let seen : member.link.server.seen ≤ (past (suc place)).down_taken = link.down_seen in
+  pub room_of : (course : ℕ → Course) (past : ℕ → Past Both) (client_nodes : List ClientNode) → ((d : ℕ) → (past d).down_taken ≤ length es)
+      → ((place : ℕ) (client_node : ClientNode) → slice_get client_nodes place ≡ Some client_node → ClientNodeStandsBy program (suc place) (course (suc place)) (past (suc place)) client_node es) → HaveRoom client_nodes
+  room_of course past client_nodes few stands place client_node is =
+      let link = (stands place client_node is).link in
+      let seen : client_node.link.server.seen ≤ (past (suc place)).down_taken = link.down_seen in
       let taken : (past (suc place)).down_taken ≤ length es = few (suc place) in
       let short : length es ≤ 2 ^ 28 = journal.few in
       omega (arith, seen, taken, short)
@@ -56,7 +56,7 @@ module _ (program : Program) (es : List Entry) (journal : IsJournal program es) 
   taken_few : (d : ℕ) → (past_of both.Up both.Down d es).down_taken ≤ length es
   taken_few d = node_count_few takes_down (node.Client d) es
 
-  pub room : (nodes : Nodes) → NodesStand program nodes es → HaveRoom nodes.members.items
+  pub room : (nodes : Nodes) → NodesStand program nodes es → HaveRoom nodes.client_nodes.items
   room nodes stands = room_by (λ d. course_of (settings_of program) d es) (λ d. past_of both.Up both.Down d es) nodes taken_few stands
 
   -- the server's clock goes on
@@ -68,7 +68,7 @@ module _ (program : Program) (es : List Entry) (journal : IsJournal program es) 
 
 module _ (program : Program) (c : ℕ) (letter : Letter Up) (nodes : Nodes) (es : List Entry) (heard : Heard program c letter nodes es) where
   -- so where it hears a message
-  pub heard_room : HaveRoom nodes.members.items
+  pub heard_room : HaveRoom nodes.client_nodes.items
   heard_room = room_by program es heard.journal _ (past_heard program c es) nodes few heard.stands
     where
       few : (d : ℕ) → (past_heard program c es d).down_taken ≤ length es

@@ -26,15 +26,15 @@ use Rattle.dso_server.proofs.standing.ByRule.{breaks_change_nothing, lost_by_rul
 use Rattle.dso_base.specs.declared.both.Both.{Both}
 use Rattle.dso_base.specs.declared.both.Both.TheVariants as both
 use Rattle.dso_server.proofs.standing.Lacking.{nothing_is_lacked_later, taken_lacks_nothing}
-use Rattle.dso_world.specs.declared.made.Made.{Made}
-use Rattle.dso_world.specs.declared.member.Member.{Member}
+use Rattle.dso_world.specs.declared.entry_draft.EntryDraft.{EntryDraft}
+use Rattle.dso_world.specs.declared.client_node.ClientNode.{ClientNode}
 use Rattle.dso_world.specs.declared.nodes.Nodes.{Nodes}
 use Rattle.dso_world.specs.LinkStands.{Broken, Course, Half, Joined, Past}
-use Rattle.dso_world.specs.MemberSteps.{IsJournal}
+use Rattle.dso_world.specs.ClientSteps.{IsJournal}
 use Rattle.dso_world.specs.NodeSteps.{FollowsAll, HasTold, Heard, course_heard, past_heard}
-use Rattle.dso_world.specs.NodesStand.{MemberStandsBy, NodesStand}
+use Rattle.dso_world.specs.NodesStand.{ClientNodeStandsBy, NodesStand}
 use Rattle.dso_world.specs.PastOf.{course_of, past_of}
-use Rattle.dso_world.specs.Sending.{clock_after, server_entry}
+use Rattle.dso_world.specs.SentMessages.{clock_after, server_entry}
 use Rattle.dso_world.specs.WorldSteps.{settings_of}
 use Rattle.dso_world.proofs.follows.Lawful.{lawful_with_broke, lawful_with_lost, lawful_with_rejoined, lawful_with_took}
 use Rattle.dso_world.proofs.follows.Server.{broke_follows, lost_follows, rejoined_follows, took_follows}
@@ -62,7 +62,7 @@ after_taken program c letter clock (BadMessage tag) messages old new own was tak
 module _ (program : Program) (c : ℕ) (letter : Letter Up) (nodes : Nodes) (es : List Entry) (heard : Heard program c letter nodes es)
     (taken : Taken) (messages : List (ℕ × Down)) (server : Server) (was : WasTaken taken)
     (is : IsTaken (settings_of program) c letter.message taken messages nodes.server server (entries_of node.Server es)) (given : given_by server ≤ given_by nodes.server + 1) where
-  abbrev hearing : Made
+  abbrev hearing : EntryDraft
   hearing = record { heard = letter.clock; input = input.TookUp c letter.message; event = None }
 
   abbrev clock : ℕ
@@ -94,7 +94,7 @@ module _ (program : Program) (c : ℕ) (letter : Letter Up) (nodes : Nodes) (es 
             (ap (λ n. suc (max n letter.clock)) heard.stands.clock)
             (taken_by_rule (settings_of program) clock c letter.message taken messages nodes.server server (entries_of node.Server es) was is heard.its no_triggers.0 no_triggers.1));
         at = refl;
-        stands = told_stand program (course_heard program c es) (past_heard program c es) hearing messages (record nodes { server = server }) new es heard.stands.count heard.stands.members told
+        stands = told_stand program (course_heard program c es) (past_heard program c es) hearing messages (record nodes { server = server }) new es heard.stands.count heard.stands.client_nodes told
             (after_taken program c letter clock taken messages nodes.server server (entries_of node.Server es) was is heard.stands.server)
             (taken_lacks_nothing (settings_of program) clock c letter.message taken messages nodes.server server (entries_of node.Server es) was is heard.stands.lacks) (omega (arith, few, given)) heard_course heard_past;
       }
@@ -112,7 +112,7 @@ module _ (program : Program) (c : ℕ) (nodes : Nodes) (es : List Entry) (journa
 
   module _ (messages : List (ℕ × Down)) (server : Server) (is : IsLost (settings_of program) c messages nodes.server server (entries_of node.Server es)) (given : given_by server ≡ given_by nodes.server)
       (due : is_loss_due (settings_of program) c (entries_of node.Server es) ≡ true) where
-    abbrev losing : Made
+    abbrev losing : EntryDraft
     losing = record { heard = 0; input = input.Lose c; event = None }
 
     pub lost_follows_all : (new : Nodes) → HasTold losing messages (record nodes { server = server }) new → FollowsAll program (Loses c) (server_entry nodes.clock losing messages) new es
@@ -123,7 +123,7 @@ module _ (program : Program) (c : ℕ) (nodes : Nodes) (es : List Entry) (journa
               (lost_follows (settings_of program) (next_request program.code) c es quiet_clock (sent_of messages) now
               (lost_by_rule (settings_of program) quiet_clock c messages nodes.server server (entries_of node.Server es) is its due));
           at = refl;
-          stands = told_stand program (λ d. course_of (settings_of program) d es) (λ d. past_of both.Up both.Down d es) losing messages (record nodes { server = server }) new es stands.count stands.members told
+          stands = told_stand program (λ d. course_of (settings_of program) d es) (λ d. past_of both.Up both.Down d es) losing messages (record nodes { server = server }) new es stands.count stands.client_nodes told
               (is.stands quiet_clock) (nothing_is_lacked_later (settings_of program) nodes.server server (entries_of node.Server es) (lost quiet_clock c (sent_of messages) ∷ entries_of node.Server es) (is.stands quiet_clock) (is.lacks quiet_clock) stands.lacks)
               (omega (arith, few, given)) (λ d. refl) (λ d. server_loses d es quiet_clock c messages);
         }
@@ -134,7 +134,7 @@ module _ (program : Program) (c : ℕ) (nodes : Nodes) (es : List Entry) (journa
   with_none : (past : Past Both) → past ≡ with_down [] past
   with_none past = ap (λ down. record past { down = down }) (sym (append-nil past.down))
 
-  abbrev rejoining : Made
+  abbrev rejoining : EntryDraft
   rejoining = record { heard = 0; input = input.Rejoin c; event = None }
 
   rejoined_course : (d : ℕ) → course_of (settings_of program) d (rejoined quiet_clock c ∷ es) ≡ course_heard program c es d
@@ -151,18 +151,18 @@ module _ (program : Program) (c : ℕ) (nodes : Nodes) (es : List Entry) (journa
       by true same = ap (λ n. past_of both.Up both.Down n es) (eqb-true d c same)
       by false other = refl
 
-  pub rejoined_follows_all : (between new : Nodes) → length between.members.items ≡ program.clients → between.server ≡ nodes.server → between.clock ≡ nodes.clock
+  pub rejoined_follows_all : (between new : Nodes) → length between.client_nodes.items ≡ program.clients → between.server ≡ nodes.server → between.clock ≡ nodes.clock
       → course_of (settings_of program) c es ≡ Half
-      → ((place : ℕ) (member : Member) → slice_get between.members.items place ≡ Some member
-      → MemberStandsBy program (suc place) (course_heard program c es (suc place)) (cond (eqb (suc place) c) (past_of both.Up both.Down c es) (past_of both.Up both.Down (suc place) es)) member es)
+      → ((place : ℕ) (client_node : ClientNode) → slice_get between.client_nodes.items place ≡ Some client_node
+      → ClientNodeStandsBy program (suc place) (course_heard program c es (suc place)) (cond (eqb (suc place) c) (past_of both.Up both.Down c es) (past_of both.Up both.Down (suc place) es)) client_node es)
       → HasTold rejoining [] between new → FollowsAll program (TakesUp c) (server_entry between.clock rejoining []) new es
-  rejoined_follows_all between new count same_server same_clock half members told = subst (λ last. FollowsAll program (TakesUp c) (server_entry last rejoining []) new es) (sym same_clock)
+  rejoined_follows_all between new count same_server same_clock half client_nodes told = subst (λ last. FollowsAll program (TakesUp c) (server_entry last rejoining []) new es) (sym same_clock)
       (let few : given_by nodes.server ≤ length es = stands.given in
       record {
         lawful = lawful_with_rejoined (settings_of program) (next_request program.code) es journal.lawful quiet_clock c half
             (rejoined_follows (settings_of program) (next_request program.code) c es quiet_clock its now (broken_where_half (settings_of program) c es half));
         at = refl;
-        stands = told_stand program (course_heard program c es) (λ d. cond (eqb d c) (past_of both.Up both.Down c es) (past_of both.Up both.Down d es)) rejoining [] (record between { clock = nodes.clock }) new es count members
+        stands = told_stand program (course_heard program c es) (λ d. cond (eqb d c) (past_of both.Up both.Down c es) (past_of both.Up both.Down d es)) rejoining [] (record between { clock = nodes.clock }) new es count client_nodes
             (subst (λ last. HasTold rejoining [] (record between { clock = last }) new) same_clock told)
             (subst (λ server. ServerStands (settings_of program) server (rejoined quiet_clock c ∷ entries_of node.Server es)) (sym same_server) (rejoins_change_nothing (settings_of program) nodes.server quiet_clock c (entries_of node.Server es) stands.server))
             (subst (λ server. LacksNothing (settings_of program) server (rejoined quiet_clock c ∷ entries_of node.Server es)) (sym same_server) stands.lacks)
@@ -171,7 +171,7 @@ module _ (program : Program) (c : ℕ) (nodes : Nodes) (es : List Entry) (journa
 
   -- ---- a break
 
-  abbrev breaking : Made
+  abbrev breaking : EntryDraft
   breaking = record { heard = 0; input = input.Break c; event = None }
 
   -- the course and the past of each connection, where that of the client is broken once more
@@ -197,16 +197,16 @@ module _ (program : Program) (c : ℕ) (nodes : Nodes) (es : List Entry) (journa
         by true same = server_breaks d es quiet_clock c same ∙ ap (λ n. record (past_of both.Up both.Down n es) { breaks = (past_of both.Up both.Down n es).breaks + 1 }) (eqb-true d c same)
         by false other = server_breaks_other d es quiet_clock c other
 
-    pub broke_follows_all : (between new : Nodes) → length between.members.items ≡ program.clients → between.server ≡ nodes.server → between.clock ≡ nodes.clock
-        → ((place : ℕ) (member : Member) → slice_get between.members.items place ≡ Some member → MemberStandsBy program (suc place) (course_cut (suc place)) (past_cut (suc place)) member es)
+    pub broke_follows_all : (between new : Nodes) → length between.client_nodes.items ≡ program.clients → between.server ≡ nodes.server → between.clock ≡ nodes.clock
+        → ((place : ℕ) (client_node : ClientNode) → slice_get between.client_nodes.items place ≡ Some client_node → ClientNodeStandsBy program (suc place) (course_cut (suc place)) (past_cut (suc place)) client_node es)
         → HasTold breaking [] between new → FollowsAll program (Breaks c) (server_entry between.clock breaking []) new es
-    broke_follows_all between new count same_server same_clock members told = subst (λ last. FollowsAll program (Breaks c) (server_entry last breaking []) new es) (sym same_clock)
+    broke_follows_all between new count same_server same_clock client_nodes told = subst (λ last. FollowsAll program (Breaks c) (server_entry last breaking []) new es) (sym same_clock)
         (let few : given_by nodes.server ≤ length es = stands.given in
         record {
           lawful = lawful_with_broke (settings_of program) (next_request program.code) es journal.lawful quiet_clock c
               (broke_follows (settings_of program) (next_request program.code) c es quiet_clock its now due);
           at = refl;
-          stands = told_stand program course_cut past_cut breaking [] (record between { clock = nodes.clock }) new es count members
+          stands = told_stand program course_cut past_cut breaking [] (record between { clock = nodes.clock }) new es count client_nodes
               (subst (λ last. HasTold breaking [] (record between { clock = last }) new) same_clock told)
               (subst (λ server. ServerStands (settings_of program) server (broke quiet_clock c ∷ entries_of node.Server es)) (sym same_server) (breaks_change_nothing (settings_of program) nodes.server quiet_clock c (entries_of node.Server es) stands.server))
               (subst (λ server. LacksNothing (settings_of program) server (broke quiet_clock c ∷ entries_of node.Server es)) (sym same_server) stands.lacks)

@@ -13,12 +13,12 @@ use Rattle.dso_legal.specs.Slots.{Slot}
 use Rattle.dso_server.specs.Lacking.{LacksNothing}
 use Rattle.dso_server.specs.ServerStands.{ServerStands}
 use Rattle.dso_base.specs.declared.both.Both.TheVariants as both
-use Rattle.dso_world.specs.declared.member.Member.{Member}
+use Rattle.dso_world.specs.declared.client_node.ClientNode.{ClientNode}
 use Rattle.dso_world.specs.declared.nodes.Nodes.{Nodes}
 use Rattle.dso_world.specs.LinkStands.{LinkStands}
-use Rattle.dso_world.specs.MemberSteps.{Steps}
+use Rattle.dso_world.specs.ClientSteps.{Steps}
 use Rattle.dso_world.specs.NodeSteps.{StepsAll}
-use Rattle.dso_world.specs.NodesStand.{MemberStands}
+use Rattle.dso_world.specs.NodesStand.{ClientNodeStands}
 use Rattle.dso_world.specs.PastOf.{course_of, past_of}
 use Rattle.dso_world.specs.WorldSteps.{settings_of}
 use Rattle.dso_client.proofs.standing.Bounds.{holds_more}
@@ -56,14 +56,14 @@ module _ (program : Program) (c : ℕ) (entry : Entry) (its : entry.node ≡ nod
   is_said = ap said (sym its)
 
   -- Another client is what it was.
-  pub other_member : (d : ℕ) (member : Member) → eqb d c ≡ false → MemberStands program d member es → MemberStands program d member (entry ∷ es)
-  other_member d member other stands = subst (λ e. MemberStands program d member (e ∷ es)) is_said (record {
-    client = subst (ClientStands program.code (settings_of program) d member.client) (sym (ap (λ b. cond b (said (node.Client c) ∷ entries_of (node.Client d) es) (entries_of (node.Client d) es)) other)) stands.client;
+  pub other_client_node : (d : ℕ) (client_node : ClientNode) → eqb d c ≡ false → ClientNodeStands program d client_node es → ClientNodeStands program d client_node (entry ∷ es)
+  other_client_node d client_node other stands = subst (λ e. ClientNodeStands program d client_node (e ∷ es)) is_said (record {
+    client = subst (ClientStands program.code (settings_of program) d client_node.client) (sym (ap (λ b. cond b (said (node.Client c) ∷ entries_of (node.Client d) es) (entries_of (node.Client d) es)) other)) stands.client;
     runs = stands.runs;
     records = let few = stands.records in omega (arith, few);
-    holds = holds_more (length es) (suc (length es)) member.client (omega arith) stands.holds;
-    link = subst (λ course. LinkStands course (past_of both.Up both.Down d (said (node.Client c) ∷ es)) member.link) (sym (other_course d es entry.clock entry.input entry.event (settings_of program) c entry.sent other))
-        (subst (λ past. LinkStands (course_of (settings_of program) d es) past member.link) (sym (other_past d es entry.clock entry.input entry.event c entry.sent other)) stands.link);
+    holds = holds_more (length es) (suc (length es)) client_node.client (omega arith) stands.holds;
+    link = subst (λ course. LinkStands course (past_of both.Up both.Down d (said (node.Client c) ∷ es)) client_node.link) (sym (other_course d es entry.clock entry.input entry.event (settings_of program) c entry.sent other))
+        (subst (λ past. LinkStands (course_of (settings_of program) d es) past client_node.link) (sym (other_past d es entry.clock entry.input entry.event c entry.sent other)) stands.link);
     clock = stands.clock ∙ sym (ap (λ b. cond b entry.clock (last_clock (node.Client d) es)) other);
     triggers = stands.triggers;
   })
@@ -75,20 +75,20 @@ module _ (program : Program) (c : ℕ) (entry : Entry) (its : entry.node ≡ nod
   pub server_clock : last_clock node.Server es ≡ last_clock node.Server (entry ∷ es)
   server_clock = ap (λ e. last_clock node.Server (e ∷ es)) is_said
 
-module _ (program : Program) (c : ℕ) (slot : Slot) (nodes : Nodes) (old new : Member) (entry : Entry) (steps : Steps program c slot entry old new) (there : slice_get nodes.members.items (c - 1) ≡ Some old) where
-  pub member_steps : StepsAll program c slot entry nodes (record nodes { members = with_item nodes.members (c - 1) new })
-  member_steps = λ es journal its stands opened.
+module _ (program : Program) (c : ℕ) (slot : Slot) (nodes : Nodes) (old new : ClientNode) (entry : Entry) (steps : Steps program c slot entry old new) (there : slice_get nodes.client_nodes.items (c - 1) ≡ Some old) where
+  pub client_node_steps : StepsAll program c slot entry nodes (record nodes { client_nodes = with_item nodes.client_nodes (c - 1) new })
+  client_node_steps = λ es journal its stands opened.
       let place : suc (c - 1) ≡ c = (let low = (numbered_so c program.clients its).0 in omega (arith, low)) in
-      let follows = steps es journal its (subst (λ d. MemberStands program d old es) place (stands.members (c - 1) old there)) opened in
+      let follows = steps es journal its (subst (λ d. ClientNodeStands program d old es) place (stands.client_nodes (c - 1) old there)) opened in
       let given = stands.given in
       record {
         lawful = follows.lawful;
         at = follows.at;
         stands = record {
-          count = same_many nodes.members.items (c - 1) new ∙ stands.count;
-          members = λ at member is. elim (written nodes.members.items (c - 1) at new member is) [
-            | inl h ↦ subst (λ m. MemberStands program (suc at) m (entry ∷ es)) (sym h.1) (subst (λ d. MemberStands program d new (entry ∷ es)) (sym (ap (λ n. suc n) h.0 ∙ place)) follows.stands)
-            | inr h ↦ other_member program c entry follows.its es (suc at) member (ne_eqb (suc at) c (λ same. h.0 (omega (arith, same)))) (stands.members at member h.1)
+          count = same_many nodes.client_nodes.items (c - 1) new ∙ stands.count;
+          client_nodes = λ at client_node is. elim (written nodes.client_nodes.items (c - 1) at new client_node is) [
+            | inl h ↦ subst (λ m. ClientNodeStands program (suc at) m (entry ∷ es)) (sym h.1) (subst (λ d. ClientNodeStands program d new (entry ∷ es)) (sym (ap (λ n. suc n) h.0 ∙ place)) follows.stands)
+            | inr h ↦ other_client_node program c entry follows.its es (suc at) client_node (ne_eqb (suc at) c (λ same. h.0 (omega (arith, same)))) (stands.client_nodes at client_node h.1)
           ];
           server = subst (ServerStands (settings_of program) nodes.server) (server_same program c entry follows.its es) stands.server;
           lacks = subst (LacksNothing (settings_of program) nodes.server) (server_same program c entry follows.its es) stands.lacks;

@@ -9,7 +9,7 @@ use Rattle.dso_class.specs.declared.program.Program.{Program}
 use Rattle.dso_law.specs.Channels.{Letter}
 use Rattle.dso_law.specs.Entries.{entries_of}
 use Rattle.dso_law.specs.Settings.{clients_of}
-use Rattle.dso_legal.specs.Slots.{TakesUp, is_due}
+use Rattle.dso_legal.specs.Slots.{TakesUp, is_loss_or_break_due}
 use Rattle.dso_machine.specs.Next.{next_request}
 use Rattle.dso_server.specs.Answering.{given_by}
 use Rattle.dso_server.specs.Lacking.{LacksNothing}
@@ -18,13 +18,13 @@ use Rattle.dso_session.specs.declared.frame.Accepted.{Accepted}
 use Rattle.dso_session.specs.declared.frame.Accepted.TheVariants as accepted
 use Rattle.dso_base.specs.declared.both.Both.{Both}
 use Rattle.dso_base.specs.declared.both.Both.TheVariants as both
-use Rattle.dso_world.specs.declared.member.Member.{Member}
+use Rattle.dso_world.specs.declared.client_node.ClientNode.{ClientNode}
 use Rattle.dso_world.specs.declared.nodes.Nodes.{Nodes}
 use Rattle.dso_world.specs.Link.{first_answer, taken_up}
 use Rattle.dso_world.specs.LinkStands.{Half, Joined, LinkStands}
-use Rattle.dso_world.specs.MemberSteps.{IsJournal, IsOpenAfter}
+use Rattle.dso_world.specs.ClientSteps.{IsJournal, IsOpenAfter}
 use Rattle.dso_world.specs.NodeSteps.{ChangesLine, Heard, course_heard, first_up, with_line}
-use Rattle.dso_world.specs.NodesStand.{MemberStandsBy, NodesStand}
+use Rattle.dso_world.specs.NodesStand.{ClientNodeStandsBy, NodesStand}
 use Rattle.dso_world.specs.PastOf.{course_of, past_of}
 use Rattle.dso_world.specs.WorldSteps.{settings_of}
 use Rattle.dso_world.proofs.coming.Up.{MessageComes, RejoinComes, comes_up, none_due}
@@ -45,53 +45,53 @@ module _ (program : Program) (c : ℕ) (nodes : Nodes) (es : List Entry) (journa
   pub place_is : suc (c - 1) ≡ c
   place_is = let range = numbered_so c program.clients its in let low : 1 ≤ c = range.0 in omega (arith, low)
 
-  pub its_member : (member : Member) × (slice_get nodes.members.items (c - 1) ≡ Some member)
-  its_member =
+  pub its_client : (client_node : ClientNode) × (slice_get nodes.client_nodes.items (c - 1) ≡ Some client_node)
+  its_client =
       let range = numbered_so c program.clients its in
       let low : 1 ≤ c = range.0 in
       let high : c ≤ program.clients = range.1 in
-      let count : length nodes.members.items ≡ program.clients = stands.count in
-      there nodes.members.items (c - 1) (omega (arith, low, high, count))
+      let count : length nodes.client_nodes.items ≡ program.clients = stands.count in
+      there nodes.client_nodes.items (c - 1) (omega (arith, low, high, count))
 
-  abbrev pub its_link : LinkStands (course_of (settings_of program) c es) (past_of both.Up both.Down c es) its_member.0.link
-  its_link = subst (λ d. LinkStands (course_of (settings_of program) d es) (past_of both.Up both.Down d es) its_member.0.link) place_is (stands.members (c - 1) its_member.0 its_member.1).link
+  abbrev pub its_link : LinkStands (course_of (settings_of program) c es) (past_of both.Up both.Down c es) its_client.0.link
+  its_link = subst (λ d. LinkStands (course_of (settings_of program) d es) (past_of both.Up both.Down d es) its_client.0.link) place_is (stands.client_nodes (c - 1) its_client.0 its_client.1).link
 
   -- the connection of the client, where a place is said to be its
-  pub at_place : (P : Member → Type 0) → P its_member.0 → (place : ℕ) (member : Member) → suc place ≡ c → slice_get nodes.members.items place ≡ Some member → P member
-  at_place P holds place member same is =
+  pub at_place : (P : ClientNode → Type 0) → P its_client.0 → (place : ℕ) (client_node : ClientNode) → suc place ≡ c → slice_get nodes.client_nodes.items place ≡ Some client_node → P client_node
+  at_place P holds place client_node same is =
       let at : place ≡ c - 1 = omega (arith, same) in
-      let one : Some its_member.0 ≡ Some member = sym its_member.1 ∙ ap (slice_get nodes.members.items) (sym at) ∙ is in
+      let one : Some its_client.0 ≡ Some client_node = sym its_client.1 ∙ ap (slice_get nodes.client_nodes.items) (sym at) ∙ is in
       subst P (cc one) holds
 
   module _ (can : IsOpenAfter program es (TakesUp c)) where
     abbrev MessageOf : Type 0
-    MessageOf = MessageComes (settings_of program) (next_request program.code) es c its_member.0.link
+    MessageOf = MessageComes (settings_of program) (next_request program.code) es c its_client.0.link
 
     abbrev RejoinOf : Type 0
-    RejoinOf = RejoinComes (settings_of program) (next_request program.code) es c its_member.0.link
+    RejoinOf = RejoinComes (settings_of program) (next_request program.code) es c its_client.0.link
 
     pub comes : MessageOf ⊎ RejoinOf
-    comes = comes_up (settings_of program) (next_request program.code) es c its_member.0.link journal.lawful its_link can
+    comes = comes_up (settings_of program) (next_request program.code) es c its_client.0.link journal.lawful its_link can
 
-    pub no_trigger : is_due (settings_of program) c es ≡ false
-    no_trigger = none_due (settings_of program) (next_request program.code) es c its_member.0.link journal.lawful its_link can
+    pub no_trigger : is_loss_or_break_due (settings_of program) c es ≡ false
+    no_trigger = none_due (settings_of program) (next_request program.code) es c its_client.0.link journal.lawful its_link can
 
     -- what is answered
-    pub answer_is : first_up c nodes.members.items ≡ first_answer its_member.0.link.up its_member.0.link.server
-    answer_is = ap (λ member. option_and_then (λ (member : Member). first_answer member.link.up member.link.server) member) its_member.1
+    pub answer_is : first_up c nodes.client_nodes.items ≡ first_answer its_client.0.link.up its_client.0.link.server
+    answer_is = ap (λ client_node. option_and_then (λ (client_node : ClientNode). first_answer client_node.link.up client_node.link.server) client_node) its_client.1
 
-    pub of_message : (come : MessageOf) → first_up c nodes.members.items ≡ Some (accepted.Up (both.Up come.letter.message) come.letter.clock)
+    pub of_message : (come : MessageOf) → first_up c nodes.client_nodes.items ≡ Some (accepted.Up (both.Up come.letter.message) come.letter.clock)
     of_message come = answer_is ∙ come.answer
 
-    pub of_rejoin : (come : RejoinOf) → first_up c nodes.members.items ≡ Some (accepted.Rejoined (past_of both.Up both.Down c es).down_taken)
+    pub of_rejoin : (come : RejoinOf) → first_up c nodes.client_nodes.items ≡ Some (accepted.Rejoined (past_of both.Up both.Down c es).down_taken)
     of_rejoin come = answer_is ∙ come.answer
 
-    module _ (members : List Member) (changes : ChangesLine c taken_up nodes.members.items members) where
+    module _ (client_nodes : List ClientNode) (changes : ChangesLine c taken_up nodes.client_nodes.items client_nodes) where
       -- A message: the nodes with it off its channel.
-      pub message_heard : (message : Up) (clock : ℕ) → first_up c nodes.members.items ≡ Some (accepted.Up (both.Up message) clock)
-          → (new : Nodes) → new.members.items ≡ members → new.server ≡ nodes.server → new.clock ≡ nodes.clock
+      pub message_heard : (message : Up) (clock : ℕ) → first_up c nodes.client_nodes.items ≡ Some (accepted.Up (both.Up message) clock)
+          → (new : Nodes) → new.client_nodes.items ≡ client_nodes → new.server ≡ nodes.server → new.clock ≡ nodes.clock
           → Heard program c (record { message = message; clock = clock }) new es
-      message_heard message clock answer new is_members same_server same_clock = by comes
+      message_heard message clock answer new is_client_nodes same_server same_clock = by comes
         where
           by : MessageOf ⊎ RejoinOf → Heard program c (record { message = message; clock = clock }) new es
           by (inr rejoin) = let other = sym answer ∙ of_rejoin rejoin in absurd (cc other)
@@ -106,10 +106,10 @@ module _ (program : Program) (c : ℕ) (nodes : Nodes) (es : List Entry) (journa
                 joined = come.course;
                 none_due = no_trigger;
                 stands = record {
-                  count = ap length is_members ∙ same_length (λ place. with_line c taken_up (suc place)) nodes.members.items members changes ∙ stands.count;
-                  members = λ place member is. changed program c taken_up Joined (record (past_of both.Up both.Down c es) { up_taken = (past_of both.Up both.Down c es).up_taken + 1 }) nodes.members.items members es
-                      stands.members changes (at_place (λ before. LinkStands Joined (record (past_of both.Up both.Down c es) { up_taken = (past_of both.Up both.Down c es).up_taken + 1 }) (taken_up before.link)) come.stands)
-                      place member (sym (ap (λ list. slice_get list place) is_members) ∙ is);
+                  count = ap length is_client_nodes ∙ same_length (λ place. with_line c taken_up (suc place)) nodes.client_nodes.items client_nodes changes ∙ stands.count;
+                  client_nodes = λ place client_node is. changed program c taken_up Joined (record (past_of both.Up both.Down c es) { up_taken = (past_of both.Up both.Down c es).up_taken + 1 }) nodes.client_nodes.items client_nodes es
+                      stands.client_nodes changes (at_place (λ before. LinkStands Joined (record (past_of both.Up both.Down c es) { up_taken = (past_of both.Up both.Down c es).up_taken + 1 }) (taken_up before.link)) come.stands)
+                      place client_node (sym (ap (λ list. slice_get list place) is_client_nodes) ∙ is);
                   server = subst (λ server. ServerStands (settings_of program) server (entries_of node.Server es)) (sym same_server) stands.server;
                   lacks = subst (λ server. LacksNothing (settings_of program) server (entries_of node.Server es)) (sym same_server) stands.lacks;
                   given = subst (λ server. given_by server ≤ length es) (sym same_server) stands.given;
@@ -118,22 +118,22 @@ module _ (program : Program) (c : ℕ) (nodes : Nodes) (es : List Entry) (journa
               }
 
       -- A rejoin: the nodes with it off its channel.
-      pub rejoin_stands : (seen : ℕ) → first_up c nodes.members.items ≡ Some (accepted.Rejoined seen)
-          → (course_of (settings_of program) c es ≡ Half) × ((place : ℕ) (member : Member) → slice_get members place ≡ Some member
-          → MemberStandsBy program (suc place) (course_heard program c es (suc place)) (cond (eqb (suc place) c) (past_of both.Up both.Down c es) (past_of both.Up both.Down (suc place) es)) member es)
+      pub rejoin_stands : (seen : ℕ) → first_up c nodes.client_nodes.items ≡ Some (accepted.Rejoined seen)
+          → (course_of (settings_of program) c es ≡ Half) × ((place : ℕ) (client_node : ClientNode) → slice_get client_nodes place ≡ Some client_node
+          → ClientNodeStandsBy program (suc place) (course_heard program c es (suc place)) (cond (eqb (suc place) c) (past_of both.Up both.Down c es) (past_of both.Up both.Down (suc place) es)) client_node es)
       rejoin_stands seen answer = by comes
         where
-          by : MessageOf ⊎ RejoinOf → (course_of (settings_of program) c es ≡ Half) × ((place : ℕ) (member : Member) → slice_get members place ≡ Some member
-              → MemberStandsBy program (suc place) (course_heard program c es (suc place)) (cond (eqb (suc place) c) (past_of both.Up both.Down c es) (past_of both.Up both.Down (suc place) es)) member es)
+          by : MessageOf ⊎ RejoinOf → (course_of (settings_of program) c es ≡ Half) × ((place : ℕ) (client_node : ClientNode) → slice_get client_nodes place ≡ Some client_node
+              → ClientNodeStandsBy program (suc place) (course_heard program c es (suc place)) (cond (eqb (suc place) c) (past_of both.Up both.Down c es) (past_of both.Up both.Down (suc place) es)) client_node es)
           by (inl come) = let other = sym (of_message come) ∙ answer in absurd (cc other)
           by (inr come) = (
             come.course,
-            changed program c taken_up Joined (past_of both.Up both.Down c es) nodes.members.items members es stands.members changes
+            changed program c taken_up Joined (past_of both.Up both.Down c es) nodes.client_nodes.items client_nodes es stands.client_nodes changes
                 (at_place (λ before. LinkStands Joined (past_of both.Up both.Down c es) (taken_up before.link)) come.stands),
           )
 
     -- there is no other answer
-    pub no_other : (answer : Option (Accepted Both)) → answer ≡ first_up c nodes.members.items → ((message : Up) (clock : ℕ) → answer ≢ Some (accepted.Up (both.Up message) clock))
+    pub no_other : (answer : Option (Accepted Both)) → answer ≡ first_up c nodes.client_nodes.items → ((message : Up) (clock : ℕ) → answer ≢ Some (accepted.Up (both.Up message) clock))
         → ((seen : ℕ) → answer ≢ Some (accepted.Rejoined seen)) → ⊥
     no_other answer is no_message no_rejoin = by comes
       where

@@ -12,9 +12,9 @@ use Rattle.dso_world.specs.declared.nodes.Nodes.{Nodes}
 use Rattle.dso_world.specs.declared.step.Step.{Step}
 use Rattle.dso_world.specs.ChosenSlot.{is_slot}
 use Rattle.dso_world.specs.Flags.{Row}
-use Rattle.dso_world.specs.Following.{AreFlags, Marks}
-use Rattle.dso_world.specs.Looking.{TellsOpen}
-use Rattle.dso_world.specs.MemberSteps.{IsJournal}
+use Rattle.dso_world.specs.StepUpdates.{AreFlags, Marks}
+use Rattle.dso_world.specs.SlotTests.{TellsOpen}
+use Rattle.dso_world.specs.ClientSteps.{IsJournal}
 use Rattle.dso_world.specs.NodesStand.{NodesStand}
 use Rattle.dso_world.specs.Touched.{is_touched}
 use Rattle.dso_world.specs.WorldSteps.{settings_of, slot_of}

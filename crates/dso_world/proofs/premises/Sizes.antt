@@ -27,7 +27,7 @@ use Rattle.dso_law.specs.Threads.{or_else, own, work_of, locks_of, block_after, 
 use Rattle.dso_law.proofs.core.Bodies.{bodies_are_held}
 use Rattle.dso_machine.specs.declared.code.Code.{Code}
 use Rattle.dso_machine.specs.Next.{next_request}
-use Rattle.dso_machine.specs.Sound.{IsSound, IsSoundClass}
+use Rattle.dso_machine.specs.Sound.{IsSoundCode, IsSoundClass}
 use Rattle.dso_legal.specs.ClassesKept.{class_made, IsAsMade, KeepsClasses}
 use Rattle.dso_legal.specs.Lawful.{AllFollow}
 use Rattle.dso_legal.specs.ValuesFine.{FitsField, KeepsValues}
@@ -42,7 +42,7 @@ use Rattle.dso_world.proofs.premises.SoundPrograms.{sound_code}
 -- ---- how large an object of sound code is
 
 -- an object of sound code has a size that is told in 32 bits
-small : (code : Code) → IsSound code → (class : ClassId) (size : ℕ) → HasSize code.shape class size → size < 2 ^ 32
+small : (code : Code) → IsSoundCode code → (class : ClassId) (size : ℕ) → HasSize code.shape class size → size < 2 ^ 32
 small code sound (Plain number) size has = by (slice_get code.shape.classes number) refl has
   where
     by : (class : Option ClassShape) → slice_get code.shape.classes number ≡ class → IsFieldCount class size → size < 2 ^ 32
@@ -99,7 +99,7 @@ either_has : (P : Body → Type 0) (one two : Option Body) (body : Body) → (on
 either_has P None two body first second is = second is
 either_has P (Some one) two body first second is = first is
 
-module _ (code : Code) (sound : IsSound code) (p : Settings) (shaped : p.shape ≡ code.shape) (es : List Entry) (follow : AllFollow p (next_request code) es) where
+module _ (code : Code) (sound : IsSoundCode code) (p : Settings) (shaped : p.shape ≡ code.shape) (es : List Entry) (follow : AllFollow p (next_request code) es) where
   fine : KeepsValues p.shape es
   fine = let program = sound_code code p.shape sound shaped in values_are_fine p (next_request code) program.sound program.texts program.within es follow
 

@@ -7,19 +7,19 @@ use Rattle.dso_base.specs.declared.shape.Shape.{Shape}
 use Rattle.dso_machine.specs.declared.code.Code.{Code}
 use Rattle.dso_machine.specs.Next.{next_request}
 use Rattle.dso_machine.specs.Sound as machine
-use Rattle.dso_legal.specs.SoundProgram.{IsSound, GivesKnownTexts}
+use Rattle.dso_legal.specs.SoundProgram.{AsksSoundly, GivesKnownTexts}
 use Rattle.dso_legal.specs.WithinShape.{StaysWithinShape}
 use Rattle.dso_legal.proofs.programs.SoundCode.{sound_program, known_texts}
 use Rattle.dso_legal.proofs.programs.WithinShape.{within_shape}
 
 -- all that the laws of lawful journals ask of a program
 pub record IsOfSoundProgram (shape : Shape) (next : ThreadId → List Event → Option Request) : Type 0 where
-  pub sound : IsSound shape next
+  pub sound : AsksSoundly shape next
   pub texts : GivesKnownTexts shape next
   pub within : StaysWithinShape shape next
 
 -- Sound code keeps to it.
-pub sound_code : (code : Code) (shape : Shape) → machine.IsSound code → shape ≡ code.shape → IsOfSoundProgram shape (next_request code)
+pub sound_code : (code : Code) (shape : Shape) → machine.IsSoundCode code → shape ≡ code.shape → IsOfSoundProgram shape (next_request code)
 sound_code code shape sound shaped = subst (λ shape. IsOfSoundProgram shape (next_request code)) (sym shaped) (record {
   sound = sound_program code sound;
   texts = known_texts code sound;

@@ -16,7 +16,7 @@ use Rattle.dso_law.specs.ServerReadings.{counted, is_lost}
 use Rattle.dso_law.specs.Settings.{Settings}
 use Rattle.dso_machine.specs.declared.code.Code.{Code}
 use Rattle.dso_machine.specs.Next.{next_request}
-use Rattle.dso_machine.specs.Sound.{IsSound}
+use Rattle.dso_machine.specs.Sound.{IsSoundCode}
 use Rattle.dso_legal.specs.Lawful.{AllFollow}
 use Rattle.dso_legal.specs.MessagesFit.{FirstsFit}
 use Rattle.dso_legal.proofs.fitting.MessagesFit.{messages_fit}
@@ -43,7 +43,7 @@ next_letter {N = N} one letters flight taken left more = by (slice_get letters t
         none_past (x ∷ xs) (suc k) is = omega (arith, none_past xs k is)
     by (Some letter) is = (letter, record { first = left ∙ from_here letters taken letter is; place = slice_get-map (post_of one) letters taken ∙ ap (option_map (post_of one)) is })
 
-module _ (code : Code) (sound : IsSound code) (p : Settings) (shaped : p.shape ≡ code.shape) (es : List Entry) (follow : AllFollow p (next_request code) es) (few : length es < 2 ^ 54) (c : ℕ) where
+module _ (code : Code) (sound : IsSoundCode code) (p : Settings) (shaped : p.shape ≡ code.shape) (es : List Entry) (follow : AllFollow p (next_request code) es) (few : length es < 2 ^ 54) (c : ℕ) where
   firsts : FirstsFit p c es
   firsts = let program = sound_code code p.shape sound shaped in messages_fit p (next_request code) program.sound program.texts program.within es follow few c
 

@@ -17,7 +17,7 @@ use Rattle.dso_machine.specs.declared.code.Code.{Code}
 use Rattle.dso_machine.specs.declared.code.ThreadBody.{ThreadBody}
 use Rattle.dso_machine.specs.Limits.{most_threads}
 use Rattle.dso_machine.specs.Next.{body_of}
-use Rattle.dso_machine.specs.Sound.{IsSound, IsSoundBody, threads_of}
+use Rattle.dso_machine.specs.Sound.{IsSoundCode, IsSoundBody, threads_of}
 use Rattle.dso_plain.proofs.keys.SameKeys.{thread_self}
 use Rattle.dso_world.proofs.programs.Numbered.{are_first, has_index, its_index}
 
@@ -54,7 +54,7 @@ few_first : (c most n : ℕ) → AllByRecursion (λ t. t.index ≤ most) (first_
 few_first c most zero all = omega arith
 few_first c most (suc n) all = last_has (λ t. t.index ≤ most) (map (thread_at c) (up_to n)) (thread_at c (suc n)) (subst (AllByRecursion (λ t. t.index ≤ most)) (map-append (thread_at c) (up_to n) (suc n ∷ [])) all)
 
-module _ (code : Code) (sound : IsSound code) (threads : List ThreadId) (moved : IsPermutation (threads_of code) threads) where
+module _ (code : Code) (sound : IsSoundCode code) (threads : List ThreadId) (moved : IsPermutation (threads_of code) threads) where
   -- A thread of the cluster has a body in the code,
   pub body_there : (t : ThreadId) → list_any (is_thread t) threads ≡ true → body_of t code.bodies ≢ None
   body_there t is = has_body t code.bodies (list_any-IsPermutation (is_thread t) (threads_of code) threads moved ∙ is)

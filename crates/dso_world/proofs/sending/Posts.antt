@@ -8,7 +8,7 @@ use Rattle.dso_base.specs.declared.both.Both.{Both}
 use Rattle.dso_base.specs.declared.both.Both.TheVariants as both
 use Rattle.dso_world.specs.Link.{Line, sent_down, sent_up}
 use Rattle.dso_world.specs.LinkStands.{Course, LinkStands, Past}
-use Rattle.dso_world.specs.Sending.{all_sent_down, all_sent_up}
+use Rattle.dso_world.specs.SentMessages.{all_sent_down, all_sent_up}
 use Rattle.dso_world.proofs.links.Takes.{links_go_on}
 
 -- a message up, as its connection carries it

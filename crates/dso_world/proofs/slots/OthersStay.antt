@@ -16,7 +16,7 @@ use Rattle.dso_law.specs.ClientStep.{may_act, may_flush}
 use Rattle.dso_law.specs.Entries.{by_sent_up, entries_of, events_in}
 use Rattle.dso_law.specs.ServerReadings.{is_lost, is_reached, loses, taken_count}
 use Rattle.dso_legal.specs.Lawful.{next_after}
-use Rattle.dso_legal.specs.Slots.{Slot, Acts, TakesDown, Flushes, TakesUp, Loses, Breaks, is_any, is_due, is_open}
+use Rattle.dso_legal.specs.Slots.{Slot, Acts, TakesDown, Flushes, TakesUp, Loses, Breaks, is_any, is_loss_or_break_due, is_open}
 use Rattle.dso_world.specs.Touched.{OthersStay, is_input_of, is_touched}
 use Rattle.dso_world.proofs.premises.OwnRun.{same_may_act}
 
@@ -121,7 +121,7 @@ module _ (p : Settings) (next : ThreadId → List Event → Option Request) (e :
         (is_any (cond b (cond (takes_down e.input) (drop 1 (down_in_flight c es)) (down_in_flight c es)) (down_in_flight c es)))) (apart_too d c other)
 
     takes_up_stay : is_open p next (at (Client d)) (TakesUp c) ≡ is_open p next es (TakesUp c)
-    takes_up_stay = ap (λ b. not (is_due p c es) && cond (is_broken c (entries_of Server es))
+    takes_up_stay = ap (λ b. not (is_loss_or_break_due p c es) && cond (is_broken c (entries_of Server es))
         (not (ltb (count_inputs (rejoins c) (cond b (record e { node = Client d } ∷ entries_of (Client c) es) (entries_of (Client c) es))) (count_inputs (breaks c) (entries_of Server es))))
         (is_any (cond b (by_sent_up (posted e.clock) e.sent (up_in_flight c es)) (up_in_flight c es)))) (apart_too d c other)
 

@@ -8,7 +8,7 @@ use Rattle.dso_world.specs.declared.world.World.{World}
 use Rattle.dso_world.specs.Flags.{chosen_place}
 use Rattle.dso_world.specs.Laws.{IsChosen}
 use Rattle.dso_world.specs.WorldSteps.{settings_of, slot_of}
-use Rattle.dso_world.specs.WorldStands.{BoardStands, IsChosenStep, entries_in}
+use Rattle.dso_world.specs.WorldStands.{OpenStepsStand, IsChosenStep, entries_in}
 use Rattle.dso_world.proofs.flags.Chosen.{places_are_chosen}
 
 -- what stands at a place of a list is told at that place, and none where there is none
@@ -27,27 +27,27 @@ is_there [] place within none = omega (arith, within)
 is_there (x ∷ xs) zero within none = cc none
 is_there (x ∷ xs) (suc place) within none = is_there xs place (omega (arith, within)) none
 
-module _ (program : Program) (seed : Option ℕ) (world : World) (stands : BoardStands program world.board (entries_in world))
-    (within : IfSome (chosen_place seed world.board.chooser) (λ place. place < length world.board.chooser.flags)) where
-  law : IsChosen (settings_of program) (next_request program.code) seed world.board.chooser (entries_in world)
-  law = places_are_chosen (settings_of program) (next_request program.code) world.board.chooser (entries_in world) stands.row seed
+module _ (program : Program) (seed : Option ℕ) (world : World) (stands : OpenStepsStand program world.open_steps (entries_in world))
+    (within : IfSome (chosen_place seed world.open_steps.chooser) (λ place. place < length world.open_steps.chooser.flags)) where
+  law : IsChosen (settings_of program) (next_request program.code) seed world.open_steps.chooser (entries_in world)
+  law = places_are_chosen (settings_of program) (next_request program.code) world.open_steps.chooser (entries_in world) stands.row seed
 
   -- there are as many flags as steps
-  many : length world.board.chooser.flags ≡ length world.board.steps.items
+  many : length world.open_steps.chooser.flags ≡ length world.open_steps.steps.items
   many = ap length stands.row.flags ∙ length-map (slots (settings_of program)) (is_open (settings_of program) (next_request program.code) (entries_in world))
-      ∙ ap length (sym stands.steps) ∙ length-map world.board.steps.items slot_of
+      ∙ ap length (sym stands.steps) ∙ length-map world.open_steps.steps.items slot_of
 
   -- no step is chosen where no place is
-  no_place : (place : Option ℕ) → IfSome place (λ place. place < length world.board.chooser.flags) → option_and_then (slice_get world.board.steps.items) place ≡ None → place ≡ None
+  no_place : (place : Option ℕ) → IfSome place (λ place. place < length world.open_steps.chooser.flags) → option_and_then (slice_get world.open_steps.steps.items) place ≡ None → place ≡ None
   no_place None there none = refl
-  no_place (Some place) there none = absurd (is_there world.board.steps.items place (omega (arith, there, many)) none)
+  no_place (Some place) there none = absurd (is_there world.open_steps.steps.items place (omega (arith, there, many)) none)
 
-  pub chosen_step : IsChosenStep program seed (option_and_then (slice_get world.board.steps.items) (chosen_place seed world.board.chooser)) world
+  pub chosen_step : IsChosenStep program seed (option_and_then (slice_get world.open_steps.steps.items) (chosen_place seed world.open_steps.chooser)) world
   chosen_step = record {
-    slot = told_where slot_of world.board.steps.items (chosen_place seed world.board.chooser)
-        ∙ ap (λ list. option_and_then (slice_get list) (chosen_place seed world.board.chooser)) stands.steps ∙ law.slot;
+    slot = told_where slot_of world.open_steps.steps.items (chosen_place seed world.open_steps.chooser)
+        ∙ ap (λ list. option_and_then (slice_get list) (chosen_place seed world.open_steps.chooser)) stands.steps ∙ law.slot;
     none = (
-      λ none. law.none.0 (no_place (chosen_place seed world.board.chooser) within none),
-      λ none. ap (option_and_then (slice_get world.board.steps.items)) (law.none.1 none),
+      λ none. law.none.0 (no_place (chosen_place seed world.open_steps.chooser) within none),
+      λ none. ap (option_and_then (slice_get world.open_steps.steps.items)) (law.none.1 none),
     );
   }

@@ -1,23 +1,23 @@
--- The board is followed by an entry.
+-- The open steps is followed by an entry.
 use Rattle.std.proofs.Common.{ℕ, ◌+◌, ◌<◌, ◌≡◌, ◌≢◌, inl, inr, sym, ◌∙◌, ap, Bool, Option, Some, None, List, ◌∷◌, length, slice_get, AllPairs, arith}
 use Rattle.std.proofs.lemmas.List.{length-map}
 use Rattle.std.proofs.lemmas.Option.{slice_get-get_or}
 use Rattle.dso_base.specs.declared.journal.Entry.{Entry}
 use Rattle.dso_base.specs.declared.lock.ThreadId.{ThreadId}
 use Rattle.dso_class.specs.declared.program.Program.{Program}
-use Rattle.dso_class.specs.Sound.{IsSound}
+use Rattle.dso_class.specs.Sound.{IsSoundProgram}
 use Rattle.dso_class.specs.TextProgram.{IsThreadBefore}
 use Rattle.dso_legal.specs.Slots.{Slot, TakesDown, is_open, slots}
 use Rattle.dso_machine.specs.Next.{next_request}
-use Rattle.dso_world.specs.declared.board.Board.{Board}
+use Rattle.dso_world.specs.declared.open_steps.OpenSteps.{OpenSteps}
 use Rattle.dso_world.specs.declared.nodes.Nodes.{Nodes}
 use Rattle.dso_world.specs.ChosenSlot.{slot_at}
 use Rattle.dso_world.specs.Flags.{Row}
-use Rattle.dso_world.specs.Following.{AreFlags, Follows, KeepsRound, Marks}
+use Rattle.dso_world.specs.StepUpdates.{AreFlags, Follows, KeepsRound, Marks}
 use Rattle.dso_world.specs.Laws.{place_behind}
-use Rattle.dso_world.specs.Looking.{TellsFinished}
+use Rattle.dso_world.specs.SlotTests.{TellsFinished}
 use Rattle.dso_world.specs.WorldSteps.{settings_of}
-use Rattle.dso_world.specs.WorldStands.{BoardStands}
+use Rattle.dso_world.specs.WorldStands.{OpenStepsStand}
 use Rattle.dso_world.proofs.slots.Once.{rounds_go_on}
 
 -- a thread that stands before another is another
@@ -29,10 +29,10 @@ before_differs t u (inr after) = λ same. let its : t.index ≡ u.index = ap (λ
 threads_once : (threads : List ThreadId) → AllPairs IsThreadBefore threads → AllPairs (λ thread other. thread ≢ other) threads
 threads_once threads rise = λ i j d less within. before_differs _ _ (rise i j d less within)
 
-module _ (program : Program) (nodes : Nodes) (entry : Entry) (place : ℕ) (old : Board) (marked : Row) (finished : Bool)
+module _ (program : Program) (nodes : Nodes) (entry : Entry) (place : ℕ) (old : OpenSteps) (marked : Row) (finished : Bool)
     (within : place < length old.chooser.flags) (marks : Marks program nodes entry old.steps.items old.chooser marked) (round : KeepsRound old.chooser marked) where
   -- the place of the round goes on behind the place of the entry's slot
-  goes_on : (es : List Entry) → IsSound program → BoardStands program old es → slice_get (slots (settings_of program)) place ≡ slot_at entry.node entry.input
+  goes_on : (es : List Entry) → IsSoundProgram program → OpenStepsStand program old es → slice_get (slots (settings_of program)) place ≡ slot_at entry.node entry.input
       → place + 1 ≡ place_behind (slot_at entry.node entry.input) (slots (settings_of program))
   goes_on es sound stands at = by (slot_at entry.node entry.input) at
     where

@@ -15,7 +15,7 @@ use Rattle.dso_law.specs.Channels.{breaks, count_inputs}
 use Rattle.dso_law.specs.Entries.{entries_of}
 use Rattle.dso_law.specs.ServerReadings.{is_loss_due, is_lost, is_reached, taken_count}
 use Rattle.dso_law.specs.Settings.{Settings, clients_of, threads_of, up_to}
-use Rattle.dso_legal.specs.Slots.{Acts, TakesDown, Flushes, TakesUp, Loses, Breaks, client_slots, is_due, is_finished, slots}
+use Rattle.dso_legal.specs.Slots.{Acts, TakesDown, Flushes, TakesUp, Loses, Breaks, client_slots, is_loss_or_break_due, is_finished, slots}
 use Rattle.dso_machine.specs.Next.{next_request}
 use Rattle.dso_server.specs.ServerStands.{ServerStands}
 use Rattle.dso_server.specs.Triggers.{AreTriggersOf, break_due_by, loss_due_by}
@@ -23,16 +23,16 @@ use Rattle.dso_server.specs.declared.server.Server.{Server}
 use Rattle.dso_session.specs.Ends.{sent_count}
 use Rattle.dso_base.specs.declared.both.Both.{Both}
 use Rattle.dso_base.specs.declared.both.Both.TheVariants as both
-use Rattle.dso_world.specs.declared.member.Member.{Member}
+use Rattle.dso_world.specs.declared.client_node.ClientNode.{ClientNode}
 use Rattle.dso_world.specs.declared.nodes.Nodes.{Nodes}
 use Rattle.dso_world.specs.declared.step.Step.{Step}
 use Rattle.dso_world.specs.declared.step.Step.TheVariants as step
 use Rattle.dso_world.specs.Busy.{is_busy}
 use Rattle.dso_world.specs.ChosenSlot.{is_slot}
 use Rattle.dso_world.specs.LinkStands.{can_take_down, can_take_up}
-use Rattle.dso_world.specs.Looking.{PairStands, TellsBusy, TellsDue, TellsOpen, TellsOpenAt}
-use Rattle.dso_world.specs.MemberSteps.{IsJournal}
-use Rattle.dso_world.specs.NodesStand.{MemberStands, NodesStand}
+use Rattle.dso_world.specs.SlotTests.{PairStands, TellsBusy, TellsDue, TellsOpen, TellsOpenAt}
+use Rattle.dso_world.specs.ClientSteps.{IsJournal}
+use Rattle.dso_world.specs.NodesStand.{ClientNodeStands, NodesStand}
 use Rattle.dso_world.specs.PastOf.{course_of, past_of}
 use Rattle.dso_world.specs.Touched.{client_of}
 use Rattle.dso_world.specs.WorldSteps.{settings_of, slot_of}
@@ -99,13 +99,13 @@ module _ (program : Program) where
   -- ---- triggers
 
   -- Which triggers are due is told by what was taken, how often the connection broke, and whether the client is lost.
-  pub due_told : (c : ℕ) (server : Server) (member : Member) (lost loss break : Bool) (taken broke : ℕ)
+  pub due_told : (c : ℕ) (server : Server) (client_node : ClientNode) (lost loss break : Bool) (taken broke : ℕ)
       → ((p : Settings) (es : List Entry) → ServerStands p server es → lost ≡ is_lost c es)
-      → taken ≡ member.link.server.accepted → broke ≡ member.link.server.epoch
-      → ((d : ℕ) (losses all : List Trigger) → AreTriggersOf d losses all member.triggers → loss ≡ loss_due_by d taken lost losses)
-      → ((d : ℕ) (losses all : List Trigger) → AreTriggersOf d losses all member.triggers → break ≡ break_due_by d taken lost loss broke all)
-      → TellsDue program c server member loss break
-  due_told c server member lost loss break taken broke tells taken_is broke_is loss_by break_by es pair =
+      → taken ≡ client_node.link.server.accepted → broke ≡ client_node.link.server.epoch
+      → ((d : ℕ) (losses all : List Trigger) → AreTriggersOf d losses all client_node.triggers → loss ≡ loss_due_by d taken lost losses)
+      → ((d : ℕ) (losses all : List Trigger) → AreTriggersOf d losses all client_node.triggers → break ≡ break_due_by d taken lost loss broke all)
+      → TellsDue program c server client_node loss break
+  due_told c server client_node lost loss break taken broke tells taken_is broke_is loss_by break_by es pair =
       let own = entries_of node.Server es in
       let gone = is_lost c own in
       let losses = program.losses in
@@ -125,75 +125,75 @@ module _ (program : Program) where
             ∙ ap (λ n. not gone && (not due && ltb n (length (filter (is_reached c (taken_count c own)) all)))) breaks_are,
       )
 
-  module _ (c : ℕ) (server : Server) (member : Member) (loss break : Bool) (tells : TellsDue program c server member loss break) where
+  module _ (c : ℕ) (server : Server) (client_node : ClientNode) (loss break : Bool) (tells : TellsDue program c server client_node loss break) where
     -- ---- slots of a client
 
     -- one of them is due
-    either_told : (es : List Entry) → PairStands program c server member es → (loss || break) ≡ is_due (settings_of program) c es
+    either_told : (es : List Entry) → PairStands program c server client_node es → (loss || break) ≡ is_loss_or_break_due (settings_of program) c es
     either_told es pair =
         let due = tells es pair in
         ap (λ b. b || break) due.0 ∙ ap (λ b. is_loss_due (settings_of program) c (entries_of node.Server es) || b) due.1
 
     -- the server can take of the client
-    pub up_told : (empty : Bool) → (IsTrue empty ↔ (member.link.up ≡ [])) → TellsOpenAt program c server member (step.TakeUp c) (not (loss || break) && not empty)
+    pub up_told : (empty : Bool) → (IsTrue empty ↔ (client_node.link.up ≡ [])) → TellsOpenAt program c server client_node (step.TakeUp c) (not (loss || break) && not empty)
     up_told empty waits es pair its =
         ap (λ b. not b && not empty) (either_told es pair)
-        ∙ ap (λ b. not (is_due (settings_of program) c es) && b) (empty_is empty (can_take_up (course_of (settings_of program) c es) (past_of both.Up both.Down c es)) waits
-        ((links_go_on {M = Both}).none_up (course_of (settings_of program) c es) (past_of both.Up both.Down c es) member.link pair.stands.link))
+        ∙ ap (λ b. not (is_loss_or_break_due (settings_of program) c es) && b) (empty_is empty (can_take_up (course_of (settings_of program) c es) (past_of both.Up both.Down c es)) waits
+        ((links_go_on {M = Both}).none_up (course_of (settings_of program) c es) (past_of both.Up both.Down c es) client_node.link pair.stands.link))
         ∙ sym ((letters_are_left {M = Both}).takes (settings_of program) (next_request program.code) es pair.journal.lawful both.Up both.Down c).up
 
-    pub lose_told : TellsOpenAt program c server member (step.Lose c) loss
+    pub lose_told : TellsOpenAt program c server client_node (step.Lose c) loss
     lose_told es pair its = (tells es pair).0
 
-    pub break_told : TellsOpenAt program c server member (step.Break c) break
+    pub break_told : TellsOpenAt program c server client_node (step.Break c) break
     break_told es pair its = (tells es pair).1
 
     -- whether the client keeps the run going
     pub busy_told : (lost quiet going : Bool) (alive : ℕ) → ((p : Settings) (es : List Entry) → ServerStands p server es → lost ≡ is_lost c es)
-        → quiet ≡ (eqb (sent_count member.link.client) member.link.server.accepted && eqb (sent_count member.link.server) member.link.client.accepted)
-        → TellsAlive member.client alive → going ≡ ((loss || break) || (not lost && (not quiet || ltb 0 alive)))
-        → TellsBusy program c server member going
+        → quiet ≡ (eqb (sent_count client_node.link.client) client_node.link.server.accepted && eqb (sent_count client_node.link.server) client_node.link.client.accepted)
+        → TellsAlive client_node.client alive → going ≡ ((loss || break) || (not lost && (not quiet || ltb 0 alive)))
+        → TellsBusy program c server client_node going
     busy_told lost quiet going alive lost_told quiet_is on going_is es pair =
         let p = settings_of program in
         let sound = pair.journal.sound in
         let link = pair.stands.link in
         going_is ∙ ap (λ b. b || (not lost && (not quiet || ltb 0 alive))) (either_told es pair)
-        ∙ ap (λ b. is_due p c es || (not b && (not quiet || ltb 0 alive))) (lost_told p (entries_of node.Server es) pair.core)
-        ∙ ap (λ b. is_due p c es || (not (is_lost c (entries_of node.Server es)) && (not b || ltb 0 alive))) quiet_is
+        ∙ ap (λ b. is_loss_or_break_due p c es || (not b && (not quiet || ltb 0 alive))) (lost_told p (entries_of node.Server es) pair.core)
+        ∙ ap (λ b. is_loss_or_break_due p c es || (not (is_lost c (entries_of node.Server es)) && (not b || ltb 0 alive))) quiet_is
         ∙ sym (busy_is program.code sound.code p refl (bodies_there program.code sound.code program.threads sound.threads) es pair.journal.lawful c
-        (sent_count member.link.client) member.link.server.accepted (sent_count member.link.server) member.link.client.accepted alive
-        (all_sent (past_of both.Up both.Down c es).up member.link.client link.client.sent) link.server.accepted link.up_few
-        (all_sent (past_of both.Up both.Down c es).down member.link.server link.server.sent) link.client.accepted link.down_few
+        (sent_count client_node.link.client) client_node.link.server.accepted (sent_count client_node.link.server) client_node.link.client.accepted alive
+        (all_sent (past_of both.Up both.Down c es).up client_node.link.client link.client.sent) link.server.accepted link.up_few
+        (all_sent (past_of both.Up both.Down c es).down client_node.link.server link.server.sent) link.client.accepted link.down_few
         (on program.code p c (entries_of (node.Client c) es) pair.stands.client))
 
   -- a thread can act
-  pub acts_told : (server : Server) (member : Member) (t : ThreadId) (answer : Bool) → IsEnabled member.client t.index answer → TellsOpenAt program t.client server member (step.Act t) answer
-  acts_told server member t answer tells es pair its =
+  pub acts_told : (server : Server) (client_node : ClientNode) (t : ThreadId) (answer : Bool) → IsEnabled client_node.client t.index answer → TellsOpenAt program t.client server client_node (step.Act t) answer
+  acts_told server client_node t answer tells es pair its =
       tells program.code (settings_of program) t.client (entries_of (node.Client t.client) es) pair.stands.client
       (sizes_are_kept program.code pair.journal.sound.code (settings_of program) refl es pair.journal.lawful.follow t.client)
       (acts_there (settings_of program) t its)
       ∙ sym (acts_open (settings_of program) (next_request program.code) t.client es t.index)
 
   -- the client can take
-  pub down_told : (c : ℕ) (server : Server) (member : Member) (empty : Bool) → (IsTrue empty ↔ (member.link.down ≡ [])) → TellsOpenAt program c server member (step.TakeDown c) (not empty)
-  down_told c server member empty waits es pair its =
+  pub down_told : (c : ℕ) (server : Server) (client_node : ClientNode) (empty : Bool) → (IsTrue empty ↔ (client_node.link.down ≡ [])) → TellsOpenAt program c server client_node (step.TakeDown c) (not empty)
+  down_told c server client_node empty waits es pair its =
       empty_is empty (can_take_down (course_of (settings_of program) c es) (past_of both.Up both.Down c es)) waits
-      ((links_go_on {M = Both}).none_down (course_of (settings_of program) c es) (past_of both.Up both.Down c es) member.link pair.stands.link)
+      ((links_go_on {M = Both}).none_down (course_of (settings_of program) c es) (past_of both.Up both.Down c es) client_node.link pair.stands.link)
       ∙ sym ((letters_are_left {M = Both}).takes (settings_of program) (next_request program.code) es pair.journal.lawful both.Up both.Down c).down
 
   -- so for the step that it is
-  pub at_step : (c d : ℕ) (server : Server) (member : Member) (one other : Step) (answer : Bool) → c ≡ client_of (slot_of one) → one ≡ other → client_of (slot_of other) ≡ d
-      → TellsOpenAt program d server member other answer → TellsOpenAt program c server member one answer
-  at_step c d server member one other answer its is of tells =
+  pub at_step : (c d : ℕ) (server : Server) (client_node : ClientNode) (one other : Step) (answer : Bool) → c ≡ client_of (slot_of one) → one ≡ other → client_of (slot_of other) ≡ d
+      → TellsOpenAt program d server client_node other answer → TellsOpenAt program c server client_node one answer
+  at_step c d server client_node one other answer its is of tells =
       let same : c ≡ d = its ∙ ap (λ s. client_of (slot_of s)) is ∙ of in
-      subst (λ s. TellsOpenAt program c server member s answer) (sym is) (subst (λ n. TellsOpenAt program n server member other answer) (sym same) tells)
+      subst (λ s. TellsOpenAt program c server client_node s answer) (sym is) (subst (λ n. TellsOpenAt program n server client_node other answer) (sym same) tells)
 
   -- so where the step is of the client itself
-  pub at_own : (c d : ℕ) (server : Server) (member : Member) (one : Step) (of : ℕ → Step) (answer : Bool) → c ≡ client_of (slot_of one) → one ≡ of d → ((n : ℕ) → client_of (slot_of (of n)) ≡ n)
-      → TellsOpenAt program c server member (of c) answer → TellsOpenAt program c server member one answer
-  at_own c d server member one of answer its is owned tells =
+  pub at_own : (c d : ℕ) (server : Server) (client_node : ClientNode) (one : Step) (of : ℕ → Step) (answer : Bool) → c ≡ client_of (slot_of one) → one ≡ of d → ((n : ℕ) → client_of (slot_of (of n)) ≡ n)
+      → TellsOpenAt program c server client_node (of c) answer → TellsOpenAt program c server client_node one answer
+  at_own c d server client_node one of answer its is owned tells =
       let same : c ≡ d = its ∙ ap (λ s. client_of (slot_of s)) is ∙ owned d in
-      subst (λ s. TellsOpenAt program c server member s answer) (sym (is ∙ ap of (sym same))) tells
+      subst (λ s. TellsOpenAt program c server client_node s answer) (sym (is ∙ ap of (sym same))) tells
 
   -- ---- the nodes
 
@@ -206,7 +206,7 @@ module _ (program : Program) where
         absurd (omega (arith, low, its, none))
 
     -- nor of one that isn't there,
-    pub beyond_told : 1 ≤ number → length nodes.members.items ≤ number - 1 → TellsOpen program nodes one false
+    pub beyond_told : 1 ≤ number → length nodes.client_nodes.items ≤ number - 1 → TellsOpen program nodes one false
     beyond_told from past es journal stands there =
         let range = numbered_so (client_of (slot_of one)) program.clients (of_a_client (slot_of one) (settings_of program) there) in
         let high = range.1 in
@@ -214,29 +214,29 @@ module _ (program : Program) where
         absurd (omega (arith, high, its, from, past, count))
 
     -- else it is open where its client tells so
-    pub member_told : (member : Member) (answer : Bool) → 1 ≤ number → slice_get nodes.members.items (number - 1) ≡ Some member → TellsOpenAt program number nodes.server member one answer
+    pub client_node_told : (client_node : ClientNode) (answer : Bool) → 1 ≤ number → slice_get nodes.client_nodes.items (number - 1) ≡ Some client_node → TellsOpenAt program number nodes.server client_node one answer
         → TellsOpen program nodes one answer
-    member_told member answer from is tells es journal stands there =
+    client_node_told client_node answer from is tells es journal stands there =
         let next : suc (number - 1) ≡ number = omega (arith, from) in
         tells es (record {
           journal = journal;
           its = subst (λ n. list_any (eqb n) (clients_of (settings_of program)) ≡ true) (sym its) (of_a_client (slot_of one) (settings_of program) there);
           core = stands.server;
-          stands = subst (λ n. MemberStands program n member es) next (stands.members (number - 1) member is);
+          stands = subst (λ n. ClientNodeStands program n client_node es) next (stands.client_nodes (number - 1) client_node is);
         }) there
 
   -- the client at this place keeps the run going
-  pub busy_at : (place : ℕ) (nodes : Nodes) (member : Member) (answer : Bool) → place < program.clients → slice_get nodes.members.items place ≡ Some member → TellsBusy program (place + 1) nodes.server member answer
+  pub busy_at : (place : ℕ) (nodes : Nodes) (client_node : ClientNode) (answer : Bool) → place < program.clients → slice_get nodes.client_nodes.items place ≡ Some client_node → TellsBusy program (place + 1) nodes.server client_node answer
       → (es : List Entry) → IsJournal program es → NodesStand program nodes es → answer ≡ is_busy (settings_of program) (suc place) es
-  busy_at place nodes member answer within is tells es journal stands = subst (λ n. TellsBusy program n nodes.server member answer) (next_place place) tells es (record {
+  busy_at place nodes client_node answer within is tells es journal stands = subst (λ n. TellsBusy program n nodes.server client_node answer) (next_place place) tells es (record {
     journal = journal;
     its = listed (eqb (suc place)) (suc place) program.clients (eq-eqb (suc place) (suc place) refl) (omega arith) (omega (arith, within));
     core = stands.server;
-    stands = stands.members place member is;
+    stands = stands.client_nodes place client_node is;
   })
 
   -- there is one at each place up to the last
-  pub nobody_at : (place : ℕ) (nodes : Nodes) → place < program.clients → length nodes.members.items ≤ place
+  pub nobody_at : (place : ℕ) (nodes : Nodes) → place < program.clients → length nodes.client_nodes.items ≤ place
       → (es : List Entry) → IsJournal program es → NodesStand program nodes es → false ≡ is_busy (settings_of program) (suc place) es
   nobody_at place nodes within past es journal stands = let count = stands.count in absurd (omega (arith, within, past, count))
 

@@ -5,16 +5,16 @@ use Rattle.std.proofs.Common.{ℕ, zero, suc, ◌+◌, ◌≤◌, ◌≡◌, ◌
 use Rattle.std.proofs.lemmas.List.{append-nil, length-append, take_all}
 use Rattle.std.proofs.Math.ListN.{drop_of_length-le}
 use Rattle.dso_class.specs.declared.program.Program.{Program}
-use Rattle.dso_class.specs.Sound.{IsSound}
-use Rattle.dso_client.specs.Acting.{count_again}
+use Rattle.dso_class.specs.Sound.{IsSoundProgram}
+use Rattle.dso_client.specs.ThreadActs.{count_again}
 use Rattle.dso_client.specs.ClientStands.{ClientStands, point}
 use Rattle.dso_client.specs.CodeRuns.{RunsCode}
-use Rattle.dso_client.specs.LockingStands.{as_hold}
+use Rattle.dso_client.specs.LockStateStands.{as_hold}
 use Rattle.dso_client.specs.Openings.{HasThreads, first_threads}
-use Rattle.dso_client.specs.Points.{Point}
-use Rattle.dso_client.specs.SeatPlaces.{seat_in}
-use Rattle.dso_client.specs.SeatStands.{SeatStands}
-use Rattle.dso_client.specs.declared.seat.Seat.{Seat}
+use Rattle.dso_client.specs.RunPoints.{RunPoint}
+use Rattle.dso_client.specs.ContextPlaces.{context_in}
+use Rattle.dso_client.specs.ContextStands.{ContextStands}
+use Rattle.dso_client.specs.declared.thread_context.ThreadContext.{ThreadContext}
 use Rattle.dso_hold.specs.Holds.{count_at, hold_in}
 use Rattle.dso_hold.specs.declared.held.Held.{Held}
 use Rattle.dso_law.specs.Channels.{CountsRejoins}
@@ -29,7 +29,7 @@ use Rattle.dso_server.specs.ServerStands.{ServerStands}
 use Rattle.dso_server.specs.Threads.{RunsThreadsOf}
 use Rattle.dso_server.specs.Triggers.{AreTriggersOf}
 use Rattle.dso_base.specs.declared.both.Both.{Both}
-use Rattle.dso_world.specs.declared.member.Member.{Member}
+use Rattle.dso_world.specs.declared.client_node.ClientNode.{ClientNode}
 use Rattle.dso_world.specs.declared.nodes.Nodes.{Nodes}
 use Rattle.dso_world.specs.declared.step.Step.{Step}
 use Rattle.dso_world.specs.declared.world.World.{World}
@@ -37,10 +37,10 @@ use Rattle.dso_world.specs.Flags.{Row, closed_row}
 use Rattle.dso_world.specs.Laws.{RowStands}
 use Rattle.dso_world.specs.Link.{opening_line}
 use Rattle.dso_world.specs.LinkStands.{Joined, LinkStands, opening_past}
-use Rattle.dso_world.specs.Looking.{TellsOpen}
-use Rattle.dso_world.specs.MemberSteps.{IsJournal}
-use Rattle.dso_world.specs.NodesStand.{AreMembers, MemberStands, NodesStand}
-use Rattle.dso_world.specs.WorldStands.{BoardStands, PartsStand, WorldStands, entries_in}
+use Rattle.dso_world.specs.SlotTests.{TellsOpen}
+use Rattle.dso_world.specs.ClientSteps.{IsJournal}
+use Rattle.dso_world.specs.NodesStand.{AreClientNodes, ClientNodeStands, NodesStand}
+use Rattle.dso_world.specs.WorldStands.{OpenStepsStand, WorldPartsStand, WorldStands, entries_in}
 use Rattle.dso_world.specs.WorldSteps.{settings_of, slot_of}
 use Rattle.dso_world.proofs.links.Takes.{links_go_on}
 use Rattle.dso_world.proofs.places.Marked.{marked}
@@ -53,16 +53,16 @@ none_held : (held : Option Held) → option_map as_hold held ≡ None → count_
 none_held None is = omega arith
 none_held (Some held) is = absurd (cc is)
 
-none_waits : (at : Point) → at.entries ≡ [] → (seats : List Seat) → AllByRecursion (SeatStands at) seats → (place : ℕ) → count_again (slice_get seats place) ≤ 0
+none_waits : (at : RunPoint) → at.entries ≡ [] → (contexts : List ThreadContext) → AllByRecursion (ContextStands at) contexts → (place : ℕ) → count_again (slice_get contexts place) ≤ 0
 none_waits at none [] all place = omega arith
-none_waits at none (seat ∷ seats) all (suc place) = none_waits at none seats all.1 place
-none_waits at none (seat ∷ seats) all zero =
-    let is : seat.waiting ≡ None = all.0.waiting ∙ ap (λ es. (locks_of seat.id es).waiting) none in
+none_waits at none (context ∷ contexts) all (suc place) = none_waits at none contexts all.1 place
+none_waits at none (context ∷ contexts) all zero =
+    let is : context.waiting ≡ None = all.0.waiting ∙ ap (λ es. (locks_of context.id es).waiting) none in
     subst (λ waiting. option_map_or (λ one. one.count) waiting 0 ≤ 0) (sym is) (omega arith)
 
-seat_waits : (at : Point) → at.entries ≡ [] → (seats : List Seat) → AllByRecursion (SeatStands at) seats → (index : ℕ) → count_again (seat_in seats index) ≤ 0
-seat_waits at none seats all zero = omega arith
-seat_waits at none seats all (suc place) = none_waits at none seats all place
+context_waits : (at : RunPoint) → at.entries ≡ [] → (contexts : List ThreadContext) → AllByRecursion (ContextStands at) contexts → (index : ℕ) → count_again (context_in contexts index) ≤ 0
+context_waits at none contexts all zero = omega arith
+context_waits at none contexts all (suc place) = none_waits at none contexts all place
 
 -- a place in a list with one more at its end is one of the list or the last
 in_more : {A : Type 0} (xs : List A) (x y : A) (place : ℕ) → slice_get (xs ++ x ∷ []) place ≡ Some y → (slice_get xs place ≡ Some y) ⊎ ((place ≡ length xs) × (x ≡ y))
@@ -91,7 +91,7 @@ no_rejoins (c ∷ cs) = (record { at_client = omega arith; at_server = omega ari
 pub empty_lawful : (program : Program) → IsLawful (settings_of program) (next_request program.code) []
 empty_lawful program = record { follow = tt; connections = no_rejoins (clients_of (settings_of program)) }
 
-module _ (program : Program) (sound : IsSound program) where
+module _ (program : Program) (sound : IsSoundProgram program) where
   pub empty_journal : IsJournal program []
   empty_journal = record { sound = sound; lawful = empty_lawful program; few = omega arith }
 
@@ -106,20 +106,20 @@ module _ (program : Program) (sound : IsSound program) where
   pub threads_there : (number n : ℕ) → n ≡ length (filter (λ t. eqb t.client number) program.threads) → HasThreads program.code number n
   threads_there number n is = subst (HasThreads program.code number) (sym is) (own_there program.code sound.code program.threads sound.threads sound.threads_rise number)
 
-  pub member_stands : (number n : ℕ) (member : Member) → n ≡ length (filter (λ t. eqb t.client number) program.threads) → RunsCode program.code member.client
-      → ((p : Settings) → p.shape ≡ program.code.shape → p.resident ≡ program.resident → threads_of p number ≡ first_threads number n → ClientStands program.code p number member.client [])
-      → member.link ≡ opening_line → member.clock ≡ 0 → AreTriggersOf number program.losses program.breaks member.triggers → MemberStands program number member []
-  member_stands number n member is runs stands line clock triggers =
-      let client : ClientStands program.code (settings_of program) number member.client [] = stands (settings_of program) refl refl
+  pub client_node_stands : (number n : ℕ) (client_node : ClientNode) → n ≡ length (filter (λ t. eqb t.client number) program.threads) → RunsCode program.code client_node.client
+      → ((p : Settings) → p.shape ≡ program.code.shape → p.resident ≡ program.resident → threads_of p number ≡ first_threads number n → ClientStands program.code p number client_node.client [])
+      → client_node.link ≡ opening_line → client_node.clock ≡ 0 → AreTriggersOf number program.losses program.breaks client_node.triggers → ClientNodeStands program number client_node []
+  client_node_stands number n client_node is runs stands line clock triggers =
+      let client : ClientStands program.code (settings_of program) number client_node.client [] = stands (settings_of program) refl refl
       (own_first program.code sound.code program.threads sound.threads sound.threads_rise number ∙ ap (first_threads number) (sym is)) in
-      let none : member.client.ledger.records ≡ 0 = client.parts.ledger.records in
+      let none : client_node.client.sequences.records ≡ 0 = client.parts.sequences.records in
       record {
         client = client;
         runs = runs;
         records = omega (arith, none);
         holds = record {
-          held = λ t l. none_held (hold_in member.client.locking.holds (l, t)) (client.parts.locking.holds t l);
-          waiting = seat_waits (point program.code (settings_of program) number []) refl member.client.seats.items client.parts.seats;
+          held = λ t l. none_held (hold_in client_node.client.lock_state.holds (l, t)) (client.parts.lock_state.holds t l);
+          waiting = context_waits (point program.code (settings_of program) number []) refl client_node.client.contexts.items client.parts.contexts;
         };
         link = subst (λ line. LinkStands Joined (opening_past {M = Both}) line) (sym line) (links_go_on {M = Both}).opens;
         clock = clock;
@@ -127,33 +127,33 @@ module _ (program : Program) (sound : IsSound program) where
       }
 
   -- one client more
-  pub one_more : (count : ℕ) (members more : List Member) (member : Member) → AreMembers program count members → MemberStands program (count + 1) member [] → more ≡ members ++ member ∷ []
-      → AreMembers program (count + 1) more
-  one_more count members more member are stands is = subst (AreMembers program (count + 1)) (sym is) (record {
-    many = length-append members (member ∷ []) ∙ ap (λ n. n + 1) are.many;
-    each = λ place one there. elim (in_more members member one place there) [
+  pub one_more : (count : ℕ) (client_nodes more : List ClientNode) (client_node : ClientNode) → AreClientNodes program count client_nodes → ClientNodeStands program (count + 1) client_node [] → more ≡ client_nodes ++ client_node ∷ []
+      → AreClientNodes program (count + 1) more
+  one_more count client_nodes more client_node are stands is = subst (AreClientNodes program (count + 1)) (sym is) (record {
+    many = length-append client_nodes (client_node ∷ []) ∙ ap (λ n. n + 1) are.many;
+    each = λ place one there. elim (in_more client_nodes client_node one place there) [
       | inl before ↦ are.each place one before
       | inr last ↦
           let next : count + 1 ≡ suc place = (let at = last.0 in let many = are.many in omega (arith, at, many)) in
-          subst (λ m. MemberStands program (suc place) m []) last.1 (subst (λ n. MemberStands program n member []) next stands)
+          subst (λ m. ClientNodeStands program (suc place) m []) last.1 (subst (λ n. ClientNodeStands program n client_node []) next stands)
     ];
   })
 
   -- ---- the nodes
 
-  pub nodes_stand : (nodes : Nodes) → AreMembers program program.clients nodes.members.items
+  pub nodes_stand : (nodes : Nodes) → AreClientNodes program program.clients nodes.client_nodes.items
       → ((p : Settings) → p.shape ≡ program.code.shape → RunsThreadsOf program.code p → p.clients ≡ program.clients → ServerStands p nodes.server [])
       → ((p : Settings) → p.shape ≡ program.code.shape → LacksNothing p nodes.server []) → given_by nodes.server ≡ 0 → nodes.clock ≡ 0 → NodesStand program nodes []
   nodes_stand nodes are serves lacks given clock = record {
     count = are.many;
-    members = are.each;
+    client_nodes = are.each;
     server = serves (settings_of program) refl (runs_threads program.code sound.code program.threads sound.threads) refl;
     lacks = lacks (settings_of program) refl;
     given = omega (arith, given);
     clock = clock;
   }
 
-  -- ---- the board
+  -- ---- the open steps
 
   -- whether the slot of a step is open
   abbrev opens : Step → Bool
@@ -191,10 +191,10 @@ module _ (program : Program) (sound : IsSound program) where
 
   -- ---- the world
 
-  pub world_stands : (world : World) → world.journal.entries ≡ [] → NodesStand program world.nodes [] → BoardStands program world.board [] → world.weight ≡ 0 → WorldStands program world
-  world_stands world none nodes board light =
+  pub world_stands : (world : World) → world.journal.entries ≡ [] → NodesStand program world.nodes [] → OpenStepsStand program world.open_steps [] → world.weight ≡ 0 → WorldStands program world
+  world_stands world none nodes open_steps light =
       let empty : entries_in world ≡ [] = ap reverse none in
       record {
         lawful = subst (IsLawful (settings_of program) (next_request program.code)) (sym empty) (empty_lawful program);
-        parts = λ whole. subst (PartsStand program world) (sym empty) (record { nodes = nodes; board = board; weight = light });
+        parts = λ whole. subst (WorldPartsStand program world) (sym empty) (record { nodes = nodes; open_steps = open_steps; weight = light });
       }

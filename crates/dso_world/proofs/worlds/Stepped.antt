@@ -6,41 +6,41 @@ use Rattle.dso_base.specs.declared.journal.Entry.{Entry}
 use Rattle.dso_class.specs.declared.program.Program.{Program}
 use Rattle.dso_legal.specs.Slots.{is_open, slots}
 use Rattle.dso_machine.specs.Next.{next_request}
-use Rattle.dso_world.specs.declared.board.Board.{Board}
+use Rattle.dso_world.specs.declared.open_steps.OpenSteps.{OpenSteps}
 use Rattle.dso_world.specs.declared.step.Step.{Step}
 use Rattle.dso_world.specs.ChosenSlot.{is_slot}
 use Rattle.dso_world.specs.Flags.{is_set}
-use Rattle.dso_world.specs.MemberSteps.{IsOpenAfter}
+use Rattle.dso_world.specs.ClientSteps.{IsOpenAfter}
 use Rattle.dso_world.specs.WorldSteps.{settings_of, slot_of}
-use Rattle.dso_world.specs.WorldStands.{BoardStands}
+use Rattle.dso_world.specs.WorldStands.{OpenStepsStand}
 use Rattle.dso_world.proofs.places.Found.{found, place_of_told, stands_there}
 use Rattle.dso_world.proofs.places.Marking.{told_place}
 
--- the place of the step among the board's
-abbrev pub place_in : Step → Board → Option ℕ
-place_in step board = position (λ other. is_slot (slot_of step) (slot_of other)) board.steps.items
+-- the place of the step among the open steps's
+abbrev pub place_in : Step → OpenSteps → Option ℕ
+place_in step open_steps = position (λ other. is_slot (slot_of step) (slot_of other)) open_steps.steps.items
 
 -- whether its flag is set
-abbrev pub flag_in : Step → Board → Bool
-flag_in step board = option_map_or is_set (option_and_then (slice_get board.chooser.flags) (place_in step board)) false
+abbrev pub flag_in : Step → OpenSteps → Bool
+flag_in step open_steps = option_map_or is_set (option_and_then (slice_get open_steps.chooser.flags) (place_in step open_steps)) false
 
-module _ (program : Program) (step : Step) (board : Board) (es : List Entry) (stands : BoardStands program board es) where
+module _ (program : Program) (step : Step) (open_steps : OpenSteps) (es : List Entry) (stands : OpenStepsStand program open_steps es) where
   -- its place is that of its slot
-  place_told : place_in step board ≡ position (is_slot (slot_of step)) (slots (settings_of program))
-  place_told = place_of_told slot_of (is_slot (slot_of step)) board.steps.items ∙ ap (position (is_slot (slot_of step))) stands.steps
+  place_told : place_in step open_steps ≡ position (is_slot (slot_of step)) (slots (settings_of program))
+  place_told = place_of_told slot_of (is_slot (slot_of step)) open_steps.steps.items ∙ ap (position (is_slot (slot_of step))) stands.steps
 
   -- a step is open exactly where its flag is set
-  pub open_told : list_any (is_slot (slot_of step)) (filter (is_open (settings_of program) (next_request program.code) es) (slots (settings_of program))) ≡ flag_in step board
+  pub open_told : list_any (is_slot (slot_of step)) (filter (is_open (settings_of program) (next_request program.code) es) (slots (settings_of program))) ≡ flag_in step open_steps
   open_told = found (is_open (settings_of program) (next_request program.code) es) (slot_of step) (slots (settings_of program))
       ∙ ap (λ flags. option_map_or is_set (option_and_then (slice_get flags) (position (is_slot (slot_of step)) (slots (settings_of program)))) false) (sym stands.row.flags)
-      ∙ ap (λ place. option_map_or is_set (option_and_then (slice_get board.chooser.flags) place) false) (sym place_told)
+      ∙ ap (λ place. option_map_or is_set (option_and_then (slice_get open_steps.chooser.flags) place) false) (sym place_told)
 
   -- its slot stands at its place
-  pub slot_stands : (place : ℕ) → place_in step board ≡ Some place → slice_get (slots (settings_of program)) place ≡ Some (slot_of step)
+  pub slot_stands : (place : ℕ) → place_in step open_steps ≡ Some place → slice_get (slots (settings_of program)) place ≡ Some (slot_of step)
   slot_stands place is = stands_there (slot_of step) (slots (settings_of program)) place (sym place_told ∙ is)
 
   -- and is open where the flag there is set
-  pub opens_there : (place : ℕ) → place_in step board ≡ Some place → slice_get board.chooser.flags place ≡ Some true → IsOpenAfter program es (slot_of step)
+  pub opens_there : (place : ℕ) → place_in step open_steps ≡ Some place → slice_get open_steps.chooser.flags place ≡ Some true → IsOpenAfter program es (slot_of step)
   opens_there place is set =
       let told = sym (told_place (is_open (settings_of program) (next_request program.code) es) (slots (settings_of program)) place (slot_of step) (slot_stands place is))
       ∙ ap (λ flags. slice_get flags place) (sym stands.row.flags) ∙ set in

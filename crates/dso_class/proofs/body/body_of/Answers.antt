@@ -1,7 +1,7 @@
 use Rattle.std.proofs.Common.{rules, ◌≡◌, ◌++◌, [], Ok, Err, length, map, reverse, refl, sym, subst, ap, ◌∙◌, append-nil}
 use Rattle.std.proofs.lemmas.List.{length-map}
 use Rattle.dso_class.specs.FaultsAmong.{behind}
-use Rattle.dso_entries.specs.BorrowedWords.{words_of}
+use Rattle.dso_config_entries.specs.BorrowedWords.{words_of}
 use Rattle.dso_class.specs.Mentions as mention
 use Rattle.dso_class.specs.Numbers.{MeansBlock}
 use Rattle.dso_class.specs.BodyWalk.{Met, HasMet, IsWalked, known_in, met_in, owner_in}

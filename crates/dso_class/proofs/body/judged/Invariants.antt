@@ -1,6 +1,6 @@
 use Rattle.std.proofs.Common.{◌≡◌, ◌≤◌, List, [], map, take, Ok}
 use Rattle.std.specs.Borrow.{Bor}
-use Rattle.dso_entries.specs.Words.{Word}
+use Rattle.dso_config_entries.specs.Words.{Word}
 use Rattle.dso_class.specs.PrecedingMentions.{in_body}
 use Rattle.dso_class.specs.Mentions.{Mention}
 use Rattle.dso_class.specs.TextProgram.{Source}

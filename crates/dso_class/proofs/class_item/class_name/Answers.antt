@@ -2,8 +2,8 @@ use Rattle.std.proofs.Common.{◌≡◌, ◌≤◌, sym, ◌∙◌, subst, inl, 
 use Rattle.std.specs.Cmp.Lexicographic.{same_text, other_text}
 use Rattle.dso_class.specs.Heads.{IsRefused, twice}
 use Rattle.dso_class.specs.declared.fault.What.TheVariants as What
-use Rattle.dso_entries.specs.BorrowedWords.{words_of}
-use Rattle.dso_entries.specs.Words.{thread_word}
+use Rattle.dso_config_entries.specs.BorrowedWords.{words_of}
+use Rattle.dso_config_entries.specs.Words.{thread_word}
 use Rattle.dso_class.proofs.rules.RefusedClasses as laws
 use Rattle.dso_class.proofs.class_item.class_name.Goals as goal
 

@@ -1,8 +1,8 @@
 use Rattle.std.proofs.Common.{subst, sym, [], take, ◌+◌}
 use Rattle.dso_class.specs.Declarations.{class_names}
-use Rattle.dso_entries.specs.BorrowedWords.{words_of}
-use Rattle.dso_entries.specs.LastAndFirst.{AreFirsts, empty}
-use Rattle.dso_entries.specs.Words.{Word}
+use Rattle.dso_config_entries.specs.BorrowedWords.{words_of}
+use Rattle.dso_config_entries.specs.LastAndFirst.{AreFirsts, empty}
+use Rattle.dso_config_entries.specs.Words.{Word}
 use Rattle.dso_class.proofs.gathering.ClassNames.{class_more, thread_more}
 use Rattle.dso_class.proofs.gathered_classes.class_names.Goals as goal
 use Rattle.dso_class.proofs.gathered_classes.class_names.Goals.{in-Class+in_ok-add-in-Class, in-Thread}

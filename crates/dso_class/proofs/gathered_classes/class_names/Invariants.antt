@@ -1,7 +1,7 @@
 use Rattle.std.proofs.Common.{take}
 use Rattle.dso_class.specs.Declarations.{class_names}
-use Rattle.dso_entries.specs.BorrowedWords.{words_of}
-use Rattle.dso_entries.specs.LastAndFirst.{AreFirsts}
+use Rattle.dso_config_entries.specs.BorrowedWords.{words_of}
+use Rattle.dso_config_entries.specs.LastAndFirst.{AreFirsts}
 use Rattle.dso_class.proofs.gathered_classes.class_names.Given as goal
 
 -- the names of the classes so far

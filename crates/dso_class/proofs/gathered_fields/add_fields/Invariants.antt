@@ -1,6 +1,6 @@
 use Rattle.std.proofs.Common.{◌≡◌, ◌≤◌, List, length, take}
 use Rattle.dso_class.specs.Gathered.{named_fields, AreFieldRows}
-use Rattle.dso_entries.specs.Words.{Word}
+use Rattle.dso_config_entries.specs.Words.{Word}
 use Rattle.dso_class.proofs.gathering.Multimap.{AreWithFields}
 use Rattle.dso_class.proofs.gathered_fields.add_fields.Given as goal
 

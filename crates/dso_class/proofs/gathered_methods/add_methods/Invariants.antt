@@ -1,7 +1,7 @@
 use Rattle.std.proofs.Common.{ℕ, ◌≡◌, ◌++◌, List, length, take}
 use Rattle.dso_class.specs.Declarations.{MethodTree, methods_of}
 use Rattle.dso_class.specs.Gathered.{AreMethodRows, capped}
-use Rattle.dso_entries.specs.Words.{Word}
+use Rattle.dso_config_entries.specs.Words.{Word}
 use Rattle.dso_class.proofs.gathered_methods.add_methods.Given as goal
 
 -- the methods so far stand behind those of the classes before

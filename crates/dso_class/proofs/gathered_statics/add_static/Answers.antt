@@ -1,5 +1,5 @@
 use Rattle.dso_class.specs.Gathered.{static_named}
-use Rattle.dso_entries.proofs.lists.Keyed.{firsts}
+use Rattle.dso_config_entries.proofs.lists.Keyed.{firsts}
 use Rattle.dso_class.proofs.gathering.Statics.{by_static, same_static, tied_static}
 use Rattle.dso_class.proofs.gathered_statics.add_static.Goals as goal
 

@@ -2,7 +2,7 @@ use Rattle.std.proofs.Common.{subst, sym, ap, ◌+◌, ◌++◌, [], ◌∷◌, 
 use Rattle.std.proofs.lemmas.List.{take_all}
 use Rattle.dso_class.specs.Declarations.{statics_of}
 use Rattle.dso_class.specs.Gathered.{statics_named}
-use Rattle.dso_entries.specs.LastAndFirst.{AreFirsts}
+use Rattle.dso_config_entries.specs.LastAndFirst.{AreFirsts}
 use Rattle.dso_class.proofs.gathering.Items.{one_static, no_static}
 use Rattle.dso_class.proofs.gathered_statics.add_statics.Goals as goal
 use Rattle.dso_class.proofs.gathered_statics.add_statics.Goals.{in-Static+in_ok-add_static-in-Static, in-Field, in-Method}

@@ -2,7 +2,7 @@ use Rattle.std.proofs.Common.{List, ◌++◌, take}
 use Rattle.dso_config.specs.declared.config.RootEntry.{RootEntry}
 use Rattle.dso_class.specs.Declarations.{statics_of}
 use Rattle.dso_class.specs.Gathered.{statics_named}
-use Rattle.dso_entries.specs.LastAndFirst.{AreFirsts}
+use Rattle.dso_config_entries.specs.LastAndFirst.{AreFirsts}
 use Rattle.dso_class.proofs.gathered_statics.add_statics.Given as goal
 
 -- the static fields so far stand behind those that were there

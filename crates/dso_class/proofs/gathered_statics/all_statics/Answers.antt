@@ -2,7 +2,7 @@ use Rattle.std.proofs.Common.{subst, sym, ap, ◌∙◌, ◌+◌, ◌++◌, [], 
 use Rattle.dso_config.specs.declared.config.RootEntry.{RootEntry}
 use Rattle.dso_class.specs.Declarations.{all_statics, statics_of}
 use Rattle.dso_class.specs.Gathered.{statics_named}
-use Rattle.dso_entries.specs.LastAndFirst.{AreFirsts, empty}
+use Rattle.dso_config_entries.specs.LastAndFirst.{AreFirsts, empty}
 use Rattle.dso_class.proofs.gathering.Items.{statics_with, with_thread}
 use Rattle.dso_class.proofs.gathered_statics.all_statics.Goals as goal
 use Rattle.dso_class.proofs.gathered_statics.all_statics.Goals.{in-Class+in_ok-add_statics-in-Class, in-Thread}

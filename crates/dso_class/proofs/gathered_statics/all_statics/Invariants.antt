@@ -1,7 +1,7 @@
 use Rattle.std.proofs.Common.{take}
 use Rattle.dso_class.specs.Declarations.{all_statics}
 use Rattle.dso_class.specs.Gathered.{statics_named}
-use Rattle.dso_entries.specs.LastAndFirst.{AreFirsts}
+use Rattle.dso_config_entries.specs.LastAndFirst.{AreFirsts}
 use Rattle.dso_class.proofs.gathered_statics.all_statics.Given as goal
 
 -- the static fields of the classes so far

@@ -1,5 +1,5 @@
 use Rattle.dso_class.specs.Gathered.{static_named}
-use Rattle.dso_entries.proofs.lists.Keyed.{found_where, none_where}
+use Rattle.dso_config_entries.proofs.lists.Keyed.{found_where, none_where}
 use Rattle.dso_class.proofs.gathering.Statics.{by_static, same_static, tied_static}
 use Rattle.dso_class.proofs.gathered_statics.static_number.Goals as goal
 

@@ -1,6 +1,6 @@
 use Rattle.std.proofs.Common.{Some, None}
 use Rattle.dso_config.specs.InRange.{entries}
-use Rattle.dso_entries.specs.BorrowedWords.{words_of}
+use Rattle.dso_config_entries.specs.BorrowedWords.{words_of}
 use Rattle.dso_class.proofs.locking.LockNumbers as laws
 use Rattle.dso_class.proofs.locks.named_lock.Goals as goal
 

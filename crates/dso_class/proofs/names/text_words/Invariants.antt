@@ -1,5 +1,5 @@
 use Rattle.std.proofs.Common.{◌≡◌, take}
-use Rattle.dso_entries.specs.BorrowedWords.{words_of}
+use Rattle.dso_config_entries.specs.BorrowedWords.{words_of}
 use Rattle.dso_class.proofs.names.text_words.Given as goal
 
 -- what is there so far

@@ -1,6 +1,6 @@
 use Rattle.std.proofs.Common.{rules, ◌∙◌, refl, ap, sym, ◌+◌, length, subst, IsPermutation, map}
 use Rattle.std.proofs.lemmas.List.{length-map}
-use Rattle.dso_entries.specs.BorrowedWords.{words_of}
+use Rattle.dso_config_entries.specs.BorrowedWords.{words_of}
 use Rattle.dso_class.specs.TextProgram.{AreCounted}
 use Rattle.dso_class.proofs.resolution.program.Goals as goal
 

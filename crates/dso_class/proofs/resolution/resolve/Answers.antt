@@ -1,6 +1,6 @@
 use Rattle.std.proofs.Common.{rules, refl, sym, subst, ◌∙◌, ◌≡◌, [], Err}
 use Rattle.dso_class.specs.Assignable.{ItemsAssign}
-use Rattle.dso_entries.specs.BorrowedWords.{words_of}
+use Rattle.dso_config_entries.specs.BorrowedWords.{words_of}
 use Rattle.dso_class.specs.Symbols.{AreWordsOf}
 use Rattle.dso_class.specs.TextProgram.{IsProgramOf, Source}
 use Rattle.dso_class.proofs.grammar.Assignments.{given_assigns}

@@ -1,5 +1,5 @@
 use Rattle.std.proofs.Common.{refl, ◌∙◌, sym, subst, Contains}
-use Rattle.dso_entries.specs.BorrowedWords.{words_of}
+use Rattle.dso_config_entries.specs.BorrowedWords.{words_of}
 use Rattle.dso_class.proofs.lists.Among.{in_reverse, of_reverse}
 use Rattle.dso_class.proofs.scope.known_number.Goals as goal
 

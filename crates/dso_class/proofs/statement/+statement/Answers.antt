@@ -6,7 +6,7 @@ use Rattle.dso_machine.specs.declared.tree.Stmt.TheVariants as stmt
 use Rattle.dso_syntax.specs.declared.tree.StmtTree.{out-StmtTree}
 use Rattle.dso_syntax.specs.declared.tree.StmtForm.TheVariants as s
 use Rattle.dso_class.specs.FaultsAmong.{behind}
-use Rattle.dso_entries.specs.BorrowedWords.{words_of}
+use Rattle.dso_config_entries.specs.BorrowedWords.{words_of}
 use Rattle.dso_class.specs.Mentions as mention
 use Rattle.dso_class.specs.Numbers.{MeansBlock, evaluate, conditional, loop, locked, wait, notify, notify_all, print, done}
 use Rattle.dso_class.specs.StatementWalk.{known_after}

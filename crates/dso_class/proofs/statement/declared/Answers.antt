@@ -1,7 +1,7 @@
 use Rattle.std.proofs.Common.{rules, ◌≡◌, Err, refl, ap}
 use Rattle.std.proofs.Common.{reverse, ◌∷◌}
 use Rattle.dso_machine.specs.declared.tree.Stmt.TheVariants as t
-use Rattle.dso_entries.specs.BorrowedWords.{words_of}
+use Rattle.dso_config_entries.specs.BorrowedWords.{words_of}
 use Rattle.dso_class.specs.Mentions as mention
 use Rattle.dso_class.specs.Numbers.{variable}
 use Rattle.dso_class.specs.BodyWalk.{owner_in, known_in, met_in}

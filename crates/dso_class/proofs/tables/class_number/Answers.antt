@@ -1,6 +1,6 @@
 use Rattle.std.proofs.Common.{◌≤◌, ◌^◌, length, arith}
 use Rattle.dso_class.specs.Declarations.{class_names}
-use Rattle.dso_entries.specs.BorrowedWords.{words_of}
+use Rattle.dso_config_entries.specs.BorrowedWords.{words_of}
 use Rattle.dso_class.proofs.faultless.Text.{clean_text}
 use Rattle.dso_class.proofs.lists.FirstOnes.{missing, numbered}
 use Rattle.dso_class.proofs.tables.class_number.Goals as goal

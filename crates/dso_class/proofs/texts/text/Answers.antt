@@ -1,15 +1,15 @@
 use Rattle.std.proofs.Common.{◌≡◌, ◌≤◌, Ok, ◌∷◌, ◌++◌, [], Contains, reverse, length, refl, sym, subst, ap, ◌∙◌, arith}
 use Rattle.std.proofs.lemmas.List.{length-append, length-map}
 use Rattle.dso_class.specs.PrecedingMentions.{in_text, text_in}
-use Rattle.dso_entries.specs.BorrowedWords.{words_of}
+use Rattle.dso_config_entries.specs.BorrowedWords.{words_of}
 use Rattle.dso_class.specs.Limits.{most_texts}
-use Rattle.dso_entries.specs.LastAndFirst.{AreFirsts, again, fresh}
+use Rattle.dso_config_entries.specs.LastAndFirst.{AreFirsts, again, fresh}
 use Rattle.dso_class.specs.Mentions as mention
 use Rattle.dso_class.specs.Numbers.{IsNumber}
 use Rattle.dso_class.specs.declared.fault.NameKind.TheVariants as kind
 use Rattle.dso_class.specs.declared.fault.What.TheVariants as what
 use Rattle.dso_class.proofs.walks.Literals.{unique, at_end, text_met, text_few, text_fault, text_right}
-use Rattle.dso_entries.proofs.lists.Places.{stands_there}
+use Rattle.dso_config_entries.proofs.lists.Places.{stands_there}
 use Rattle.dso_class.proofs.walks.BodyParts.{made, begins_same, failed_alone}
 use Rattle.dso_class.proofs.walks.Narrowing.{itself, still_number}
 use Rattle.dso_class.proofs.texts.text.Goals as goal

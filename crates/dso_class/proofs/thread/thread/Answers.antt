@@ -1,6 +1,6 @@
 use Rattle.std.proofs.Common.{◌∙◌, ap}
 use Rattle.dso_class.specs.Heads.{IsThreadNamed, thread_head}
-use Rattle.dso_entries.specs.BorrowedWords.{words_of}
+use Rattle.dso_config_entries.specs.BorrowedWords.{words_of}
 use Rattle.dso_class.specs.TextWalk.{IsToldOf, clients_in}
 use Rattle.dso_class.proofs.rules.ComposingItems as judging
 use Rattle.dso_class.proofs.walks.ThreadItems as laws

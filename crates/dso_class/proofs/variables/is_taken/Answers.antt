@@ -1,8 +1,8 @@
 use Rattle.std.proofs.Common.{◌≡◌, ◌↔◌, inl, inr, Contains, IsNone, sym, subst, ◌∙◌}
 use Rattle.dso_class.specs.Declarations.{class_names}
 use Rattle.dso_class.specs.NameFaults.{IsClass}
-use Rattle.dso_entries.specs.BorrowedWords.{words_of}
-use Rattle.dso_entries.specs.Words.{thread_word}
+use Rattle.dso_config_entries.specs.BorrowedWords.{words_of}
+use Rattle.dso_config_entries.specs.Words.{thread_word}
 use Rattle.dso_class.proofs.walks.Declaring.{found_word, missing_word, is_thread, taken_by_variable}
 use Rattle.dso_class.proofs.variables.is_taken.Goals as goal
 use Rattle.dso_class.proofs.variables.is_taken.Goals.{then-eq, else-eq}

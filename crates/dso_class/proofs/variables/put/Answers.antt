@@ -2,7 +2,7 @@ use Rattle.std.proofs.Common.{◌≡◌, ◌∷◌, ◌++◌, [], arith, length,
 use Rattle.std.proofs.lemmas.List.{length-map}
 use Rattle.dso_class.specs.declared.fault.NameKind.TheVariants as kind
 use Rattle.dso_class.specs.declared.fault.What.TheVariants as what
-use Rattle.dso_entries.specs.BorrowedWords.{words_of}
+use Rattle.dso_config_entries.specs.BorrowedWords.{words_of}
 use Rattle.dso_class.specs.Numbers.{IsNumber}
 use Rattle.dso_class.proofs.walks.Declaring.{count_met, new_met, declared_many, declared_right, grown_where}
 use Rattle.dso_class.proofs.walks.Narrowing.{itself}

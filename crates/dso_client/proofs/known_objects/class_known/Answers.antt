@@ -17,8 +17,8 @@ returns-in-None-get-clause-there c = λ at h.
 pub returns-in-Some-get-clause-known : goal.returns-in-Some-get-clause-known
 returns-in-Some-get-clause-known c = λ at h.
     ap (λ size. Some (c.in-Some-get.body.now.class, size)) c.len-in-Some-get.ensures
-    ∙ sym (class_of_copy at c.args.table.now c.args.seat.now c.args.object c.in-Some-get.body.now h.knows.of_copies (sym (c.in-None.ensures at h.knows.of_own)) (sym c.in-Some-get.ensures))
+    ∙ sym (class_of_copy at c.args.table.now c.args.context.now c.args.object c.in-Some-get.body.now h.knows.of_copies (sym (c.in-None.ensures at h.knows.of_own)) (sym c.in-Some-get.ensures))
 
 pub returns-in-None-get-clause-known : goal.returns-in-None-get-clause-known
 returns-in-None-get-clause-known c = λ at h.
-    absurd (not_there at c.args.table.now c.args.seat.now c.args.object h (sym (c.in-None.ensures at h.knows.of_own)) (sym c.in-None-get.ensures))
+    absurd (not_there at c.args.table.now c.args.context.now c.args.object h (sym (c.in-None.ensures at h.knows.of_own)) (sym c.in-None-get.ensures))

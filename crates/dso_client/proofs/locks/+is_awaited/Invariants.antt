@@ -2,4 +2,4 @@ use Rattle.std.proofs.Common.{length}
 use Rattle.dso_client.proofs.locks.+is_awaited.Given as goal
 
 abbrev pub decreases-is_awaited : goal.decreases-is_awaited
-decreases-is_awaited l = length l.seats.now
+decreases-is_awaited l = length l.contexts.now

@@ -7,12 +7,12 @@ use Rattle.dso_client.proofs.locks.is_left.Goals as goal
 pub returns-then-is_entered : goal.returns-then-is_entered
 returns-then-is_entered c = λ at stands own.
     let l = c.args.lock in
-    let told = sym (entered_told at c.args.locking.now stands l) ∙ (sym c.is_entered.ensures ∙ c.if-is_entered.true) in
-    free_as at c.args.locking.now.holds stands.holds own l c.free.result c.free.ensures
+    let told = sym (entered_told at c.args.lock_state.now stands l) ∙ (sym c.is_entered.ensures ∙ c.if-is_entered.true) in
+    free_as at c.args.lock_state.now.holds stands.holds own l c.free.result c.free.ensures
     ∙ sym (ap (λ entered. entered && is_free at.settings at.client at.next l at.entries) told)
 
 pub returns-else-is_entered : goal.returns-else-is_entered
 returns-else-is_entered c = λ at stands own.
     let l = c.args.lock in
-    let told = sym (entered_told at c.args.locking.now stands l) ∙ (sym c.is_entered.ensures ∙ c.if-is_entered.false) in
+    let told = sym (entered_told at c.args.lock_state.now stands l) ∙ (sym c.is_entered.ensures ∙ c.if-is_entered.false) in
     c.if-is_entered.false ∙ sym (ap (λ entered. entered && is_free at.settings at.client at.next l at.entries) told)

@@ -7,13 +7,13 @@ use Rattle.dso_client.specs.Turns.{is_of_object}
 use Rattle.dso_client.proofs.turn.turn_of.Goals as goal
 
 pub returns-in-New-clause-turn : goal.returns-in-New-clause-turn
-returns-in-New-clause-turn c = λ at h seat sizes shape. rw c.in-New.is (c.new_turn.ensures.turn at c.args.seat.now.id c.in-New.field-0 c.in-New.field-1 h)
+returns-in-New-clause-turn c = λ at h context sizes shape. rw c.in-New.is (c.new_turn.ensures.turn at c.args.context.now.id c.in-New.field-0 c.in-New.field-1 h)
 
 pub returns-in-New-clause-listed : goal.returns-in-New-clause-listed
 returns-in-New-clause-listed c = rw c.in-New.is (c.new_turn.ensures.listed c.in-New.field-0 c.in-New.field-1)
 
 pub returns-in-Put-clause-turn : goal.returns-in-Put-clause-turn
-returns-in-Put-clause-turn c = λ at h seat sizes shape. rw c.in-Put.is (c.put_turn.ensures.turn at c.in-Put.field-2 h seat shape)
+returns-in-Put-clause-turn c = λ at h context sizes shape. rw c.in-Put.is (c.put_turn.ensures.turn at c.in-Put.field-2 h context shape)
 
 pub returns-in-Put-clause-listed : goal.returns-in-Put-clause-listed
 returns-in-Put-clause-listed c = rw c.in-Put.is (c.put_turn.ensures.listed c.in-Put.field-2)
@@ -31,6 +31,6 @@ pub returns-in_default : goal.returns-in_default
 returns-in_default c =
     let other = other_kind c.args.request c.in_default.not-New c.in_default.not-Look c.in_default.not-Get c.in_default.not-Put in
     record {
-      turn = λ at h seat sizes shape. c.other_turn.ensures.turn at h seat other;
+      turn = λ at h context sizes shape. c.other_turn.ensures.turn at h context other;
       listed = c.other_turn.ensures.listed other;
     }

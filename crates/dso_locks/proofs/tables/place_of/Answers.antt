@@ -2,7 +2,7 @@ use Rattle.std.proofs.Common.{◌∙◌, ap, sym}
 use Rattle.std.specs.Map.{keys_of, lookup}
 use Rattle.std.specs.BTreeMap.{is_at}
 use Rattle.dso_lookup.specs.Orders.{lock_order}
-use Rattle.dso_locks.specs.Tables.{name_at}
+use Rattle.dso_locks.specs.LockRows.{name_at}
 use Rattle.dso_locks.proofs.Names.{inserted_keys, found_kept}
 use Rattle.dso_locks.proofs.Placing.{placed_as, placed_beside, placed_with}
 use Rattle.dso_locks.proofs.tables.place_of.Goals as goal

@@ -1,6 +1,6 @@
 use Rattle.std.proofs.Common.{◌∙◌, ap, sym, subst}
 use Rattle.dso_locks.specs.Locks.{waits, requested_by, IsTold}
-use Rattle.dso_locks.specs.Tables.{states_by}
+use Rattle.dso_locks.specs.LockRows.{states_by}
 use Rattle.dso_locks.proofs.Placing.{placed_as}
 use Rattle.dso_locks.proofs.Telling.{stands_at, told_at}
 use Rattle.dso_locks.proofs.tables.request.Goals as goal

@@ -1,7 +1,7 @@
 use Rattle.std.proofs.Common.{sym, ◌∙◌}
 use Rattle.dso_lookup.specs.Rows.{look_in}
 use Rattle.dso_lookup.specs.Orders.{lock_order, thread_order}
-use Rattle.dso_plain.specs.Tables.{state_of}
+use Rattle.dso_plain.specs.HeapTables.{state_of}
 use Rattle.dso_plain.proofs.table_changes.TwoChanges.{went_on, woken}
 use Rattle.dso_plain.proofs.changes.resume.Goals as goal
 

@@ -1,7 +1,7 @@
 use Rattle.std.proofs.Common.{ap, ◌∙◌}
 use Rattle.std.specs.Option.{option_map}
 use Rattle.dso_plain.specs.After as After
-use Rattle.dso_plain.specs.Tables.{state_of, hold_of}
+use Rattle.dso_plain.specs.HeapTables.{state_of, hold_of}
 use Rattle.dso_plain.proofs.table_changes.TwoChanges.{waited}
 use Rattle.dso_plain.proofs.changes.wait.Goals as goal
 

@@ -4,7 +4,7 @@ use Rattle.dso_plain.specs.KeyTests.{is_field}
 use Rattle.dso_lookup.specs.Maps.{look, writes, written}
 use Rattle.std.specs.BTreeMap.{is_at}
 use Rattle.dso_base.specs.Block.{opening_value}
-use Rattle.dso_plain.specs.Tables.{field_order}
+use Rattle.dso_plain.specs.HeapTables.{field_order}
 use Rattle.dso_plain.proofs.keys.TableOrders.{field_at}
 use Rattle.dso_plain.proofs.keys.Writes.{renamed, one_more}
 use Rattle.dso_plain.proofs.fields.make_fields.Goals as goal

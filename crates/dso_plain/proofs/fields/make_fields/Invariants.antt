@@ -2,7 +2,7 @@ use Rattle.std.proofs.Common.{◌≡◌, Some}
 use Rattle.dso_base.specs.Shape.{kind_of}
 use Rattle.dso_lookup.specs.Maps.{writes, written, look}
 use Rattle.dso_base.specs.Block.{opening_value}
-use Rattle.dso_plain.specs.Tables.{field_order, is_below}
+use Rattle.dso_plain.specs.HeapTables.{field_order, is_below}
 use Rattle.dso_plain.proofs.fields.make_fields.Given as goal
 
 abbrev pub invariant-loop-field : goal.invariant-loop-field

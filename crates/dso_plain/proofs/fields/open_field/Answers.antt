@@ -3,7 +3,7 @@ use Rattle.std.specs.BTreeMap.{is_at}
 use Rattle.dso_plain.specs.KeyTests.{is_field}
 use Rattle.dso_lookup.specs.Maps.{writes, written, look}
 use Rattle.dso_plain.specs.After.{present}
-use Rattle.dso_plain.specs.Tables.{field_order, pasts_of}
+use Rattle.dso_plain.specs.HeapTables.{field_order, pasts_of}
 use Rattle.dso_lookup.specs.Lists.{newest_first}
 use Rattle.dso_plain.proofs.keys.TableOrders.{field_at}
 use Rattle.dso_plain.proofs.keys.Writes.{through}

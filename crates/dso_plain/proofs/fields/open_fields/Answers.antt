@@ -1,7 +1,7 @@
 use Rattle.std.proofs.Common.{◌≡◌, arith}
 use Rattle.dso_lookup.specs.Maps.{look}
 use Rattle.dso_plain.specs.After.{present}
-use Rattle.dso_plain.specs.Tables.{field_order, pasts_of}
+use Rattle.dso_plain.specs.HeapTables.{field_order, pasts_of}
 use Rattle.dso_plain.proofs.keys.Writes.{one_more}
 use Rattle.dso_plain.proofs.fields.open_fields.Goals as goal
 

@@ -1,7 +1,7 @@
 use Rattle.std.proofs.Common.{◌≡◌}
 use Rattle.dso_lookup.specs.Maps.{writes, written, look}
 use Rattle.dso_plain.specs.After.{present}
-use Rattle.dso_plain.specs.Tables.{field_order, pasts_of, is_below}
+use Rattle.dso_plain.specs.HeapTables.{field_order, pasts_of, is_below}
 use Rattle.dso_plain.proofs.fields.open_fields.Given as goal
 
 abbrev pub invariant-loop-field : goal.invariant-loop-field

@@ -2,7 +2,7 @@ use Rattle.std.proofs.Common.{ℕ, ◌≡◌, ◌||◌}
 use Rattle.dso_lookup.specs.Maps.{look}
 use Rattle.dso_lookup.specs.Search.{is_listed}
 use Rattle.dso_plain.specs.After.{names_below}
-use Rattle.dso_plain.specs.Tables.{field_order}
+use Rattle.dso_plain.specs.HeapTables.{field_order}
 use Rattle.dso_plain.proofs.publish.add_named.Given as goal
 
 abbrev pub invariant-loop-field : goal.invariant-loop-field

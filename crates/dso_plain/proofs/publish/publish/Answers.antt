@@ -1,4 +1,4 @@
-use Rattle.dso_plain.specs.Tables.{state_of}
+use Rattle.dso_plain.specs.HeapTables.{state_of}
 use Rattle.dso_plain.proofs.publishing.AllShared.{shares_first, shares_next, shares_all, its_fields}
 use Rattle.dso_plain.proofs.publish.publish.Goals as goal
 

@@ -1,6 +1,6 @@
 use Rattle.std.specs.BTreeSet.{btree_set_len}
 use Rattle.dso_plain.specs.TableInvariants.{IndexesAgree}
-use Rattle.dso_plain.specs.Tables.{state_of}
+use Rattle.dso_plain.specs.HeapTables.{state_of}
 use Rattle.dso_plain.proofs.publishing.AllShared.{SharesSoFar}
 use Rattle.dso_plain.proofs.publish.publish.Given as goal
 

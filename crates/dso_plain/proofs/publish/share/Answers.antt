@@ -3,7 +3,7 @@ use Rattle.std.specs.Option.{option_map}
 use Rattle.std.specs.Ordering.{nat_cmp}
 use Rattle.dso_lookup.specs.Maps.{look}
 use Rattle.dso_plain.specs.State.{size_of}
-use Rattle.dso_plain.specs.Tables.{object_of, pasts_of, state_of}
+use Rattle.dso_plain.specs.HeapTables.{object_of, pasts_of, state_of}
 use Rattle.dso_plain.proofs.publishing.ObjectShared.{object_shared, absent_shared}
 use Rattle.dso_plain.proofs.publish.share.Goals as goal
 

@@ -1,5 +1,5 @@
 use Rattle.std.proofs.Common.{refl}
-use Rattle.dso_plain.specs.Tables.{state_of}
+use Rattle.dso_plain.specs.HeapTables.{state_of}
 use Rattle.dso_plain.proofs.table_changes.Unchanged.{still_put, still_enter, still_wait, still_timeout, still_notify, still_notify_all}
 use Rattle.dso_plain.proofs.steps.make_act.Goals as goal
 

@@ -1,7 +1,7 @@
 use Rattle.std.proofs.Common.{rules, sym, subst, ◌≡◌, Bool, OnOk}
 use Rattle.dso_plain.specs.After as After
 use Rattle.dso_plain.specs.State.{IsShared}
-use Rattle.dso_plain.specs.Tables.{state_of}
+use Rattle.dso_plain.specs.HeapTables.{state_of}
 use Rattle.dso_plain.proofs.steps.put_field.Goals as goal
 
 pub returns-then-is_none-clause-state : goal.returns-then-is_none-clause-state

@@ -1,7 +1,7 @@
 use Rattle.std.proofs.Common.{rules, sym, subst}
 use Rattle.dso_plain.specs.StepInvariants.{PastInvariant, MonitorInvariant}
 use Rattle.dso_plain.specs.Possible.{May}
-use Rattle.dso_plain.specs.Tables.{state_of}
+use Rattle.dso_plain.specs.HeapTables.{state_of}
 use Rattle.dso_plain.proofs.histories.RunKinds.{may_but_marks}
 use Rattle.dso_plain.proofs.invariants.PastsHold as past
 use Rattle.dso_plain.proofs.invariants.MonitorsHold as monitors

@@ -1,7 +1,7 @@
 use Rattle.std.specs.Ordering.{nat_cmp}
 use Rattle.dso_lookup.specs.Maps.{look}
 use Rattle.dso_lookup.specs.Orders.{thread_order}
-use Rattle.dso_plain.specs.Tables.{field_order}
+use Rattle.dso_plain.specs.HeapTables.{field_order}
 use Rattle.dso_lookup.specs.Lists.{lists_of}
 use Rattle.dso_plain.proofs.table_changes.NewAndPut.{object_made}
 use Rattle.dso_plain.proofs.writes.make_object.Goals as goal

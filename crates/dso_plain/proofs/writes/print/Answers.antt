@@ -2,7 +2,7 @@ use Rattle.std.proofs.Common.{◌∷◌}
 use Rattle.std.specs.BTreeMap.{is_at}
 use Rattle.dso_base.specs.Following.{is_thread}
 use Rattle.dso_lookup.specs.Orders.{thread_order}
-use Rattle.dso_plain.specs.Tables.{state_of}
+use Rattle.dso_plain.specs.HeapTables.{state_of}
 use Rattle.dso_lookup.specs.Lists.{lists_of}
 use Rattle.dso_plain.proofs.keys.TableOrders.{thread_at}
 use Rattle.dso_plain.proofs.keys.Writes.{renamed}

@@ -1,5 +1,5 @@
 use Rattle.dso_lookup.specs.Maps.{look}
-use Rattle.dso_plain.specs.Tables.{field_order}
+use Rattle.dso_plain.specs.HeapTables.{field_order}
 use Rattle.dso_plain.proofs.table_changes.NewAndPut.{own_put}
 use Rattle.dso_plain.proofs.writes.put_own.Goals as goal
 

@@ -1,5 +1,5 @@
 use Rattle.dso_lookup.specs.Maps.{look}
-use Rattle.dso_plain.specs.Tables.{field_order, view_order, pasts_of}
+use Rattle.dso_plain.specs.HeapTables.{field_order, view_order, pasts_of}
 use Rattle.dso_plain.proofs.table_changes.NewAndPut.{shared_put}
 use Rattle.dso_plain.proofs.writes.put_shared.Goals as goal
 

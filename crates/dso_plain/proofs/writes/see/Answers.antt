@@ -3,7 +3,7 @@ use Rattle.std.specs.Option.{unwrap_or}
 use Rattle.std.specs.BTreeMap.{is_at}
 use Rattle.dso_plain.specs.KeyTests.{is_view}
 use Rattle.dso_lookup.specs.Maps.{writes, written, look}
-use Rattle.dso_plain.specs.Tables.{state_of, view_order}
+use Rattle.dso_plain.specs.HeapTables.{state_of, view_order}
 use Rattle.dso_plain.proofs.keys.TableOrders.{view_at}
 use Rattle.dso_plain.proofs.keys.Writes.{through}
 use Rattle.dso_plain.proofs.writes.see.Goals as goal

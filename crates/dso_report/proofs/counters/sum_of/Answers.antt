@@ -5,7 +5,7 @@ use Rattle.std.specs.List.{fold}
 use Rattle.std.specs.Prelude.{unsigned_abs}
 use mir.Syntax.{w128}
 use mir.Val.{SFits}
-use Rattle.dso_plain.specs.Tables.{state_of}
+use Rattle.dso_plain.specs.HeapTables.{state_of}
 use Rattle.dso_report.specs.CounterTotal.{count_of}
 use Rattle.dso_report.proofs.counters.sum_of.Goals as goal
 

@@ -1,6 +1,6 @@
 use Rattle.std.proofs.Common.{Err, sym, ap, ◌∙◌}
 use Rattle.std.proofs.lemmas.Result.{err_from_is_err_and}
-use Rattle.dso_plain.specs.Tables.{state_of}
+use Rattle.dso_plain.specs.HeapTables.{state_of}
 use Rattle.dso_report.specs.Report.{element_text}
 use Rattle.dso_report.proofs.texts.Appends.{below_lacks}
 use Rattle.dso_report.proofs.graph_lines.push_elements.Goals as goal

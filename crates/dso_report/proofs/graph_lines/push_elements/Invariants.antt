@@ -1,6 +1,6 @@
 use Rattle.std.proofs.Common.{◌≡◌, Some}
 use Rattle.std.specs.Fmt.{◌++?◌}
-use Rattle.dso_plain.specs.Tables.{state_of}
+use Rattle.dso_plain.specs.HeapTables.{state_of}
 use Rattle.dso_report.specs.Report.{element_text}
 use Rattle.dso_report.specs.Texts.{each_below}
 use Rattle.dso_report.proofs.graph_lines.push_elements.Given as goal

@@ -1,6 +1,6 @@
 use Rattle.std.proofs.Common.{◌≡◌, Some, take}
 use Rattle.std.specs.Fmt.{◌++?◌}
-use Rattle.dso_plain.specs.Tables.{state_of}
+use Rattle.dso_plain.specs.HeapTables.{state_of}
 use Rattle.dso_report.specs.Numbering.{fields_of}
 use Rattle.dso_report.specs.Report.{root_line, object_line}
 use Rattle.dso_report.specs.Texts.{each_below, each_of}

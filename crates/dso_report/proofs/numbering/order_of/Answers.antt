@@ -1,5 +1,5 @@
 use Rattle.std.proofs.Common.{◌≡◌, get_or, subst, arith}
-use Rattle.dso_plain.specs.Tables.{state_of}
+use Rattle.dso_plain.specs.HeapTables.{state_of}
 use Rattle.dso_report.specs.Numbering.{add_fields, fields_of}
 use Rattle.dso_report.proofs.ordering.OrderGrows.{visits_more}
 use Rattle.dso_report.proofs.numbering.order_of.Goals as goal

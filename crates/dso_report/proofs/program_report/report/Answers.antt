@@ -1,5 +1,5 @@
 use Rattle.std.proofs.Common.{Err, ap, ◌∙◌}
-use Rattle.dso_plain.specs.Tables.{state_of}
+use Rattle.dso_plain.specs.HeapTables.{state_of}
 use Rattle.dso_report.proofs.texts.ReportTexts.{lacks_nothing}
 use Rattle.dso_report.proofs.histories.WholeState.{whole}
 use Rattle.dso_report.proofs.program_report.report.Goals as goal

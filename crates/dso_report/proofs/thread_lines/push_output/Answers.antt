@@ -6,7 +6,7 @@ use Rattle.std.proofs.lemmas.Option.{slice_get-get_or, slice_get_within, get_or_
 use Rattle.dso_base.specs.declared.value.Value.TheVariants as value
 use Rattle.dso_report.specs.Report.{output_line}
 use Rattle.dso_report.specs.Texts.{each_of}
-use Rattle.dso_plain.specs.Tables.{state_of}
+use Rattle.dso_plain.specs.HeapTables.{state_of}
 use Rattle.dso_report.proofs.texts.Appends.{each_lacks, each_more_behind}
 use Rattle.dso_report.proofs.thread_lines.push_output.Goals.{in-Some+in_ok-push_output_line, in_default}
 use Rattle.dso_report.proofs.thread_lines.push_output.Goals as goal

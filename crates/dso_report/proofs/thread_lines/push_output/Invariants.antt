@@ -1,6 +1,6 @@
 use Rattle.std.proofs.Common.{◌≡◌, Some, take, reverse}
 use Rattle.std.specs.Fmt.{◌++?◌}
-use Rattle.dso_plain.specs.Tables.{state_of}
+use Rattle.dso_plain.specs.HeapTables.{state_of}
 use Rattle.dso_report.specs.Report.{output_line}
 use Rattle.dso_report.specs.Texts.{each_of}
 use Rattle.dso_report.proofs.thread_lines.push_output.Given as goal

@@ -1,4 +1,4 @@
-use Rattle.dso_plain.specs.Tables.{state_of}
+use Rattle.dso_plain.specs.HeapTables.{state_of}
 use Rattle.dso_report.proofs.texts.ThreadLines.{threads_more}
 use Rattle.dso_report.proofs.thread_lines.threads_text.Goals as goal
 

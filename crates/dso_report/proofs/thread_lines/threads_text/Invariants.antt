@@ -1,5 +1,5 @@
 use Rattle.std.proofs.Common.{take}
-use Rattle.dso_plain.specs.Tables.{state_of}
+use Rattle.dso_plain.specs.HeapTables.{state_of}
 use Rattle.dso_report.specs.Report.{IsThreadsText}
 use Rattle.dso_report.proofs.thread_lines.threads_text.Given as goal
 

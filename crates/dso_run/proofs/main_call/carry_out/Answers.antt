@@ -1,6 +1,6 @@
 use Rattle.std.proofs.Common.{subst, sym, ℕ}
 use Rattle.dso_run.specs.Headline.{CallInput, CallOutput, Gives, ReadFailed, RoseOf, StatusMeans, left_by, read_by}
-use Rattle.dso_words.specs.Said.{said}
+use Rattle.dso_command_line.specs.Said.{said}
 use Rattle.dso_run.proofs.GivenTexts.{accepted_of, cause_of}
 use Rattle.dso_run.proofs.StatusMeaning.{refusal_means, run_means, verdict_has_line}
 use Rattle.dso_run.proofs.main_call.carry_out.Goals as goal

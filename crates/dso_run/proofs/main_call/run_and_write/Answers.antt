@@ -1,5 +1,5 @@
 use Rattle.dso_run.specs.Headline.{CallOutput, IsKept, left_by}
-use Rattle.dso_words.specs.Said.{said}
+use Rattle.dso_command_line.specs.Said.{said}
 use Rattle.dso_run.proofs.ToldRuns.{told_run}
 use Rattle.dso_run.proofs.main_call.run_and_write.Goals as goal
 

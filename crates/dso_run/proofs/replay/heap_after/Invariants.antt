@@ -1,7 +1,7 @@
 use Rattle.std.proofs.Common.{◌≡◌, take}
 use Rattle.dso_plain.specs.History.{Runs, end_of}
 use Rattle.dso_plain.specs.State.{opening}
-use Rattle.dso_plain.specs.Tables.{state_of}
+use Rattle.dso_plain.specs.HeapTables.{state_of}
 use Rattle.dso_legal.specs.Committed.{committed_of}
 use Rattle.dso_run.proofs.replay.heap_after.Given as goal
 

@@ -4,7 +4,7 @@ use Rattle.std.specs.BTreeMap.{is_at}
 use Rattle.std.specs.List.{list_any}
 use Rattle.std.specs.Ordering.{nat_cmp}
 use Rattle.dso_lookup.specs.Search.{is_listed}
-use Rattle.dso_table.specs.Tables.{used_in}
+use Rattle.dso_table.specs.ObjectTables.{used_in}
 use Rattle.dso_table.proofs.order.new.Goals.{in-Some+in_ok-sparse-in-Some, in-None}
 use Rattle.dso_table.proofs.order.new.Goals as goal
 

@@ -1,7 +1,7 @@
 use Rattle.std.proofs.Common.{◌-◌, ◌<◌, ℕ, List, sym, ◌∙◌, ap, subst, drop, length, arith}
 use Rattle.std.specs.Map.{keys_of}
 use Rattle.lru.specs.LruCache.{lru_cache}
-use Rattle.dso_table.specs.Tables.{JoinedBy}
+use Rattle.dso_table.specs.ObjectTables.{JoinedBy}
 use Rattle.dso_table.proofs.uses.Joining.{put_absent, last_key, last_listed, joined_one, left_again}
 use Rattle.dso_table.proofs.order.push_full.Goals as goal
 

@@ -1,7 +1,7 @@
 use Rattle.std.proofs.Common.{refl, sym, ◌≡◌, None, Some, Option, is_some, false}
 use Rattle.dso_lookup.proofs.RowsInPlace.{on_err}
 use Rattle.dso_table.specs.declared.slot.Slot.{Slot}
-use Rattle.dso_table.specs.Tables.{slot_in}
+use Rattle.dso_table.specs.ObjectTables.{slot_in}
 use Rattle.dso_table.proofs.objects.TableChanges.{same_order, told_same, agree_same, told_asked, agree_asked, places_back}
 use Rattle.dso_table.proofs.tables.ask.Goals as goal
 

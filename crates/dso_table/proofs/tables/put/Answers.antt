@@ -1,9 +1,9 @@
 use Rattle.std.proofs.Common.{refl, ap, ◌∙◌, cond, Some, Ok, Err, Result, OnOk}
 use Rattle.dso_base.specs.declared.no_memory.NoMemory.{NoMemory}
 use Rattle.dso_table.specs.Slots.{changed_last}
-use Rattle.dso_table.specs.Tables.{state_in, put_slot}
+use Rattle.dso_table.specs.ObjectTables.{state_in, put_slot}
 use Rattle.dso_table.specs.declared.slot.Slot.{Slot}
-use Rattle.dso_table.specs.declared.slot.Standing.TheVariants as standing
+use Rattle.dso_table.specs.declared.slot.ObjectStanding.TheVariants as standing
 use Rattle.dso_table.proofs.objects.StateChanges.{put_as_slot}
 use Rattle.dso_table.proofs.objects.TableChanges.{told_over, agree_over}
 use Rattle.dso_table.proofs.tables.put.Goals as goal

@@ -1,5 +1,5 @@
 use Rattle.std.proofs.Common.{refl, ap, ◌∙◌, true}
-use Rattle.dso_table.specs.Tables.{is_ordered}
+use Rattle.dso_table.specs.ObjectTables.{is_ordered}
 use Rattle.dso_table.proofs.lists.Numbers.{with_at_here}
 use Rattle.dso_table.proofs.objects.TableChanges.{told_same, agree_same, order_back, told_new, agree_new}
 use Rattle.dso_table.proofs.tables.put_new.Goals as goal

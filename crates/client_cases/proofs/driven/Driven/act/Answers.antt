@@ -1,12 +1,12 @@
 use Rattle.std.proofs.Common.{ℕ, ◌≤◌, ◌-◌, ◌^◌, arith}
-use Rattle.dso_client.specs.Acting.{HoldsAtMost}
-use Rattle.dso_client.specs.declared.kept.Kept.{Kept}
+use Rattle.dso_client.specs.ThreadActs.{HoldsAtMost}
+use Rattle.dso_client.specs.declared.client_state.ClientState.{ClientState}
 use Rattle.client_cases.specs.Driving.{Goes}
 use Rattle.client_cases.proofs.Going.{after_act, anyway}
 use Rattle.client_cases.proofs.driven.Driven.act.Goals as goal
 
 -- what is no more than some is no more than more
-more : (few most : ℕ) (kept : Kept) → few ≤ most → HoldsAtMost few kept → HoldsAtMost most kept
+more : (few most : ℕ) (kept : ClientState) → few ≤ most → HoldsAtMost few kept → HoldsAtMost most kept
 more few most kept less holds = record {
   held = λ t l. let h = holds.held t l in omega (arith, less, h);
   waiting = λ index. let h = holds.waiting index in omega (arith, less, h);

@@ -1,6 +1,6 @@
 use Rattle.std.proofs.Common.{sym, subst}
 use Rattle.dso_client.specs.ClientStands.{ClientStands, point}
-use Rattle.dso_client.proofs.seats.SeatsFound.{is_missing}
+use Rattle.dso_client.proofs.contexts.ContextsFound.{is_missing}
 use Rattle.dso_client.proofs.client.Client.act.Goals as goal
 
 pub returns-in-Ok-clause-absent : goal.returns-in-Ok-clause-absent

@@ -1,8 +1,8 @@
 use Rattle.std.proofs.Common.{refl, sym, ap, subst}
 use Rattle.std.specs.Option.{IfSome, IfNone}
-use Rattle.dso_client.specs.declared.kept.Kept.{Kept}
-use Rattle.dso_client.specs.Acting.{HoldsAtMost}
-use Rattle.dso_client.specs.Flushing.{Flushes, IsVictimOf, NoneDue}
+use Rattle.dso_client.specs.declared.client_state.ClientState.{ClientState}
+use Rattle.dso_client.specs.ThreadActs.{HoldsAtMost}
+use Rattle.dso_client.specs.ObjectFlushes.{Flushes, IsVictimOf, NoneDue}
 use Rattle.dso_client.proofs.flushed.FlushMade.{flush_made, flush_named, flush_none}
 use Rattle.dso_client.proofs.client.Client.flush.Goals as goal
 
@@ -26,4 +26,4 @@ returns-clause-holds c = λ most h.
     record { held = before.held; waiting = before.waiting }
 
 pub returns-clause-records : goal.returns-clause-records
-returns-clause-records c = ap (λ (kept : Kept). kept.ledger.records) c.self.view_is
+returns-clause-records c = ap (λ (kept : ClientState). kept.sequences.records) c.self.view_is

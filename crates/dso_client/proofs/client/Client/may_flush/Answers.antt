@@ -1,5 +1,5 @@
 use Rattle.std.proofs.Common.{subst, sym}
-use Rattle.dso_client.specs.Flushing.{TellsFlush}
+use Rattle.dso_client.specs.ObjectFlushes.{TellsFlush}
 use Rattle.dso_client.proofs.flushed.FlushMade.{flush_told}
 use Rattle.dso_client.proofs.client.Client.may_flush.Goals as goal
 

@@ -1,7 +1,7 @@
 use Rattle.std.proofs.Common.{sym, subst}
-use Rattle.dso_client.specs.Acting.{HoldsAtMost}
+use Rattle.dso_client.specs.ThreadActs.{HoldsAtMost}
 use Rattle.dso_client.specs.CodeRuns.{RunsCode}
-use Rattle.dso_client.proofs.seats.KeptCounts.{keeps_most}
+use Rattle.dso_client.proofs.contexts.KeptCounts.{keeps_most}
 use Rattle.dso_client.proofs.due.Took.{runs_on}
 use Rattle.dso_client.proofs.client.Client.take.Goals as goal
 

@@ -2,7 +2,7 @@ use Rattle.std.proofs.Common.{◌≡◌, flat_map, subst}
 use Rattle.dso_base.specs.declared.lock.LockName.{LockName}
 use Rattle.dso_law.specs.Settings.{Settings}
 use Rattle.dso_locks.specs.Locks.{lost_by, after_told, messages_of, IsWithin, serves}
-use Rattle.dso_locks.specs.Tables.{states_by, locks_in, requested_in}
+use Rattle.dso_locks.specs.LockRows.{states_by, locks_in, requested_in}
 use Rattle.dso_locks.proofs.lock_table.LockTable.lose.Goals as goal
 
 pub returns-clause-told : goal.returns-clause-told

@@ -1,7 +1,7 @@
 use Rattle.std.proofs.Common.{◌≡◌, IfOk, subst}
 use Rattle.dso_law.specs.Settings.{Settings}
 use Rattle.dso_locks.specs.Locks.{returned_by, messages_of, IsWithin, serves}
-use Rattle.dso_locks.specs.Tables.{locks_in}
+use Rattle.dso_locks.specs.LockRows.{locks_in}
 use Rattle.std.proofs.lemmas.Result.{IfOk-weaker}
 use Rattle.dso_locks.proofs.lock_table.LockTable.returned.Goals as goal
 

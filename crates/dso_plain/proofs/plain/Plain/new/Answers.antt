@@ -2,7 +2,7 @@ use Rattle.std.proofs.Common.{sym, subst}
 use Rattle.std.specs.Ordering.{nat_cmp}
 use Rattle.dso_plain.specs.StepInvariants.{PastInvariant, MonitorInvariant}
 use Rattle.dso_lookup.specs.Maps.{look}
-use Rattle.dso_plain.specs.Tables.{field_order, pasts_of}
+use Rattle.dso_plain.specs.HeapTables.{field_order, pasts_of}
 use Rattle.dso_plain.proofs.table_changes.BlankTables.{blank_keeps, opened}
 use Rattle.dso_plain.proofs.invariants.PastsHold as past
 use Rattle.dso_plain.proofs.invariants.MonitorsHold as monitors

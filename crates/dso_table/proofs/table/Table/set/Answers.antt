@@ -1,7 +1,7 @@
 use Rattle.std.proofs.Common.{◌≡◌, subst}
 use Rattle.std.specs.Bool.{OnTrue}
 use Rattle.dso_table.specs.States.{set}
-use Rattle.dso_table.specs.Tables.{state_in}
+use Rattle.dso_table.specs.ObjectTables.{state_in}
 use Rattle.dso_table.proofs.table.Table.set.Goals as goal
 
 pub returns-clause-written : goal.returns-clause-written

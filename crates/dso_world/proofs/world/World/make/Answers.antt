@@ -8,7 +8,7 @@ use Rattle.dso_world.specs.WorldStands.{entries_in}
 use Rattle.dso_world.specs.WorldSteps.{settings_of, slot_of}
 use Rattle.dso_world.proofs.places.Clients.{of_a_client}
 use Rattle.dso_world.proofs.places.Marking.{among_slots}
-use Rattle.dso_world.proofs.worlds.Made.{made_so}
+use Rattle.dso_world.proofs.worlds.EntryDraft.{made_so}
 use Rattle.dso_world.proofs.world.World.make.Goals as goal
 
 pub apply-requires : goal.apply-requires
@@ -29,9 +29,9 @@ follow-requires-clause-place c =
     let can = c.requires in
     let p = settings_of c.args.program.now in
     let opens = is_open p (next_request c.args.program.now.code) (entries_in c.args.self.now) in
-    let flags = c.args.self.now.board.chooser.flags in
+    let flags = c.args.self.now.open_steps.chooser.flags in
     let within : c.args.place < length (slots p) = slice_get_within (slots p) c.args.place (slot_of c.args.step) can.at in
-    let long : length flags ≡ length (slots p) = ap length can.parts.board.row.flags ∙ length-map (slots p) opens in
+    let long : length flags ≡ length (slots p) = ap length can.parts.open_steps.row.flags ∙ length-map (slots p) opens in
     omega (arith, within, long)
 
 pub returns-clause-made : goal.returns-clause-made
@@ -43,5 +43,5 @@ returns-clause-made c =
     let slot = slot_of step in
     let its = of_a_client slot (settings_of program) (among_slots slot (slots (settings_of program)) c.args.place can.at) in
     let follows : FollowsAll program slot c.in_ok-entry.entry c.apply.new.nodes (entries_in old) = c.in_ok-entry.ensures (entries_in old) can.journal its can.parts.nodes can.opened in
-    made_so program step c.args.place old (record { spent = old.spent; nodes = c.apply.new.nodes; board = c.follow.new.board; weight = c.with_weight-self.result; journal = record { entries = c.push.new.self } })
+    made_so program step c.args.place old (record { spent = old.spent; nodes = c.apply.new.nodes; open_steps = c.follow.new.open_steps; weight = c.with_weight-self.result; journal = record { entries = c.push.new.self } })
     c.in_ok-entry.entry can follows c.follow.ensures c.with_weight-self.ensures c.in_ok-push.ensures.ok

@@ -3,7 +3,7 @@ use Rattle.std.proofs.Common.{◌<◌, ◌^◌, ◌≡◌, refl, ◌∙◌, ap, 
 use Rattle.std.proofs.lemmas.List.{length-reverse}
 use Rattle.dso_base.specs.declared.no_memory.NoMemory.{NoMemory}
 use Rattle.dso_world.specs.Flags.{is_set}
-use Rattle.dso_world.specs.WorldStands.{PartsStand, entries_in}
+use Rattle.dso_world.specs.WorldStands.{WorldPartsStand, entries_in}
 use Rattle.dso_world.proofs.worlds.Stepped.{flag_in, open_told, opens_there, slot_stands}
 use Rattle.dso_world.proofs.world.World.step.Goals as goal
 
@@ -19,7 +19,7 @@ make-requires c =
     let world = c.args.self.now in
     let place = c.in-Some-open_place.place in
     let there = c.in-Some-open_place.ensures in
-    let parts : PartsStand program world (entries_in world) = c.requires.stands.parts (not_spent _ c.in_default.not-Some) in
+    let parts : WorldPartsStand program world (entries_in world) = c.requires.stands.parts (not_spent _ c.in_default.not-Some) in
     let few : length world.journal.entries < 2 ^ 28 = c.requires.few in
     let long : length (entries_in world) ≡ length world.journal.entries = length-reverse world.journal.entries in
     record {
@@ -29,9 +29,9 @@ make-requires c =
         few = omega (arith, few, long);
       };
       few = few;
-      parts = record { nodes = parts.nodes; board = parts.board; weight = parts.weight };
-      at = slot_stands program step world.board (entries_in world) parts.board place there.place;
-      opened = opens_there program step world.board (entries_in world) parts.board place there.place there.«open»;
+      parts = record { nodes = parts.nodes; open_steps = parts.open_steps; weight = parts.weight };
+      at = slot_stands program step world.open_steps (entries_in world) parts.open_steps place there.place;
+      opened = opens_there program step world.open_steps (entries_in world) parts.open_steps place there.place there.«open»;
     }
 
 pub returns-clause-stepped : goal.returns-clause-stepped
@@ -41,14 +41,14 @@ returns-clause-stepped c =
     let world = c.args.self.now in
     let place = c.in-Some-open_place.place in
     let there = c.in-Some-open_place.ensures in
-    let parts : PartsStand program world (entries_in world) = c.requires.stands.parts (not_spent _ c.in_default.not-Some) in
-    let set : flag_in step world.board ≡ true =
-    ap (λ at. option_map_or is_set (option_and_then (slice_get world.board.chooser.flags) at) false) there.place ∙ ap (λ flag. option_map_or is_set flag false) there.«open» in
+    let parts : WorldPartsStand program world (entries_in world) = c.requires.stands.parts (not_spent _ c.in_default.not-Some) in
+    let set : flag_in step world.open_steps ≡ true =
+    ap (λ at. option_map_or is_set (option_and_then (slice_get world.open_steps.chooser.flags) at) false) there.place ∙ ap (λ flag. option_map_or is_set flag false) there.«open» in
     let makes = c.in_default-make.ensures.made.makes in
-    (open_told program step world.board (entries_in world) parts.board ∙ set, record { entry = makes.entry; added = makes.added; at = makes.at })
+    (open_told program step world.open_steps (entries_in world) parts.open_steps ∙ set, record { entry = makes.entry; added = makes.added; at = makes.at })
 
 pub returns-in_default-open_place-clause-stepped : goal.returns-in_default-open_place-clause-stepped
 returns-in_default-open_place-clause-stepped c =
     let world = c.args.self.now in
-    let parts : PartsStand c.args.program.now world (entries_in world) = c.requires.stands.parts (not_spent _ c.in_default.not-Some) in
-    (open_told c.args.program.now c.args.step world.board (entries_in world) parts.board ∙ c.in_default-open_place.ensures.none, refl)
+    let parts : WorldPartsStand c.args.program.now world (entries_in world) = c.requires.stands.parts (not_spent _ c.in_default.not-Some) in
+    (open_told c.args.program.now c.args.step world.open_steps (entries_in world) parts.open_steps ∙ c.in_default-open_place.ensures.none, refl)

@@ -1,0 +1,6 @@
+pub mod NextIds
+pub mod AtStart
+pub mod ContextsFound
+pub mod BatchEnds
+pub mod KeptCounts
+pub mod ChangedContexts

@@ -1,6 +1,0 @@
-use Rattle.std.proofs.Common.{refl}
-use Rattle.dso_client.proofs.heard.Acks.{ack_heard}
-use Rattle.dso_client.proofs.hearing.hear_ack.Goals as goal
-
-pub returns-clause-heard : goal.returns-clause-heard
-returns-clause-heard c = λ clock at h facts fits. ack_heard clock c.args.seq at c.args.ledger.now (record c.args.ledger.now { unacked = c.ack.new.self }) h facts fits c.ack.result c.ack.ensures.least c.ack.ensures.gone refl

@@ -1,5 +1,0 @@
-use Rattle.dso_client.proofs.heard.Locks.{without_list}
-use Rattle.dso_client.proofs.living.empty_list.Goals as goal
-
-pub returns : goal.returns
-returns c = λ x. without_list c.args.lock c.args.lists.now c.take.new.map c.take.ensures.gone x

@@ -1,7 +1,0 @@
-use Rattle.dso_client.proofs.lived.Counts.{counts_answered}
-use Rattle.dso_client.proofs.living_holds.enter.Goals as goal
-
-pub returns-clause-most : goal.returns-clause-most
-returns-clause-most c = λ most h fits.
-    let wanted = c.args.wanted in
-    counts_answered most c.args.count wanted.thread wanted.lock wanted.level c.args.holds.now c.enter.new.self c.in_ok-enter.field-0 c.in_ok-enter.ensures.answer h fits

@@ -1,5 +1,0 @@
-use Rattle.std.proofs.Common.{length}
-use Rattle.dso_client.proofs.returning.+is_returned.Given as goal
-
-abbrev pub decreases-is_returned : goal.decreases-is_returned
-decreases-is_returned l = length l.sent.now

@@ -1,8 +1,0 @@
-use Rattle.std.proofs.Common.{◌∙◌, ◌&&◌, ◌||◌, ap, ltb, not}
-use Rattle.dso_world.proofs.worlds.Looks.{busy_told}
-use Rattle.dso_world.proofs.looking.is_busy.Goals as goal
-
-pub returns : goal.returns
-returns c = λ program. busy_told program c.args.number c.args.server.now c.args.member.now c.due.result.0 c.due.result.1 (c.due.ensures program)
-    c.is_lost.result c.is_quiet.result c.keeps_going.result c.alive.result c.is_lost.ensures c.is_quiet.ensures c.alive.ensures
-    (c.keeps_going.ensures ∙ ap (λ b. b || (not c.is_lost.result && (not c.is_quiet.result || ltb 0 c.alive.result))) c.is_either.ensures)
