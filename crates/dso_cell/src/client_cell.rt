@@ -9,6 +9,7 @@ ghost use Rattle.dso_log.specs.Logs.{last_clock, next_clock};
 ghost use Rattle.dso_machine.specs.Sound.{IsSoundCode};
 ghost use Rattle.dso_session.specs.Ends.{sent_count};
 ghost use Rattle.dso_cell.specs.ClientCells.{CannotAct, ClientBounds, GoesOn, HasNothingToDo, IsAtLimit, IsOneMore, LooksInVain};
+ghost use Rattle.dso_cell.specs.Meetings.{client_log_of};
 ghost use Rattle.dso_cell.specs.ClientSteps.{HasHeard, HasRejoined, HasSaid, MayAdd};
 
 use crate::made::Made;
@@ -72,9 +73,9 @@ impl ClientCell {
         self.spent.is_some()
     }
 
-    /// Its log.
+    /// The log of the cell. It takes no memory.
     pub fn into_log(self) -> NodeLog
-        ensures { result ≡ self.log }
+        ensures { result ≡ client_log_of self }
     {
         self.log
     }

@@ -6,6 +6,23 @@
 #![tactic(auto)]
 
 mod client_cell;
+mod client_pair;
+mod due;
+mod locked_client;
+mod locked_server;
 mod made;
+mod meeting;
+mod naming;
+mod opening;
+mod server_cell;
+mod server_end;
+mod server_ends;
 
 pub use client_cell::ClientCell;
+pub use client_pair::ClientPair;
+pub use locked_client::LockedClient;
+pub use locked_server::LockedServer;
+pub use naming::Naming;
+pub use opening::cells;
+pub use server_cell::ServerCell;
+pub use server_end::ServerEnd;

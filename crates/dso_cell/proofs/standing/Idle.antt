@@ -1,8 +1,7 @@
 -- A client's cell whose turn added no entry, once its frames went to the ring.
-use Rattle.std.proofs.Common.{ℕ, ◌≤◌, ◌^◌, ◌≡◌, ◌⊎◌, ◌∙◌, inl, inr, sym, ap, subst, true, is_some, arith}
+use Rattle.std.proofs.Common.{◌≤◌, ◌^◌, ◌≡◌, ◌⊎◌, ◌∙◌, inl, inr, sym, ap, subst, is_some, arith}
 use Rattle.dso_base.specs.declared.message.Down.{Down}
 use Rattle.dso_base.specs.declared.message.Up.{Up}
-use Rattle.dso_log.specs.Logs.{last_clock}
 use Rattle.dso_session.specs.Ends.{sent_count}
 use Rattle.dso_port.specs.Ports.{HasNoMore, PortState}
 use Rattle.dso_client.specs.ObjectFlushes.{NoneDue}

@@ -1,5 +1,5 @@
 -- How many messages an end sent, whatever comes and goes.
-use Rattle.std.proofs.Common.{ℕ, ◌+◌, ◌≤◌, ◌≡◌, refl, sym, ◌∙◌, ap, List, [], ◌∷◌, ◌++◌, drop, length, replicate, arith}
+use Rattle.std.proofs.Common.{◌≡◌, refl, sym, ◌∙◌, ap, List, [], ◌∷◌, ◌++◌, length, replicate, arith}
 use Rattle.std.proofs.lemmas.List.{drop-append-le, drop_all, length-append, length-replicate}
 use Rattle.dso_base.specs.declared.both.Both.{Both}
 use Rattle.dso_base.specs.declared.both.Both.TheVariants as both
@@ -10,7 +10,7 @@ use Rattle.dso_session.specs.Ends.{End, after_frame, behind_frame, sent_count}
 use Rattle.dso_session.specs.Laws.{Gives, Happening, HasSent, Takes, happened, sent_by}
 use Rattle.dso_session.proofs.Sent.{all_sent, keeps_sent}
 use Rattle.dso_wire.specs.Cells.{Cell}
-use Rattle.dso_port.specs.Ports.{GivesNext, lifted}
+use Rattle.dso_port.specs.Ports.{GivesNext}
 
 -- some messages that the end may have sent
 abbrev some_sent : End Both → List (Posted Both)

@@ -1,6 +1,6 @@
 -- What the parts of a client's turn make of its cell.
 use Rattle.std.specs.List.{list_any}
-use Rattle.std.proofs.Common.{ℕ, suc, zero, ◌+◌, ◌≤◌, ◌≡◌, refl, sym, ◌∙◌, ap, subst, Bool, true, false, cond, eqb, max, Option, Some, None, List, [], ◌∷◌, map, reverse, arith}
+use Rattle.std.proofs.Common.{ℕ, suc, ◌+◌, ◌≡◌, refl, sym, ◌∙◌, ap, subst, Bool, true, false, cond, max, Some, None, List, [], ◌∷◌, map, reverse, arith}
 use Rattle.std.proofs.lemmas.Bool.{eq-eqb}
 use Rattle.dso_base.specs.declared.both.Both.TheVariants as both
 use Rattle.dso_base.specs.declared.journal.Entry.{Entry}
@@ -12,15 +12,12 @@ use Rattle.dso_base.specs.declared.message.Up.{Up}
 use Rattle.dso_base.specs.declared.message.Up.TheVariants as up
 use Rattle.dso_base.specs.declared.request.Event.{Event}
 use Rattle.dso_base.specs.Following.{is_thread}
-use Rattle.dso_law.specs.Channels.{count_inputs, rejoins, to_client, to_server}
+use Rattle.dso_law.specs.Channels.{count_inputs, rejoins}
 use Rattle.dso_law.specs.Settings.{Settings, threads_of}
 use Rattle.dso_machine.specs.declared.code.Code.{Code}
-use Rattle.dso_session.specs.declared.frame.Frame.{Frame}
-use Rattle.dso_session.specs.declared.session.Role.TheVariants as role
 use Rattle.dso_log.specs.Logs.{last_clock, next_clock, with_entry}
-use Rattle.dso_wire.specs.Spelling.{IsDown, IsFrame, IsUp, down_frame_cells, up_frame_cells}
-use Rattle.dso_port.specs.Frames.{TookOne}
-use Rattle.dso_port.specs.Ports.{HasGiven, PortState, SameRings, TookFrame, given, taken}
+use Rattle.dso_wire.specs.Spelling.{IsDown, IsFrame, down_frame_cells}
+use Rattle.dso_port.specs.Ports.{PortState, SameRings, TookFrame}
 use Rattle.dso_port.specs.declared.arrival.Arrival.TheVariants as arrival
 use Rattle.dso_line.specs.Letters.{is_taking, log_clock, newest}
 use Rattle.dso_line.specs.Lines.{ClientLineStands}
@@ -31,7 +28,7 @@ use Rattle.dso_client.specs.declared.acted.Acted.TheVariants as acted
 use Rattle.dso_client.specs.declared.client_state.ClientState.{ClientState}
 use Rattle.dso_client.specs.ThreadActs.{Acts, HasActed, event_entry}
 use Rattle.dso_client.specs.ClientStands.{ClientStands, point}
-use Rattle.dso_client.specs.Entries.{asked_entry, flush_entry, rejoined_entry, taken_entry}
+use Rattle.dso_client.specs.Entries.{rejoined_entry}
 use Rattle.dso_client.specs.ObjectFlushes.{Flushes}
 use Rattle.dso_client.specs.Laws.{RejoinsChangeNothing}
 use Rattle.dso_client.specs.Openings.{thread_at}
@@ -40,7 +37,7 @@ use Rattle.dso_client.specs.TakenMessages.{Takes}
 use Rattle.dso_client.specs.Threads.{WhereAbsent}
 use Rattle.dso_cell.specs.declared.client_cell.ClientCell.{ClientCell}
 use Rattle.dso_cell.specs.declared.made.Made.{Made}
-use Rattle.dso_cell.specs.ClientCells.{ClientCellStands, ClientPartsStand, GoesOn}
+use Rattle.dso_cell.specs.ClientCells.{ClientPartsStand, GoesOn}
 use Rattle.dso_cell.specs.ClientSteps.{HasHeard, HasRejoined, HasSaid, entry_said, made_of_message, made_of_rejoin}
 use Rattle.dso_cell.specs.Clusters.{Cluster}
 use Rattle.dso_cell.specs.Logs.{LogIsInOrder}

@@ -1,4 +1,4 @@
-use Rattle.std.proofs.Common.{ℕ, ◌≤◌, ◌<◌, ◌^◌, ◌≡◌, ap, refl, sym, ◌∙◌, subst, Some, None, suc, arith}
+use Rattle.std.proofs.Common.{◌≤◌, ◌≡◌, ap, sym, ◌∙◌, subst, Some, None, suc, arith}
 use Rattle.dso_base.specs.declared.journal.Input.TheVariants as input
 use Rattle.dso_client.specs.declared.acted.Acted.TheVariants as acted
 use Rattle.dso_client.specs.CodeRuns.{RunsCode}

@@ -1,6 +1,5 @@
-use Rattle.std.proofs.Common.{ℕ, ◌≤◌, ◌≡◌, ap, sym, ◌∙◌, subst, suc, [], ◌∷◌, None, arith}
+use Rattle.std.proofs.Common.{◌≤◌, ap, sym, subst, suc, None, arith}
 use Rattle.dso_base.specs.declared.journal.Input.TheVariants as input
-use Rattle.dso_base.specs.declared.message.Up.TheVariants as up
 use Rattle.dso_client.specs.CodeRuns.{RunsCode}
 use Rattle.dso_client.specs.ObjectFlushes.{Flushes}
 use Rattle.dso_client.specs.ThreadActs.{HoldsAtMost}

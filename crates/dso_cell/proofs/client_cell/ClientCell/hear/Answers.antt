@@ -1,4 +1,4 @@
-use Rattle.std.proofs.Common.{ℕ, ◌≤◌, ◌<◌, ◌^◌, ◌≡◌, ap, sym, subst, suc, arith}
+use Rattle.std.proofs.Common.{◌≤◌, ◌≡◌, ap, sym, subst, suc, arith}
 use Rattle.dso_client.specs.CodeRuns.{RunsCode}
 use Rattle.dso_client.specs.ThreadActs.{HoldsAtMost}
 use Rattle.dso_cell.proofs.standing.Bounds.{bounds_said, holds_weaker}

@@ -1,4 +1,4 @@
-use Rattle.std.proofs.Common.{◌≡◌, refl, false}
+use Rattle.std.proofs.Common.{◌≡◌, refl}
 use Rattle.dso_base.specs.declared.both.Both.TheVariants as both
 use Rattle.dso_session.specs.Ends.{sent_count}
 use Rattle.dso_wire.specs.Spelling.{IsFrame, IsUp, up_frame_cells}

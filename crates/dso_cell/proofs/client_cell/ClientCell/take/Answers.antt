@@ -1,4 +1,4 @@
-use Rattle.std.proofs.Common.{rules, ◌≡◌, ◌⊎◌, inl, inr, ℕ, ap, refl, ◌∙◌, subst, true, List}
+use Rattle.std.proofs.Common.{rules, ◌≡◌, ◌⊎◌, inl, inr, ℕ, ap, refl, ◌∙◌, subst, List}
 use Rattle.dso_base.specs.declared.both.Both.TheVariants as both
 use Rattle.dso_base.specs.declared.journal.Entry.{Entry}
 use Rattle.dso_base.specs.declared.message.Down.{Down}
@@ -10,8 +10,6 @@ use Rattle.dso_port.specs.declared.arrival.Arrival.{Arrival}
 use Rattle.dso_port.specs.declared.arrival.Arrival.TheVariants as arrival
 use Rattle.dso_line.specs.Lines.{ClientLineStands}
 use Rattle.dso_line.proofs.standing.Clients.{client_dropped, client_unmoved}
-use Rattle.dso_cell.specs.ClientCells.{GoesOn}
-use Rattle.dso_cell.specs.ClientSteps.{HasRejoined, MayAdd}
 use Rattle.dso_cell.proofs.standing.Bounds.{may_still}
 use Rattle.dso_cell.proofs.standing.Cells.{goes_through}
 use Rattle.dso_cell.proofs.standing.SentCounts.{count_taken}

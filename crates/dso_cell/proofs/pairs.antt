@@ -1,0 +1,2 @@
+-- Clients with their cells and the server's ends of their connections.
+pub mod Ends

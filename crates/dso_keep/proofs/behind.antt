@@ -1,0 +1,4 @@
+pub mod Gates
+pub mod Told
+pub mod Sizes
+pub mod Bad

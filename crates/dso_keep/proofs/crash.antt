@@ -1,0 +1,4 @@
+pub mod Moments
+pub mod Torn
+pub mod Opening
+pub mod Creating

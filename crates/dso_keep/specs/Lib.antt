@@ -1,0 +1,11 @@
+pub mod Crash
+pub mod Disk
+pub mod Faults
+pub mod Fitting
+pub mod Keeping
+pub mod Laws
+pub mod Memory
+pub mod Packets
+pub mod Reading
+pub mod Records
+pub mod Tape
