@@ -1,1 +1,3 @@
+pub mod hosts
 pub mod merging
+pub mod programs

@@ -1,2 +1,6 @@
 pub mod Gathered
+pub mod Hosts
+pub mod Journals
 pub mod Merged
+pub mod OpenSlots
+pub mod ProgramCells

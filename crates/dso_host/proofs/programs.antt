@@ -1,0 +1,2 @@
+pub mod ProgramSettings
+pub mod FirstBounds
