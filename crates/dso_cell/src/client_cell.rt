@@ -255,8 +255,8 @@ impl ClientCell {
     /// ring, or else an object flushed, where one is to be; and frames go to the ring while places are known to be
     /// free. True exactly where an entry was added.
     ///
-    /// False with a worker from 1 on exactly where the cell is at its limit or the thread is blocked or over; with 0
-    /// only where the cell is at its limit or has nothing to do that it knows of. It answers `NoMemory` where an
+    /// False with a worker from 1 on only where the cell is at its limit or the thread is blocked or over; with 0 only
+    /// where the cell is at its limit or has nothing to do that it knows of. It answers `NoMemory` where an
     /// allocation was refused, or where a frame came from the ring before which a message is missing, or one is due
     /// that has no bytes; no run has such a frame. The cell is spent then: each turn of it answers `NoMemory`, and
     /// changes nothing.
