@@ -69,16 +69,16 @@ def by_oracle(oracle, config, program, options, has_journal):
     return status, sink.taken, files.files.get('j', b'')
 
 
-def by_program(program_file, folder, config, program, options, has_journal):
-    """(status, report, journal) by dsorun."""
+def by_program(program_file, folder, config, program, options, has_journal, command='sim', seconds=SECONDS):
+    """(status, report, journal) by dsorun; the journal is empty where none is written."""
     for name, content in (('c', config), ('p', program)):
         with open(os.path.join(folder, name), 'wb') as file:
             file.write(content)
     journal = os.path.join(folder, 'j')
     if os.path.exists(journal):
         os.remove(journal)
-    words = [program_file, 'sim', 'c', 'p'] + options + (['--journal', 'j'] if has_journal else [])
-    ran = subprocess.run(words, cwd=folder, stdin=subprocess.DEVNULL, stdout=subprocess.PIPE, timeout=SECONDS)
+    words = [program_file, command, 'c', 'p'] + options + (['--journal', 'j'] if has_journal else [])
+    ran = subprocess.run(words, cwd=folder, stdin=subprocess.DEVNULL, stdout=subprocess.PIPE, timeout=seconds)
     text = b''
     if os.path.exists(journal):
         with open(journal, 'rb') as file:

@@ -80,6 +80,11 @@ IsIdle other = ⊥
 abbrev pub CannotAct : Code → ℕ → ClientState → Type 0
 CannotAct code index core = (told : Acted) × IsIdle told × Acts code index core core told []
 
+-- The thread can act: the client answers it with an event, or that it asked for what the act lacks.
+abbrev pub CanAct : Code → ℕ → ClientState → ClientState → Type 0
+CanAct code index old new = (told : Acted) × (messages : List Up) × (IsIdle told → ⊥)
+    × Acts code index old new told messages
+
 -- The end knows of no frame in its ring, or took one, which made no entry.
 abbrev pub LooksInVain : ClientCell → ClientCell → Type 0
 LooksInVain old new = (known_items new.port.into ≡ [])

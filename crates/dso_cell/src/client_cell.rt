@@ -1,6 +1,7 @@
 //! A client's cell (`specs/ClientCells.antt`).
-ghost use Rattle.std.specs.Prelude.{◌≡◌, ◌⊎◌, ◌<◌, ◌≤◌, ◌+◌, ◌^◌, ◌↔◌, [], ◌∷◌, IfOk, IsTrue, None, OnErr, OnOk, false, is_some, map, true};
+ghost use Rattle.std.specs.Prelude.{◌≡◌, ◌⊎◌, ◌<◌, ◌≤◌, ◌+◌, ◌-◌, ◌^◌, ◌↔◌, [], ◌∷◌, IfOk, IsTrue, None, OnErr, OnOk, false, is_some, map, min, sum_by, true};
 ghost use Rattle.std.specs.Result.{is_err};
+ghost use Rattle.dso_base.specs.Weight.{entry_weight_of};
 ghost use Rattle.dso_base.specs.declared.message.Up.TheVariants as up;
 ghost use Rattle.dso_client.specs.ObjectFlushes.{NoneDue};
 ghost use Rattle.dso_machine.specs.declared.code.Code.{Code};
@@ -8,21 +9,20 @@ ghost use Rattle.dso_base.specs.declared.journal.Sent.TheVariants as sent;
 ghost use Rattle.dso_log.specs.Logs.{last_clock, next_clock};
 ghost use Rattle.dso_machine.specs.Sound.{IsSoundCode};
 ghost use Rattle.dso_session.specs.Ends.{sent_count};
-ghost use Rattle.dso_cell.specs.ClientCells.{CannotAct, ClientBounds, GoesOn, HasNothingToDo, IsAtLimit, IsOneMore, LooksInVain};
+ghost use Rattle.dso_cell.specs.ClientCells.{CanAct, CannotAct, ClientBounds, GoesOn, HasNothingToDo, IsAtLimit, IsOneMore, LooksInVain};
 ghost use Rattle.dso_cell.specs.Meetings.{client_log_of};
 ghost use Rattle.dso_cell.specs.ClientSteps.{HasHeard, HasRejoined, HasSaid, MayAdd};
 
+use crate::limits::MOST_SENT;
 use crate::made::Made;
+use crate::refusal::refusal_of;
 use dso_base::{Down, NoMemory, Sent, Shared, Up};
 use dso_client::laws::rejoins_change_nothing;
 use dso_client::{Acted, Client};
 use dso_log::NodeLog;
 use dso_machine::Code;
 use dso_port::{Arrival, LIMIT, Port, PortFault};
-use std::alloc::{AllocError, Global};
-
-/// How many messages an end sends at most.
-const MOST_SENT: u64 = 1 << 62;
+use std::alloc::Global;
 
 /// A client's cell: its core with its log and its end of its connection.
 ///
@@ -73,6 +73,13 @@ impl ClientCell {
         self.spent.is_some()
     }
 
+    /// What the entries of its log weigh together, and 2^64 - 1 where that is more. It takes no memory.
+    pub fn weight(&self) -> u64
+        ensures { result ≡ min (sum_by entry_weight_of self.now.log.entries) (2 ^ 64 - 1) }
+    {
+        self.log.weight()
+    }
+
     /// The log of the cell. It takes no memory.
     pub fn into_log(self) -> NodeLog
         ensures { result ≡ client_log_of self }
@@ -94,6 +101,7 @@ impl ClientCell {
         requires seen { self.old.port.session.seen < 2 ^ 63 }
         ensures said { OnOk result (HasSaid made messages.items self.old.log self.new.log self.old.port self.new.port) }
         ensures number { self.new.number ≡ self.old.number }
+        ensures whole { self.new.spent ≡ self.old.spent }
         ensures core { self.new.core ≡ self.old.core }
         ensures rejoins { self.new.rejoins ≡ self.old.rejoins }
     {
@@ -113,6 +121,9 @@ impl ClientCell {
         ensures stands { OnOk result (GoesOn code.now self.old self.new) }
         ensures more { IfOk result (λ added. IsOneMore added self.old.log.entries self.new.log.entries) }
         ensures idle { IfOk result (λ added. added ≡ false → CannotAct code.now index self.old.core) }
+        ensures acts { IfOk result (λ added. added ≡ true → CanAct code.now index self.old.core self.new.core) }
+        ensures number { self.new.number ≡ self.old.number }
+        ensures whole { self.new.spent ≡ self.old.spent }
     {
         let (acted, messages) = self.core.act(alloc, code, index)?;
         match acted {
@@ -142,6 +153,8 @@ impl ClientCell {
         requires low { heard < 2 ^ 28 }
         ensures bounds { OnOk result (ClientBounds code.now self.new) }
         ensures heard { OnOk result (HasHeard code.now message heard self.old self.new) }
+        ensures number { self.new.number ≡ self.old.number }
+        ensures whole { self.new.spent ≡ self.old.spent }
     {
         let messages = self.core.take(alloc, code, &message)?;
         self.say(alloc, Made::of_message(message, heard), messages)?;
@@ -154,6 +167,8 @@ impl ClientCell {
         requires may { (code : Code) × MayAdd code self.old }
         ensures bounds { OnOk result ((code : Code) → MayAdd code self.old → ClientBounds code self.new) }
         ensures rejoined { OnOk result (HasRejoined self.old self.new) }
+        ensures number { self.new.number ≡ self.old.number }
+        ensures whole { self.new.spent ≡ self.old.spent }
     {
         self.rejoins += 1;
         self.say(alloc, Made::of_rejoin(self.number), Vec::new(alloc))?;
@@ -168,6 +183,8 @@ impl ClientCell {
         ensures stands { OnOk result ((code : Code) → GoesOn code self.old self.new) }
         ensures more { IfOk result (λ added. IsOneMore added self.old.log.entries self.new.log.entries) }
         ensures idle { IfOk result (λ added. added ≡ false → (self.new ≡ self.old) × NoneDue self.new.core) }
+        ensures number { self.new.number ≡ self.old.number }
+        ensures whole { self.new.spent ≡ self.old.spent }
     {
         match self.core.flush() {
             Some(object) => {
@@ -187,6 +204,8 @@ impl ClientCell {
         ensures stands { OnOk result (GoesOn code.now self.old self.new) }
         ensures more { IfOk result (λ added. IsOneMore added self.old.log.entries self.new.log.entries) }
         ensures idle { IfOk result (λ added. added ≡ false → IsAtLimit self.new ⊎ (LooksInVain self.old self.new × NoneDue self.new.core)) }
+        ensures number { self.new.number ≡ self.old.number }
+        ensures whole { self.new.spent ≡ self.old.spent }
     {
         match self.port.take(alloc)? {
             Arrival::Message(message, heard) => {
@@ -211,6 +230,8 @@ impl ClientCell {
         ensures stands { OnOk result (GoesOn code.now self.old self.new) }
         ensures more { IfOk result (λ added. IsOneMore added self.old.log.entries self.new.log.entries) }
         ensures idle { IfOk result (λ added. added ≡ false → IsAtLimit self.new ⊎ HasNothingToDo self.old self.new) }
+        ensures number { self.new.number ≡ self.old.number }
+        ensures whole { self.new.spent ≡ self.old.spent }
     {
         let added = self.take(alloc, code)?;
         self.port.give(alloc)?;
@@ -225,8 +246,12 @@ impl ClientCell {
         ensures bounds { OnOk result (ClientBounds code.now self.new) }
         ensures stands { OnOk result (GoesOn code.now self.old self.new) }
         ensures more { IfOk result (λ added. IsOneMore added self.old.log.entries self.new.log.entries) }
-        ensures acted { IfOk result (λ added. 1 ≤ worker → added ≡ false → IsAtLimit self.new ⊎ CannotAct code.now worker self.old.core) }
+        ensures at_limit { IfOk result (λ added. IsAtLimit self.old → added ≡ false) }
+        ensures acted { IfOk result (λ added. 1 ≤ worker → added ≡ false → IsAtLimit self.old ⊎ CannotAct code.now worker self.old.core) }
+        ensures may_act { IfOk result (λ added. 1 ≤ worker → added ≡ true → CanAct code.now worker self.old.core self.new.core) }
         ensures pumped { IfOk result (λ added. worker ≡ 0 → added ≡ false → IsAtLimit self.new ⊎ HasNothingToDo self.old self.new) }
+        ensures number { self.new.number ≡ self.old.number }
+        ensures whole { self.new.spent ≡ self.old.spent }
     {
         if self.is_at_limit() {
             return Ok(false);
@@ -241,22 +266,21 @@ impl ClientCell {
 
     /// The cell is spent from now on, by this.
     fn spend(&mut self, fault: PortFault) -> NoMemory
-        ensures { is_some self.new.spent ≡ true }
+        ensures spent { is_some self.new.spent ≡ true }
+        ensures number { self.new.number ≡ self.old.number }
     {
-        let refused = match fault {
-            PortFault::NoMemory(refused) => refused,
-            PortFault::Gap | PortFault::NoBytes => of_spent(),
-        };
+        let refused = refusal_of(fault);
         self.spent = Some(refused);
         refused
     }
 
     /// A turn. With a worker from 1 on the thread of that index acts, where it can. With 0 a frame is taken from the
     /// ring, or else an object flushed, where one is to be; and frames go to the ring while places are known to be
-    /// free. True exactly where an entry was added.
+    /// free. True exactly where an entry was added, and never where the cell was at its limit.
     ///
-    /// False with a worker from 1 on only where the cell is at its limit or the thread is blocked or over; with 0 only
-    /// where the cell is at its limit or has nothing to do that it knows of. It answers `NoMemory` where an
+    /// With a worker from 1 on it is false exactly where the cell was at its limit or the thread is blocked or over, and
+    /// true exactly where the thread acted or asked; with 0 it is false only where the cell is at its limit or has
+    /// nothing to do that it knows of. It answers `NoMemory` where an
     /// allocation was refused, or where a frame came from the ring before which a message is missing, or one is due
     /// that has no bytes; no run has such a frame. The cell is spent then: each turn of it answers `NoMemory`, and
     /// changes nothing.
@@ -266,8 +290,12 @@ impl ClientCell {
         ensures bounds { OnOk result (ClientBounds code.now self.new) }
         ensures stands { OnOk result (GoesOn code.now self.old self.new) }
         ensures more { IfOk result (λ added. IsOneMore added self.old.log.entries self.new.log.entries) }
-        ensures acted { IfOk result (λ added. 1 ≤ worker → added ≡ false → IsAtLimit self.new ⊎ CannotAct code.now worker self.old.core) }
+        ensures at_limit { IfOk result (λ added. IsAtLimit self.old → added ≡ false) }
+        ensures acted { IfOk result (λ added. 1 ≤ worker → added ≡ false → IsAtLimit self.old ⊎ CannotAct code.now worker self.old.core) }
+        ensures may_act { IfOk result (λ added. 1 ≤ worker → added ≡ true → CanAct code.now worker self.old.core self.new.core) }
         ensures pumped { IfOk result (λ added. worker ≡ 0 → added ≡ false → IsAtLimit self.new ⊎ HasNothingToDo self.old self.new) }
+        ensures number { self.new.number ≡ self.old.number }
+        ensures whole { OnOk result (self.new.spent ≡ None) }
         ensures spent { OnErr result (is_some self.new.spent ≡ true) }
         ensures refused { is_some self.old.spent ≡ true → (is_err result ≡ true) × (self.new ≡ self.old) }
     {
@@ -279,9 +307,4 @@ impl ClientCell {
             Err(fault) => Err(self.spend(fault)),
         }
     }
-}
-
-/// What a cell answers that was spent though no allocation was refused.
-fn of_spent() -> NoMemory {
-    NoMemory::from(AllocError)
 }

@@ -1,9 +1,12 @@
 //! A client's cell behind a lock (`specs/LockedCells.antt`).
-ghost use Rattle.std.specs.Prelude.{◌≡◌, None, Some};
+ghost use Rattle.std.specs.Prelude.{◌≡◌, ◌≢◌, ◌⊎◌, IfOk, None, OnErr, Some, false, is_some, true};
+ghost use Rattle.dso_cell.specs.ClientCells.{IsOneMore};
 ghost use Rattle.dso_cell.specs.LockedCells.{ClientStandsFor, RunsNamed};
 ghost use Rattle.dso_machine.specs.Sound.{IsSoundCode};
 
+use crate::refusal::of_spent;
 use crate::{ClientCell, Naming};
+use dso_base::NoMemory;
 use dso_machine::Code;
 use std::alloc::Global;
 use std::marker::{Model, PhantomData};
@@ -43,21 +46,33 @@ impl<N: Naming> LockedClient<N> {
         }
     }
 
-    /// The cell, out of its lock.
-    pub fn into_cell(self) -> ClientCell
-        ensures same { result ≡ self }
-        ensures stands { self.spent ≡ None → ClientStandsFor N.cluster result }
+    /// The cell, out of its lock, as that of the client of this number. It answers `NoMemory` where the cell is spent,
+    /// and where it is of another number; the cell is gone then.
+    pub fn into_cell(self, number: u8) -> Result<ClientCell, NoMemory>
+        ensures ok { IfOk result (λ cell. (cell ≡ self) × (cell.number ≡ number) × (cell.spent ≡ None)) }
+        ensures stands { IfOk result (ClientStandsFor N.cluster) }
+        ensures err { OnErr result ((is_some self.spent ≡ true) ⊎ (self.number ≢ number)) }
     {
-        self.cell
+        if let Some(refused) = self.cell.spent {
+            return Err(refused);
+        }
+        if self.cell.number != number {
+            return Err(of_spent());
+        }
+        Ok(self.cell)
     }
 
     /// A turn of the cell ([`ClientCell::turn`]), where it is of the client of this number and isn't spent; whether an
-    /// entry was added. A cell of another number is left alone. Where memory was refused the cell is spent, and false
-    /// is answered.
-    #[tactic(auto, using(crate::proofs::locked::Turns::client_stays_for))]
+    /// entry was added. A cell of another number and one that is spent are left alone, and false is answered. Where
+    /// memory was refused the cell is spent, and false is answered.
+    #[tactic(auto, using(crate::proofs::locked::Turns::client_stays_for, crate::proofs::locked::Turns::one_more_or_spent, crate::proofs::locked::Turns::none_where_refused))]
     pub fn turn(&mut self, alloc: Global, code: &Code, number: u8, worker: u8) -> bool
         requires sound { IsSoundCode code.now }
         requires names { RunsNamed code.now N.cluster }
+        ensures more { self.new.spent ≡ None → IsOneMore result self.old.log.entries self.new.log.entries }
+        ensures other { self.old.number ≢ number → (result ≡ false) × (self.new ≡ self.old) }
+        ensures refused { is_some self.old.spent ≡ true → (result ≡ false) × (self.new ≡ self.old) }
+        ensures number { self.new.number ≡ self.old.number }
     {
         if self.cell.number() != number {
             return false;

@@ -1,8 +1,10 @@
 //! The server's cell behind a lock (`specs/LockedCells.antt`).
-ghost use Rattle.std.specs.Prelude.{◌≡◌, None, Some};
+ghost use Rattle.std.specs.Prelude.{◌≡◌, IfOk, None, OnErr, Some, false, is_some, true};
+ghost use Rattle.dso_cell.specs.ClientCells.{IsOneMore};
 ghost use Rattle.dso_cell.specs.LockedCells.{RunsNamed, ServerStandsFor};
 
 use crate::{Naming, ServerCell};
+use dso_base::NoMemory;
 use dso_machine::Code;
 use std::alloc::Global;
 use std::marker::{Model, PhantomData};
@@ -41,19 +43,25 @@ impl<N: Naming> LockedServer<N> {
         }
     }
 
-    /// The cell, out of its lock.
-    pub fn into_cell(self) -> ServerCell
-        ensures same { result ≡ self }
-        ensures stands { self.spent ≡ None → ServerStandsFor N.cluster result }
+    /// The cell, out of its lock. It answers `NoMemory` where the cell is spent, and the cell is gone then.
+    pub fn into_cell(self) -> Result<ServerCell, NoMemory>
+        ensures ok { IfOk result (λ cell. (cell ≡ self) × (cell.spent ≡ None)) }
+        ensures stands { IfOk result (ServerStandsFor N.cluster) }
+        ensures err { OnErr result (is_some self.spent ≡ true) }
     {
-        self.cell
+        match self.cell.spent {
+            Some(refused) => Err(refused),
+            None => Ok(self.cell),
+        }
     }
 
-    /// A turn of the cell ([`ServerCell::turn`]), where it isn't spent; whether an entry was added. Where memory was
-    /// refused the cell is spent, and false is answered.
-    #[tactic(auto, using(crate::proofs::locked::Turns::server_stays_for))]
+    /// A turn of the cell ([`ServerCell::turn`]), where it isn't spent; whether an entry was added. A cell that is spent
+    /// is left alone, and false is answered. Where memory was refused the cell is spent, and false is answered.
+    #[tactic(auto, using(crate::proofs::locked::Turns::server_stays_for, crate::proofs::locked::Turns::one_more_or_spent, crate::proofs::locked::Turns::none_where_refused))]
     pub fn turn(&mut self, alloc: Global, code: &Code) -> bool
         requires names { RunsNamed code.now N.cluster }
+        ensures more { self.new.spent ≡ None → IsOneMore result self.old.log.entries self.new.log.entries }
+        ensures refused { is_some self.old.spent ≡ true → (result ≡ false) × (self.new ≡ self.old) }
     {
         self.cell.turn(alloc, code).unwrap_or(false)
     }

@@ -1,6 +1,7 @@
 //! The server's cell (`specs/ServerCells.antt`).
-ghost use Rattle.std.specs.Prelude.{ℕ, ◌≡◌, ◌⊎◌, ◌<◌, ◌≤◌, ◌+◌, ◌^◌, ◌↔◌, [], ◌∷◌, IfNone, IfOk, IfSome, IsTrue, None, OnErr, OnOk, Some, false, is_some, length, true};
+ghost use Rattle.std.specs.Prelude.{ℕ, ◌≡◌, ◌⊎◌, ◌<◌, ◌≤◌, ◌+◌, ◌-◌, ◌^◌, ◌↔◌, [], ◌∷◌, IfNone, IfOk, IfSome, IsTrue, None, OnErr, OnOk, Some, false, is_some, length, min, sum_by, true};
 ghost use Rattle.std.specs.Result.{is_err};
+ghost use Rattle.dso_base.specs.Weight.{entry_weight_of};
 ghost use Rattle.dso_base.specs.declared.journal.Input.TheVariants as input;
 ghost use Rattle.dso_log.specs.Logs.{next_clock};
 ghost use Rattle.dso_server.specs.Sending.{sent_of};
@@ -14,6 +15,7 @@ ghost use Rattle.dso_cell.specs.ServerSteps.{HaveNoneDue, IsFirstDue, IsOneDue, 
 use crate::due::{Due, Mishap, first_due};
 use crate::made::Made;
 use crate::meeting::meet_lists;
+use crate::refusal::refusal_of;
 use crate::server_end::ServerEnd;
 use crate::server_ends::{Found, News, break_end, first_news, give_all, is_any_at_limit, tell};
 use crate::{ClientCell, ClientPair};
@@ -22,7 +24,7 @@ use dso_log::NodeLog;
 use dso_machine::Code;
 use dso_port::{LIMIT, PortFault};
 use dso_server::Server;
-use std::alloc::{AllocError, Global};
+use std::alloc::Global;
 
 /// The server's cell: its core with its log and its ends of all connections.
 ///
@@ -84,6 +86,13 @@ impl ServerCell {
         self.ends.len()
     }
 
+    /// What the entries of its log weigh together, and 2^64 - 1 where that is more. It takes no memory.
+    pub fn weight(&self) -> u64
+        ensures { result ≡ min (sum_by entry_weight_of self.now.log.entries) (2 ^ 64 - 1) }
+    {
+        self.log.weight()
+    }
+
     /// The log of the cell. It takes no memory.
     pub fn into_log(self) -> NodeLog
         ensures { result ≡ server_log_of self }
@@ -126,7 +135,8 @@ impl ServerCell {
         requires room { self.old.log.has_room ≡ true }
         requires clock { next_clock made.heard self.old.log < 2 ^ 64 }
         requires seen { HaveRoom self.old.ends.items }
-        ensures { OnOk result (ServerHasSaid made messages.items self.old self.new) }
+        ensures said { OnOk result (ServerHasSaid made messages.items self.old self.new) }
+        ensures whole { self.new.spent ≡ self.old.spent }
     {
         let clock = self.log.last_clock().max(made.heard) + 1;
         tell(&mut self.ends, messages.as_slice(), clock)?;
@@ -142,6 +152,7 @@ impl ServerCell {
         requires low { incoming.heard < 2 ^ 28 }
         ensures bounds { OnOk result (ServerBounds self.new) }
         ensures heard { OnOk result (ServerHasHeard code.now incoming.client incoming.message incoming.heard self.old self.new) }
+        ensures whole { self.new.spent ≡ self.old.spent }
     {
         let Incoming {
             client,
@@ -158,6 +169,7 @@ impl ServerCell {
         requires { ServerMayLog self.old }
         ensures bounds { OnOk result (ServerBounds self.new) }
         ensures rejoined { OnOk result (ServerHasSaid (server_made 0 (input.Rejoin client)) [] self.old self.new) }
+        ensures whole { self.new.spent ≡ self.old.spent }
     {
         self.say(alloc, made(0, Input::Rejoin(client)), Vec::new(alloc))
     }
@@ -168,6 +180,7 @@ impl ServerCell {
         requires { ServerMayLog self.old }
         ensures bounds { OnOk result (ServerBounds self.new) }
         ensures lost { OnOk result (ServerHasLost client self.old self.new) }
+        ensures whole { self.new.spent ≡ self.old.spent }
     {
         let messages = self.core.lose(alloc, client)?;
         self.say(alloc, made(0, Input::Lose(client)), messages)
@@ -180,6 +193,7 @@ impl ServerCell {
         requires there { 0 < client }
         ensures bounds { OnOk result (ServerBounds self.new) }
         ensures broken { OnOk result (ServerHasBroken client self.old self.new) }
+        ensures whole { self.new.spent ≡ self.old.spent }
     {
         break_end(&mut self.ends, client);
         self.say(alloc, made(0, Input::Break(client)), Vec::new(alloc))?;
@@ -194,6 +208,7 @@ impl ServerCell {
         ensures bounds { OnOk result (ServerBounds self.new) }
         ensures stands { OnOk result ((code : Code) → ServerGoesOn code self.old self.new) }
         ensures more { OnOk result (IsOneMore true self.old.log.entries self.new.log.entries) }
+        ensures whole { self.new.spent ≡ self.old.spent }
     {
         match due.mishap {
             Mishap::Loss => {
@@ -216,6 +231,7 @@ impl ServerCell {
         ensures stands { OnOk result (ServerGoesOn code.now self.old self.new) }
         ensures more { IfOk result (λ added. IsOneMore added self.old.log.entries self.new.log.entries) }
         ensures idle { IfOk result (λ added. added ≡ false → IsAnyLate self.new.ends.items ⊎ LookedInVain self.old self.new) }
+        ensures whole { self.new.spent ≡ self.old.spent }
     {
         let Some(found) = first_news(alloc, &mut self.ends, self.next)? else {
             return Ok(false);
@@ -247,6 +263,7 @@ impl ServerCell {
         ensures stands { OnOk result (ServerGoesOn code.now self.old self.new) }
         ensures more { IfOk result (λ added. IsOneMore added self.old.log.entries self.new.log.entries) }
         ensures idle { IfOk result (λ added. added ≡ false → IsAnyLate self.new.ends.items ⊎ (LookedInVain self.old self.new × HaveNoneDue self.old.core 1 self.old.ends.items)) }
+        ensures whole { self.new.spent ≡ self.old.spent }
     {
         match first_due(&self.core, self.ends.as_slice(), 1) {
             Some(due) => {
@@ -264,7 +281,9 @@ impl ServerCell {
         ensures bounds { OnOk result (ServerBounds self.new) }
         ensures stands { OnOk result (ServerGoesOn code.now self.old self.new) }
         ensures more { IfOk result (λ added. IsOneMore added self.old.log.entries self.new.log.entries) }
+        ensures at_limit { IfOk result (λ added. IsServerAtLimit self.old → added ≡ false) }
         ensures served { IfOk result (λ added. added ≡ false → IsServerAtLimit self.new ⊎ AreServed self.new.core 1 self.old.ends.items self.new.ends.items) }
+        ensures whole { self.new.spent ≡ self.old.spent }
     {
         if self.is_at_limit() {
             return Ok(false);
@@ -279,10 +298,7 @@ impl ServerCell {
     fn spend(&mut self, fault: PortFault) -> NoMemory
         ensures { is_some self.new.spent ≡ true }
     {
-        let refused = match fault {
-            PortFault::NoMemory(refused) => refused,
-            PortFault::Gap | PortFault::NoBytes => of_spent(),
-        };
+        let refused = refusal_of(fault);
         self.spent = Some(refused);
         refused
     }
@@ -290,7 +306,7 @@ impl ServerCell {
     /// A turn. A loss or a break of a client's connection that is due is made first, by rising client, a loss before a
     /// break. Else one frame is taken from the ring of each client in turn, beginning behind the client that was heard
     /// last, until one makes an entry. In any case frames go to the rings of all clients while places are known to be
-    /// free. True exactly where an entry was added.
+    /// free. True exactly where an entry was added, and never where the cell was at its limit.
     ///
     /// False only where the cell is at its limit, or where nothing is to be done for any client that the cell knows of:
     /// no frame that makes an entry, and no loss or break. It answers `NoMemory` where an allocation was refused, or
@@ -301,9 +317,11 @@ impl ServerCell {
         ensures bounds { OnOk result (ServerBounds self.new) }
         ensures stands { OnOk result (ServerGoesOn code.now self.old self.new) }
         ensures more { IfOk result (λ added. IsOneMore added self.old.log.entries self.new.log.entries) }
+        ensures at_limit { IfOk result (λ added. IsServerAtLimit self.old → added ≡ false) }
         ensures served { IfOk result (λ added. added ≡ false → IsServerAtLimit self.new ⊎ AreServed self.new.core 1 self.old.ends.items self.new.ends.items) }
         ensures spent { OnErr result (is_some self.new.spent ≡ true) }
         ensures refused { is_some self.old.spent ≡ true → (is_err result ≡ true) × (self.new ≡ self.old) }
+        ensures whole { OnOk result (self.new.spent ≡ None) }
     {
         if let Some(refused) = self.spent {
             return Err(refused);
@@ -313,9 +331,4 @@ impl ServerCell {
             Err(fault) => Err(self.spend(fault)),
         }
     }
-}
-
-/// What a cell answers that was spent though no allocation was refused.
-fn of_spent() -> NoMemory {
-    NoMemory::from(AllocError)
 }

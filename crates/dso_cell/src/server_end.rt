@@ -3,13 +3,11 @@ ghost use Rattle.std.specs.Prelude.{◌≡◌, ◌+◌, ◌<◌, ◌^◌, ◌↔
 ghost use Rattle.dso_cell.specs.ServerCells.{IsAtLimitUp};
 ghost use Rattle.dso_cell.specs.ServerEnds.{HasLookedUp, IsGivenDown, sent_more, with_break};
 
+use crate::limits::MOST_SENT;
 use dso_base::{Down, NoMemory, Up};
 use dso_port::{Arrival, Port, PortFault};
 use dso_server::Triggers;
 use std::alloc::Global;
-
-/// How many messages an end sends at most.
-const MOST_SENT: u64 = 1 << 62;
 
 /// The server's end of a client's connection, with the client's triggers.
 #[derive(Drop)]

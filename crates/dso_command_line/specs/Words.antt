@@ -252,7 +252,7 @@ abbrev pub WordsAskOnce : Type 0
 WordsAskOnce = (words : List (List ℕ)) (command other : Command)
     → Asks words command → Asks words other → command ≡ other
 
--- the seed that a command's run goes by; round robin where it has none
+-- the seed that a command gives its run, if it gives one; of the commands only `sim` can
 abbrev pub seed_of : Command → Option ℕ
 seed_of (Sim call) = call.seed
 seed_of command = None
@@ -273,10 +273,10 @@ journal_of (Big number) = None
 journal_of (Show call) = None
 journal_of (Lint call) = None
 
--- What of it is built: `sim` without a store and without collections, and `big`.
+-- What of it is built: `sim` without a store and without collections, `run`, and `big`.
 abbrev pub IsBuilt : Command → Type 0
 IsBuilt (Sim call) = (call.store ≡ None) × (call.collect ≡ None)
-IsBuilt (Run call) = ⊥
+IsBuilt (Run call) = Unit {0}
 IsBuilt (Big number) = Unit {0}
 IsBuilt (Show call) = ⊥
 IsBuilt (Lint call) = ⊥
@@ -286,13 +286,18 @@ pub record AreLawful (words : List (List ℕ)) (command : Command) : Type 0 wher
   pub asks : Asks words command
   pub built : IsBuilt command
 
--- what words can ask for: `sim` within the most steps, or `big` with a number from 1 to 1000
+-- what words can ask for: `sim` or `run` within the most steps, or `big` with a number from 1 to 1000
 abbrev pub CanBeAsked : Command → Type 0
 CanBeAsked (Sim call) = call.steps ≤ most_steps
-CanBeAsked (Run call) = ⊥
+CanBeAsked (Run call) = call.steps ≤ most_steps
 CanBeAsked (Big number) = (1 ≤ number) × (number ≤ 1000)
 CanBeAsked (Show call) = ⊥
 CanBeAsked (Lint call) = ⊥
+
+-- The words ask for a run in threads.
+pub record AskForThreads (words : List (List ℕ)) : Type 0 where
+  pub call : RunCall
+  pub lawful : AreLawful words (Run call)
 
 -- The words are none that the program takes.
 abbrev pub AreUnlawful : List (List ℕ) → Type 0

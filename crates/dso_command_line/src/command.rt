@@ -50,18 +50,18 @@ pub enum Command<'a> {
 }
 
 impl<'a> Command<'a> {
-    /// Whether it is built: `sim` without a store and without collections, and `big`.
+    /// Whether it is built: `sim` without a store and without collections, `run`, and `big`.
     pub(crate) fn is_built(&self) -> bool
         ensures { IsTrue result ↔ IsBuilt (said self.now) }
     {
         match self {
             Command::Sim { store, collect, .. } => store.is_none() && collect.is_none(),
-            Command::Big { .. } => true,
-            Command::Run { .. } | Command::Show { .. } | Command::Lint { .. } => false,
+            Command::Run { .. } | Command::Big { .. } => true,
+            Command::Show { .. } | Command::Lint { .. } => false,
         }
     }
 
-    /// The seed that its run goes by; round robin where there is none.
+    /// The seed that it gives its run, if it gives one; only `sim` can.
     pub fn seed(&self) -> Option<u64>
         ensures { result ≡ seed_of (said self.now) }
     {

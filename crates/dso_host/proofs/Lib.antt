@@ -1,3 +1,4 @@
+pub mod crossing
 pub mod hosts
 pub mod merging
 pub mod programs

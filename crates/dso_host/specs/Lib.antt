@@ -1,4 +1,6 @@
 pub mod Gathered
+pub mod GoodMessages
+pub mod HostStates
 pub mod Hosts
 pub mod Journals
 pub mod Merged

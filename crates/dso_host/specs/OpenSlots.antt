@@ -1,19 +1,26 @@
 -- Which slots are open in the journal that is gathered of cells, and whether it is finished, by the cells themselves.
 use Rattle.std.specs.List.{list_any}
-use Rattle.std.specs.Prelude.{ℕ, ◌-◌, ◌≤◌, ◌≡◌, ◌⊎◌, Bool, true, false, eqb, not, Some}
-use Rattle.std.specs.Prelude.{List, length, reverse, slice_get}
+use Rattle.std.specs.Prelude.{ℕ, ◌-◌, ◌≤◌, ◌≡◌, ◌⊎◌, Bool, true, false, eqb, not, ◌||◌, Some}
+use Rattle.std.specs.Prelude.{List, [], ◌∷◌, length, reverse, slice_get}
 use Rattle.dso_base.specs.declared.journal.Entry.{Entry}
+use Rattle.dso_base.specs.declared.lock.ThreadId.{ThreadId}
+use Rattle.dso_base.specs.Following.{is_thread}
 use Rattle.dso_class.specs.declared.program.Program.{Program}
+use Rattle.dso_client.specs.ClientStands.{ClientStands}
+use Rattle.dso_law.specs.ClientStep.{may_flush}
 use Rattle.dso_law.specs.ServerReadings.{is_lost}
 use Rattle.dso_law.specs.Settings.{Settings, clients_of}
-use Rattle.dso_legal.specs.Slots.{Slot, is_any, is_finished, is_open, open_slots, slots}
+use Rattle.dso_legal.specs.Slots.{Slot, Acts, TakesDown, Flushes, TakesUp, Loses, Breaks}
+use Rattle.dso_legal.specs.Slots.{is_any, is_finished, is_open, open_slots, slots}
+use Rattle.dso_machine.specs.declared.code.Code.{Code}
 use Rattle.dso_machine.specs.Next.{next_request}
 use Rattle.dso_server.specs.ServerStands.{ServerStands}
 use Rattle.dso_world.specs.Busy.{is_busy}
 use Rattle.dso_world.specs.ChosenSlot.{is_slot}
 use Rattle.dso_world.specs.Touched.{client_of}
 use Rattle.dso_world.specs.WorldSteps.{settings_of}
-use Rattle.dso_cell.specs.Pairs.{HasNoEnd, Pair, TellsBusyAt, TellsSlot}
+use Rattle.dso_cell.specs.Pairs.{HasNoEnd, HasTriggers, Pair, TellsBusyAt, TellsSlot}
+use Rattle.dso_cell.specs.Pairs.{can_be_heard, can_hear, is_trigger_due}
 use Rattle.dso_host.specs.declared.cells.Cells.{Cells}
 use Rattle.dso_host.specs.Journals.{IsJournalOf}
 
@@ -82,3 +89,45 @@ TellsBusyOf cells c answer = (program : Program) (entries : List Entry) → IsJo
 abbrev pub TellsFinished : Program → Cells → Bool → Type 0
 TellsFinished program cells answer = (entries : List Entry) → IsJournalOf program cells entries
     → answer ≡ is_finished (settings_of program) (reverse entries)
+
+-- ---- any slot, client by client
+-- the slots of a client but for its threads' acts
+abbrev pub step_slots : ℕ → List Slot
+step_slots c = TakesDown c ∷ Flushes c ∷ TakesUp c ∷ Loses c ∷ Breaks c ∷ []
+
+-- The answer tells whether one of those is open, whatever entries the client's core stands for: a trigger of it is due,
+-- the server or the client can take, or the client flushes.
+abbrev pub TellsStepAt : Pair → Bool → Type 0
+TellsStepAt pair answer = (code : Code) (p : Settings) (c : ℕ) (es : List Entry)
+    → ClientStands code p c pair.cell.core es → HasTriggers p pair
+    → answer ≡ (is_trigger_due p pair || (can_be_heard pair || (can_hear pair || may_flush p c es)))
+
+-- whether the slot is open in the journal of the program
+abbrev pub is_open_in : Program → List Entry → Slot → Bool
+is_open_in program entries = is_open (settings_of program) (next_request program.code) (reverse entries)
+
+-- the answer tells, of whatever journal the cells are, whether the act of the thread is open
+abbrev pub TellsActOf : Cells → ThreadId → Bool → Type 0
+TellsActOf cells t answer = (program : Program) (entries : List Entry) → IsJournalOf program cells entries
+    → list_any (is_thread t) program.threads ≡ true → answer ≡ is_open_in program entries (Acts t)
+
+-- whether another slot of the client is
+abbrev pub TellsStepOf : Cells → ℕ → Bool → Type 0
+TellsStepOf cells c answer = (program : Program) (entries : List Entry) → IsJournalOf program cells entries
+    → list_any (eqb c) (clients_of (settings_of program)) ≡ true
+    → answer ≡ list_any (is_open_in program entries) (step_slots c)
+
+-- whether the act of some thread is
+abbrev pub TellsAnyAct : Program → Cells → Bool → Type 0
+TellsAnyAct program cells answer = (entries : List Entry) → IsJournalOf program cells entries
+    → answer ≡ list_any (λ t. is_open_in program entries (Acts t)) program.threads
+
+-- whether another slot of some client is
+abbrev pub TellsAnyStep : Program → Cells → Bool → Type 0
+TellsAnyStep program cells answer = (entries : List Entry) → IsJournalOf program cells entries
+    → answer ≡ list_any (λ c. list_any (is_open_in program entries) (step_slots c)) (clients_of (settings_of program))
+
+-- and whether any slot is open
+abbrev pub TellsOpen : Program → Cells → Bool → Type 0
+TellsOpen program cells answer = (entries : List Entry) → IsJournalOf program cells entries
+    → answer ≡ is_any (open_slots (settings_of program) (next_request program.code) (reverse entries))

@@ -14,3 +14,8 @@ AreBounded code (cell ∷ cells) = (cell.spent ≡ None) × ClientBounds code ce
 -- so is and does the server's
 abbrev pub IsServerBounded : ServerCell → Type 0
 IsServerBounded cell = (cell.spent ≡ None) × ServerBounds cell
+
+-- no client's cell has an entry
+abbrev pub HaveNoEntry : List ClientCell → Type 0
+HaveNoEntry [] = Unit {0}
+HaveNoEntry (cell ∷ cells) = (cell.log.entries ≡ []) × HaveNoEntry cells

@@ -1,5 +1,6 @@
 //! The laws of logs that are brought together. Each is the contract of a function that does nothing.
 ghost use Rattle.dso_host.specs.Gathered.{GatheredIsMerged};
+ghost use Rattle.dso_host.specs.GoodMessages.{NoMessageIsBad};
 ghost use Rattle.dso_host.specs.Journals.{GatheredIsLawful, GatheredWeight};
 ghost use Rattle.dso_host.specs.Merged.{MergedIsLawful};
 ghost use Rattle.dso_host.specs.OpenSlots.{AnyOpenByCells, FinishedByCells, OpenByCells};
@@ -42,4 +43,10 @@ pub fn any_open_by_cells()
 /// So is whether the journal is finished.
 pub fn finished_by_cells()
     ensures { FinishedByCells }
+{}
+
+/// No message of a lawful journal is bad: whatever the server answers to the message that comes next of a client, it takes it, or the
+/// client was lost.
+pub fn no_message_is_bad()
+    ensures { NoMessageIsBad }
 {}

@@ -2,9 +2,20 @@
 #![tactic(auto)]
 
 mod cells;
+mod epoch;
+mod gate;
+mod host;
 pub mod laws;
+mod open_slots;
 mod opening;
 mod readings;
+mod rounds;
+mod setting;
+mod weights;
+mod worker;
 
 pub use cells::Cells;
+pub use gate::Gate;
+pub use host::Host;
 pub use opening::cells_of;
+use setting::Setting;

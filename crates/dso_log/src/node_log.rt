@@ -1,7 +1,9 @@
 //! The entries of one node (`specs/Logs.antt`).
-ghost use Rattle.std.specs.Prelude.{◌<◌, ◌^◌, ◌≡◌, [], OnErr, OnOk, true, false};
+ghost use Rattle.std.specs.Prelude.{◌<◌, ◌-◌, ◌^◌, ◌≡◌, [], OnErr, OnOk, min, sum_by, true, false};
+ghost use Rattle.dso_base.specs.Weight.{entry_weight_of};
 ghost use Rattle.dso_log.specs.Logs.{LogKeeps, entry_of, last_clock, next_clock, with_entry};
 
+use crate::with_weight;
 use dso_base::{Entry, Event, Input, Items, NoMemory, Node, Sent, Shared};
 use std::alloc::Global;
 use std::marker::Model;
@@ -13,18 +15,21 @@ pub struct NodeLog {
     node: Node,
     entries: Vec<Entry>,
     has_room: bool,
+    /// What the entries weigh, and 2^64 - 1 where that is more.
+    weight: u64,
 }
 
 impl Model for NodeLog {
-    ghost use Rattle.std.specs.Prelude.{◌<◌, ◌≡◌, true, length};
+    ghost use Rattle.std.specs.Prelude.{◌<◌, ◌-◌, ◌^◌, ◌≡◌, true, length, min, sum_by};
     ghost use Rattle.std.specs.Vec.{vec_capacity};
+    ghost use Rattle.dso_base.specs.Weight.{entry_weight_of};
     ghost use Rattle.dso_log.specs.Logs.{Log, LogKeeps};
 
     ghost Value = { Log };
 
     ghost view = { λ log. record { node = log.node; entries = log.entries.items; has_room = log.has_room } };
 
-    ghost invariant = { λ log. (log.has_room ≡ true → length log.entries.items < vec_capacity log.entries) × LogKeeps log.node log.entries.items };
+    ghost invariant = { λ log. (log.has_room ≡ true → length log.entries.items < vec_capacity log.entries) × LogKeeps log.node log.entries.items × (log.weight ≡ min (sum_by entry_weight_of log.entries.items) (2 ^ 64 - 1)) };
 }
 
 impl NodeLog {
@@ -36,6 +41,7 @@ impl NodeLog {
             node,
             entries: Vec::new(alloc),
             has_room: false,
+            weight: 0,
         }
     }
 
@@ -72,6 +78,7 @@ impl NodeLog {
             event,
         };
         self.has_room = false;
+        self.weight = with_weight(self.weight, &entry);
         match self.entries.push(entry) {
             Ok(()) => clock,
             Err(_) => unreachable!(),
@@ -86,6 +93,13 @@ impl NodeLog {
             Some(entry) => entry.clock,
             None => 0,
         }
+    }
+
+    /// What all entries weigh together, and 2^64 - 1 where that is more. It takes no memory.
+    pub fn weight(&self) -> u64
+        ensures { result ≡ min (sum_by entry_weight_of self.now.entries) (2 ^ 64 - 1) }
+    {
+        self.weight
     }
 
     /// All entries in order, each of the node and with a greater clock than the one before it. It takes no memory.

@@ -1,7 +1,6 @@
 -- What is given for the two texts, and the verdict on it.
-use Rattle.std.proofs.Common.{◌≢◌, ℕ, List, refl, subst, Result, Ok, Err, IfOk}
+use Rattle.std.proofs.Common.{ℕ, List, subst, Result, Ok, Err, IfOk}
 use Rattle.dso_base.specs.declared.no_memory.NoMemory.{NoMemory}
-use Rattle.dso_config.specs.declared.config.Config.{Config}
 use Rattle.dso_config.specs.declared.fault.ConfigFault.{ConfigFault}
 use Rattle.dso_config.specs.declared.fault.ConfigFault.TheVariants as fault
 use Rattle.dso_config.specs.Configuration.{IsFaultOf}

@@ -1,4 +1,5 @@
 pub mod runs
+pub mod Answering
 pub mod Completing
 pub mod Finishing
 pub mod GivenTexts

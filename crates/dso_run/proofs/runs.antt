@@ -2,3 +2,4 @@
 pub mod Failures
 pub mod ChosenOpen
 pub mod Going
+pub mod Halted

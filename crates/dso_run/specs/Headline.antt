@@ -1,7 +1,7 @@
 -- The program's theorem: what each status of a call means, from the bytes that were read to those that were written.
 -- `StatusMeans`, at the end, is the clause `answer` of `dso_main`. What it is made of stands above it, in the order of
 -- the work.
-use Rattle.std.specs.Prelude.{◌≡◌, ℕ, suc, ℤ, ◌⊎◌, true, false, List, [], Option, Some, reverse}
+use Rattle.std.specs.Prelude.{◌≡◌, ℕ, suc, ℤ, ◌⊎◌, true, false, List, [], Option, Some, None, reverse}
 use Rattle.dso_base.specs.declared.journal.Entry.{Entry}
 use Rattle.dso_base.specs.declared.lock.ThreadId.{ThreadId}
 use Rattle.dso_base.specs.declared.request.Event.{Event}
@@ -30,9 +30,10 @@ use Rattle.dso_syntax.specs.TextLimits.{longest_text}
 use Rattle.dso_run.specs.Accepted.{settings_of, AreTaken, IsConfigRefusal, IsProgramRefusal}
 use Rattle.dso_io.specs.Environment.{Told, MayGive, Rose, taken_after, TookPrefix}
 use Rattle.dso_run.specs.Files.{AreAsBefore, IsWritten}
-use Rattle.dso_run.specs.RunEnds.{EndsFinished, EndsStuck, EndsOverBudget}
+use Rattle.dso_run.specs.RunEnds.{EndsFinished, EndsStuck, EndsOverBudget, Making, BySlots, ByThreads}
 use Rattle.dso_run.specs.Status.{line_of}
-use Rattle.dso_command_line.specs.Words.{AreLawful, AreUnlawful, Command, Sim, Run, Big, Show, Lint, journal_of, seed_of, steps_of}
+use Rattle.dso_command_line.specs.Words.{AreLawful, AreUnlawful, Command, Sim, Run, Big, Show, Lint}
+use Rattle.dso_command_line.specs.Words.{journal_of, steps_of}
 
 -- how many bytes are read of a file at most: one more than a program's text may have
 abbrev pub most_read : ℕ
@@ -156,16 +157,25 @@ module _ (input : CallInput) where
   HasCause (refusal.Config fault) = IsConfigRefused fault
   HasCause (refusal.Program fault) = IsProgramRefused fault
 
--- THE RUN, for the settings of a program, what each of its threads asks next after its events, round robin or a seed,
+-- how the entries of a command's run are made: of `run` by threads, and else at the slots that are chosen, by the seed
+-- that `sim` is given or by round robin
+abbrev pub making_of : Command → Making
+making_of (Sim call) = BySlots call.seed
+making_of (Run call) = ByThreads
+making_of (Big number) = BySlots None
+making_of (Show call) = BySlots None
+making_of (Lint call) = BySlots None
+
+-- THE RUN, for the settings of a program, what each of its threads asks next after its events, how its entries are made,
 -- and a budget: how much its journal may weigh before it is cut off. Entries stand with the newest first.
-module _ (p : Settings) (next : ThreadId → List Event → Option Request) (seed : Option ℕ) (budget : ℕ) where
-  -- The entries are a lawful journal that was made by the schedule within the budget, and the run ended so: finished,
-  -- without a fault of a kept thread or with one, or stuck, or out of its budget.
+module _ (p : Settings) (next : ThreadId → List Event → Option Request) (how : Making) (budget : ℕ) where
+  -- The entries are a lawful journal that was made so, and the run ended so: finished, without a fault of a kept thread
+  -- or with one, or stuck, or out of its budget.
   abbrev pub EndsAs : Outcome → List Entry → Type 0
-  EndsAs outcome.Finished es = EndsFinished p next seed budget false es
-  EndsAs outcome.FinishedFault es = EndsFinished p next seed budget true es
-  EndsAs outcome.Stuck es = EndsStuck p next seed budget es
-  EndsAs outcome.Budget es = EndsOverBudget p next seed budget es
+  EndsAs outcome.Finished es = EndsFinished p next how budget false es
+  EndsAs outcome.FinishedFault es = EndsFinished p next how budget true es
+  EndsAs outcome.Stuck es = EndsStuck p next how budget es
+  EndsAs outcome.Budget es = EndsOverBudget p next how budget es
 
   -- A run that ended so. What its journal commits is a legal history of one heap with plain monitors, in which each
   -- thread follows the program. The history has the first of each thread's events, each once and in order, and all of
@@ -175,11 +185,10 @@ module _ (p : Settings) (next : ThreadId → List Event → Option Request) (see
     pub ended : EndsAs outcome es
     pub commits : CommitsLegally p next es
 
--- the journal, its first entry first, is that of a run of this program by this schedule within this budget that ended
--- so
-abbrev pub IsRunOf : Program → Option ℕ → ℕ → Outcome → List Entry → Type 0
-IsRunOf p seed budget outcome journal =
-    HasRun (settings_of p) (next_request p.code) seed budget outcome (reverse journal)
+-- the journal, its first entry first, is that of a run of this program that was made so, with this budget, and ended so
+abbrev pub IsRunOf : Program → Making → ℕ → Outcome → List Entry → Type 0
+IsRunOf p how budget outcome journal =
+    HasRun (settings_of p) (next_request p.code) how budget outcome (reverse journal)
 
 -- the text is the report of the history that the journal commits, with the program's names
 abbrev pub IsRunReport : Program → List Entry → List ℕ → Type 0
@@ -207,7 +216,7 @@ module _ (input : CallInput) (output : CallOutput) where
   -- A program was accepted, and the journal is that of a run of it, as the command asks, that ended so.
   pub record HasRunOf (command : Command) (program : Program) (outcome : Outcome) : Type 0 where
     pub accepted : IsAccepted input command program
-    pub ran : IsRunOf program (seed_of command) (steps_of command) outcome output.journal
+    pub ran : IsRunOf program (making_of command) (steps_of command) outcome output.journal
 
   -- Such a run was made, its journal is kept, and the text is what is told of what the journal commits.
   pub record IsReportDue (outcome : Outcome) (text : List ℕ) : Type 0 where

@@ -4,6 +4,7 @@ pub mod Exit
 pub mod Failing
 pub mod Files
 pub mod Finished
+pub mod Halting
 pub mod Headline
 pub mod RunEnds
 pub mod Status

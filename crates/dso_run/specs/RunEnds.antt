@@ -28,8 +28,14 @@ has_failed t es = list_any is_failure (events_in t (entries_of (Client t.client)
 abbrev pub is_faulty : List ThreadId → List Entry → Bool
 is_faulty threads es = list_any (λ t. has_failed t es && not (is_lost t.client (entries_of Server es))) threads
 
--- The settings of a program; what each of its threads asks next after its events; round robin or a seed; and how much
--- the journal may weigh before the run is cut off.
+-- How the entries of a run are made: each at the slot that is chosen, by round robin or a seed; or by threads, in
+-- whatever order they come.
+pub data Making : Type 0 where
+  BySlots : Option ℕ → Making
+  ByThreads : Making
+
+-- BY SLOTS: for the settings of a program; what each of its threads asks next after its events; round robin or a seed;
+-- and how much the journal may weigh before the run is cut off.
 module _ (p : Settings) (next : ThreadId → List Event → Option Request) (seed : Option ℕ) (budget : ℕ) where
   -- the run goes on after these entries: they are not finished, weigh less than the budget and are not stuck
   pub record GoesOn (es : List Entry) : Type 0 where
@@ -42,25 +48,33 @@ module _ (p : Settings) (next : ThreadId → List Event → Option Request) (see
   TakesTurns [] = Unit {0}
   TakesTurns (e ∷ es) = TakesTurns es × GoesOn es × (slot_at e.node e.input ≡ chosen_slot p next seed es)
 
-  -- A run so far: a lawful journal, made by the schedule within the budget.
-  pub record IsRun (es : List Entry) : Type 0 where
-    pub lawful : IsLawful p next es
-    pub turns : TakesTurns es
+-- EITHER WAY
+module _ (p : Settings) (next : ThreadId → List Event → Option Request) where
+  -- the entries are made so: by slots within the budget; of the order in which threads make them nothing is said
+  abbrev pub IsMadeBy : Making → ℕ → List Entry → Type 0
+  IsMadeBy (BySlots seed) budget es = TakesTurns p next seed budget es
+  IsMadeBy ByThreads budget es = Unit {0}
 
-  -- How a run ends: finished, where some kept thread ended by a fault, or none did;
-  pub record EndsFinished (faulty : Bool) (es : List Entry) : Type 0 where
-    pub run : IsRun es
-    pub finished : is_finished p es ≡ true
-    pub fault : is_faulty p.threads es ≡ faulty
+  module _ (how : Making) (budget : ℕ) where
+    -- A run so far: a lawful journal, made as it is to be.
+    pub record IsRun (es : List Entry) : Type 0 where
+      pub lawful : IsLawful p next es
+      pub made : IsMadeBy how budget es
 
-  -- stuck, within the budget;
-  pub record EndsStuck (es : List Entry) : Type 0 where
-    pub run : IsRun es
-    pub light : weight es < budget
-    pub stuck : is_stuck p next es ≡ true
+    -- How a run ends: finished, where some kept thread ended by a fault, or none did;
+    pub record EndsFinished (faulty : Bool) (es : List Entry) : Type 0 where
+      pub run : IsRun es
+      pub finished : is_finished p es ≡ true
+      pub fault : is_faulty p.threads es ≡ faulty
 
-  -- or out of its budget, and not finished.
-  pub record EndsOverBudget (es : List Entry) : Type 0 where
-    pub run : IsRun es
-    pub unfinished : is_finished p es ≡ false
-    pub heavy : budget ≤ weight es
+    -- stuck, within the budget;
+    pub record EndsStuck (es : List Entry) : Type 0 where
+      pub run : IsRun es
+      pub light : weight es < budget
+      pub stuck : is_stuck p next es ≡ true
+
+    -- or out of its budget, and not finished.
+    pub record EndsOverBudget (es : List Entry) : Type 0 where
+      pub run : IsRun es
+      pub unfinished : is_finished p es ≡ false
+      pub heavy : budget ≤ weight es

@@ -1,5 +1,5 @@
 -- The numbers of the statuses, and the lines of the refusals.
-use Rattle.std.specs.Prelude.{◌≢◌, ℕ, List, [], ◌∷◌, ◌++◌, codes}
+use Rattle.std.specs.Prelude.{ℕ, List, [], ◌∷◌, ◌++◌, codes}
 use Rattle.std.specs.Fmt.{decimal}
 use Rattle.dso_class.specs.declared.fault.NameFault.{NameFault}
 use Rattle.dso_class.specs.declared.fault.NameFault.TheVariants as name

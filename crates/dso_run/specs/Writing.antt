@@ -1,6 +1,7 @@
 -- What was written of a text, and what is answered then.
 use Rattle.std.specs.Prelude.{◌≡◌, ◌⊎◌, ℕ, List, [], Option, Some}
 use Rattle.dso_class.specs.declared.program.Program.{Program}
+use Rattle.dso_run.specs.declared.running.Run.{Run}
 use Rattle.dso_run.specs.declared.running.Outcome.{Outcome}
 use Rattle.dso_run.specs.declared.running.Outcome.TheVariants as outcome
 use Rattle.dso_run.specs.declared.status.Status.{Status}
@@ -8,8 +9,8 @@ use Rattle.dso_run.specs.declared.status.Status.TheVariants.{Finished, FinishedF
 use Rattle.dso_run.specs.declared.status.Status.TheVariants.{NoMemory}
 use Rattle.dso_io.specs.Environment.{Told, Rose, taken_after, TookPrefix}
 use Rattle.dso_run.specs.Files.{AreAsBefore}
-use Rattle.dso_run.specs.Headline.{CallOutput, IsKept, IsRunOf, IsRunText}
-use Rattle.dso_command_line.specs.Words.{Command, journal_of, seed_of, steps_of}
+use Rattle.dso_run.specs.Headline.{CallOutput, IsKept, IsRunOf, IsRunText, making_of}
+use Rattle.dso_command_line.specs.Words.{Command, journal_of, steps_of}
 
 -- The sink took the whole text, its count of faults is as before and the answer is this status; or it took a prefix and
 -- counted a fault, and the answer is WriteFault.
@@ -18,11 +19,15 @@ Wrote before now faults_before faults_now text status answer =
     ((answer ≡ status) × (now ≡ taken_after before text) × (faults_now ≡ faults_before))
     ⊎ ((answer ≡ WriteFault) × TookPrefix before text now × Rose faults_before faults_now)
 
+-- the run is one of this program that was made as the command asks
+abbrev pub IsRunFor : Command → Program → Run → Type 0
+IsRunFor command p run = IsRunOf p (making_of command) (steps_of command) run.outcome run.journal.entries
+
 -- For a command, its program, what is told of the files before the run, and what the run leaves:
 module _ (command : Command) (p : Program) (before : List ℕ → Told) (output : CallOutput) where
   -- a run was made, as the command asks, that ended so
   abbrev pub Ran : Outcome → Type 0
-  Ran outcome = IsRunOf p (seed_of command) (steps_of command) outcome output.journal
+  Ran outcome = IsRunOf p (making_of command) (steps_of command) outcome output.journal
 
   -- the run ended so, its journal is kept, what is told of it was written whole, and nothing failed in writing
   abbrev pub ToldWhole : Outcome → Type 0

@@ -8,21 +8,26 @@ ghost use Rattle.dso_run.specs.Exit.{EndsWith, IsUsageNumber, words_told};
 ghost use Rattle.dso_run.specs.Headline.{left_by, read_by};
 
 use crate::{Status, dso_main};
+use dso_host::Gate;
 use dso_io::{Files, Sink};
 use std::alloc::Global;
 use std::io;
 use std::process::ExitCode;
+use std::sync::Wait;
+use std::thread::Threads;
 
 /// Does all that the process does, and answers what it is to end with: the number of the status of the call.
 ///
 /// The words are those behind the program's name, or why they couldn't be told. Where that was want of memory, nothing is
 /// done, and the number is that of `NoMemory`. Else a word isn't text, and so none of a lawful list: there are no words
 /// then, which is `Usage`.
-pub fn dso_exit<F: Files, K: Sink>(
+pub fn dso_exit<R: Threads + Wait + Sync, F: Files, K: Sink, G: Gate>(
+    rt: &R,
     alloc: Global,
     words: io::Result<Vec<String>>,
     files: &mut F,
     out: &mut K,
+    gate: &G,
 ) -> ExitCode
     ensures ends { EndsWith (read_by F.content F.read_faults files.old files.new (words_told (λ texts. map string_bytes texts.items) words))
         (left_by F.content F.write_faults K.taken K.faults files.old files.new out.old out.new)
@@ -38,6 +43,6 @@ pub fn dso_exit<F: Files, K: Sink>(
         }
         Err(_) => Vec::new(alloc),
     };
-    let done = dso_main(alloc, words.as_slice(), files, out);
+    let done = dso_main(rt, alloc, words.as_slice(), files, out, gate);
     ExitCode::from(done.status.exit_number())
 }

@@ -35,8 +35,13 @@ pub(crate) fn judge<F: Files>(
             program,
             ..
         } => judge_files(alloc, config, program, files),
+        Command::Run {
+            config,
+            program,
+            ..
+        } => judge_files(alloc, config, program, files),
         Command::Big { number } => judge_load(alloc, number),
-        Command::Run { .. } | Command::Show { .. } | Command::Lint { .. } => unreachable!(),
+        Command::Show { .. } | Command::Lint { .. } => unreachable!(),
     }
 }
 

@@ -5,11 +5,11 @@
 //! ```rust
 //! use dso_base::NoMemory;
 //! use dso_io::{MemFiles, MemSink};
-//! use dso_run::{Done, dso_main};
+//! use dso_run::{Done, without_threads};
 //! use std::alloc::Global;
 //!
 //! /// Runs a program under an empty configuration: how it ended, with its journal, and the sink that took the report.
-//! fn run(alloc: Global, program: &str) -> Result<(Done, MemSink), NoMemory> {
+//! fn run(alloc: Global, program: &str) -> Result<(Option<Done>, MemSink), NoMemory> {
 //!     let mut files = MemFiles::new(alloc, &[])?;
 //!     files.add(alloc, "c", b"")?;
 //!     files.add(alloc, "p", program.as_bytes())?;
@@ -18,7 +18,7 @@
 //!         words.push(String::from_str(alloc, word)?)?;
 //!     }
 //!     let mut out = MemSink::new(alloc, 4096, 4096, &[])?;
-//!     let done = dso_main(alloc, words.as_slice(), &mut files, &mut out);
+//!     let done = without_threads(alloc, words.as_slice(), &mut files, &mut out);
 //!     Ok((done, out))
 //! }
 //! ```
@@ -35,8 +35,10 @@ mod replay;
 mod run_texts;
 mod running;
 mod status;
+mod threads;
 mod verdict;
 
 pub use exit::dso_exit;
-pub use main_call::dso_main;
+pub use main_call::{dso_main, without_threads};
 pub use status::{Done, ProgramFault, Status};
+pub use threads::NoGate;

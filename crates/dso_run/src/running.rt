@@ -3,7 +3,7 @@ ghost use Rattle.std.specs.Prelude.{◌≡◌, ◌≤◌, ◌<◌, false, revers
 ghost use Rattle.dso_class.specs.Sound.{IsSoundProgram};
 ghost use Rattle.dso_legal.specs.Slots.{weight};
 ghost use Rattle.dso_run.specs.Headline.{IsRunOf};
-ghost use Rattle.dso_run.specs.RunEnds.{is_faulty};
+ghost use Rattle.dso_run.specs.RunEnds.{BySlots, is_faulty};
 ghost use Rattle.dso_run.specs.Stepping.{IsTurn, RunsOn, finish_by};
 ghost use Rattle.dso_world.specs.WorldStands.{WorldStands, entries_in, is_spent};
 
@@ -46,7 +46,7 @@ pub(crate) fn run_program(
 ) -> Result<Run, NoMemory>
     requires sound { IsSoundProgram program.now }
     requires steps { schedule.steps ≤ BUDGET }
-    ensures { IfOk result (λ run. IsRunOf program.now schedule.seed schedule.steps run.outcome run.journal.entries) }
+    ensures { IfOk result (λ run. IsRunOf program.now (BySlots schedule.seed) schedule.steps run.outcome run.journal.entries) }
 {
     let mut world = World::new(alloc, program)?;
     let ended = run_on(alloc, program, &mut world, schedule);
@@ -67,7 +67,7 @@ fn run_on(
     requires sound { IsSoundProgram program.now }
     requires steps { schedule.steps ≤ BUDGET }
     requires runs { RunsOn program.now schedule.seed schedule.steps world.old }
-    ensures { IfOk result (λ outcome. IsRunOf program.now schedule.seed schedule.steps outcome world.new.journal.entries) }
+    ensures { IfOk result (λ outcome. IsRunOf program.now (BySlots schedule.seed) schedule.steps outcome world.new.journal.entries) }
 {
     while !world.finished() && world.weight() < schedule.steps {
         if !take_step(alloc, program, world, schedule)? {
@@ -82,7 +82,7 @@ fn run_on(
 }
 
 /// How a run that is finished ended: with a fault of a kept thread, or without one.
-fn finish_of(program: &Program, journal: &Journal) -> Outcome
+pub(crate) fn finish_of(program: &Program, journal: &Journal) -> Outcome
     ensures { result ≡ finish_by (is_faulty program.now.threads (reverse journal.now.entries)) }
 {
     if is_faulty(program.threads.as_slice(), journal.entries.as_slice()) {

@@ -34,7 +34,6 @@ mod client_entry;
 mod client_node;
 mod client_step;
 mod entry_draft;
-mod entry_weight;
 mod incoming_message;
 pub mod laws;
 mod link;

@@ -7,7 +7,6 @@ ghost use Rattle.dso_legal.specs.Slots.{is_finished, weight};
 ghost use Rattle.dso_world.specs.WorldStands.{IsChosenStep, IsMade, IsMakeable, IsStepped, WorldStands, entries_in, is_open_step, is_spent, journal_of};
 ghost use Rattle.dso_world.specs.WorldSteps.{settings_of};
 
-use crate::entry_weight::with_weight;
 use crate::node_step::apply;
 use crate::nodes::Nodes;
 use crate::open_steps::OpenSteps;
@@ -16,6 +15,7 @@ use crate::step::Step;
 use crate::step_update::follow;
 use dso_base::{Entry, Items, Journal, NoMemory};
 use dso_class::Program;
+use dso_log::with_weight;
 use std::alloc::Global;
 
 /// A whole cluster in one program: its clients with their threads, its server, the connections between them, and the

@@ -2,7 +2,7 @@
 #![tactic(auto)]
 
 use dso_io::{StdFiles, StdSink};
-use dso_run::dso_exit;
+use dso_run::{NoGate, dso_exit};
 use std::process::ExitCode;
 use std::{env, io};
 
@@ -10,7 +10,7 @@ fn main(rt: HostRuntime) -> ExitCode {
     let words = words(&rt);
     let mut files = StdFiles::new(rt.alloc(), &rt);
     let mut out = StdSink::new(&rt);
-    dso_exit(rt.alloc(), words, &mut files, &mut out)
+    dso_exit(&rt, rt.alloc(), words, &mut files, &mut out, &NoGate)
 }
 
 /// The words behind the program's name.

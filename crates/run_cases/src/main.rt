@@ -3,25 +3,32 @@
 //! A line is a word, a space and the rest. `try NAME` calls the program with what the lines before it set, and prints
 //! the name, the status, the exit number and the bytes that the sink took; `journal NAME` prints the journal too,
 //! `file FILE NAME` what that file holds then, `reason NAME` only why nothing was run. `seeds NAME` calls it by round
-//! robin and by seeds 0 to 9, and prints what differs from the call before; `afters NAME` does so with the numbers 0 to 60 in
-//! the place of `K` in the configuration; `sends NAME` prints for each schedule how many leases are granted and
-//! recalled, and how many objects are flushed; `settles NAME` takes the same numbers as `afters`, and prints how often
-//! thread 2.1 settles and how many of its values are in the report. Then all but the program is set back. `words LINE`
-//! tells what becomes of a command line. `example NAME` runs the program of a folder of the gallery, and prints whether
-//! its report is the stored one; `traced NAME` does so for its journal too. The other words are those of `Trial::set`.
-//! In texts `\n`, `\t`, `\r` and `\1` stand for bytes.
+//! robin and by seeds 0 to 9, `hundred NAME` by seeds 0 to 99, and prints what differs from the call before; `afters
+//! NAME` does so with the numbers 0 to 60 in the place of `K` in the configuration; `sends NAME` prints for each schedule how many leases are granted
+//! and recalled, and how many objects are flushed; `settles NAME` takes the same numbers as `afters`, and prints how
+//! often thread 2.1 settles and how many of its values are in the report. `keeps NAME` takes four of them, and prints
+//! whether the count at the end is that of the values that are shown; `meeting NAME` calls the program through a
+//! gate, and prints how many of five workers saw all of them come to their first turns. Then all but the program is
+//! set back. `words LINE` tells what becomes of a command line. `example NAME` runs the program of a folder of the
+//! gallery, and prints whether its report is the stored one; `traced NAME` does so for its journal too, and `threaded
+//! NAME` for a run in threads. The other words are those of `Trial::set`. In texts `\n`, `\t`, `\r` and `\1` stand for
+//! bytes.
 #![tactic(auto)]
 
 mod examples;
+mod keeping;
+mod meeting;
 mod settling;
 mod trial;
 mod variants;
 
-use examples::{show_example, show_traced};
+use examples::{show_example, show_threaded, show_traced};
+use keeping::show_keeps;
+use meeting::show_meeting;
 use settling::show_settles;
 use std::io;
-use trial::{Trial, show_file, show_journal, show_reason, show_trial, show_words};
-use variants::{show_afters, show_seeds, show_sends};
+use trial::{System, Trial, show_file, show_journal, show_reason, show_trial, show_words};
+use variants::{MANY_SEEDS, SEEDS, show_afters, show_seeds, show_sends};
 
 fn main(rt: HostRuntime) -> io::Result<()> {
     let text = io::read_to_string(rt.alloc(), rt.reader())?;
@@ -38,26 +45,30 @@ fn main(rt: HostRuntime) -> io::Result<()> {
 }
 
 /// Tries the call as the word asks: whether it asks for that.
-fn tries(rt: &HostRuntime, word: &str, rest: &str, trial: &Trial<'_>) -> io::Result<bool> {
+fn tries<R: System>(rt: &R, word: &str, rest: &str, trial: &Trial<'_>) -> io::Result<bool> {
     match word {
         "try" => show_trial(rt, rest, trial)?,
         "journal" => show_journal(rt, rest, trial)?,
         "file" => show_file(rt, rest, trial)?,
         "reason" => show_reason(rt, rest, trial)?,
-        "seeds" => show_seeds(rt, rest, trial)?,
+        "seeds" => show_seeds(rt, rest, trial, SEEDS)?,
+        "hundred" => show_seeds(rt, rest, trial, MANY_SEEDS)?,
         "afters" => show_afters(rt, rest, trial)?,
         "sends" => show_sends(rt, rest, trial)?,
         "settles" => show_settles(rt, rest, trial)?,
+        "keeps" => show_keeps(rt, rest, trial)?,
+        "meeting" => show_meeting(rt, rest, trial)?,
         _ => return Ok(false),
     }
     Ok(true)
 }
 
 /// Shows what the word asks for, whatever trial is set: whether it asks for that.
-fn shows(rt: &HostRuntime, word: &str, rest: &str) -> io::Result<bool> {
+fn shows<R: System>(rt: &R, word: &str, rest: &str) -> io::Result<bool> {
     match word {
         "example" => show_example(rt, rest)?,
         "traced" => show_traced(rt, rest)?,
+        "threaded" => show_threaded(rt, rest)?,
         "words" => show_words(rt, rest)?,
         _ => return Ok(false),
     }

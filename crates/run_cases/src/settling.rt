@@ -1,7 +1,7 @@
 //! How often a thread of a client that is lost settles, beside what the report keeps of it.
-use crate::trial::{Answer, Trial};
+use crate::trial::{Answer, System, Trial};
 use crate::variants::LAST_NUMBER;
-use dso_base::{Entry, Event, NoMemory, Request, ThreadId};
+use dso_base::{Entry, Event, Request, ThreadId};
 use std::io;
 
 /// How often thread 2.1 settles in a journal, and how many of its values the report has.
@@ -13,7 +13,7 @@ struct Settling {
 
 /// Tries the call with each number in the place of `K` in its configuration, and prints how often thread 2.1 settles,
 /// and how many of its values the report has, where that differs from the number before.
-pub fn show_settles(rt: &HostRuntime, name: &str, trial: &Trial<'_>) -> io::Result<()> {
+pub fn show_settles<R: System>(rt: &R, name: &str, trial: &Trial<'_>) -> io::Result<()> {
     let mut last = None;
     for number in 0..LAST_NUMBER + 1 {
         let settling = settling_after(rt, trial, number)?;
@@ -26,22 +26,22 @@ pub fn show_settles(rt: &HostRuntime, name: &str, trial: &Trial<'_>) -> io::Resu
 }
 
 /// What thread 2.1 does with this number in the place of `K`, None where there was no memory.
-fn settling_after(
-    rt: &HostRuntime,
+fn settling_after<R: System>(
+    rt: &R,
     trial: &Trial<'_>,
     number: u64,
 ) -> io::Result<Option<Settling>> {
     let number = format!(in rt.alloc(); "{number}")?;
     let config = trial.config.replace(rt.alloc(), "K", number.as_str())?;
-    match trial.set("config", config.as_str()).answer(rt.alloc()) {
+    match trial.set("config", config.as_str()).answer(rt) {
         Ok(answer) => Ok(Some(settling_of(rt, &answer)?)),
         Err(_) => Ok(None),
     }
 }
 
 /// Prints what thread 2.1 does from this number on.
-fn show_settling(
-    rt: &HostRuntime,
+fn show_settling<R: System>(
+    rt: &R,
     name: &str,
     number: u64,
     settling: Option<Settling>,
@@ -55,7 +55,7 @@ fn show_settling(
 }
 
 /// What thread 2.1 did in a call.
-fn settling_of(rt: &HostRuntime, answer: &Answer) -> io::Result<Settling> {
+fn settling_of<R: System>(rt: &R, answer: &Answer) -> io::Result<Settling> {
     let entries = answer.done.journal.entries.as_slice();
     let report = String::from_utf8_lossy(rt.alloc(), answer.taken.as_slice())?;
     Ok(Settling {
@@ -84,7 +84,7 @@ fn is_settling(entry: &Entry) -> bool {
 }
 
 /// How many values a report has of thread 2.1, which is the last of its threads.
-fn value_count(report: &str) -> usize {
+pub fn value_count(report: &str) -> usize {
     match report.split_once("thread 2.1 ") {
         Some((_, values)) => values.lines().filter(|line| line.starts_with("| ")).count(),
         None => 0,

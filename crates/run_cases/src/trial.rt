@@ -1,10 +1,14 @@
 //! A call of the program over files and a sink in memory.
 use dso_base::NoMemory;
-use dso_io::{MemFiles, MemSink};
+use dso_host::Gate;
+use dso_io::{Files, MemFiles, MemSink};
 use dso_run::laws::words_ask_once;
-use dso_run::{Done, Status, dso_main};
+use dso_run::{Done, NoGate, Status, dso_main};
 use std::alloc::{AllocError, Global};
 use std::io;
+use std::rt::Runtime;
+use std::sync::Wait;
+use std::thread::Threads;
 
 /// How many bytes the sink has room for.
 pub const ROOM: usize = 4096;
@@ -32,11 +36,34 @@ pub struct Trial<'a> {
     piece: usize,
 }
 
+/// What the cases take of the system: memory, files, its output, and threads.
+pub trait System: Runtime + AllocGlobal + Threads + Wait + Sync {}
+
+impl<R: Runtime + AllocGlobal + Threads + Wait + Sync> System for R {}
+
 /// What a call leaves, and what its sink took.
 #[derive(Drop)]
 pub struct Answer {
     pub done: Done,
     pub taken: Vec<u8>,
+}
+
+/// A call of the program: its words, and the gate that its workers pass.
+#[derive(Drop)]
+pub struct Call<'a, R, G> {
+    pub rt: &'a R,
+    pub words: &'a [String],
+    pub gate: &'a G,
+}
+
+impl<'a, R: System, G: Gate> Call<'a, R, G> {
+    /// Makes the call over these files and this sink.
+    pub fn answer<F: Files>(&self, files: &mut F, mut out: MemSink) -> Result<Answer, NoMemory> {
+        let alloc = self.rt.alloc();
+        let done = dso_main(self.rt, alloc, self.words, files, &mut out, self.gate);
+        let taken = Vec::from_slice(alloc, out.taken())?;
+        Ok(Answer { done, taken })
+    }
 }
 
 impl<'a> Trial<'a> {
@@ -149,36 +176,38 @@ impl<'a> Trial<'a> {
         Ok(files)
     }
 
-    /// Calls the program with these words over these files.
-    fn called(
+    /// Calls the program, whose workers pass this gate, and leaves the files.
+    fn answer_and_files<R: System, G: Gate>(
         &self,
-        alloc: Global,
-        words: &[String],
-        files: &mut MemFiles,
-    ) -> Result<Answer, NoMemory> {
-        let mut out = MemSink::new(alloc, self.piece.max(1), ROOM, &[self.failing_put])?;
-        let done = dso_main(alloc, words, files, &mut out);
-        let taken = Vec::from_slice(alloc, out.taken())?;
-        Ok(Answer { done, taken })
-    }
-
-    /// Calls the program, and leaves the files.
-    fn answer_and_files(&self, alloc: Global) -> Result<(Answer, MemFiles), NoMemory> {
-        let words = self.words(alloc)?;
-        let mut files = self.files(alloc)?;
-        let answer = self.called(alloc, words.as_slice(), &mut files)?;
+        rt: &R,
+        gate: &G,
+    ) -> Result<(Answer, MemFiles), NoMemory> {
+        let words = self.words(rt.alloc())?;
+        let mut files = self.files(rt.alloc())?;
+        let out = MemSink::new(rt.alloc(), self.piece.max(1), ROOM, &[self.failing_put])?;
+        let call = Call {
+            rt,
+            words: words.as_slice(),
+            gate,
+        };
+        let answer = call.answer(&mut files, out)?;
         Ok((answer, files))
     }
 
-    /// Calls the program.
-    pub fn answer(&self, alloc: Global) -> Result<Answer, NoMemory> {
-        let (answer, _) = self.answer_and_files(alloc)?;
+    /// Calls the program, whose workers pass this gate.
+    pub fn answer_by<R: System, G: Gate>(&self, rt: &R, gate: &G) -> Result<Answer, NoMemory> {
+        let (answer, _) = self.answer_and_files(rt, gate)?;
         Ok(answer)
+    }
+
+    /// Calls the program.
+    pub fn answer<R: System>(&self, rt: &R) -> Result<Answer, NoMemory> {
+        self.answer_by(rt, &NoGate)
     }
 }
 
 /// The number of a text, 0 where it is none.
-fn number_of(text: &str) -> u64 {
+pub fn number_of(text: &str) -> u64 {
     text.parse().unwrap_or(0)
 }
 
@@ -191,8 +220,8 @@ fn unescaped(alloc: Global, text: &str) -> Result<String, AllocError> {
 }
 
 /// Tries the call, and prints its name, how it ended and what its sink took.
-pub fn show_trial(rt: &HostRuntime, name: &str, trial: &Trial<'_>) -> io::Result<()> {
-    match trial.answer(rt.alloc()) {
+pub fn show_trial<R: System>(rt: &R, name: &str, trial: &Trial<'_>) -> io::Result<()> {
+    match trial.answer(rt) {
         Ok(answer) => show_answer(rt, name, &answer),
         Err(_) => println!(rt; "{name}: no memory"),
     }
@@ -201,22 +230,22 @@ pub fn show_trial(rt: &HostRuntime, name: &str, trial: &Trial<'_>) -> io::Result
 /// Tries these words over a configuration that is no TOML, and prints what becomes of them: the configuration's fault
 /// where the words are taken and name the two files, or what is wrong with the words or the names; of a load how its
 /// run ended.
-pub fn show_words(rt: &HostRuntime, line: &str) -> io::Result<()> {
+pub fn show_words<R: System>(rt: &R, line: &str) -> io::Result<()> {
     words_ask_once();
     let trial = Trial {
         line,
         config: "=",
         ..Trial::of_program("")
     };
-    match trial.answer(rt.alloc()) {
+    match trial.answer(rt) {
         Ok(answer) => println!(rt; "{line}: {:?}", answer.done.status),
         Err(_) => println!(rt; "{line}: no memory"),
     }
 }
 
 /// Tries the call as `show_trial`, and prints the journal that it leaves, an entry a line.
-pub fn show_journal(rt: &HostRuntime, name: &str, trial: &Trial<'_>) -> io::Result<()> {
-    match trial.answer(rt.alloc()) {
+pub fn show_journal<R: System>(rt: &R, name: &str, trial: &Trial<'_>) -> io::Result<()> {
+    match trial.answer(rt) {
         Ok(answer) => {
             show_answer(rt, name, &answer)?;
             show_entries(rt, &answer.done)
@@ -226,9 +255,9 @@ pub fn show_journal(rt: &HostRuntime, name: &str, trial: &Trial<'_>) -> io::Resu
 }
 
 /// Tries the call as `show_trial`, and prints what a file holds then: `FILE NAME`.
-pub fn show_file(rt: &HostRuntime, rest: &str, trial: &Trial<'_>) -> io::Result<()> {
+pub fn show_file<R: System>(rt: &R, rest: &str, trial: &Trial<'_>) -> io::Result<()> {
     let (file, name) = rest.split_once(' ').unwrap_or((rest, ""));
-    match trial.answer_and_files(rt.alloc()) {
+    match trial.answer_and_files(rt, &NoGate) {
         Ok((answer, files)) => {
             show_answer(rt, name, &answer)?;
             show_content(rt, file, &files)
@@ -238,7 +267,7 @@ pub fn show_file(rt: &HostRuntime, rest: &str, trial: &Trial<'_>) -> io::Result<
 }
 
 /// Prints what a file holds.
-fn show_content(rt: &HostRuntime, file: &str, files: &MemFiles) -> io::Result<()> {
+fn show_content<R: System>(rt: &R, file: &str, files: &MemFiles) -> io::Result<()> {
     match files.content(file) {
         Some(bytes) => {
             println!(rt; "{file} holds")?;
@@ -250,8 +279,8 @@ fn show_content(rt: &HostRuntime, file: &str, files: &MemFiles) -> io::Result<()
 }
 
 /// Tries the call as `show_trial`, and prints in a sentence why nothing was run.
-pub fn show_reason(rt: &HostRuntime, name: &str, trial: &Trial<'_>) -> io::Result<()> {
-    match trial.answer(rt.alloc()) {
+pub fn show_reason<R: System>(rt: &R, name: &str, trial: &Trial<'_>) -> io::Result<()> {
+    match trial.answer(rt) {
         Ok(answer) => match answer.done.status {
             Status::BadConfig(fault) => println!(rt; "{name}: {fault}"),
             Status::BadProgram(fault) => println!(rt; "{name}: {fault}"),
@@ -262,7 +291,7 @@ pub fn show_reason(rt: &HostRuntime, name: &str, trial: &Trial<'_>) -> io::Resul
 }
 
 /// Prints how a call ended, and what its sink took.
-pub fn show_answer(rt: &HostRuntime, name: &str, answer: &Answer) -> io::Result<()> {
+pub fn show_answer<R: System>(rt: &R, name: &str, answer: &Answer) -> io::Result<()> {
     let status = answer.done.status;
     println!(rt; "{name}: {status:?}, exit {}", status.exit_number())?;
     rt.write_all(answer.taken.as_slice())?;
@@ -270,7 +299,7 @@ pub fn show_answer(rt: &HostRuntime, name: &str, answer: &Answer) -> io::Result<
 }
 
 /// Prints the entries of a journal.
-fn show_entries(rt: &HostRuntime, done: &Done) -> io::Result<()> {
+fn show_entries<R: System>(rt: &R, done: &Done) -> io::Result<()> {
     for entry in done.journal.entries.as_slice() {
         println!(rt; "{entry:?}")?;
     }

@@ -1,18 +1,22 @@
 //! The same call by each schedule, or with each number in its configuration.
-use crate::trial::{Answer, Trial, show_answer};
-use dso_base::{Down, Entry, Input, NoMemory, Sent};
+use crate::trial::{Answer, System, Trial, show_answer};
+use dso_base::{Down, Entry, Input, Sent};
 use std::io;
 
-/// How many seeds are tried.
-const SEEDS: u64 = 10;
+/// How many seeds are mostly tried.
+pub const SEEDS: u64 = 10;
+
+/// How many are where the order of calls is what a row is about.
+pub const MANY_SEEDS: u64 = 100;
 
 /// The last number that stands in a configuration in the place of `K`.
 pub const LAST_NUMBER: u64 = 60;
 
-/// Tries the call by round robin and by each seed, and prints what it comes to where that differs from the one before.
-pub fn show_seeds(rt: &HostRuntime, name: &str, trial: &Trial<'_>) -> io::Result<()> {
+/// Tries the call by round robin and by each of so many seeds, and prints what it comes to where that differs from the
+/// one before.
+pub fn show_seeds<R: System>(rt: &R, name: &str, trial: &Trial<'_>, seeds: u64) -> io::Result<()> {
     let mut last = show_next(rt, name, "round robin", trial, None)?;
-    for seed in 0..SEEDS {
+    for seed in 0..seeds {
         let label = format!(in rt.alloc(); "seed {seed}")?;
         let line = format!(in rt.alloc(); "{} --seed {seed}", trial.line)?;
         let seeded = trial.set("line", line.as_str());
@@ -23,7 +27,7 @@ pub fn show_seeds(rt: &HostRuntime, name: &str, trial: &Trial<'_>) -> io::Result
 
 /// Tries the call with each number in the place of `K` in its configuration, and prints what it comes to where that
 /// differs from the one before.
-pub fn show_afters(rt: &HostRuntime, name: &str, trial: &Trial<'_>) -> io::Result<()> {
+pub fn show_afters<R: System>(rt: &R, name: &str, trial: &Trial<'_>) -> io::Result<()> {
     let mut last = None;
     for number in 0..LAST_NUMBER + 1 {
         let label = format!(in rt.alloc(); "after {number}")?;
@@ -37,7 +41,7 @@ pub fn show_afters(rt: &HostRuntime, name: &str, trial: &Trial<'_>) -> io::Resul
 
 /// Tries the call by round robin and by each seed, and prints how many leases its journal grants and recalls, and how
 /// many objects it flushes.
-pub fn show_sends(rt: &HostRuntime, name: &str, trial: &Trial<'_>) -> io::Result<()> {
+pub fn show_sends<R: System>(rt: &R, name: &str, trial: &Trial<'_>) -> io::Result<()> {
     show_counts(rt, name, "round robin", trial)?;
     for seed in 0..SEEDS {
         let label = format!(in rt.alloc(); "seed {seed}")?;
@@ -49,14 +53,14 @@ pub fn show_sends(rt: &HostRuntime, name: &str, trial: &Trial<'_>) -> io::Result
 }
 
 /// Tries the call, prints what it comes to unless the last one came to the same, and hands it on.
-fn show_next(
-    rt: &HostRuntime,
+fn show_next<R: System>(
+    rt: &R,
     name: &str,
     label: &str,
     trial: &Trial<'_>,
     last: Option<Answer>,
 ) -> io::Result<Option<Answer>> {
-    match trial.answer(rt.alloc()) {
+    match trial.answer(rt) {
         Ok(answer) => {
             if !is_same(&answer, &last) {
                 let name = format!(in rt.alloc(); "{name}, from {label} on")?;
@@ -83,8 +87,8 @@ fn is_same(answer: &Answer, last: &Option<Answer>) -> bool {
 }
 
 /// Tries the call, and prints how much of each kind its journal has.
-fn show_counts(rt: &HostRuntime, name: &str, label: &str, trial: &Trial<'_>) -> io::Result<()> {
-    match trial.answer(rt.alloc()) {
+fn show_counts<R: System>(rt: &R, name: &str, label: &str, trial: &Trial<'_>) -> io::Result<()> {
+    match trial.answer(rt) {
         Ok(answer) => {
             let Counts {
                 grants,

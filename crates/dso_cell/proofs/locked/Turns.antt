@@ -1,9 +1,13 @@
 -- Turns of cells behind locks.
-use Rattle.std.proofs.Common.{sym, subst, Option, Some, None}
+use Rattle.std.specs.Prelude.{IfOk, OnErr}
+use Rattle.std.specs.Result.{is_err, result_unwrap_or}
+use Rattle.std.proofs.Common.{◌≡◌, refl, sym, subst, Bool, true, false, is_some, List, Option, Some, None, Result, Ok, Err}
+use Rattle.dso_base.specs.declared.journal.Entry.{Entry}
+use Rattle.dso_base.specs.declared.no_memory.NoMemory.{NoMemory}
 use Rattle.dso_machine.specs.declared.code.Code.{Code}
 use Rattle.dso_cell.specs.declared.client_cell.ClientCell.{ClientCell}
 use Rattle.dso_cell.specs.declared.server_cell.ServerCell.{ServerCell}
-use Rattle.dso_cell.specs.ClientCells.{ClientBounds, GoesOn}
+use Rattle.dso_cell.specs.ClientCells.{ClientBounds, GoesOn, IsOneMore}
 use Rattle.dso_cell.specs.Clusters.{Cluster}
 use Rattle.dso_cell.specs.LockedCells.{ClientStandsFor, RunsNamed, ServerStandsFor}
 use Rattle.dso_cell.specs.ServerCells.{ServerBounds, ServerGoesOn}
@@ -28,3 +32,15 @@ server_stays_for code (Some cluster) old new runs stands on bounds = (on.stands 
 pub server_bounds_for : (named : Option Cluster) (cell : ServerCell) → ServerStandsFor named cell → ServerBounds cell
 server_bounds_for None cell stands = absurd stands
 server_bounds_for (Some cluster) cell stands = stands.1
+
+-- What is answered of a turn, false where it answered that memory was refused: where the cell isn't spent after, an
+-- entry more exactly where that is true.
+pub one_more_or_spent : (told : Result Bool NoMemory) (spent : Option NoMemory) (old new : List Entry) → IfOk told (λ added. IsOneMore added old new)
+    → OnErr told (is_some spent ≡ true) → spent ≡ None → IsOneMore (result_unwrap_or told false) old new
+one_more_or_spent (Ok added) spent old new more full whole = more
+one_more_or_spent (Err refused) spent old new more full whole = absurd (cc (full, whole))
+
+-- false where memory was refused
+pub none_where_refused : (told : Result Bool NoMemory) → is_err told ≡ true → result_unwrap_or told false ≡ false
+none_where_refused (Ok added) is = absurd (cc is)
+none_where_refused (Err refused) is = refl

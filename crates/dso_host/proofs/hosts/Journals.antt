@@ -1,7 +1,7 @@
 -- The journal that is gathered of the cells of a host.
 use Rattle.std.specs.List.{AllByRecursion, sum_by}
-use Rattle.std.proofs.Common.{ℕ, suc, ◌*◌, ◌≤◌, ◌^◌, ◌≡◌, inl, refl, sym, ◌∙◌, ap, subst, Bool, true, false, cond, eqb, List, [], ◌∷◌, ◌++◌, length, map, reverse, arith}
-use Rattle.std.proofs.lemmas.List.{append-nil, length-append, length-map, length-reverse, reverse-reverse}
+use Rattle.std.proofs.Common.{ℕ, suc, ◌*◌, ◌-◌, ◌≤◌, ◌^◌, ◌≡◌, inl, refl, sym, ◌∙◌, ap, subst, Bool, true, false, cond, eqb, List, [], ◌∷◌, ◌++◌, length, map, min, reverse, take, arith}
+use Rattle.std.proofs.lemmas.List.{append-nil, length-append, length-map, length-reverse, reverse-reverse, take_all}
 use Rattle.std.proofs.lemmas.List.Elements.{All-from_recursion, recursion_from_All}
 use Rattle.std.proofs.lemmas.List.Sorted.{All-permutation, IsPermutation-reverse, IsPermutation-sym, length_permutation, sum_by-IsPermutation}
 use Rattle.std.proofs.lemmas.List.Sums.{sum_by-append, sum_by-cons}
@@ -172,6 +172,10 @@ weight_is (e ∷ es) = omega (arith, weight_is es, sum_by-cons entry_weight_of e
 weight_turned : (es : List Entry) → weight (reverse es) ≡ sum_by entry_weight_of es
 weight_turned es = weight_is (reverse es) ∙ sum_by-IsPermutation entry_weight_of es (reverse es) (IsPermutation-reverse es)
 
+-- so that of logs, one by one
+pub weights_turned : (logs : List Log) → sum_by (λ log. weight (newest log)) logs ≡ sum_by (λ log. sum_by entry_weight_of log.entries) logs
+weights_turned logs = ap (λ weigh. sum_by weigh logs) (λ i log. weight_turned log.entries i)
+
 weight_of_all : (logs : List Log) → sum_by entry_weight_of (entries_of_all logs) ≡ sum_by (λ log. weight (newest log)) logs
 weight_of_all [] = refl
 weight_of_all (log ∷ logs) =
@@ -182,3 +186,12 @@ weight_of_all (log ∷ logs) =
 pub gathered_weight : GatheredWeight
 gathered_weight cells entries gathered =
     weight_turned entries ∙ sum_by-IsPermutation entry_weight_of (entries_of_all (logs_in cells)) entries gathered.merged.all ∙ weight_of_all (logs_in cells)
+
+-- What adds up the weights of all logs is their weight.
+pub all_weighed : (cells : Cells) (lender : List ClientCell) (at total : ℕ) → lender ≡ cells.clients.items → length lender ≤ at
+    → total ≡ min (sum_by (λ log. sum_by entry_weight_of log.entries) (cells.server.log ∷ own_logs (take at cells.clients.items))) (2 ^ 64 - 1)
+    → total ≡ min (sum_by (λ log. weight (newest log)) (logs_in cells)) (2 ^ 64 - 1)
+all_weighed cells lender at total same past is =
+    is
+    ∙ ap (λ ones. min (sum_by (λ log. sum_by entry_weight_of log.entries) (cells.server.log ∷ own_logs ones)) (2 ^ 64 - 1)) (take_all at cells.clients.items (subst (λ ones. length ones ≤ at) same past))
+    ∙ ap (λ n. min n (2 ^ 64 - 1)) (sym (weights_turned (logs_in cells)))

@@ -96,7 +96,7 @@ as_many_cells [] (new ∷ news) looked = absurd looked
 as_many_cells (old ∷ olds) [] looked = absurd looked
 as_many_cells (old ∷ olds) (new ∷ news) looked = omega (arith, as_many_cells olds news looked.1)
 
-as_many_ends : (olds news : List ServerEnd) → EndsLooked olds news → length news ≡ length olds
+pub as_many_ends : (olds news : List ServerEnd) → EndsLooked olds news → length news ≡ length olds
 as_many_ends [] [] looked = refl
 as_many_ends [] (new ∷ news) looked = absurd looked
 as_many_ends (old ∷ olds) [] looked = absurd looked

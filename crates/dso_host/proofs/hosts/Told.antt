@@ -48,7 +48,7 @@ no_cell cells c lender same past = inl (unlent cells.clients.items lender (c - 1
 -- ---- busy clients
 
 -- the triggers at the server's end are the client's
-has_triggers : (program : Program) (cells : Cells) (entries : List Entry) (journal : IsJournalOf program cells entries) (c : ℕ) (pair : Pair) → list_any (eqb c) (clients_of (settings_of program)) ≡ true → IsPairOf cells c pair
+pub has_triggers : (program : Program) (cells : Cells) (entries : List Entry) (journal : IsJournalOf program cells entries) (c : ℕ) (pair : Pair) → list_any (eqb c) (clients_of (settings_of program)) ≡ true → IsPairOf cells c pair
     → HasTriggers (settings_of program) pair
 has_triggers program cells entries journal c pair its is =
     let stands = pair_stands program cells entries journal c pair its is in
@@ -62,26 +62,26 @@ pair_busy cells c pair answer is tells program entries journal its =
     (tells (settings_of program) (has_triggers program cells entries journal c pair its is))
 
 -- and each client has one.
+pub none_lacks : (program : Program) (cells : Cells) (entries : List Entry) (journal : IsJournalOf program cells entries) (c : ℕ) → list_any (eqb c) (clients_of (settings_of program)) ≡ true → HasNoPair cells c → ⊥
+none_lacks program cells entries journal c its (inl few) =
+    let range = numbered_so c program.clients its in
+    let from : 1 ≤ c = range.0 in
+    let to : c ≤ program.clients = range.1 in
+    let all : length cells.clients.items ≡ program.clients = journal.host.stand.all in
+    omega (arith, from, to, all, few)
+none_lacks program cells entries journal c its (inr few) =
+    let range = numbered_so c program.clients its in
+    let from : 1 ≤ c = range.0 in
+    let to : c ≤ program.clients = range.1 in
+    let all : length cells.server.ends.items ≡ program.clients = journal.host.stand.server.parts.all in
+    omega (arith, from, to, all, few)
+
 pub none_busy : (cells : Cells) (c : ℕ) (answer : Bool) → HasNoPair cells c → TellsBusyOf cells c answer
-none_busy cells c answer none program entries journal its = absurd (by none)
-  where
-    by : HasNoPair cells c → ⊥
-    by (inl few) =
-        let range = numbered_so c program.clients its in
-        let from : 1 ≤ c = range.0 in
-        let to : c ≤ program.clients = range.1 in
-        let all : length cells.clients.items ≡ program.clients = journal.host.stand.all in
-        omega (arith, from, to, all, few)
-    by (inr few) =
-        let range = numbered_so c program.clients its in
-        let from : 1 ≤ c = range.0 in
-        let to : c ≤ program.clients = range.1 in
-        let all : length cells.server.ends.items ≡ program.clients = journal.host.stand.server.parts.all in
-        omega (arith, from, to, all, few)
+none_busy cells c answer none program entries journal its = absurd (none_lacks program cells entries journal c its none)
 
 -- ---- finished, where the clients are looked at one by one
 
-next_place : (place : ℕ) → place + 1 ≡ suc place
+pub next_place : (place : ℕ) → place + 1 ≡ suc place
 next_place place = omega arith
 
 module _ (program : Program) (cells : Cells) (entries : List Entry) (journal : IsJournalOf program cells entries) where

@@ -10,7 +10,7 @@ use Rattle.dso_cell.specs.declared.client_cell.ClientCell.{ClientCell}
 use Rattle.dso_cell.specs.declared.server_cell.ServerCell.{ServerCell}
 use Rattle.dso_cell.specs.declared.server_end.ServerEnd.{ServerEnd}
 use Rattle.dso_cell.specs.CellOpenings.{AreNewCells, AreNewEnds, AreSettings, IsNewEnd, IsNewServer}
-use Rattle.dso_cell.specs.ServerCells.{ServerBounds, ServerEndBounds}
+use Rattle.dso_cell.specs.ServerCells.{ServerEndBounds}
 use Rattle.dso_cell.specs.CellsOfClusters.{CellsStand, cluster_of}
 use Rattle.dso_world.specs.WorldSteps.{settings_of}
 use Rattle.dso_law.specs.Settings.{Settings}

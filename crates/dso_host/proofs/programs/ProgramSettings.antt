@@ -3,7 +3,6 @@ use Rattle.std.specs.List.Sorted.{IsPermutation}
 use Rattle.std.proofs.Common.{ℕ, ◌≡◌, refl, sym, ◌∙◌, ap, subst, Bool, cond, eqb, List, filter, length}
 use Rattle.std.proofs.lemmas.List.Sorted.{sum_by-IsPermutation}
 use Rattle.std.proofs.lemmas.List.Sums.{length-filter}
-use Rattle.dso_base.specs.declared.lock.ThreadId.{ThreadId}
 use Rattle.dso_class.specs.declared.program.Program.{Program}
 use Rattle.dso_class.specs.Sound.{IsSoundProgram}
 use Rattle.dso_client.specs.Openings.{HasThreads, first_threads}

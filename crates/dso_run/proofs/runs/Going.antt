@@ -17,7 +17,7 @@ use Rattle.dso_world.specs.WorldStands.{IsChosenStep, IsStepped, WorldStands, en
 use Rattle.dso_world.specs.WorldSteps.{settings_of, slot_of}
 use Rattle.dso_run.specs.declared.running.Outcome.TheVariants.{Stuck, Budget}
 use Rattle.dso_run.specs.Headline.{IsRunOf}
-use Rattle.dso_run.specs.RunEnds.{TakesTurns, is_faulty}
+use Rattle.dso_run.specs.RunEnds.{BySlots, TakesTurns, is_faulty}
 use Rattle.dso_run.specs.Stepping.{IsTurn, RunsOn, TakesTurn, finish_by}
 use Rattle.dso_run.proofs.runs.ChosenOpen.{chosen_open}
 
@@ -87,25 +87,25 @@ module _ (program : Program) (seed : Option ℕ) where
 
       -- The run ends: it is finished,
       pub ends_finished : is_finished (settings_of program) (entries_in world) ≡ true
-          → IsRunOf program seed budget (finish_by (is_faulty program.threads (entries_in world))) world.journal.entries
+          → IsRunOf program (BySlots seed) budget (finish_by (is_faulty program.threads (entries_in world))) world.journal.entries
       ends_finished finished = by (is_faulty program.threads (entries_in world)) refl
         where
-          by : (faulty : Bool) → is_faulty program.threads (entries_in world) ≡ faulty → IsRunOf program seed budget (finish_by faulty) world.journal.entries
-          by true is = record { ended = record { run = record { lawful = runs.stands.lawful; turns = runs.turns }; finished = finished; fault = is }; commits = commits }
-          by false is = record { ended = record { run = record { lawful = runs.stands.lawful; turns = runs.turns }; finished = finished; fault = is }; commits = commits }
+          by : (faulty : Bool) → is_faulty program.threads (entries_in world) ≡ faulty → IsRunOf program (BySlots seed) budget (finish_by faulty) world.journal.entries
+          by true is = record { ended = record { run = record { lawful = runs.stands.lawful; made = runs.turns }; finished = finished; fault = is }; commits = commits }
+          by false is = record { ended = record { run = record { lawful = runs.stands.lawful; made = runs.turns }; finished = finished; fault = is }; commits = commits }
 
       -- or stuck,
       pub ends_stuck : is_finished (settings_of program) (entries_in world) ≡ false → weight (entries_in world) < budget
-          → open_slots (settings_of program) (next_request program.code) (entries_in world) ≡ [] → IsRunOf program seed budget Stuck world.journal.entries
+          → open_slots (settings_of program) (next_request program.code) (entries_in world) ≡ [] → IsRunOf program (BySlots seed) budget Stuck world.journal.entries
       ends_stuck unfinished light none = record {
-        ended = record { run = record { lawful = runs.stands.lawful; turns = runs.turns }; light = light; stuck = rw unfinished (rw none refl) };
+        ended = record { run = record { lawful = runs.stands.lawful; made = runs.turns }; light = light; stuck = rw unfinished (rw none refl) };
         commits = commits;
       }
 
       -- or out of its budget
-      pub ends_over : is_finished (settings_of program) (entries_in world) ≡ false → budget ≤ weight (entries_in world) → IsRunOf program seed budget Budget world.journal.entries
+      pub ends_over : is_finished (settings_of program) (entries_in world) ≡ false → budget ≤ weight (entries_in world) → IsRunOf program (BySlots seed) budget Budget world.journal.entries
       ends_over unfinished heavy = record {
-        ended = record { run = record { lawful = runs.stands.lawful; turns = runs.turns }; unfinished = unfinished; heavy = heavy };
+        ended = record { run = record { lawful = runs.stands.lawful; made = runs.turns }; unfinished = unfinished; heavy = heavy };
         commits = commits;
       }
 

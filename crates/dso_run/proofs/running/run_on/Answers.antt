@@ -2,6 +2,7 @@ use Rattle.std.proofs.Common.{◌≡◌, ◌≤◌, ◌∙◌, sym, subst, true,
 use Rattle.dso_legal.specs.Slots.{is_finished, weight}
 use Rattle.dso_run.specs.declared.running.Outcome.TheVariants.{Stuck}
 use Rattle.dso_run.specs.Headline.{IsRunOf}
+use Rattle.dso_run.specs.RunEnds.{BySlots}
 use Rattle.dso_run.specs.Stepping.{IsTurn}
 use Rattle.dso_world.specs.WorldStands.{entries_in}
 use Rattle.dso_world.specs.WorldSteps.{settings_of}
@@ -18,7 +19,7 @@ returns-then-not-branch c =
     let light = light_by c.weight.result (weight (entries_in c.loop-world.world)) c.args.schedule.steps (c.weight.ensures c.args.program.now runs.stands runs.whole)
     c.requires.steps c.if-weight-schedule.true in
     let none = subst (λ made. IsTurn c.args.program.now c.args.schedule.seed made c.loop-world.world c.take_step.new.world) c.if-not-branch.true c.in_ok-take_step.ensures.turn in
-    subst (λ world. IsRunOf c.args.program.now c.args.schedule.seed c.args.schedule.steps Stuck world.journal.entries) (sym none.1)
+    subst (λ world. IsRunOf c.args.program.now (BySlots c.args.schedule.seed) c.args.schedule.steps Stuck world.journal.entries) (sym none.1)
     (ends_stuck c.args.program.now c.args.schedule.seed c.args.schedule.steps c.requires.sound c.loop-world.world runs unfinished light none.0)
 
 -- the entry is made at the chosen slot
