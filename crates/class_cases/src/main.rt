@@ -5,8 +5,8 @@
 //! - `configuration` and `classes` stand for all cases behind them: the text of the configuration, and the classes
 //!   in front of a thread's statements.
 //! - `case` begins a case with its name.
-//! - `names` asks what the names of a text answer, `program` which program it is, and `edge` what so many parts of a
-//!   text and one more answer.
+//! - `names` asks what the names of a text answer, `program` which program it is, `symbols` which words its classes and
+//!   fields have, and `edge` what so many parts of a text and one more answer.
 //! - `thread` gives the statements of a thread, or `text` a whole text, and `replies` what it is to be answered, with
 //!   `; ` between them: what it asks is printed with its reply. By `holds`, the same, it is printed with the objects
 //!   that the thread holds where it asks.
@@ -22,6 +22,7 @@ mod exchange;
 mod names;
 mod program;
 mod setting;
+mod symbols;
 
 use setting::Setting;
 use std::io;

@@ -3,7 +3,7 @@
 ghost use Rattle.dso_config.specs.InRange.{IsInRange};
 
 use crate::names::{program_of, refusal_line};
-use dso_base::{FieldShape, NoMemory, ThreadId};
+use dso_base::{FieldShape, Guard, Kind, NoMemory, ThreadId};
 use dso_class::Program;
 use dso_config::Config;
 use dso_machine::{Method, Stmt, ThreadBody};
@@ -56,13 +56,38 @@ fn add_counts(words: &mut String, program: &Program) -> Result<(), NoMemory> {
     Ok(())
 }
 
+/// The most fields of a class that are written one by one: as many as a text gives a class.
+const MOST_WRITTEN: usize = 64;
+
 /// Adds a class with its fields.
 fn add_class(words: &mut String, fields: &[FieldShape]) -> Result<(), NoMemory> {
+    if fields.len() > MOST_WRITTEN {
+        return add_large_class(words, fields);
+    }
     words.push_str("class\n")?;
     for field in fields {
         writeln!(words, "    {:?}, guard {:?}", field.kind, field.guard)?;
     }
     Ok(())
+}
+
+/// Adds a class with how many fields of each kind it has, and how many of all their own monitor guards.
+fn add_large_class(words: &mut String, fields: &[FieldShape]) -> Result<(), NoMemory> {
+    writeln!(words, "class of {} fields", fields.len())?;
+    let (longs, flags) = (count(fields, Kind::Long), count(fields, Kind::Bool));
+    let (refs, texts) = (count(fields, Kind::Ref), count(fields, Kind::Text));
+    let own = fields
+        .iter()
+        .filter(|field| field.guard == Guard::Own)
+        .count();
+    write!(words, "    Long {longs}, Bool {flags}, Ref {refs}, ")?;
+    writeln!(words, "Text {texts}, guard Own {own}")?;
+    Ok(())
+}
+
+/// How many fields are of this kind.
+fn count(fields: &[FieldShape], kind: Kind) -> usize {
+    fields.iter().filter(|field| field.kind == kind).count()
 }
 
 /// Adds a method with its statements.

@@ -3,7 +3,7 @@
 ghost use Rattle.dso_config.specs.InRange.{IsInRange};
 
 use crate::exchange::{Answers, Beside, exchanges};
-use crate::{edge, names, program};
+use crate::{edge, names, program, symbols};
 use case_words::unescaped;
 use dso_base::NoMemory;
 use dso_config::{Config, read_config};
@@ -65,6 +65,7 @@ impl Setting {
         match word {
             "names" => names::answer(alloc, config, rest),
             "program" => program::described(alloc, config, rest),
+            "symbols" => symbols::symbols(alloc, config, rest),
             "edge" => edge::answers(alloc, config, rest),
             "replies" => exchanges(alloc, config, text, given(rest, Beside::Reply)),
             "holds" => exchanges(alloc, config, text, given(rest, Beside::Held)),

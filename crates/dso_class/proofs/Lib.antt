@@ -9,3 +9,4 @@ pub mod soundness
 pub mod thread_ids
 pub mod walks
 pub mod one_program
+pub mod maps

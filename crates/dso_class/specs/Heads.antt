@@ -13,6 +13,7 @@ use Rattle.dso_class.specs.declared.fault.What.{What}
 use Rattle.dso_class.specs.declared.member.Class.{Class}
 use Rattle.dso_config_entries.specs.Words.{Word, thread_word}
 use Rattle.dso_class.specs.Mentions.{Mention, Owner, on, method, synchronized, thread, client}
+use Rattle.dso_class.specs.Maps.{map_word}
 use Rattle.dso_class.specs.FaultsAmong.{behind, AreFine}
 use Rattle.dso_class.specs.TextProgram.{Source, IsSynced}
 use Rattle.dso_class.specs.TextWalk.{HasMetClass, clients_in}
@@ -26,7 +27,7 @@ pub data IsRefused (Taken Full : Type 0) (sort : What) (line : ℕ) : NameFault 
 
 -- no class may have the name behind classes of these names
 abbrev pub IsClassTaken : List Word → Word → Type 0
-IsClassTaken names name = (name ≡ thread_word) ⊎ Contains names name
+IsClassTaken names name = (name ≡ thread_word) ⊎ ((name ≡ map_word) ⊎ Contains names name)
 
 -- the word `synchronized` before a method, and the method's head, as they are mentioned
 abbrev pub word_of : Word → ℕ → Bool → Ident → List Mention

@@ -2,6 +2,7 @@ pub mod Limits
 pub mod Mentions
 pub mod PrecedingMentions
 pub mod Declarations
+pub mod Maps
 pub mod NameFaults
 pub mod Numbers
 pub mod ValidInput

@@ -14,23 +14,28 @@ use Rattle.dso_class.specs.Mentions.{Mention, Mentioned, mentions_of, class, fie
 use Rattle.dso_class.specs.Mentions.{synchronized, thread, client, alone, dotted, called, this, new, call, text}
 use Rattle.dso_class.specs.PrecedingMentions.{class_in, member_in, field_in, static_in, method_in, parameter_in}
 use Rattle.dso_class.specs.PrecedingMentions.{variable_in, text_in, thread_in, in_text, in_class, in_body}
-use Rattle.dso_class.specs.Declarations.{MethodTree, class_names, all_statics, all_methods}
+use Rattle.dso_class.specs.Declarations.{MethodTree, class_names, all_statics}
+use Rattle.dso_class.specs.Maps.{map_word, reachable_classes, reachable_methods}
 use Rattle.dso_config_entries.specs.ConfigEntries.{Matches, autolocks_of, IsRoot}
 
 -- the text declares a class of this name
 abbrev pub IsClass : Ast → Word → Type 0
 IsClass ast name = Contains (class_names ast.items) name
 
--- the text declares a method of this name in some class
+-- a new object may be of a class of this name: the text declares one, or it is that of maps and the text makes a map
+abbrev pub IsReachableClass : Ast → Word → Type 0
+IsReachableClass ast name = Contains (reachable_classes ast) name
+
+-- a call may reach a method of this name: the text declares one in some class, or maps have one and the text makes a map
 pub record HasMethod (ast : Ast) (name : Word) : Type 0 where
   pub declared : MethodTree
-  pub there : Contains (all_methods ast.items) declared
+  pub there : Contains (reachable_methods ast) declared
   pub named : declared.name ≡ name
 
--- the text declares a method of this name that takes so many arguments
+-- a call may reach a method of this name that takes so many arguments
 pub record TakesArguments (ast : Ast) (name : Word) (count : ℕ) : Type 0 where
   pub declared : MethodTree
-  pub there : Contains (all_methods ast.items) declared
+  pub there : Contains (reachable_methods ast) declared
   pub named : declared.name ≡ name
   pub takes : length declared.params ≡ count
 
@@ -52,8 +57,9 @@ pub record IsClient (config : Config) (number : ℤ) : Type 0 where
 
 -- What is mentioned here, behind what was mentioned before, breaks a rule, and the fault is this.
 pub data Breaks (config : Config) (ast : Ast) (before : List Mention) : Mentioned → NameKind → Type 0 where
-  -- a class is called `Thread`, or as a class before it, or is one too many
+  -- a class is called `Thread`, or as that of maps, or as a class before it, or is one too many
   thread_class : Breaks config ast before (class thread_word) kind.Twice
+  map_class : Breaks config ast before (class map_word) kind.Twice
   class_twice : {name : Word} → Contains (in_text class_in before) name
       → Breaks config ast before (class name) kind.Twice
   many_classes : {name : Word} → most_classes ≤ length (in_text class_in before)
@@ -102,8 +108,8 @@ pub data Breaks (config : Config) (ast : Ast) (before : List Mention) : Mentione
       → Breaks config ast before (called known name) kind.UnknownRoot
   -- `this` stands outside of methods
   this_outside : Breaks config ast before this kind.UnknownVariable
-  -- a new object is of no class of the text
-  no_class : {name : Word} → (IsClass ast name → ⊥) → Breaks config ast before (new name) kind.UnknownClass
+  -- a new object is of no class that is there
+  no_class : {name : Word} → (IsReachableClass ast name → ⊥) → Breaks config ast before (new name) kind.UnknownClass
   -- no class has a method of the name; or some have, but none with that number of arguments
   no_method : {name : Word} {count : ℕ} → (HasMethod ast name → ⊥)
       → Breaks config ast before (call name count) kind.UnknownMethod

@@ -1,14 +1,25 @@
 -- Which programs are sound: their code is, the words are there, and what is said of the run is in range.
-use Rattle.std.specs.Prelude.{◌≡◌, ◌≢◌, ◌≤◌, length, map, All, AllPairs, IsPermutation}
+use Rattle.std.specs.Prelude.{◌≡◌, ◌≢◌, ℕ, ◌≤◌, List, length, slice_get, Some, All, AllPairs, IsPermutation}
+use Rattle.dso_base.specs.declared.shape.ClassShape.{ClassShape}
 use Rattle.dso_config.specs.InRange.{IsTrigger, most_clients, most_entries, most_resident}
+use Rattle.dso_config_entries.specs.Words.{Word}
+use Rattle.dso_map.specs.MapClass.{map_size}
 use Rattle.dso_machine.specs.Sound as machine
+use Rattle.dso_class.specs.declared.program.Names.{Names}
 use Rattle.dso_class.specs.declared.program.Program.{Program}
 use Rattle.dso_class.specs.TextProgram.{IsThreadBefore}
 
--- there is a word for each thing of the shape
+-- there is a word for each field of the class of this number
+pub record HasFieldNames (names : Names) (number : ℕ) (class : ClassShape) : Type 0 where
+  pub words : List Word
+  pub there : slice_get names.fields number ≡ Some words
+  pub each : length words ≡ length class.fields
+
+-- there is a word for each thing of the shape, but for the fields of maps
 pub record HasNames (program : Program) : Type 0 where
   pub classes : length program.names.classes ≡ length program.code.shape.classes
-  pub fields : map length program.names.fields ≡ map (λ class. length class.fields) program.code.shape.classes
+  pub fields : (number : ℕ) (class : ClassShape) → slice_get program.code.shape.classes number ≡ Some class
+      → length class.fields ≢ map_size → HasFieldNames program.names number class
   pub roots : length program.names.roots ≡ program.code.shape.roots
   pub texts : length program.names.texts ≡ program.code.shape.texts
 

@@ -1,5 +1,5 @@
 -- Which program a text and a configuration are.
-use Rattle.std.specs.Prelude.{◌≡◌, ◌⊎◌, ℕ, suc, ◌+◌, ◌<◌, pos, Bool, true, false, eqb, List, [], length, map, take}
+use Rattle.std.specs.Prelude.{◌≡◌, ◌⊎◌, ℕ, suc, ◌+◌, ◌<◌, pos, Bool, true, false, eqb, List, [], ◌++◌, length, map, take}
 use Rattle.std.specs.Prelude.{slice_get, count_by, AllPairs, IsPermutation, Option, Some, None}
 use Rattle.std.specs.List.{AllZip}
 use Rattle.dso_base.specs.declared.lock.Grade.{Grade}
@@ -27,7 +27,8 @@ use Rattle.dso_config_entries.specs.LastAndFirst.{LastWith, AreFirsts}
 use Rattle.dso_class.specs.Mentions.{Owner, thread_owner, body, mentions_of}
 use Rattle.dso_class.specs.PrecedingMentions.{variable_in, text_in, in_text}
 use Rattle.dso_class.specs.Declarations.{ClassTree, FieldTree, MethodTree, ThreadTree, classes_of, fields_of}
-use Rattle.dso_class.specs.Declarations.{threads_of, class_names, all_statics, all_methods}
+use Rattle.dso_class.specs.Declarations.{threads_of, all_statics, all_methods}
+use Rattle.dso_class.specs.Maps.{makes_map, map_shapes, reachable_classes, reachable_methods}
 use Rattle.dso_config_entries.specs.ConfigEntries.{Matches, Guards, lock_mentions}
 pub use Rattle.dso_config_entries.specs.ConfigEntries.{IsAutolock}
 use Rattle.dso_class.specs.NameFaults.{HasNoFault}
@@ -52,10 +53,10 @@ field_names source = map (λ class. map (λ field. field.name) (fields_of class.
 -- what is numbered in a body with these variables, where `synchronized` locks at this level
 abbrev pub numbers_of : Source → List Word → Option Grade → Numbers
 numbers_of source variables grade = record {
-  classes = class_names source.ast.items;
+  classes = reachable_classes source.ast;
   fields = field_names source;
   roots = all_statics source.ast.items;
-  methods = all_methods source.ast.items;
+  methods = reachable_methods source.ast;
   texts = source.texts;
   variables = variables;
   grade = grade;
@@ -130,9 +131,12 @@ abbrev pub IsThreadBefore : ThreadId → ThreadId → Type 0
 IsThreadBefore thread other =
     (thread.client < other.client) ⊎ ((thread.client ≡ other.client) × (thread.index < other.index))
 
--- the code of a text with its configuration
+-- The code of a text with its configuration. Behind the classes of the text comes that of maps, where the text makes
+-- one.
 pub record IsCode (source : Source) (code : Code) : Type 0 where
-  pub classes : AllZip (IsClass source) (classes_of source.ast.items) code.shape.classes
+  pub shapes : List ClassShape
+  pub classes : AllZip (IsClass source) (classes_of source.ast.items) shapes
+  pub all_classes : code.shape.classes ≡ shapes ++ map_shapes (makes_map source.ast)
   pub roots : code.shape.roots ≡ roots_of source
   pub locks : code.shape.names ≡ roots_of source + length source.locks
   pub texts : code.shape.texts ≡ length source.texts
@@ -140,9 +144,9 @@ pub record IsCode (source : Source) (code : Code) : Type 0 where
   pub threads : AllZip (IsThread source) (threads_of source.ast.items) code.bodies
   pub counted : AreCounted code.bodies
 
--- the words behind the numbers
+-- the words behind the numbers; the fields of maps have none
 pub record AreNames (source : Source) (names : Names) : Type 0 where
-  pub classes : names.classes ≡ class_names source.ast.items
+  pub classes : names.classes ≡ reachable_classes source.ast
   pub fields : names.fields ≡ field_names source
   pub roots : names.roots ≡ all_statics source.ast.items
   pub texts : names.texts ≡ source.texts

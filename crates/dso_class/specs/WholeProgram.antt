@@ -1,5 +1,5 @@
 -- What the walk over a whole text answers, and what a program is made of.
-use Rattle.std.specs.Prelude.{◌≡◌, ◌+◌, length, AllPairs, IsPermutation, Result, Ok, Err}
+use Rattle.std.specs.Prelude.{◌≡◌, ◌+◌, ◌++◌, length, AllPairs, IsPermutation, Result, Ok, Err}
 use Rattle.std.specs.List.{AllZip}
 use Rattle.dso_machine.specs.Sound as machine
 use Rattle.dso_class.specs.declared.class_item.Resolved.{Resolved}
@@ -13,6 +13,7 @@ use Rattle.dso_config_entries.specs.BorrowedWords.{words_of}
 use Rattle.dso_class.specs.Mentions.{mentions_of}
 use Rattle.dso_class.specs.PrecedingMentions.{in_text, text_in}
 use Rattle.dso_class.specs.Declarations.{classes_of, all_methods, threads_of}
+use Rattle.dso_class.specs.Maps.{map_shapes}
 use Rattle.dso_class.specs.NameFaults.{HasNoFault, IsFirstFault}
 use Rattle.dso_class.specs.TextProgram.{Source, IsClass, IsMethod, IsThread, IsThreadBefore, AreCounted}
 
@@ -38,7 +39,7 @@ AnswersWhole source (Err (fault.NoMemory refusal)) = Unit {0}
 
 -- The program is made of what was resolved, of these words, and of what the configuration says.
 pub record IsMadeOf (setting : Setting) (words : Names) (resolved : Resolved) (program : Program) : Type 0 where
-  pub classes : program.code.shape.classes ≡ resolved.classes
+  pub classes : program.code.shape.classes ≡ resolved.classes ++ map_shapes setting.tables.now.makes_map
   pub roots : program.code.shape.roots ≡ setting.roots
   pub locks : program.code.shape.names ≡ setting.roots + length setting.locks.now
   pub texts : program.code.shape.texts ≡ length resolved.texts

@@ -1,18 +1,21 @@
 //! Classes and threads in numbers, in the order of the text (`specs/TextWalk.antt`). What they mention is judged on
 //! the way.
 
-ghost use Rattle.std.specs.Prelude.{◌≡◌, ◌<◌, ◌≤◌, ℕ, [], ◌∷◌, ◌++◌, flat_map, length, IfErr, IfOk, OnOk};
+ghost use Rattle.std.specs.Prelude.{◌≡◌, ◌⊎◌, ◌↔◌, ◌<◌, ◌≤◌, ℕ, [], ◌∷◌, ◌++◌, flat_map, length, IfErr, IfOk, IsTrue, OnOk};
 ghost use Rattle.dso_class.specs.Assignable.{ItemsAssign, MembersAssign};
 ghost use Rattle.dso_class.specs.Heads.{IsClassTaken, IsRefused};
 ghost use Rattle.dso_config_entries.specs.BorrowedWords.{words_of};
 ghost use Rattle.dso_class.specs.Limits.{most_classes};
+ghost use Rattle.dso_class.specs.Maps.{map_word};
 ghost use Rattle.dso_class.specs.Mentions.{of_item};
+ghost use Rattle.dso_config_entries.specs.Words.{thread_word};
 ghost use Rattle.dso_class.specs.TextWalk.{IsReady, WalksItems};
 
 use crate::declaration::declare;
 use crate::fault::{NameFault, NameKind, What};
 use crate::limits::MOST_CLASSES;
 use crate::member::{Class, class_members};
+use crate::new_maps::map_name;
 use crate::tables::DeclaredNames;
 use crate::thread::{ThreadHead, thread};
 use dso_base::{ClassShape, Items, Word};
@@ -112,6 +115,13 @@ fn whole_class<'a>(
     Ok(())
 }
 
+/// Whether no class of a text may have the name: it is that of threads or of maps.
+fn is_reserved(name: &[u8]) -> bool
+    ensures { IsTrue result ↔ ((name.now ≡ thread_word) ⊎ (name.now ≡ map_word)) }
+{
+    (name == b"Thread".as_slice()) | (name == map_name())
+}
+
 /// Judges the name of a class, and gives its number.
 fn class_name<'a>(names: &mut Interner<&'a [u8]>, name: &'a Ident) -> Result<u32, NameFault>
     ensures refused { IfErr result (IsRefused (IsClassTaken (words_of names.old) name.now.name) (most_classes ≤ length names.old) What.Classes name.now.line) }
@@ -120,7 +130,7 @@ fn class_name<'a>(names: &mut Interner<&'a [u8]>, name: &'a Ident) -> Result<u32
     ensures named { OnOk result (words_of names.new ≡ words_of names.old ++ name.now.name ∷ []) }
     ensures number { IfOk result (λ number. number ≡ length names.old) }
 {
-    if name.name.as_slice() == b"Thread".as_slice() {
+    if is_reserved(name.name.as_slice()) {
         return Err(NameFault::At {
             kind: NameKind::Twice,
             line: name.line,

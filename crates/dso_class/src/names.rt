@@ -3,21 +3,22 @@
 ghost use Rattle.std.specs.Prelude.{◌≡◌, ◌++◌, IfOk, OnOk, map};
 ghost use Rattle.dso_class.specs.Declarations.{all_statics, class_names, fields_of, statics_of};
 ghost use Rattle.dso_config_entries.specs.BorrowedWords.{words_of};
-ghost use Rattle.dso_class.specs.Symbols.{AreWordsOf, field_words};
+ghost use Rattle.dso_class.specs.Symbols.{AreWordsOf, class_words, field_words};
 
+use crate::new_maps::map_name;
 use crate::program::Names;
 use dso_base::{Items, NoMemory, Word};
 use dso_config::RootEntry;
 use dso_syntax::{Item, Member};
 use std::alloc::Global;
 
-/// The words behind the numbers: the classes, the fields of each and the static fields, in the order of the text. Text
-/// literals are still missing.
-pub(crate) fn names(alloc: Global, items: &[Item]) -> Result<Names, NoMemory>
-    ensures { IfOk result (AreWordsOf items.now) }
+/// The words behind the numbers: the classes, the fields of each and the static fields, in the order of the text. Where
+/// maps are made the word of their class is the last. Text literals are still missing.
+pub(crate) fn names(alloc: Global, items: &[Item], makes_map: bool) -> Result<Names, NoMemory>
+    ensures { IfOk result (AreWordsOf makes_map items.now) }
 {
     let names = Names {
-        classes: class_words(alloc, items)?,
+        classes: class_words(alloc, items, makes_map)?,
         fields: rows_of_fields(alloc, items)?,
         roots: root_words(alloc, items)?,
         texts: Items::new(alloc),
@@ -25,8 +26,27 @@ pub(crate) fn names(alloc: Global, items: &[Item]) -> Result<Names, NoMemory>
     Ok(names)
 }
 
-/// The names of the classes.
-fn class_words(alloc: Global, items: &[Item]) -> Result<Items<Word>, NoMemory>
+/// A word of these bytes.
+pub(crate) fn word(alloc: Global, bytes: &[u8]) -> Result<Word, NoMemory>
+    ensures { IfOk result (λ word. word ≡ bytes.now) }
+{
+    Ok(Items::from_vec(Vec::from_slice(alloc, bytes)?))
+}
+
+/// The names of the classes, and that of maps behind them where maps are made.
+fn class_words(alloc: Global, items: &[Item], makes_map: bool) -> Result<Items<Word>, NoMemory>
+    ensures { IfOk result (λ words. words ≡ class_words makes_map items.now) }
+{
+    let mut words = text_classes(alloc, items)?;
+    if !makes_map {
+        return Ok(words);
+    }
+    words.push(word(alloc, map_name())?)?;
+    Ok(words)
+}
+
+/// The names of the classes of the text.
+fn text_classes(alloc: Global, items: &[Item]) -> Result<Items<Word>, NoMemory>
     ensures { IfOk result (λ words. words ≡ class_names items.now) }
 {
     let mut words = Items::new(alloc);
@@ -113,7 +133,7 @@ pub(crate) fn text_words(alloc: Global, texts: &[&[u8]]) -> Result<Items<Word>, 
 {
     let mut words = Items::new(alloc);
     for text in texts {
-        words.push(Items::from_vec(Vec::from_slice(alloc, text)?))?;
+        words.push(word(alloc, text)?)?;
     }
     Ok(words)
 }

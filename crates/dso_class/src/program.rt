@@ -3,7 +3,8 @@ use dso_base::{Items, ThreadId, Trigger, Word};
 use dso_config::RootEntry;
 use dso_machine::Code;
 
-/// The words behind a program's numbers: its classes, the fields of each, its roots, its text literals.
+/// The words behind a program's numbers: its classes, the fields of each, its roots, its text literals. Where the text
+/// makes a map the last class is that of maps, `DsoMap`, whose fields have no words.
 #[derive(Debug, Drop)]
 pub struct Names {
     pub classes: Items<Word>,

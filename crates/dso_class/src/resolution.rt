@@ -14,11 +14,12 @@ ghost use Rattle.dso_class.specs.WholeProgram.{AnswersWhole, IsMadeOf};
 use crate::class_item::{self, Resolved, Setting};
 use crate::fault::NameFault;
 use crate::limits::MOST_STATICS;
-use crate::names::{names, text_words};
+use crate::map_class::with_maps;
+use crate::names::{names, text_words, word};
 use crate::program::{Names, Program};
 use crate::tables::gather;
 use crate::thread_order::threads;
-use dso_base::{Items, NoMemory, Shape, Word};
+use dso_base::{Items, NoMemory, Shape};
 use dso_config::Config;
 use dso_config_entries::{Interner, lock_names};
 use dso_machine::Code;
@@ -35,8 +36,9 @@ use std::alloc::Global;
 ///   of its body, in whatever block.
 /// - A name by itself or before a dot is a variable that is known there, from behind its declaration to the end of its
 ///   block; before a dot it may be a class, and the name behind the dot a static field of it. `this` stands in methods.
-/// - A new object is of a class of the text; a method that is called is declared in some class, with that number of
-///   arguments.
+/// - A new object is of a class of the text, or a map; a method that is called is declared in some class, with that
+///   number of arguments. Where the text makes a map somewhere, the methods of maps count as declared, those of a class
+///   behind the others. No class is called as that of maps, and what the configuration says of it has no effect.
 /// - A static field is a root of the configuration; a method that is `synchronized`, or has a `synchronized` block,
 ///   has an autolock; a thread is for a client that is there.
 /// - There are no more classes, fields, static fields, methods, parameters, variables, threads and different text
@@ -52,9 +54,9 @@ pub fn resolve(alloc: Global, tree: &Ast, config: &Config) -> Result<Program, Na
     ensures fault { (kind : NameKind) (line : ℕ) → result ≡ Err (fault.At kind line) → IsFirstFault config.now tree.now kind line }
 {
     let items = tree.items.as_slice();
-    let names = names(alloc, items)?;
-    let locks = lock_names(alloc, config)?;
     let tables = gather(alloc, tree)?;
+    let names = names(alloc, items, tables.makes_map)?;
+    let locks = lock_names(alloc, config)?;
     let thread_class = word(alloc, b"Thread".as_slice())?;
     let thread_method = word(alloc, b"run".as_slice())?;
     let setting = Setting {
@@ -67,13 +69,6 @@ pub fn resolve(alloc: Global, tree: &Ast, config: &Config) -> Result<Program, Na
     };
     let resolved = walk(alloc, &setting, items)?;
     Ok(program(alloc, &setting, names, resolved)?)
-}
-
-/// A word of these bytes.
-fn word(alloc: Global, bytes: &[u8]) -> Result<Word, NoMemory>
-    ensures { IfOk result (λ word. word ≡ bytes.now) }
-{
-    Ok(Items::from_vec(Vec::from_slice(alloc, bytes)?))
 }
 
 /// Resolves all classes and threads of a text.
@@ -115,7 +110,7 @@ fn program(
     let losses = config.losses.clone()?;
     let breaks = config.breaks.clone()?;
     let shape = Shape {
-        classes: resolved.classes,
+        classes: with_maps(alloc, resolved.classes, setting.tables.makes_map)?,
         roots: setting.roots,
         names: setting.roots + setting.locks.as_slice().len() as u32,
         texts: words.len() as u32,

@@ -14,7 +14,7 @@ use crate::fault::{NameFault, NameKind};
 use crate::narrow::narrow;
 use crate::place::Place;
 use crate::scope::{Scope, known_number};
-use crate::tables::{callees, class_number, has_method, root_number};
+use crate::tables::{callees, class_number, has_method, object_class, root_number};
 use dso_base::{Items, Word};
 use dso_syntax::Ident;
 use std::alloc::Global;
@@ -115,7 +115,7 @@ pub(crate) fn this(place: &Place<'_, '_>, line: u32) -> Result<(), NameFault>
 pub(crate) fn new_object<'a>(place: &Place<'_, 'a>, name: &'a Ident) -> Result<u32, NameFault>
     ensures { (texts : List (Bor Word)) (scope : Scope) → Walks place.now texts scope texts scope (λ owner known. on name.now.line (mention.new name.now.name) ∷ []) (λ n number. IsNumber n.classes name.now.name number) result }
 {
-    match class_number(place.tables, name.name.as_slice()) {
+    match object_class(place.tables, name.name.as_slice()) {
         Some(number) => Ok(number),
         None => Err(NameFault::At {
             kind: NameKind::UnknownClass,

@@ -15,3 +15,4 @@ pub mod line
 pub mod journal_pass
 pub mod marks
 pub mod waiting
+pub mod maps

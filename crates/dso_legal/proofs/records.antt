@@ -12,3 +12,5 @@ pub mod NewsAreNew
 pub mod FreshNews
 pub mod Rising
 pub mod Sorted
+pub mod HandLight
+pub mod Light

@@ -14,6 +14,7 @@ pub mod ClassesKept
 pub mod OwnObjects
 pub mod NewsAreNew
 pub mod Sorted
+pub mod RecordsLight
 pub mod PendingBlocks
 pub mod Resolved
 pub mod Marks
@@ -34,6 +35,8 @@ pub mod RecordsOwn
 pub mod Room
 pub mod MessagesFit
 pub mod SoundCode
+pub mod HeapMaps
+pub mod MapHistory
 pub mod WithoutWaits
 pub mod Works
 pub mod Blocks

@@ -15,6 +15,7 @@ ghost use Rattle.dso_legal.specs.LocksThere.{LocksAreThere};
 ghost use Rattle.dso_legal.specs.OwnObjects.{ObjectsInHandAreOwn};
 ghost use Rattle.dso_legal.specs.NewsAreNew.{NewsAreNew};
 ghost use Rattle.dso_legal.specs.Sorted.{RecordsAreSorted};
+ghost use Rattle.dso_legal.specs.RecordsLight.{RecordsAreLight};
 ghost use Rattle.dso_legal.specs.Blocks.{BlocksAreKept, BlocksAreHandedIn, HistoriesHoldBlocks, HistoriesHoldEvents, HistoriesHoldBlocksAsMade};
 ghost use Rattle.dso_legal.specs.Works.{WorksTell};
 ghost use Rattle.dso_legal.specs.Names.{NamesStayKnown, ObjectsAreMade};
@@ -32,6 +33,7 @@ ghost use Rattle.dso_legal.specs.WaysDown.{WaysDownFit};
 ghost use Rattle.dso_legal.specs.RecordsOwn.{RecordsAreOwn, HeldAreStored};
 ghost use Rattle.dso_legal.specs.Room.{BatchesHaveRoom};
 ghost use Rattle.dso_legal.specs.MessagesFit.{MessagesFit};
+ghost use Rattle.dso_legal.specs.MapHistory.{MapsAreOneMap};
 
 /// For each client that isn't lost and each lock: each message in flight may come where it stands, and once all are taken the
 /// client and the server say the same of the lock's lease.
@@ -233,6 +235,12 @@ pub fn records_are_sorted()
     ensures { RecordsAreSorted }
 {}
 
+/// A record that comes, also of a lost client, is light: the objects that it publishes, its notifications, and the values of its
+/// objects, its sets and what it printed are together no more than the entries weigh.
+pub fn records_are_light()
+    ensures { RecordsAreLight }
+{}
+
 /// By a client's entries each thread's events are those of its ended blocks and then its open block, its locks and private
 /// objects are those that these make; and the records that the client sent are those of its ended blocks.
 pub fn blocks_are_kept()
@@ -315,4 +323,12 @@ pub fn sound_code_is_sound_program()
 pub fn central_law()
     ensures legal { CentralLaw }
     ensures as_made { CommitsWhatWasMade }
+{}
+
+/// **Clustered maps.** For settings and sound code of one shape, in the history that a lawful journal commits, whatever clients it
+/// loses: each thread goes from call to call of maps, a call takes every reply, so none fails, and at the end no thread is inside
+/// one, so no loss cuts a call in two. The completed calls of each map, in the order of their last events, are those of one finite map
+/// that begins empty, and that the map's fields hold at the end.
+pub fn maps_are_one_map()
+    ensures { MapsAreOneMap }
 {}

@@ -1,3 +1,5 @@
 pub mod texts
 pub mod histories
+pub mod entries
 pub mod ordering
+pub mod bodies

@@ -6,16 +6,10 @@ use Rattle.std.specs.Option.{option_and_then, option_map_or}
 use Rattle.std.specs.List.{fold, position}
 use Rattle.dso_base.specs.declared.value.ClassId.{ClassId}
 use Rattle.dso_base.specs.declared.value.ClassId.TheVariants as class
-use Rattle.dso_base.specs.declared.value.Value.{Value}
-use Rattle.dso_base.specs.declared.value.Value.TheVariants as value
 use Rattle.dso_class.specs.declared.program.Names.{Names}
 use Rattle.dso_plain.specs.State.{Object, PlainState}
+use Rattle.dso_report.specs.Held.{number_in}
 use Rattle.dso_report.specs.Numbering.{IsOrder, fields_of}
-
--- the number that a field holds; 0 where it holds none
-abbrev pub number_in : Option Value → ℤ
-number_in (Some (value.Long number)) = number
-number_in held = pos 0
 
 -- the number in the field of this place of an object; 0 where it has no such field
 abbrev pub number_at : PlainState → ℕ → Option ℕ → ℤ

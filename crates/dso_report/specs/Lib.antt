@@ -1,12 +1,16 @@
+pub mod BodyGraph
 pub mod CounterTotal
 pub mod MissingText
 pub mod Laws
 pub mod LeftOut
+pub mod Held
 pub mod HistoryState
 pub mod JournalText
 pub mod JournalWords
+pub mod MapEntries
 pub mod Numbering
 pub mod Report
+pub mod ShownMaps
 pub mod Texts
 pub mod Told
 pub mod WholeState

@@ -1,7 +1,8 @@
 -- The report of a history: its threads with what they printed, the count of unguarded reads, and the graph. What
 -- names something that isn't there has no text, so a state that lacks something that its report names has no report.
-use Rattle.std.specs.Prelude.{ℕ, ◌≡◌, true, false, Option, Some, None, List, ◌++◌, codes, map, reverse, slice_get}
-use Rattle.std.specs.Fmt.{decimal, ◌++?◌}
+use Rattle.std.specs.Prelude.{ℕ, ◌≡◌, true, false, if◌then◌else◌, Option, Some, None, List, ◌++◌, codes, map, reverse}
+use Rattle.std.specs.Prelude.{slice_get}
+use Rattle.std.specs.Fmt.{decimal, signed_decimal, ◌++?◌}
 use Rattle.std.specs.List.{All}
 use Rattle.std.specs.Option.{option_map}
 use Rattle.dso_base.specs.declared.lock.LockName.{LockName}
@@ -14,8 +15,10 @@ use Rattle.dso_base.specs.declared.value.Value.{Value}
 use Rattle.dso_class.specs.declared.program.Names.{Names}
 use Rattle.dso_config.specs.declared.config.RootEntry.{RootEntry}
 use Rattle.dso_plain.specs.State.{PlainState, Object}
+use Rattle.dso_report.specs.declared.maps.MapEntry.{MapEntry}
 use Rattle.dso_report.specs.declared.thread_lines.ThreadStanding.{ThreadStanding}
 use Rattle.dso_report.specs.declared.thread_lines.ThreadStanding.TheVariants.{Ended, Faulted, Lost, Waiting, Open}
+use Rattle.dso_report.specs.MapEntries.{is_map_sized, map_entries}
 use Rattle.dso_report.specs.Numbering.{IsOrder, fields_of}
 use Rattle.dso_report.specs.Texts.{each_below, each_of, printed, shown_in, numbered, kind_text}
 
@@ -102,11 +105,20 @@ abbrev pub fields_text : Names → List ℕ → PlainState → ℕ → ℕ → O
 fields_text names order s o size None = None
 fields_text names order s o size (Some fields) = each_below (field_text names order s o fields) size
 
--- an object by its class: one of a class of the program with the class and its fields, an array with its kind, size
+-- an entry of a map: its key and its object
+abbrev pub entry_text : List ℕ → MapEntry → Option (List ℕ)
+entry_text order entry = Some (codes " " ++ (signed_decimal entry.key ++ codes "=")) ++? numbered order entry.object
+
+-- what an object of a class of the program has: a map its entries, and another its fields by their names
+abbrev pub parts_text : Names → List ℕ → PlainState → ℕ → ℕ → ℕ → Option (List ℕ)
+parts_text names order s o size c = if is_map_sized (class.Plain c) size
+    then each_of (entry_text order) (map_entries s o)
+    else fields_text names order s o size (slice_get names.fields c)
+
+-- an object by its class: one of a class of the program with the class and what it has, an array with its kind, size
 -- and elements; the roots' object is none of the graph
 abbrev pub body_text : Names → List ℕ → PlainState → ℕ → ℕ → ClassId → Option (List ℕ)
-body_text names order s o size (class.Plain c) = slice_get names.classes c ++? fields_text names order s o size
-    (slice_get names.fields c)
+body_text names order s o size (class.Plain c) = slice_get names.classes c ++? parts_text names order s o size c
 body_text names order s o size (class.Array kind) = Some
     (kind_text kind ++ (codes "[" ++ (decimal size ++ codes "]"))) ++? each_below (element_text names order s o) size
 body_text names order s o size class.Roots = None
@@ -125,6 +137,12 @@ object_line names order s o = numbered order o ++? Some (codes " ") ++? object_t
 abbrev pub graph_text : Names → List ℕ → PlainState → Option (List ℕ)
 graph_text names order s = each_below (root_line names order s) (fields_of s 0) ++? each_of
     (object_line names order s) order
+
+-- The bytes are the lines of the state's graph, with the objects in their order.
+pub record IsGraphText (names : Names) (s : PlainState) (bytes : List ℕ) : Type 0 where
+  pub order : List ℕ
+  pub is_order : IsOrder s order
+  pub written : graph_text names order s ≡ Some bytes
 
 -- The bytes are the report of the state: the threads, the count of unguarded reads, and the graph. How a thread
 -- stands and the order of the objects are what the state says of them.

@@ -2,10 +2,11 @@
 ghost use Rattle.std.specs.Prelude.{◌≡◌, IfOk, bytes_eq, codes};
 ghost use Rattle.std.specs.List.{position};
 ghost use Rattle.dso_plain.specs.HeapTables.{state_of};
-ghost use Rattle.dso_report.specs.CounterTotal.{IsCounterTotal, count_in, count_of, count_place, is_counter, number_at, number_in, sum_of};
+ghost use Rattle.dso_report.specs.CounterTotal.{IsCounterTotal, count_in, count_of, count_place, is_counter, number_at, sum_of};
 
+use crate::held::number_in;
 use crate::numbering::{fields_of, order_of};
-use dso_base::{ClassId, NoMemory, Value, Word};
+use dso_base::{ClassId, NoMemory, Word};
 use dso_class::{Names, Program};
 use dso_plain::Plain;
 use std::alloc::Global;
@@ -96,16 +97,6 @@ fn number_at(plain: &Plain, object: u64, place: Option<usize>) -> i64
         Some(place) if place < fields_of(plain, object) as usize => {
             number_in(plain.value(object, place as u32))
         }
-        _ => 0,
-    }
-}
-
-/// The number that a field holds; 0 where it holds none.
-fn number_in(held: Option<Value>) -> i64
-    ensures { result ≡ number_in held }
-{
-    match held {
-        Some(Value::Long(number)) => number,
         _ => 0,
     }
 }

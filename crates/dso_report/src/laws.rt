@@ -1,11 +1,16 @@
 //! The laws of reports (`specs/Laws.antt`). Each is the contract of a function that does nothing.
-ghost use Rattle.dso_report.specs.Laws.{OneReport, StatesAreWhole, OrdersAreClosed};
+ghost use Rattle.dso_report.specs.Laws.{MapsShowTheirSlots, OneGraphText, OneReport, StatesAreWhole, OrdersAreClosed};
 ghost use Rattle.dso_report.specs.LeftOut.{ReportsLeaveNothingOut};
 ghost use Rattle.dso_report.specs.Told.{ThreadsNameWhatTheyWereTold};
 
 /// A state has one report.
 pub fn one_report()
     ensures { OneReport }
+{}
+
+/// A graph has one text.
+pub fn one_graph_text()
+    ensures { OneGraphText }
 {}
 
 /// A report leaves nothing out: a state that lacks the name of a root, of a class or of a field, or a text or an object that its report
@@ -30,4 +35,10 @@ pub fn threads_name_what_they_were_told()
 /// Each object that the report shows has a number.
 pub fn orders_are_closed()
     ensures { OrdersAreClosed }
+{}
+
+/// Of each map is shown what its slots hold: each slot that holds an object has its entry, each entry is of such a slot, and the keys
+/// don't fall from an entry to a later one.
+pub fn maps_show_their_slots()
+    ensures { MapsShowTheirSlots }
 {}

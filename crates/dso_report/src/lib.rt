@@ -1,5 +1,5 @@
 //! The report of what a program did: its threads with what they printed, the count of unguarded reads, and the graph;
-//! and the text of a journal.
+//! the graph of a table of bodies alone; and the text of a journal.
 //!
 //! A caller:
 //!
@@ -30,21 +30,28 @@
 //! ```
 #![tactic(auto)]
 
+mod body_graph;
+mod body_table;
 mod counters;
 mod event_words;
 mod graph_lines;
+mod held;
 mod journal_lines;
 mod journal_words;
 pub mod laws;
+mod map_lines;
+mod maps;
 mod message_words;
 mod numbering;
 mod program_report;
+mod seen;
 mod state_report;
 mod thread_lines;
 mod unwritten;
 mod value_texts;
 mod written;
 
+pub use body_graph::graph;
 pub use counters::counter_total;
 pub use journal_lines::journal_text;
 pub use program_report::report;

@@ -1,18 +1,18 @@
 //! The numbering of the graph's objects, breadth first from the roots (`specs/Numbering.antt`).
 ghost use Rattle.std.specs.Prelude.{◌≡◌, IfOk, OnOk};
-ghost use Rattle.dso_plain.specs.HeapTables.{state_of};
-ghost use Rattle.dso_report.specs.Numbering.{IsOrder, add_fields, add_named, fields_of};
+ghost use Rattle.dso_report.specs.Numbering.{IsOrder, add_entries, add_fields, add_named, add_object, add_shown, fields_of};
 
+use crate::maps::{MapEntry, is_map_there, map_entries};
+use crate::seen::Seen;
 use dso_base::Value;
-use dso_plain::Plain;
 use indexmap::IndexSet;
 use std::alloc::{AllocError, Global};
 
 /// How many fields or elements an object has. It takes no memory.
-pub(crate) fn fields_of(plain: &Plain, object: u64) -> u32
-    ensures { result ≡ fields_of (state_of plain.now) object }
+pub(crate) fn fields_of<S: Seen>(seen: &S, object: u64) -> u32
+    ensures { result ≡ fields_of (S.state seen.now) object }
 {
-    match plain.object(object) {
+    match seen.object(object) {
         Some(object) => object.size,
         None => 0,
     }
@@ -21,26 +21,53 @@ pub(crate) fn fields_of(plain: &Plain, object: u64) -> u32
 /// The order of all objects that can be reached from the roots.
 ///
 /// It takes time and memory in the measure of the graph.
-pub(crate) fn order_of(alloc: Global, plain: &Plain) -> Result<IndexSet<u64>, AllocError>
-    ensures { IfOk result (λ order. IsOrder (state_of plain.now) order.keys) }
+pub(crate) fn order_of<S: Seen>(alloc: Global, seen: &S) -> Result<IndexSet<u64>, AllocError>
+    ensures { IfOk result (λ order. IsOrder (S.state seen.now) order.keys) }
 {
     let mut order = IndexSet::new(alloc);
-    add_fields(&mut order, plain, 0)?;
+    add_fields(&mut order, seen, 0)?;
     let mut visits = 0;
     while visits < order.len() {
         let object = order.as_slice()[visits];
-        add_fields(&mut order, plain, object)?;
+        add_shown(alloc, &mut order, seen, object)?;
         visits += 1;
     }
     Ok(order)
 }
 
-/// Adds the objects that the fields of an object name, in the order of the fields.
-fn add_fields(order: &mut IndexSet<u64>, plain: &Plain, object: u64) -> Result<(), AllocError>
-    ensures { OnOk result (order.new.keys ≡ add_fields (state_of plain.now) object (fields_of (state_of plain.now) object) order.old.keys) }
+/// Adds the objects that an object shows: those of a map's entries, and those that the fields of another name.
+fn add_shown<S: Seen>(
+    alloc: Global,
+    order: &mut IndexSet<u64>,
+    seen: &S,
+    object: u64,
+) -> Result<(), AllocError>
+    ensures { OnOk result (order.new.keys ≡ add_shown (S.state seen.now) object order.old.keys) }
 {
-    for field in 0..fields_of(plain, object) {
-        add_named(order, plain.value(object, field))?;
+    if is_map_there(seen, object) {
+        let entries = map_entries(alloc, seen, object)?;
+        add_entries(order, entries.as_slice())
+    } else {
+        add_fields(order, seen, object)
+    }
+}
+
+/// Adds the objects of a map's entries, in the order of the entries.
+fn add_entries(order: &mut IndexSet<u64>, entries: &[MapEntry]) -> Result<(), AllocError>
+    ensures { OnOk result (order.new.keys ≡ add_entries entries.now order.old.keys) }
+{
+    for entry in entries {
+        add_object(order, entry.object)?;
+    }
+    Ok(())
+}
+
+/// Adds the objects that the fields of an object name, in the order of the fields.
+fn add_fields<S: Seen>(order: &mut IndexSet<u64>, seen: &S, object: u64) -> Result<(), AllocError>
+    ensures { OnOk result (order.new.keys ≡ add_fields (S.state seen.now) object (fields_of (S.state seen.now) object) order.old.keys) }
+{
+    for field in 0..fields_of(seen, object) {
+        add_named(order, seen.value(object, field))?;
     }
     Ok(())
 }
@@ -50,7 +77,15 @@ fn add_named(order: &mut IndexSet<u64>, value: Option<Value>) -> Result<(), Allo
     ensures { OnOk result (order.new.keys ≡ add_named order.old.keys value) }
 {
     if let Some(Value::Ref(object)) = value {
-        order.insert(object)?;
+        add_object(order, object)?;
     }
+    Ok(())
+}
+
+/// Adds an object behind the others, if it isn't there yet.
+pub(crate) fn add_object(order: &mut IndexSet<u64>, object: u64) -> Result<(), AllocError>
+    ensures { OnOk result (order.new.keys ≡ add_object order.old.keys object) }
+{
+    order.insert(object)?;
     Ok(())
 }

@@ -31,7 +31,7 @@ pub(crate) fn report_of_state(
     let order = order_of(alloc, plain)?;
     let mut text = threads_text(alloc, names, threads, plain)?;
     push_unguarded(&mut text, plain)?;
-    push_graph(&mut text, names, plain, &order)?;
+    push_graph(alloc, &mut text, names, plain, &order)?;
     Ok(text)
 }
 

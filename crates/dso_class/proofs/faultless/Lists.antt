@@ -72,6 +72,18 @@ module _ (config : Config) (ast : Ast) {A : Type 0} (sort : Mentioned → Option
   all_few most rule (m ∷ rest) before each fine =
       few_more most (seen before) (seen (m ∷ before)) (sort m.what) (in_text sort rest) (grows m before (first_passes test m rest each)) (λ x. rule before m.what x fine.0) (all_few most rule rest (m ∷ before) (rest_pass test m rest each) fine.1)
 
+-- what holds of one thing more, or of none
+each_more : {A : Type 0} (P : A → Type 0) (found : Option A) (rest : List A) → ((x : A) → found ≡ Some x → P x) → All P rest → All P (cons_option found rest)
+each_more P None rest here all = all
+each_more P (Some x) rest here all = All-cons P x rest (here x refl) all
+
+-- what is mentioned of a sort is so where a rule says it of each
+each_so : (config : Config) (ast : Ast) {A : Type 0} (sort : Mentioned → Option A) (P : A → Type 0) → ((before : List Mention) (here : Mentioned) (x : A) → IsFine config ast before here → sort here ≡ Some x → P x)
+    → (ms before : List Mention) → AreFine config ast before ms → All P (in_text sort ms)
+each_so config ast sort P rule [] before fine = All-nil P
+each_so config ast sort P rule (m ∷ rest) before fine =
+    each_more P (sort m.what) (in_text sort rest) (λ x. rule before m.what x fine.0) (each_so config ast sort P rule rest (m ∷ before) fine.1)
+
 -- a part's mentions grow where no part begins
 pub part_more : {A : Type 0} (sort : Mentioned → Option A) (begins : Mentioned → Bool) (m : Mention) (before : List Mention) → begins m.what ≡ false
     → in_text sort (in_part begins (m ∷ before)) ≡ cons_option (sort m.what) (in_text sort (in_part begins before))
@@ -82,12 +94,15 @@ each_any : (ms : List Mention) → MentionsPass (λ what. true) ms
 each_any [] = refl
 each_any (m ∷ rest) = each_any rest
 
--- what a whole text mentions of a sort differs, and is not too much
+-- what a whole text mentions of a sort differs, is not too much, and is so where a rule says it of each
 module _ (config : Config) (ast : Ast) {A : Type 0} (sort : Mentioned → Option A) (ms : List Mention) (fine : AreFine config ast [] ms) where
   pub text_differs : ((before : List Mention) (here : Mentioned) (x : A) → IsFine config ast before here → sort here ≡ Some x → Contains (in_text sort before) x → ⊥)
       → AllPairs (λ x y. x ≢ y) (in_text sort ms)
   text_differs rule =
       new_differ [] (in_text sort ms) (all_new config ast sort (in_text sort) (λ what. true) (λ m before is. refl) rule ms [] (each_any ms) fine)
+
+  pub text_each : (P : A → Type 0) → ((before : List Mention) (here : Mentioned) (x : A) → IsFine config ast before here → sort here ≡ Some x → P x) → All P (in_text sort ms)
+  text_each P rule = each_so config ast sort P rule ms [] fine
 
   pub text_few : (most : ℕ) → ((before : List Mention) (here : Mentioned) (x : A) → IsFine config ast before here → sort here ≡ Some x → most ≤ length (in_text sort before) → ⊥)
       → length (in_text sort ms) ≤ most

@@ -1,5 +1,5 @@
 -- What no fault at a declaration says of what was declared before it.
-use Rattle.std.proofs.Common.{◌≡◌, refl, sym, subst, ◌≤◌, ◌⊎◌, inl, inr, List, [], ◌∷◌, length, Contains, Option, Some, None}
+use Rattle.std.proofs.Common.{◌≡◌, ◌≢◌, ◌∙◌, refl, sym, subst, ◌≤◌, ◌⊎◌, inl, inr, List, [], ◌∷◌, length, Contains, Option, Some, None}
 use Rattle.std.specs.List.{cons_option}
 use Rattle.std.proofs.lemmas.List.Elements.{Contains-append_left, Contains-append_right, Contains-append_cases}
 use Rattle.std.proofs.lemmas.Option.{same_Some}
@@ -11,7 +11,8 @@ use Rattle.dso_config_entries.specs.Words.{Word}
 use Rattle.dso_class.specs.Limits.{most_classes, most_fields, most_statics, most_methods, most_params, most_vars}
 use Rattle.dso_class.specs.Mentions.{Mention, Mentioned, class, field, static, method, parameter}
 use Rattle.dso_class.specs.PrecedingMentions.{class_in, member_in, field_in, static_in, method_in, parameter_in, variable_in, in_text, in_class, in_body}
-use Rattle.dso_class.specs.NameFaults.{class_twice, many_classes, member_twice, many_fields, many_statics, many_methods, variable_twice, many_params, many_vars}
+use Rattle.dso_class.specs.Maps.{map_word}
+use Rattle.dso_class.specs.NameFaults.{Breaks, map_class, class_twice, many_classes, member_twice, many_fields, many_statics, many_methods, variable_twice, many_params, many_vars}
 use Rattle.dso_class.specs.FaultsAmong.{IsFine}
 
 -- with one thing more, or none, a list has what it had
@@ -55,6 +56,11 @@ module _ (config : Config) (ast : Ast) where
   pub class_new : (before : List Mention) (here : Mentioned) (name : Word) → IsFine config ast before here → class_in here ≡ Some name → Contains (in_text class_in before) name → ⊥
   class_new before (class other) name fine is there = fine kind.Twice (class_twice (subst (Contains (in_text class_in before)) (sym (same_Some other name is)) there))
   class_new before other name fine is there = absurd (cc is)
+
+  -- and it isn't called as that of maps
+  pub class_no_map : (before : List Mention) (here : Mentioned) (name : Word) → IsFine config ast before here → class_in here ≡ Some name → name ≢ map_word
+  class_no_map before (class other) name fine is same = fine kind.Twice (subst (λ word. Breaks config ast before (class word) kind.Twice) (sym (same_Some other name is ∙ same)) map_class)
+  class_no_map before other name fine is same = absurd (cc is)
 
   pub class_room : (before : List Mention) (here : Mentioned) (name : Word) → IsFine config ast before here → class_in here ≡ Some name → most_classes ≤ length (in_text class_in before) → ⊥
   class_room before (class other) name fine is full = fine (kind.TooMany what.Classes) (many_classes full)

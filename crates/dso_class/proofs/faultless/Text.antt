@@ -18,13 +18,14 @@ use Rattle.dso_class.specs.Mentions.{Mention, on, Owner, thread_owner, mentions_
 use Rattle.dso_class.specs.Mentions as mention
 use Rattle.dso_class.specs.PrecedingMentions.{in_text, class_in, field_in, static_in, method_in, parameter_in, text_in, variable_in, begins_class, begins_body, in_class, in_body}
 use Rattle.dso_class.specs.Declarations.{ClassTree, MethodTree, ThreadTree, classes_of, fields_of, statics_of, methods_of, methods_from, threads_of, class_names, all_statics, all_methods}
+use Rattle.dso_class.specs.Maps.{map_word}
 use Rattle.dso_class.specs.NameFaults.{Breaks, this_outside, no_client, HasNoFault, IsClient}
 use Rattle.dso_class.specs.FaultsAmong.{behind, IsFine, AreFine}
 use Rattle.dso_class.specs.TextProgram.{method_owner, variables_of}
 use Rattle.dso_class.proofs.mentions.OnlyUses.{part_begins}
 use Rattle.dso_class.proofs.mentions.Fine.{fine_front, fine_rest, fine_text}
-use Rattle.dso_class.proofs.faultless.Lists.{pairs_of_map, part_differs, part_few, text_differs, text_few}
-use Rattle.dso_class.proofs.faultless.Rules.{class_new, class_room, field_new, field_room, static_new, static_room, method_new, method_room, variable_new, variable_room, parameter_room}
+use Rattle.dso_class.proofs.faultless.Lists.{pairs_of_map, part_differs, part_few, text_differs, text_each, text_few}
+use Rattle.dso_class.proofs.faultless.Rules.{class_new, class_no_map, class_room, field_new, field_room, static_new, static_room, method_new, method_room, variable_new, variable_room, parameter_room}
 use Rattle.dso_class.proofs.mentions.OfClasses.{is_of_body, is_of_class, body_of_body, members_of_class, body_no_body, class_no_class}
 use Rattle.dso_class.proofs.faultless.Declared.{params_mentioned, fields_mentioned, statics_mentioned, methods_mentioned, classes_mentioned, threads_mentioned, all_statics_mentioned}
 use Rattle.dso_class.proofs.faultless.Counts as counts
@@ -57,6 +58,7 @@ IsCleanMethod tree = IsCleanBody (method_owner tree) tree.params tree.statements
 pub record IsCleanText (config : Config) (ast : Ast) : Type 0 where
   pub classes_differ : AllPairs (λ name other. name ≢ other) (class_names ast.items)
   pub few_classes : length (class_names ast.items) ≤ most_classes
+  pub no_map_class : All (λ name. name ≢ map_word) (class_names ast.items)
   pub classes : All IsCleanClass (classes_of ast.items)
   pub few_statics : length (all_statics ast.items) ≤ most_statics
   pub methods : All IsCleanMethod (all_methods ast.items)
@@ -184,6 +186,7 @@ clean_text config ast clean =
     record {
       classes_differ = subst (AllPairs (λ x y. x ≢ y)) (classes_mentioned ast.items) (text_differs config ast class_in ms fine (class_new config ast));
       few_classes = subst (λ n. n ≤ most_classes) (ap length (classes_mentioned ast.items)) (text_few config ast class_in ms fine most_classes (class_room config ast));
+      no_map_class = subst (All (λ name. name ≢ map_word)) (classes_mentioned ast.items) (text_each config ast class_in ms fine (λ name. name ≢ map_word) (class_no_map config ast));
       classes = all.classes;
       few_statics =
           subst (λ n. n ≤ most_statics) (ap length (all_statics_mentioned ast.items) ∙ length-map (all_statics ast.items) (λ one. one.field))

@@ -7,7 +7,8 @@ use Rattle.std.proofs.Math.Dec.{eqb-suc-zero}
 use Rattle.std.specs.Borrow.{Bor}
 use Rattle.dso_syntax.specs.declared.tree.Ast.{Ast}
 use Rattle.dso_config_entries.specs.Words.{Word}
-use Rattle.dso_class.specs.Declarations.{MethodTree, all_methods}
+use Rattle.dso_class.specs.Declarations.{MethodTree}
+use Rattle.dso_class.specs.Maps.{reachable_methods}
 use Rattle.dso_class.specs.NameFaults.{TakesArguments}
 use Rattle.dso_class.specs.NameFaults as faults
 use Rattle.dso_class.specs.declared.gathered_methods.Declared.{Declared}
@@ -51,29 +52,29 @@ callee_there methods name count number method stands named takes =
     (only_there (eqb (length method.params) count) (capped method.number, capped number) (eq-eqb (length method.params) count takes))
 
 -- a method of a row is one that some class has, and the other way round
-has_method : (ast : Ast) (name : Word) (declared : Declared) → Contains (declared_of (all_methods ast.items) name) declared → faults.HasMethod ast name
+has_method : (ast : Ast) (name : Word) (declared : Declared) → Contains (declared_of (reachable_methods ast) name) declared → faults.HasMethod ast name
 has_method ast name declared there =
-    let is = declared_tells (all_methods ast.items) name declared there in
-    record { declared = is.method; there = stands_there (all_methods ast.items) is.method is.place is.stands; named = is.named }
+    let is = declared_tells (reachable_methods ast) name declared there in
+    record { declared = is.method; there = stands_there (reachable_methods ast) is.method is.place is.stands; named = is.named }
 
 abbrev row_of_has : (ast : Ast) (name : Word) → faults.HasMethod ast name → Declared
 row_of_has ast name has = record { class = capped has.declared.number; number = capped has.there.0; params = length has.declared.params }
 
-in_row : (ast : Ast) (name : Word) (has : faults.HasMethod ast name) → Contains (declared_of (all_methods ast.items) name) (row_of_has ast name has)
-in_row ast name has = declared_there (all_methods ast.items) name has.there.0 has.declared (stands_at (all_methods ast.items) has.declared has.there) has.named
+in_row : (ast : Ast) (name : Word) (has : faults.HasMethod ast name) → Contains (declared_of (reachable_methods ast) name) (row_of_has ast name has)
+in_row ast name has = declared_there (reachable_methods ast) name has.there.0 has.declared (stands_at (reachable_methods ast) has.declared has.there) has.named
 
 -- no method of the row takes so many arguments exactly where no class has one
-takes_arguments : (ast : Ast) (name : Word) (count : ℕ) (pair : ℕ × ℕ) → Contains (callees_of count (declared_of (all_methods ast.items) name)) pair → TakesArguments ast name count
+takes_arguments : (ast : Ast) (name : Word) (count : ℕ) (pair : ℕ × ℕ) → Contains (callees_of count (declared_of (reachable_methods ast) name)) pair → TakesArguments ast name count
 takes_arguments ast name count pair there =
-    let callee = callee_tells (all_methods ast.items) name count pair there in
-    let is = declared_tells (all_methods ast.items) name callee.declared callee.in_row in
-    record { declared = is.method; there = stands_there (all_methods ast.items) is.method is.place is.stands; named = is.named; takes = is.takes ∙ callee.takes }
+    let callee = callee_tells (reachable_methods ast) name count pair there in
+    let is = declared_tells (reachable_methods ast) name callee.declared callee.in_row in
+    record { declared = is.method; there = stands_there (reachable_methods ast) is.method is.place is.stands; named = is.named; takes = is.takes ∙ callee.takes }
 
-pub no_callee : (ast : Ast) (name : Word) (count : ℕ) → (callees_of count (declared_of (all_methods ast.items) name) ≡ []) ↔ (TakesArguments ast name count → ⊥)
+pub no_callee : (ast : Ast) (name : Word) (count : ℕ) → (callees_of count (declared_of (reachable_methods ast) name) ≡ []) ↔ (TakesArguments ast name count → ⊥)
 no_callee ast name count = (
   λ empty has. nowhere (capped has.declared.number, capped has.there.0) (subst (λ pairs. Contains pairs (capped has.declared.number, capped has.there.0)) empty
-      (callee_there (all_methods ast.items) name count has.there.0 has.declared (stands_at (all_methods ast.items) has.declared has.there) has.named has.takes)),
-  λ fails. nothing_there (callees_of count (declared_of (all_methods ast.items) name)) (λ pair there. fails (takes_arguments ast name count pair there)),
+      (callee_there (reachable_methods ast) name count has.there.0 has.declared (stands_at (reachable_methods ast) has.declared has.there) has.named has.takes)),
+  λ fails. nothing_there (callees_of count (declared_of (reachable_methods ast) name)) (λ pair there. fails (takes_arguments ast name count pair there)),
 )
 
 -- the numbers of classes and methods are small
@@ -153,7 +154,7 @@ are_the_callees methods name count few rise =
     record { listed = λ a b. (callee_has methods name count few a b, has_callee methods name count few a b); rising = callees_rise methods name count few rise }
 
 -- where a row is empty, and what a call says that looks into it
-by_row : (ast : Ast) (name : Word) (row : List Declared) (empty : Bool) → row ≡ declared_of (all_methods ast.items) name → empty ≡ eqb (length row) 0 → IsTrue (not empty) ↔ faults.HasMethod ast name
+by_row : (ast : Ast) (name : Word) (row : List Declared) (empty : Bool) → row ≡ declared_of (reachable_methods ast) name → empty ≡ eqb (length row) 0 → IsTrue (not empty) ↔ faults.HasMethod ast name
 by_row ast name [] empty is tells = (
   λ some. absurd (cc (sym some ∙ ap not tells)),
   λ has. absurd (nowhere (row_of_has ast name has) (subst (λ row. Contains row (row_of_has ast name has)) (sym is) (in_row ast name has))),
@@ -169,11 +170,11 @@ method_where ast name tables row empty are is tells = by_row ast name.now row em
 
 -- the callees that a call gives
 pub callees_where : {E : Type 0} (result : Result (List (ℕ × ℕ)) E) (ast : Ast) (name : Bor Word) (tables : DeclaredNames) (count : ℕ) (row : List Declared) → AreTables ast tables → row ≡ row_of by_name tables.methods name
-    → IfOk result (λ pairs. pairs ≡ callees_of count row) → IfOk result (λ pairs. pairs ≡ callees_of count (declared_of (all_methods ast.items) name.now))
+    → IfOk result (λ pairs. pairs ≡ callees_of count row) → IfOk result (λ pairs. pairs ≡ callees_of count (declared_of (reachable_methods ast) name.now))
 callees_where (Ok pairs) ast name tables count row are is gives = gives ∙ ap (callees_of count) (is ∙ are.methods.all name)
 callees_where (Err refused) ast name tables count row are is gives = tt
 
-pub none_where : {E : Type 0} (result : Result (List (ℕ × ℕ)) E) (ast : Ast) (name : Word) (count : ℕ) → IfOk result (λ pairs. pairs ≡ callees_of count (declared_of (all_methods ast.items) name))
+pub none_where : {E : Type 0} (result : Result (List (ℕ × ℕ)) E) (ast : Ast) (name : Word) (count : ℕ) → IfOk result (λ pairs. pairs ≡ callees_of count (declared_of (reachable_methods ast) name))
     → IfOk result (λ pairs. (pairs ≡ []) ↔ (TakesArguments ast name count → ⊥))
 none_where (Ok pairs) ast name count gives = (λ none. (no_callee ast name count).0 (sym gives ∙ none), λ fails. gives ∙ (no_callee ast name count).1 fails)
 none_where (Err refused) ast name count gives = tt

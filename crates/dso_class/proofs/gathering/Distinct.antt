@@ -77,7 +77,7 @@ of_later : (number count : ℕ) (method : MethodTree) → OfClasses (suc number)
 of_later number count method within = (omega (arith, within.0), omega (arith, within.1))
 
 -- the methods of classes have the numbers of these
-numbers_of_classes : (number : ℕ) (classes : List ClassTree) → All (OfClasses number (length classes)) (methods_from number classes)
+pub numbers_of_classes : (number : ℕ) (classes : List ClassTree) → All (OfClasses number (length classes)) (methods_from number classes)
 numbers_of_classes number [] = All-nil (OfClasses number 0)
 numbers_of_classes number (class ∷ rest) =
     let here = OfClass number in

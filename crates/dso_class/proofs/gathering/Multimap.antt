@@ -1,5 +1,6 @@
 -- Rows by name, as one more value is put into one of them.
-use Rattle.std.proofs.Common.{ℕ, ◌≡◌, arith, refl, sym, ◌∙◌, ap, Bool, true, false, List, [], ◌∷◌, ◌++◌, length, append_assoc, append-nil}
+use Rattle.std.proofs.Common.{ℕ, ◌≡◌, ◌+◌, arith, refl, sym, ◌∙◌, ap, Bool, true, false, List, [], ◌∷◌, ◌++◌, length, append_assoc, append-nil}
+use Rattle.std.proofs.lemmas.List.{length-append}
 use Rattle.std.specs.Borrow.{Bor}
 use Rattle.std.specs.BTreeMap.{BTreeMap, is_at}
 use Rattle.dso_config_entries.specs.Words.{Word}
@@ -56,3 +57,7 @@ with_method before old new method name class number count spelt is_class is_numb
       ∙ ap (λ n. row ++ only named (record { class = capped method.number; number = capped (length before); params = n })) takes
       ∙ sym (each_push (declared_at other.now) 0 before method (length before) (omega arith));
 }
+
+-- the number behind one more method
+pub number_after : (before : List MethodTree) (method : MethodTree) (number after : ℕ) → number ≡ capped (length before) → after ≡ capped (number + 1) → after ≡ capped (length (before ++ method ∷ []))
+number_after before method number after so_far one = omega (arith, so_far, one, length-append before (method ∷ []))

@@ -7,8 +7,9 @@ use Rattle.dso_class.specs.Mentions.{Mention, Owner, on, alone, dotted, called, 
 use Rattle.dso_class.specs.Numbers.{Numbers, IsNumber}
 use Rattle.dso_class.specs.TextProgram.{Source}
 use Rattle.dso_class.specs.BodyWalk.{Met, HasMet, IsWalked}
-use Rattle.dso_class.specs.NameFaults.{IsClass, HasMethod, TakesArguments}
-use Rattle.dso_class.specs.Declarations.{all_statics, class_names, all_methods}
+use Rattle.dso_class.specs.NameFaults.{IsClass, IsReachableClass, HasMethod, TakesArguments}
+use Rattle.dso_class.specs.Declarations.{all_statics}
+use Rattle.dso_class.specs.Maps.{reachable_classes, reachable_methods}
 use Rattle.dso_class.specs.Numbers as numbers
 use Rattle.dso_class.specs.NameFaults.{HasNoFault}
 use Rattle.dso_class.specs.BodyWalk.{HeadMeans}
@@ -58,8 +59,8 @@ dotted_at_root {old = old} line number name behind has class_there root_there is
 }
 
 -- a new object of a class that is there
-pub new_found : {source : Source} {owner : Owner} {before : List Mention} {old : Met} (line number : ℕ) (name : Word) → HasMet before old → ((IsClass source.ast name → ⊥) → ⊥)
-    → (HasNoFault source.config source.ast → IsNumber (class_names source.ast.items) name number)
+pub new_found : {source : Source} {owner : Owner} {before : List Mention} {old : Met} (line number : ℕ) (name : Word) → HasMet before old → ((IsReachableClass source.ast name → ⊥) → ⊥)
+    → (HasNoFault source.config source.ast → IsNumber (reachable_classes source.ast) name number)
     → IsWalked source owner before (on line (new name) ∷ []) old old (λ n number. IsNumber n.classes name number) (Ok number)
 new_found line number name has there is_number = record {
   answer =
@@ -68,7 +69,7 @@ new_found line number name has there is_number = record {
 
 -- a call of methods that are there
 pub call_found : {source : Source} {owner : Owner} {before : List Mention} {old : Met} (line count : ℕ) (name : Word) (all : List (ℕ × ℕ)) → HasMet before old → HasMethod source.ast name
-    → ((TakesArguments source.ast name count → ⊥) → ⊥) → (HasNoFault source.config source.ast → numbers.AreThePairs (numbers.HasMethod (all_methods source.ast.items) name count) all)
+    → ((TakesArguments source.ast name count → ⊥) → ⊥) → (HasNoFault source.config source.ast → numbers.AreThePairs (numbers.HasMethod (reachable_methods source.ast) name count) all)
     → IsWalked source owner before (on line (call name count) ∷ []) old old (λ n all. numbers.AreThePairs (numbers.HasMethod n.methods name count) all) (Ok all)
 call_found line count name all has some takes pairs = record {
   answer =

@@ -1,5 +1,5 @@
 -- A source without a fault stands for one code.
-use Rattle.std.proofs.Common.{ℕ, ◌≡◌, ◌≢◌, ◌+◌, refl, sym, ap, ap₂, ◌∙◌, subst, unsigned_abs, Bool, true, false, Option, Some, List, [], All, AllPairs, Contains}
+use Rattle.std.proofs.Common.{ℕ, ◌≡◌, ◌≢◌, ◌+◌, refl, sym, ap, ap₂, ◌∙◌, subst, unsigned_abs, Bool, true, false, Option, Some, List, [], ◌++◌, All, AllPairs, Contains}
 use Rattle.std.specs.List.{AllZip}
 use Rattle.std.proofs.lemmas.List.Elements.{All-contains}
 use Rattle.std.proofs.lemmas.Option.{same_Some}
@@ -18,11 +18,13 @@ use Rattle.dso_syntax.specs.declared.tree.StmtTree.{StmtTree}
 use Rattle.dso_config_entries.specs.Words.{Word}
 use Rattle.dso_class.specs.Mentions.{Owner, thread_owner}
 use Rattle.dso_class.specs.Declarations.{ClassTree, FieldTree, MethodTree, ThreadTree, classes_of, fields_of, threads_of, all_methods, all_statics, class_names}
+use Rattle.dso_class.specs.Maps.{makes_map, map_shapes}
 use Rattle.dso_class.specs.NameFaults.{HasNoFault}
 use Rattle.dso_class.specs.Numbers.{IsNumber, MeansBlock}
 use Rattle.dso_class.specs.TextProgram.{Source, roots_of, numbers_of, IsNamedLock, IsGuard, IsField, IsClass, variables_of, IsBody, IsSynced, method_owner, IsMethod, IsThread, IsCode}
 use Rattle.dso_class.proofs.faultless.Text.{IsCleanText, IsCleanMethod, IsCleanThread, clean_text}
 use Rattle.dso_class.proofs.gathering.Distinct.{all_statics_differ}
+use Rattle.dso_class.proofs.maps.Reachable.{reachable_differ}
 use Rattle.dso_class.proofs.lists.NumberedItems.{all_there}
 use Rattle.dso_class.proofs.locking.LastEntry.{last_unique, autolock_unique}
 use Rattle.dso_config_entries.proofs.lists.Places.{stands_there}
@@ -92,7 +94,7 @@ module _ (source : Source) (clear : IsClear source) where
   told_apart : (variables : List Word) (grade : Option Grade) → AllPairs (λ one other. one ≢ other) variables → All (IsNoClass source.ast) variables → IsToldApart (numbers_of source variables grade)
   told_apart variables grade differ apart = record {
     texts = clear.texts_differ;
-    classes = clean.classes_differ;
+    classes = reachable_differ source.config source.ast clean;
     roots = all_statics_differ source.config source.ast clean;
     variables = differ;
     no_class = λ class field i j root variable.
@@ -145,7 +147,9 @@ module _ (source : Source) (clear : IsClear source) where
   -- a source has one code
   pub one_code_of : (code other : Code) → IsCode source code → IsCode source other → code ≡ other
   one_code_of code other is too =
-      let classes = one_shape code.shape.classes other.shape.classes is.classes too.classes in
+      let text_classes = one_shape is.shapes too.shapes is.classes too.classes in
+      let classes : code.shape.classes ≡ other.shape.classes =
+      is.all_classes ∙ ap (λ shapes. shapes ++ map_shapes (makes_map source.ast)) text_classes ∙ sym too.all_classes in
       let methods = one_zip (IsMethod source) (λ tree. IsCleanMethod tree × MethodIsApart source.ast tree) one_method (all_methods source.ast.items) code.methods other.methods all_good is.methods too.methods in
       let bodies =
       one_bodies code.bodies other.bodies

@@ -13,7 +13,7 @@ use Rattle.dso_class.specs.Mentions.{Mention, parameter, variable, synchronized,
 use Rattle.dso_class.specs.PrecedingMentions.{in_text, in_body, text_in, parameter_in, variable_in}
 use Rattle.dso_class.specs.Declarations.{all_statics, class_names}
 use Rattle.dso_config_entries.specs.ConfigEntries.{Matches, autolocks_of}
-use Rattle.dso_class.specs.NameFaults.{IsClass, HasMethod, TakesArguments, IsTaken, Breaks, rank, member_twice, variable_twice, many_vars, many_params, unknown_alone, unknown_dotted, no_static, unknown_called, class_called, this_outside, no_class, no_method, wrong_arguments, many_texts, no_autolock}
+use Rattle.dso_class.specs.NameFaults.{IsClass, IsReachableClass, HasMethod, TakesArguments, IsTaken, Breaks, rank, member_twice, variable_twice, many_vars, many_params, unknown_alone, unknown_dotted, no_static, unknown_called, class_called, this_outside, no_class, no_method, wrong_arguments, many_texts, no_autolock}
 use Rattle.dso_class.specs.FaultsAmong.{IsFine, IsFault}
 use Rattle.dso_class.proofs.lists.Among.{stable}
 use Rattle.dso_class.specs.Declarations.{class_names}
@@ -64,7 +64,7 @@ this_breaks (many_vars is _) = cc is
 this_breaks this_outside = refl
 
 -- how the class of a new object breaks a rule
-new_breaks : {config : Config} {ast : Ast} {before : List Mention} {name : Word} {which : NameKind} → Breaks config ast before (new name) which → (IsClass ast name → ⊥) × (which ≡ kind.UnknownClass)
+new_breaks : {config : Config} {ast : Ast} {before : List Mention} {name : Word} {which : NameKind} → Breaks config ast before (new name) which → (IsReachableClass ast name → ⊥) × (which ≡ kind.UnknownClass)
 new_breaks (member_twice is _) = cc is
 new_breaks (variable_twice is _) = cc is
 new_breaks (many_vars is _) = cc is
@@ -169,10 +169,10 @@ pub this_fault : {config : Config} {ast : Ast} {before : List Mention} → IsFau
 this_fault = record { breaks = this_outside; least = λ other broken. same_rank kind.UnknownVariable other (this_breaks broken) }
 
 -- the class of a new object is there, or is not
-pub new_fine : {config : Config} {ast : Ast} {before : List Mention} {name : Word} → ((IsClass ast name → ⊥) → ⊥) → IsFine config ast before (new name)
+pub new_fine : {config : Config} {ast : Ast} {before : List Mention} {name : Word} → ((IsReachableClass ast name → ⊥) → ⊥) → IsFine config ast before (new name)
 new_fine there which broken = there (new_breaks broken).0
 
-pub new_fault : {config : Config} {ast : Ast} {before : List Mention} {name : Word} → (IsClass ast name → ⊥) → IsFault config ast before (new name) kind.UnknownClass
+pub new_fault : {config : Config} {ast : Ast} {before : List Mention} {name : Word} → (IsReachableClass ast name → ⊥) → IsFault config ast before (new name) kind.UnknownClass
 new_fault none = record { breaks = no_class none; least = λ other broken. same_rank kind.UnknownClass other (new_breaks broken).1 }
 
 -- some class has the method with so many arguments; none has it; none has it with so many

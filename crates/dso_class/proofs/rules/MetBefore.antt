@@ -52,6 +52,14 @@ module _ {config : Config} {ast : Ast} {before : List Mention} where
       let long : length (words_of resolved.names) ≡ length (reverse all) = subst (λ names. length (words_of resolved.names) ≡ length names) met.names (omega arith) in
       let there : length (words_of resolved.names) ≡ length resolved.names = length-map resolved.names (λ word. word.now) in
       same_rules (class_rules name)
-      (λ taken. elim taken [ inl is ↦ inl is | inr has ↦ inr (turned_has name all (words_of resolved.names) met.names has) ])
-      (λ taken. elim taken [ inl is ↦ inl is | inr has ↦ inr (turned_had name all (words_of resolved.names) met.names has) ])
+      (λ taken. elim taken [
+        | inl is ↦ inl is
+        | inr (inl is) ↦ inr (inl is)
+        | inr (inr has) ↦ inr (inr (turned_has name all (words_of resolved.names) met.names has))
+      ])
+      (λ taken. elim taken [
+        | inl is ↦ inl is
+        | inr (inl is) ↦ inr (inl is)
+        | inr (inr has) ↦ inr (inr (turned_had name all (words_of resolved.names) met.names has))
+      ])
       (λ full. omega (arith, full, long, there, length-reverse all)) (λ full. omega (arith, full, long, there, length-reverse all))

@@ -13,7 +13,8 @@ use Rattle.dso_class.specs.Limits.{most_classes, most_fields, most_statics, most
 use Rattle.dso_class.specs.Mentions.{Mention, Mentioned, class, field, static, method, root, synchronized, thread, client}
 use Rattle.dso_class.specs.PrecedingMentions.{in_text, in_class, class_in, member_in, field_in, static_in, method_in}
 use Rattle.dso_config_entries.specs.ConfigEntries.{Matches, IsRoot, autolocks_of}
-use Rattle.dso_class.specs.NameFaults.{Breaks, IsClient, threads_before, rank, thread_class, class_twice, many_classes, member_twice, many_fields, many_statics, many_methods, no_root, no_autolock, many_threads, no_client, variable_twice, many_vars}
+use Rattle.dso_class.specs.Maps.{map_word}
+use Rattle.dso_class.specs.NameFaults.{Breaks, IsClient, threads_before, rank, thread_class, map_class, class_twice, many_classes, member_twice, many_fields, many_statics, many_methods, no_root, no_autolock, many_threads, no_client, variable_twice, many_vars}
 use Rattle.dso_class.specs.FaultsAmong.{IsFine, IsFault}
 
 -- a fault is told before itself
@@ -70,19 +71,21 @@ module _ {config : Config} {ast : Ast} {before : List Mention} where
 
   -- how the name of a class breaks a rule
   class_breaks : {name : Word} {which : NameKind} → Breaks config ast before (class name) which
-      → (((name ≡ thread_word) ⊎ Contains (in_text class_in before) name) × (which ≡ kind.Twice)) ⊎ ((most_classes ≤ length (in_text class_in before)) × (which ≡ kind.TooMany what.Classes))
+      → (((name ≡ thread_word) ⊎ ((name ≡ map_word) ⊎ Contains (in_text class_in before) name)) × (which ≡ kind.Twice)) ⊎ ((most_classes ≤ length (in_text class_in before)) × (which ≡ kind.TooMany what.Classes))
   class_breaks (member_twice is _) = cc is
   class_breaks (variable_twice is _) = cc is
   class_breaks (many_vars is _) = cc is
   class_breaks thread_class = inl (inl refl, refl)
-  class_breaks (class_twice taken) = inl (inr taken, refl)
+  class_breaks map_class = inl (inr (inl refl), refl)
+  class_breaks (class_twice taken) = inl (inr (inr taken), refl)
   class_breaks (many_classes full) = inr (full, refl)
 
-  class_taken : {name : Word} → (name ≡ thread_word) ⊎ Contains (in_text class_in before) name → Breaks config ast before (class name) kind.Twice
+  class_taken : {name : Word} → (name ≡ thread_word) ⊎ ((name ≡ map_word) ⊎ Contains (in_text class_in before) name) → Breaks config ast before (class name) kind.Twice
   class_taken (inl is) = subst (λ word. Breaks config ast before (class word) kind.Twice) (sym is) thread_class
-  class_taken (inr taken) = class_twice taken
+  class_taken (inr (inl is)) = subst (λ word. Breaks config ast before (class word) kind.Twice) (sym is) map_class
+  class_taken (inr (inr taken)) = class_twice taken
 
-  pub class_rules : (name : Word) → IsDeclared config ast before (class name) ((name ≡ thread_word) ⊎ Contains (in_text class_in before) name) (most_classes ≤ length (in_text class_in before)) what.Classes
+  pub class_rules : (name : Word) → IsDeclared config ast before (class name) ((name ≡ thread_word) ⊎ ((name ≡ map_word) ⊎ Contains (in_text class_in before) name)) (most_classes ≤ length (in_text class_in before)) what.Classes
   class_rules name = record { breaks = λ which broken. class_breaks broken; twice = class_taken; many = many_classes }
 
   -- how the name of a field breaks a rule

@@ -1,15 +1,16 @@
 -- The program of a given text and configuration is sound.
-use Rattle.std.proofs.Common.{◌≡◌, ◌≢◌, ℕ, ◌≤◌, ◌<◌, ℤ, pos, int_le, eqb, true, not, ◌&&◌, arith, refl, sym, ap, ◌∙◌, subst, List, [], ◌∷◌, map, length, count_by, slice_get, Some, All, AllPairs}
-use Rattle.std.specs.List.{AllZip}
+use Rattle.std.proofs.Common.{◌≡◌, ◌≢◌, ℕ, zero, suc, ◌+◌, ◌≤◌, ◌<◌, ℤ, pos, int_le, eqb, Bool, true, false, not, ◌&&◌, arith, sym, ap, ◌∙◌, subst, List, [], map, length, count_by, slice_get, option_map, Some, All, AllPairs}
 use Rattle.std.specs.Prelude.{unsigned_abs}
-use Rattle.std.proofs.lemmas.List.{length-map}
+use Rattle.std.proofs.lemmas.List.{length-append, length-map}
 use Rattle.std.proofs.lemmas.List.Elements.{All-map}
 use Rattle.std.proofs.lemmas.List.Sorted.{All-permutation}
+use Rattle.std.proofs.lemmas.Option.{none-some, same_Some, slice_get-map}
 use Rattle.dso_base.specs.declared.journal.Trigger.{Trigger}
 use Rattle.dso_base.specs.declared.lock.ThreadId.{ThreadId}
 use Rattle.dso_base.specs.declared.shape.ClassShape.{ClassShape}
 use Rattle.dso_config.specs.declared.config.Config.{Config}
 use Rattle.dso_config.specs.InRange.{IsTrigger}
+use Rattle.dso_map.specs.MapClass.{map_fields, map_size}
 use Rattle.dso_machine.specs.declared.code.Code.{Code}
 use Rattle.dso_machine.specs.declared.code.Method.{Method}
 use Rattle.dso_machine.specs.declared.code.ThreadBody.{ThreadBody}
@@ -21,22 +22,26 @@ use Rattle.dso_syntax.specs.declared.tree.Ast.{Ast}
 use Rattle.dso_syntax.specs.declared.tree.Ident.{Ident}
 use Rattle.dso_syntax.specs.declared.tree.StmtTree.{StmtTree}
 use Rattle.dso_syntax.specs.TextLimits.{most_levels}
+use Rattle.dso_class.specs.declared.program.Names.{Names}
 use Rattle.dso_class.specs.declared.program.Program.{Program}
 use Rattle.dso_config_entries.specs.Words.{Word}
 use Rattle.dso_class.specs.Mentions.{Owner, thread_owner, block, on, parameter, statement}
-use Rattle.dso_class.specs.Declarations.{ClassTree, MethodTree, ThreadTree, classes_of, fields_of, class_names, all_methods, threads_of}
+use Rattle.dso_class.specs.Declarations.{MethodTree, ThreadTree, classes_of, class_names, all_methods, threads_of}
+use Rattle.dso_class.specs.Maps.{makes_map, map_shapes}
 use Rattle.dso_class.specs.ValidInput.{IsValidInput}
-use Rattle.dso_class.specs.TextProgram.{Source, variables_of, method_owner, IsBody, IsClass, IsMethod, IsThread, IsCode, IsProgramOf}
-use Rattle.dso_class.specs.Sound.{IsSoundProgram}
+use Rattle.dso_class.specs.TextProgram.{Source, variables_of, method_owner, AreNames, IsBody, IsClass, IsMethod, IsThread, IsCode, IsProgramOf}
+use Rattle.dso_class.specs.Sound.{HasFieldNames, IsSoundProgram}
 use Rattle.dso_class.proofs.faultless.Text.{IsCleanBody, IsCleanMethod, IsCleanThread, IsCleanText, clean_text}
 use Rattle.dso_class.proofs.grammar.Operators.{block_fits}
 use Rattle.dso_class.proofs.grammar.GoodTrees.{IsQuiet, quiet_right}
 use Rattle.dso_class.proofs.grammar.Fits.{MethodFits, ThreadFits, methods_fit, threads_fit}
 use Rattle.dso_class.proofs.soundness.Shape.{few_lock_names, few_methods_from, numbers_below, params_among, lock_sound, no_map, classes_sound}
-use Rattle.dso_class.proofs.soundness.Numbers.{names_long}
+use Rattle.dso_class.proofs.soundness.Numbers.{names_long, reach_long, row_of, text_long}
 use Rattle.dso_class.proofs.soundness.Statements.{sound_block}
 use Rattle.dso_class.proofs.thread_ids.Sound as threads
 use Rattle.dso_class.proofs.thread_ids.Sound.{is_of, index_from_one, index_to_last}
+use Rattle.dso_class.proofs.lists.Joined.{Stands, stands}
+use Rattle.dso_class.proofs.maps.MapFields.{map_fields_long}
 use Rattle.dso_class.proofs.lists.SideBySide.{zip_length, zip_back, zip_count, zip_all, all_at, all_from_places}
 
 -- ---- clients
@@ -75,9 +80,13 @@ module _ (config : Config) (ast : Ast) (locks texts : List Word) (code : Code) (
 
   -- ---- methods
 
-  -- as many classes in the shape as in the text
-  classes_long : length (classes_of ast.items) ≡ length code.shape.classes
-  classes_long = zip_length (IsClass source) (classes_of ast.items) code.shape.classes is.classes
+  -- the classes of the text are among those of the shape, which has one more at most
+  maps_few : (makes : Bool) → length (map_shapes makes) ≤ 1
+  maps_few true = omega arith
+  maps_few false = omega arith
+
+  shape_long : length code.shape.classes ≡ length (classes_of ast.items) + length (map_shapes (makes_map ast))
+  shape_long = ap length is.all_classes ∙ length-append is.shapes (map_shapes (makes_map ast)) ∙ ap (λ n. n + length (map_shapes (makes_map ast))) (sym (text_long source code is))
 
   -- what is known of a method's tree
   record IsGivenMethod (tree : MethodTree) : Type 0 where
@@ -88,7 +97,7 @@ module _ (config : Config) (ast : Ast) (locks texts : List Word) (code : Code) (
   -- a method is sound where that is known of its tree
   method_sound : (tree : MethodTree) (method : Method) → IsMethod source tree method → IsGivenMethod tree → machine.IsSoundMethod code method
   method_sound tree method of has = record {
-    class = subst (λ n. method.class < n) classes_long (subst (λ n. n < length (classes_of ast.items)) (sym of.of_class) has.below);
+    class = omega (arith, of.of_class, has.below, shape_long);
     few_params = omega (arith, of.all_params, has.fine.few_params);
     params_first = omega (arith, of.all_params, of.statements.all_vars, params_among tree.params (block (map (statement (method_owner tree)) tree.statements) (map (λ name. name.name) tree.params)));
     few_vars = vars_few (method_owner tree) tree.params tree.statements method.vars method.body of.statements has.fine;
@@ -153,7 +162,7 @@ module _ (config : Config) (ast : Ast) (locks texts : List Word) (code : Code) (
   code_sound few_locks few_texts =
       let named : length (class_names ast.items) ≡ length (classes_of ast.items) = length-map (classes_of ast.items) (λ class. class.name) in
       record {
-        few_classes = omega (arith, classes_long, named, clean.few_classes);
+        few_classes = omega (arith, shape_long, maps_few (makes_map ast), named, clean.few_classes);
         few_roots = omega (arith, is.roots, clean.few_statics);
         few_locks = omega (arith, is.locks, clean.few_statics, few_locks);
         few_methods = omega (arith, few_methods_from 0 (classes_of ast.items) clean.classes, named, clean.few_classes, zip_length (IsMethod source) (all_methods ast.items) code.methods is.methods);
@@ -172,13 +181,22 @@ module _ (config : Config) (ast : Ast) (locks texts : List Word) (code : Code) (
       All-map (λ (thread : ThreadId). thread.client ≤ config.clients) (λ (body : ThreadBody). body.thread) code.bodies
       (zip_all (IsThread source) (IsCleanThread config) (λ body. body.thread.client ≤ config.clients) (threads_of ast.items) code.bodies (λ tree thread of fine. (client_of tree thread of fine).1) is.threads clean.threads)
 
-  -- the lengths of the rows of fields
-  rows_long : (classes : List ClassTree) (shapes : List ClassShape) → AllZip (IsClass source) classes shapes → map length (map (λ class. map (λ field. field.name) (fields_of class.members)) classes) ≡ map (λ shape. length shape.fields) shapes
-  rows_long [] [] both = refl
-  rows_long [] (shape ∷ shapes) both = absurd both
-  rows_long (class ∷ classes) [] both = absurd both
-  rows_long (class ∷ classes) (shape ∷ shapes) both =
-      ap (λ n. n ∷ map length (map (λ class. map (λ field. field.name) (fields_of class.members)) classes)) (names_long source class shape both.0) ∙ ap (λ ns. length shape.fields ∷ ns) (rows_long classes shapes both.1)
+  -- a class behind those of the text is that of maps
+  behind_map : (makes : Bool) (place : ℕ) (class : ClassShape) → slice_get (map_shapes makes) place ≡ Some class → length class.fields ≡ map_size
+  behind_map true zero class at = ap (λ (one : ClassShape). length one.fields) (sym (same_Some (record { fields = map_fields }) class at)) ∙ map_fields_long
+  behind_map true (suc place) class at = absurd (none-some class at)
+  behind_map false place class at = absurd (none-some class at)
+
+  -- the fields of a class have their words, unless it is that of maps
+  fields_named : (names : Names) → AreNames source names → (number : ℕ) (class : ClassShape) → Stands is.shapes (map_shapes (makes_map ast)) number class → length class.fields ≢ map_size → HasFieldNames names number class
+  fields_named names are number class (Stands.before at) differs =
+      let beside = zip_back (IsClass source) (classes_of ast.items) is.shapes number class is.classes at in
+      record {
+        words = row_of beside.0;
+        there = ap (λ rows. slice_get rows number) are.fields ∙ slice_get-map row_of (classes_of ast.items) number ∙ ap (option_map row_of) beside.1;
+        each = names_long source beside.0 class beside.2;
+      }
+  fields_named names are number class (Stands.behind place counts at) differs = absurd (differs (behind_map (makes_map ast) place class at))
 
 -- ---- the program
 
@@ -203,8 +221,9 @@ sound_from_clean config ast program given is clean =
       clients_there = subst (λ n. All (λ thread. thread.client ≤ n) program.threads) (sym is.clients)
           (All-permutation (λ thread. thread.client ≤ config.clients) (machine.threads_of program.code) program.threads is.all_threads (clients_there config ast is.locks is.texts program.code is.code given clean));
       names = record {
-        classes = ap length is.names.classes ∙ length-map (classes_of ast.items) (λ class. class.name) ∙ classes_long config ast is.locks is.texts program.code is.code given clean;
-        fields = ap (map length) is.names.fields ∙ rows_long config ast is.locks is.texts program.code is.code given clean (classes_of ast.items) program.code.shape.classes is.code.classes;
+        classes = ap length is.names.classes ∙ reach_long (source config ast is.locks is.texts program.code is.code given clean) program.code is.code;
+        fields = λ number class at differs. fields_named config ast is.locks is.texts program.code is.code given clean program.names is.names number class
+            (stands is.code.shapes (map_shapes (makes_map ast)) number class (ap (λ shapes. slice_get shapes number) (sym is.code.all_classes) ∙ at)) differs;
         roots = ap length is.names.roots ∙ sym is.code.roots;
         texts = ap length is.names.texts ∙ sym is.code.texts;
       };

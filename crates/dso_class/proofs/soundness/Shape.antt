@@ -1,5 +1,5 @@
 -- The shape of a faultless text's code, and its methods' numbers, are within the limits.
-use Rattle.std.proofs.Common.{◌≡◌, refl, eqb, Bool, true, false, None, ℕ, suc, ◌+◌, ◌*◌, ◌≤◌, ◌<◌, arith, List, [], ◌∷◌, ◌++◌, map, length, slice_get, Option, Some, IfSome, All}
+use Rattle.std.proofs.Common.{◌≡◌, ◌∙◌, refl, sym, ap, subst, eqb, Bool, true, false, ℕ, suc, ◌+◌, ◌*◌, ◌≤◌, ◌<◌, arith, List, [], ◌∷◌, ◌++◌, map, length, slice_get, Option, Some, IfSome, All}
 use Rattle.std.proofs.lemmas.Bool.{eqb-true}
 use Rattle.std.proofs.lemmas.List.{length-append, length-map}
 use Rattle.std.proofs.lemmas.List.Elements.{All-nil, All-cons, All-head, All-tail, All-append}
@@ -12,7 +12,7 @@ use Rattle.dso_config.specs.declared.config.Config.{Config}
 use Rattle.dso_config.specs.InRange.{IsInRange, entries}
 use Rattle.dso_machine.specs.declared.code.Code.{Code}
 use Rattle.dso_base.specs.Shape as base
-use Rattle.dso_map.specs.MapClass.{map_size, is_map}
+use Rattle.dso_map.specs.MapClass.{map_fields, map_size, is_map}
 use Rattle.dso_machine.specs.Sound as machine
 use Rattle.dso_syntax.specs.declared.tree.Ident.{Ident}
 use Rattle.dso_syntax.specs.declared.tree.Member.{Member}
@@ -25,7 +25,10 @@ use Rattle.dso_class.specs.Declarations.{ClassTree, FieldTree, classes_of, field
 use Rattle.dso_config_entries.specs.ConfigEntries.{lock_mentions}
 use Rattle.dso_class.specs.TextProgram.{Source, roots_of, IsField, IsClass, IsGuard, IsNamedLock, IsCode}
 use Rattle.dso_class.proofs.faultless.Text.{IsCleanClass}
-use Rattle.dso_class.proofs.lists.SideBySide.{zip_length, zip_all, all_at}
+use Rattle.dso_class.specs.Maps.{makes_map, map_shapes}
+use Rattle.dso_class.proofs.lists.SideBySide.{zip_length, zip_all, all_at, stands_at}
+use Rattle.dso_class.proofs.maps.MapFields.{maps_sound}
+use Rattle.dso_class.proofs.soundness.Numbers.{text_class}
 
 -- ---- lengths
 
@@ -107,23 +110,27 @@ module _ (source : Source) (code : Code) (is : IsCode source code) where
   few_of_class : (class : ClassTree) (shape : ClassShape) → IsClass source class shape → IsCleanClass class → length shape.fields < map_size
   few_of_class class shape of clean = omega (arith, clean.few_fields, zip_length (IsField source class.name) (fields_of class.members) shape.fields of.fields)
 
-  no_map_of : (shape : Option ClassShape) → IfSome shape (λ class. length class.fields < map_size) → eqb (length (base.fields_of shape)) map_size ≡ false
-  no_map_of None few = refl
-  no_map_of (Some class) few = not_as_many (eqb (length class.fields) map_size) refl
-    where
-      not_as_many : (b : Bool) → eqb (length class.fields) map_size ≡ b → eqb (length class.fields) map_size ≡ false
-      not_as_many true is = absurd (omega (arith, few, eqb-true (length class.fields) map_size is))
-      not_as_many false is = is
+  not_as_many : (n : ℕ) (b : Bool) → n < map_size → eqb n map_size ≡ b → eqb n map_size ≡ false
+  not_as_many n true few is = absurd (omega (arith, few, eqb-true n map_size is))
+  not_as_many n false few is = is
 
-  -- so none is that of maps
-  pub no_map : All IsCleanClass (classes_of source.ast.items) → (class : ℕ) → is_map code.shape class ≡ false
-  no_map clean class = no_map_of (slice_get code.shape.classes class) (few_at (slice_get code.shape.classes class) refl)
-    where
-      few_at : (shape : Option ClassShape) → slice_get code.shape.classes class ≡ shape → IfSome shape (λ one. length one.fields < map_size)
-      few_at None at = tt
-      few_at (Some shape) at = all_at (λ one. length one.fields < map_size) code.shape.classes class shape
-          (zip_all (IsClass source) IsCleanClass (λ one. length one.fields < map_size) (classes_of source.ast.items) code.shape.classes few_of_class is.classes clean) at
+  -- so none of them is that of maps
+  pub no_map : All IsCleanClass (classes_of source.ast.items) → (class : ℕ) → class < length is.shapes → is_map code.shape class ≡ false
+  no_map clean class below =
+      let at = stands_at is.shapes class below in
+      let few : length at.0.fields < map_size =
+      all_at (λ one. length one.fields < map_size) is.shapes class at.0
+      (zip_all (IsClass source) IsCleanClass (λ one. length one.fields < map_size) (classes_of source.ast.items) is.shapes few_of_class is.classes clean) at.1 in
+      ap (λ shape. eqb (length (base.fields_of shape)) map_size) (text_class source code is class below ∙ at.1) ∙ not_as_many (length at.0.fields) (eqb (length at.0.fields) map_size) few refl
+
+  -- the class of maps is sound, where it is there
+  maps_there : (makes : Bool) → All (machine.IsSoundClass code.shape) (map_shapes makes)
+  maps_there true = All-cons (machine.IsSoundClass code.shape) (record { fields = map_fields }) [] (maps_sound code.shape) (All-nil (machine.IsSoundClass code.shape))
+  maps_there false = All-nil (machine.IsSoundClass code.shape)
 
   -- the shapes of all classes are within the limits
   pub classes_sound : All IsCleanClass (classes_of source.ast.items) → All (machine.IsSoundClass code.shape) code.shape.classes
-  classes_sound clean = zip_all (IsClass source) IsCleanClass (machine.IsSoundClass code.shape) (classes_of source.ast.items) code.shape.classes class_sound is.classes clean
+  classes_sound clean =
+      subst (All (machine.IsSoundClass code.shape)) (sym is.all_classes)
+      (All-append (machine.IsSoundClass code.shape) is.shapes (map_shapes (makes_map source.ast))
+      (zip_all (IsClass source) IsCleanClass (machine.IsSoundClass code.shape) (classes_of source.ast.items) is.shapes class_sound is.classes clean) (maps_there (makes_map source.ast)))

@@ -1,5 +1,5 @@
 -- Statements in numbers are sound where their trees are good: each number is of something that is there.
-use Rattle.std.proofs.Common.{◌≡◌, ℕ, zero, suc, false, not, refl, ap, subst, List, ◌++◌, length, Option}
+use Rattle.std.proofs.Common.{◌≡◌, ℕ, zero, suc, ◌<◌, false, not, refl, ap, subst, List, ◌++◌, length, Option}
 use Rattle.std.proofs.lemmas.Option.{slice_get_within}
 use Rattle.dso_base.specs.declared.lock.Grade.{Grade}
 use Rattle.dso_map.specs.MapClass.{is_map}
@@ -19,7 +19,7 @@ use Rattle.dso_class.proofs.grammar.GoodTrees as good
 use Rattle.dso_class.proofs.grammar.GoodTrees.{IsGood, AreGood, IsGoodStmt, IsGoodBlock}
 use Rattle.dso_class.proofs.soundness.Numbers.{places_sound, callees_sound, class_there, root_there, text_there}
 
-module _ (source : Source) (code : Code) (is : IsCode source code) (no_map : (class : ℕ) → is_map code.shape class ≡ false) (owner : Owner) (variables : List Word) (grade : Option Grade) where
+module _ (source : Source) (code : Code) (is : IsCode source code) (no_map : (class : ℕ) → class < length is.shapes → is_map code.shape class ≡ false) (owner : Owner) (variables : List Word) (grade : Option Grade) where
   -- what the names of the body's trees are numbers in
   abbrev numbers : Numbers
   numbers = numbers_of source variables grade

@@ -1,5 +1,5 @@
 -- What a text is resolved by: it is as it has to be, and small enough.
-use Rattle.std.proofs.Common.{◌≡◌, ◌+◌, ◌<◌, ◌≤◌, ◌^◌, arith, refl, ap, ◌∙◌, subst, ℕ, min, List, length}
+use Rattle.std.proofs.Common.{◌≡◌, ◌+◌, ◌<◌, ◌≤◌, ◌^◌, arith, refl, ap, ◌∙◌, subst, ℕ, min, Bool, List, length}
 use Rattle.std.proofs.lemmas.List.{length-map}
 use Rattle.std.specs.Borrow.{Bor}
 use Rattle.dso_config.specs.declared.config.Config.{Config}
@@ -32,10 +32,10 @@ pub record IsGathered (config : Config) (ast : Ast) (setting : Setting) : Type 0
   pub roots : setting.roots ≡ min (length (all_statics ast.items)) 16
 
 -- what was gathered step by step: the words of these items, how many roots they name, and the rest
-pub gathered : (config : Config) (ast : Ast) (setting : Setting) (items : List Item) (words : Names) (count : ℕ) → config ≡ setting.config.now → items ≡ ast.items → AreWordsOf items words
+pub gathered : (config : Config) (ast : Ast) (setting : Setting) (makes : Bool) (items : List Item) (words : Names) (count : ℕ) → config ≡ setting.config.now → items ≡ ast.items → AreWordsOf makes items words
     → count ≡ length words.roots → setting.roots ≡ min count 16 → AreTables ast setting.tables.now → AreFirsts (lock_mentions config) (words_of setting.locks.now)
     → setting.thread_class.now ≡ thread_word → setting.thread_method.now ≡ run_word → IsGathered config ast setting
-gathered config ast setting items words count of_config same named long cut tables locks thread_class thread_method = record {
+gathered config ast setting makes items words count of_config same named long cut tables locks thread_class thread_method = record {
   of_config = of_config;
   tables = tables;
   locks = locks;

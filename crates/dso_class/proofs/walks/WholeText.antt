@@ -22,7 +22,8 @@ use Rattle.dso_class.specs.PrecedingMentions.{in_text, text_in}
 use Rattle.dso_class.specs.Declarations.{classes_of, threads_of, methods_from, all_methods}
 use Rattle.dso_class.specs.NameFaults.{IsFirstFault}
 use Rattle.dso_class.specs.FaultsAmong.{behind, IsFaultAmong}
-use Rattle.dso_class.specs.Symbols.{AreWordsOf}
+use Rattle.dso_class.specs.Maps.{map_shapes}
+use Rattle.dso_class.specs.Symbols.{AreWordsOf, class_words}
 use Rattle.dso_class.specs.TextProgram.{Source, IsClass, IsMethod, IsThread, IsProgramOf, AreCounted, roots_of}
 use Rattle.dso_class.specs.BodyWalk.{HasTexts}
 use Rattle.dso_class.specs.TextWalk.{IsSetting, HasMetText, AreItemsRight, IsToldOf, clients_in}
@@ -126,7 +127,7 @@ told_whole source refused result kind line told is answers =
 
 -- the program of a text that was resolved whole, with the words of its items
 pub program_of_whole : (source : Source) (setting : Setting) (words : Names) (resolved : Resolved) (program : Program) → source.texts ≡ words_of resolved.texts
-    → IsSetting source setting → AreWordsOf source.ast.items words → IsWhole source resolved → IsMadeOf setting words resolved program → IsProgramOf source.config source.ast program
+    → IsSetting source setting → AreWordsOf setting.tables.now.makes_map source.ast.items words → IsWhole source resolved → IsMadeOf setting words resolved program → IsProgramOf source.config source.ast program
 program_of_whole source setting words resolved program literals set named whole made =
     let inside = whole.means literals in
     record {
@@ -136,7 +137,9 @@ program_of_whole source setting words resolved program literals set named whole 
       texts = source.texts;
       texts_in_order = subst (λ all. AreFirsts (in_text text_in (mentions_of source.ast)) all) (sym literals) whole.texts;
       code = record {
-        classes = subst (λ all. AllZip (IsClass source) (classes_of source.ast.items) all) (sym made.classes) inside.classes;
+        shapes = resolved.classes;
+        classes = inside.classes;
+        all_classes = made.classes ∙ ap (λ makes. resolved.classes ++ map_shapes makes) set.tables.makes;
         roots = made.roots ∙ sym (set.roots whole.no_fault);
         locks = made.locks ∙ locks_long;
         texts = made.texts ∙ sym (length-map resolved.texts (λ word. word.now)) ∙ ap length (sym literals);
@@ -145,7 +148,7 @@ program_of_whole source setting words resolved program literals set named whole 
         counted = subst AreCounted (sym made.bodies) whole.counted;
       };
       names = record {
-        classes = made.class_words ∙ named.classes;
+        classes = made.class_words ∙ named.classes ∙ ap (λ makes. class_words makes source.ast.items) set.tables.makes;
         fields = made.field_words ∙ named.fields;
         roots = made.root_words ∙ named.roots;
         texts = made.text_words ∙ sym literals;

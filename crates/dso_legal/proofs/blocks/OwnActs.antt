@@ -234,7 +234,7 @@ wait_held p t es (Wait l) Done woken answered = held_if_done (hold_level (hold_o
 wait_held p t es request reply woken answered = tt
 
 -- one more event
-waits_more : (t : ThreadId) (events : List Event) (e : Event) (locks : Locks) → WaitsAreHeld t events locks → WaitIsHeld e (locks_through t events locks) → WaitsAreHeld t (events ++ e ∷ []) locks
+pub waits_more : (t : ThreadId) (events : List Event) (e : Event) (locks : Locks) → WaitsAreHeld t events locks → WaitIsHeld e (locks_through t events locks) → WaitsAreHeld t (events ++ e ∷ []) locks
 waits_more t [] e locks held last = (last, tt)
 waits_more t (event ∷ events) e locks held last = (held.0, waits_more t events e (locks_after t event locks) held.1 last)
 

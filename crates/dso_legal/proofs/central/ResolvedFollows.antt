@@ -9,7 +9,7 @@ use Rattle.dso_plain.specs.SameActs.{IsSameAct, AreSameActs}
 use Rattle.dso_legal.specs.Resolved.{AreResolved}
 
 -- the same acts, with one more that is the same
-same_behind : (events same : List Event) (event other : Event) → AreSameActs events same → IsSameAct event other → AreSameActs (events ++ event ∷ []) (same ++ other ∷ [])
+pub same_behind : (events same : List Event) (event other : Event) → AreSameActs events same → IsSameAct event other → AreSameActs (events ++ event ∷ []) (same ++ other ∷ [])
 same_behind [] [] event other are is = (is, tt)
 same_behind [] (y ∷ ys) event other are is = absurd are
 same_behind (x ∷ xs) [] event other are is = absurd are

@@ -1,8 +1,8 @@
 -- Nothing is missing that the report of a state names, where a run of a sound program leads to the state.
-use Rattle.std.proofs.Common.{◌≡◌, ◌≢◌, ℕ, ◌<◌, refl, sym, ap, ◌∙◌, subst, true, List, length, slice_get, Option, None, Some}
+use Rattle.std.proofs.Common.{◌≡◌, ◌≢◌, ℕ, ◌<◌, refl, sym, ap, ◌∙◌, subst, true, false, true≢false, List, length, slice_get, Option, None, Some}
 use Rattle.std.specs.Option.{option_map}
 use Rattle.std.specs.Prelude.{is_some, slice_index_or}
-use Rattle.std.proofs.lemmas.Bool.{lt-ltb}
+use Rattle.std.proofs.lemmas.Bool.{eq-eqb, lt-ltb}
 use Rattle.std.proofs.lemmas.Option.{slice_get_within, slice_get-map}
 use Rattle.dso_base.specs.declared.shape.ClassShape.{ClassShape}
 use Rattle.dso_base.specs.declared.value.ClassId.{ClassId}
@@ -11,6 +11,7 @@ use Rattle.dso_base.specs.declared.value.Value.{Value}
 use Rattle.dso_base.specs.declared.value.Value.TheVariants as value
 use Rattle.dso_class.specs.declared.program.Program.{Program}
 use Rattle.dso_class.specs.Sound.{HasNames, IsSoundProgram}
+use Rattle.dso_map.specs.MapClass.{map_size}
 use Rattle.dso_plain.specs.History.{last_state}
 use Rattle.dso_plain.specs.Past.{KeepsPast}
 use Rattle.dso_plain.specs.Possible.{IsFieldCount, CanBeMade}
@@ -18,7 +19,8 @@ use Rattle.dso_plain.specs.State.{PlainState, HasField, opening, size_of}
 use Rattle.dso_plain.proofs.histories.RunKinds.{runs_but_marks}
 use Rattle.dso_plain.proofs.invariants.PastsHold.{past}
 use Rattle.dso_report.specs.HistoryState.{IsLastStateOf}
-use Rattle.dso_report.specs.WholeState.{NamesWhatIsThere, HasClassWords, HasWords, IsWholeState}
+use Rattle.dso_report.specs.MapEntries.{is_map_sized}
+use Rattle.dso_report.specs.WholeState.{NamesWhatIsThere, HasFieldWords, HasClassWords, HasWords, IsWholeState}
 use Rattle.dso_report.specs.Told.{IsKnownValue}
 use Rattle.dso_report.proofs.histories.ValuesOfHistory.{IsObject, IsOwnText, last_known}
 use Rattle.dso_report.proofs.histories.StateObjects.{HasObjects, opening_objects, run_grows}
@@ -39,25 +41,21 @@ module _ (p : Program) (names : HasNames p) where
   is_there s (value.Long z) named = tt
   is_there s (value.Bool b) named = tt
 
-  -- the fields' words of a class are as many as its fields
-  field_words : (c n : ℕ) (class : ClassShape) (found : Option (List (List ℕ))) → option_map length found ≡ Some (length class.fields) → n ≡ length class.fields → c < length p.names.classes
-      → slice_get p.names.fields c ≡ found → HasClassWords p.names c n
-  field_words c n class None counts size there is = absurd (cc counts)
-  field_words c n class (Some fields) counts size there is =
-      let same : length fields ≡ length class.fields = cc counts in
-      record { class = there; fields = fields; are_fields = is; each = same ∙ sym size }
+  -- a class of the shape has words for its fields, if they aren't those of a map
+  class_field_words : (c : ℕ) (class : ClassShape) → slice_get p.code.shape.classes c ≡ Some class → length class.fields ≢ map_size → HasFieldWords p.names c (length class.fields)
+  class_field_words c class is other =
+      let named = names.fields c class is other in record { words = named.words; are_words = named.there; each = named.each }
 
   -- a class of the shape has its words
   class_words : (c n : ℕ) (found : Option ClassShape) → slice_get p.code.shape.classes c ≡ found → IsFieldCount found n → HasClassWords p.names c n
   class_words c n None is count = absurd count
-  class_words c n (Some class) is count =
-      let there : c < length p.names.classes = subst (λ classes. c < classes) (sym names.classes) (slice_get_within p.code.shape.classes c class is) in
-      let counts : option_map length (slice_get p.names.fields c) ≡ Some (length class.fields) =
-      sym (slice_get-map length p.names.fields c) ∙ ap (λ counts. slice_get counts c) names.fields ∙ slice_get-map (λ (x : ClassShape). length x.fields) p.code.shape.classes c ∙ ap (option_map (λ (x : ClassShape). length x.fields)) is in
-      field_words c n class (slice_get p.names.fields c) counts count there refl
+  class_words c n (Some one) is count =
+      let there : c < length p.names.classes = subst (λ classes. c < classes) (sym names.classes) (slice_get_within p.code.shape.classes c one is) in
+      let none : is_map_sized (class.Plain c) n ≡ false → length one.fields ≢ map_size = λ other same. true≢false (sym (eq-eqb n map_size (count ∙ same)) ∙ other) in
+      record { class = there; fields = λ other. subst (HasFieldWords p.names c) (sym count) (class_field_words c one is (none other)) }
 
   -- an object that can be made has its words
-  words : (class : ClassId) (n : ℕ) → CanBeMade p.code.shape class n → HasWords p.names n class
+  pub words : (class : ClassId) (n : ℕ) → CanBeMade p.code.shape class n → HasWords p.names n class
   words (class.Plain c) n made = class_words c n (slice_get p.code.shape.classes c) refl made
   words (class.Array kind) n made = tt
   words class.Roots n made = made

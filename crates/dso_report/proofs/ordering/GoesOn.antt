@@ -7,7 +7,9 @@ use Rattle.std.proofs.lemmas.List.Elements.{Contains-append_left}
 use Rattle.dso_base.specs.declared.value.Value.{Value}
 use Rattle.dso_base.specs.declared.value.Value.TheVariants as value
 use Rattle.dso_plain.specs.State.{PlainState}
-use Rattle.dso_report.specs.Numbering.{add_named, add_fields, visit, fields_of}
+use Rattle.dso_report.specs.declared.maps.MapEntry.{MapEntry}
+use Rattle.dso_report.specs.MapEntries.{is_map_there, map_entries}
+use Rattle.dso_report.specs.Numbering.{add_named, add_object, add_entries, add_fields, visit, fields_of}
 
 -- the one order is the other with more at its end
 pub record GoesOn (before after : List ℕ) : Type 0 where
@@ -61,7 +63,19 @@ fields_go_on s o (suc n) order =
     let held = s.heap (o, n) in
     goes_on_twice order before (add_named before held) (fields_go_on s o n order) (named_goes_on before held)
 
+-- where the objects of some entries of a map are added the order goes on
+pub entries_go_on : (entries : List MapEntry) (order : List ℕ) → GoesOn order (add_entries entries order)
+entries_go_on [] order = goes_on_itself order
+entries_go_on (entry ∷ entries) order =
+    let next = add_object order entry.object in
+    goes_on_twice order next (add_entries entries next) (object_goes_on (list_any (eqb entry.object) order) order entry.object) (entries_go_on entries next)
+
+-- where the objects that an object shows are added the order goes on
+pub shown_goes_on : (s : PlainState) (o : ℕ) (b : Bool) (order : List ℕ) → GoesOn order (cond b (add_entries (map_entries s o) order) (add_fields s o (fields_of s o) order))
+shown_goes_on s o true order = entries_go_on (map_entries s o) order
+shown_goes_on s o false order = fields_go_on s o (fields_of s o) order
+
 -- where an object is visited the order goes on
 pub visit_goes_on : (s : PlainState) (found : Option ℕ) (order : List ℕ) → GoesOn order (visit s found order)
 visit_goes_on s None order = goes_on_itself order
-visit_goes_on s (Some o) order = fields_go_on s o (fields_of s o) order
+visit_goes_on s (Some o) order = shown_goes_on s o (is_map_there (s.objects o)) order

@@ -1,5 +1,5 @@
 -- A report leaves nothing out of what the state has.
-use Rattle.std.proofs.Common.{◌≡◌, ◌≢◌, ℕ, ◌<◌, Some, None, Option, option_map, List, ◌++◌, reverse, slice_get, refl, subst, codes, All, Contains}
+use Rattle.std.proofs.Common.{◌≡◌, ◌≢◌, ℕ, ◌<◌, false, cond, Some, None, Option, option_map, List, ◌++◌, reverse, slice_get, refl, subst, codes, All, Contains}
 use Rattle.std.specs.Fmt.{◌++?◌}
 use Rattle.std.proofs.lemmas.List.{reverse-reverse}
 use Rattle.std.proofs.lemmas.List.Elements.{All-contains, All-map, All-weaker}
@@ -10,8 +10,9 @@ use Rattle.dso_class.specs.declared.program.Names.{Names}
 use Rattle.dso_plain.specs.State.{Object, PlainState}
 use Rattle.dso_report.specs.declared.thread_lines.ThreadStanding.{ThreadStanding}
 use Rattle.dso_report.specs.LeftOut.{LeavesNothingOut}
+use Rattle.dso_report.specs.MapEntries.{is_map_sized, map_entries}
 use Rattle.dso_report.specs.Numbering.{IsOrder, fields_of}
-use Rattle.dso_report.specs.Report.{IsReport, IsThreadsText, body_text, fields_text, graph_text, object_line, object_text, output_line, root_line, root_name, thread_line, thread_text, unguarded_line}
+use Rattle.dso_report.specs.Report.{IsReport, IsThreadsText, body_text, entry_text, fields_text, graph_text, object_line, object_text, output_line, parts_text, root_line, root_name, thread_line, thread_text, unguarded_line}
 use Rattle.dso_report.specs.Texts.{each_below, each_of, numbered, printed, shown_in}
 use Rattle.dso_report.proofs.texts.HasText.{HasText, first_there, second_there, was_found, below_there, each_there, not_missing}
 use Rattle.dso_report.proofs.texts.OneReport.{one_order}
@@ -19,9 +20,14 @@ use Rattle.dso_report.proofs.texts.ReportTexts.{all_reversed}
 
 -- the names and texts of an object of a class are there, where it is shown
 class_there : (names : Names) (order : List ℕ) (s : PlainState) (o c : ℕ) (object : Object) → s.objects o ≡ Some object → object.class ≡ class.Plain c → HasText (object_text names order s o (s.objects o))
-    → HasText (slice_get names.classes c ++? fields_text names order s o object.size (slice_get names.fields c))
+    → HasText (slice_get names.classes c ++? parts_text names order s o object.size c)
 class_there names order s o c object is of there =
     subst (λ k. HasText (body_text names order s o object.size k)) of (subst (λ found. HasText (object_text names order s o found)) is there)
+
+-- the fields of an object that is no map are written, where what it has is
+fields_written : (names : Names) (order : List ℕ) (s : PlainState) (o size c : ℕ) → is_map_sized (class.Plain c) size ≡ false → HasText (parts_text names order s o size c) → HasText (fields_text names order s o size (slice_get names.fields c))
+fields_written names order s o size c other there =
+    subst (λ b. HasText (cond b (each_of (entry_text order) (map_entries s o)) (fields_text names order s o size (slice_get names.fields c)))) other there
 
 -- the fields of a class have names, where they are written
 fields_named : (names : Names) (order : List ℕ) (s : PlainState) (o size : ℕ) (found : Option (List (List ℕ))) → HasText (fields_text names order s o size found) → found ≢ None
@@ -86,10 +92,11 @@ module _ (names : Names) (s : PlainState) where
       objects = λ o among. not_missing (object_text names order s o (s.objects o)) (shown_there o among);
       class_names = λ o c object among is of.
           not_missing (slice_get names.classes c)
-          (first_there (slice_get names.classes c) (fields_text names order s o object.size (slice_get names.fields c)) (class_there names order s o c object is of (shown_there o among)));
-      field_names = λ o c object among is of.
+          (first_there (slice_get names.classes c) (parts_text names order s o object.size c) (class_there names order s o c object is of (shown_there o among)));
+      field_names = λ o c object among is of other.
           fields_named names order s o object.size (slice_get names.fields c)
-          (second_there (slice_get names.classes c) (fields_text names order s o object.size (slice_get names.fields c)) (class_there names order s o c object is of (shown_there o among)));
+          (fields_written names order s o object.size c (subst (λ k. is_map_sized k object.size ≡ false) of other)
+          (second_there (slice_get names.classes c) (parts_text names order s o object.size c) (class_there names order s o c object is of (shown_there o among))));
     }
 
 -- a report leaves nothing out

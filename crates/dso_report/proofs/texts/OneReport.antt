@@ -12,7 +12,7 @@ use Rattle.dso_plain.specs.State.{PlainState}
 use Rattle.dso_report.specs.Numbering.{IsOrder, visit, visited}
 use Rattle.dso_report.specs.declared.thread_lines.ThreadStanding.{ThreadStanding}
 use Rattle.dso_report.specs.declared.thread_lines.ThreadStanding.TheVariants.{Ended, Faulted, Lost, Waiting, Open}
-use Rattle.dso_report.specs.Report.{HasStanding, IsThreadsText, IsReport, thread_text, unguarded_line, graph_text}
+use Rattle.dso_report.specs.Report.{HasStanding, IsThreadsText, IsGraphText, IsReport, thread_text, unguarded_line, graph_text}
 use Rattle.dso_report.specs.Texts.{each_of}
 
 -- once the order has no object left to visit, it stays
@@ -102,3 +102,9 @@ one_report names threads s a b one other =
     let lines = one_threads_text names s threads one.lines other.lines one.are_threads other.are_threads in
     let order = one_order s one.order other.order one.is_order other.is_order in
     same_text a b (sym one.written ∙ ap (λ ls. Some (ls ++ unguarded_line s) ++? graph_text names one.order s) lines ∙ ap (λ ids. Some (other.lines ++ unguarded_line s) ++? graph_text names ids s) order ∙ other.written)
+
+-- the graph has one text
+pub one_graph_text : (names : Names) (s : PlainState) (a b : List ℕ) → IsGraphText names s a → IsGraphText names s b → a ≡ b
+one_graph_text names s a b one other =
+    let order = one_order s one.order other.order one.is_order other.is_order in
+    same_text a b (sym one.written ∙ ap (λ ids. graph_text names ids s) order ∙ other.written)

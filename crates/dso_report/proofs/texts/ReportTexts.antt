@@ -1,5 +1,5 @@
 -- A state in which nothing is missing lacks no text that its report has.
-use Rattle.std.proofs.Common.{inl, inr, ℕ, ◌<◌, ◌-◌, Some, option_map, List, length, reverse, slice_get, refl, sym, subst, arith, codes, All, Contains}
+use Rattle.std.proofs.Common.{inl, inr, ℕ, ◌<◌, ◌-◌, Some, option_map, List, length, reverse, slice_get, sym, subst, arith, codes, All, Contains}
 use Rattle.std.specs.Fmt.{◌++?◌}
 use Rattle.std.proofs.lemmas.List.{get_or-reverse, length-reverse}
 use Rattle.std.proofs.lemmas.List.Elements.{All-contains, All-contains_itself, All-weaker}
@@ -48,7 +48,7 @@ module _ (names : Names) (s : PlainState) (whole : IsWholeState names s) where
         let value = shown_in names.texts order (s.heap (0, r)) in
         let line_end = Some (codes "\n") in
         let named = item_there root_name names.roots r (omega (arith, within, whole.roots)) in
-        let held = field_there names s order whole (orders_are_closed s order is_order) 0 r (inl refl) within in
+        let held = field_there names s order whole 0 r within (λ named is. (orders_are_closed s order is_order).roots r named within is) in
         behind (codes "root ") (name ++? Some (codes " ") ++? value ++? line_end)
         (both name (Some (codes " ") ++? value ++? line_end) named (behind (codes " ") (value ++? line_end) (both value line_end held given)))
 

@@ -1,5 +1,5 @@
 -- A value that names only what is there has a text.
-use Rattle.std.proofs.Common.{◌≡◌, ◌≢◌, ◌⊎◌, inl, inr, ℕ, suc, true, false, true≢false, nat_lt, ◌<◌, ◌++◌, Option, Some, None, option_map, List, length, get_or, refl, sym, ap, ◌∙◌, arith, Contains}
+use Rattle.std.proofs.Common.{◌≡◌, ◌≢◌, inl, inr, ℕ, suc, true, false, true≢false, nat_lt, ◌<◌, ◌++◌, Option, Some, None, option_map, List, length, get_or, refl, sym, ap, ◌∙◌, arith, Contains}
 use Rattle.std.specs.List.{position, position_or_len}
 use Rattle.std.specs.Prelude.{eqb, not, codes}
 use Rattle.std.specs.Fmt.{decimal}
@@ -10,7 +10,7 @@ use Rattle.dso_base.specs.declared.value.Value.TheVariants as value
 use Rattle.dso_class.specs.declared.program.Names.{Names}
 use Rattle.dso_plain.specs.State.{PlainState, HasField}
 use Rattle.dso_report.specs.Texts.{printed, number_of, numbered, quoted, shown, shown_in}
-use Rattle.dso_report.specs.WholeState.{NamesWhatIsThere, IsWholeState, IsClosedOrder}
+use Rattle.dso_report.specs.WholeState.{NamesWhatIsThere, IsWholeState}
 use Rattle.dso_report.proofs.texts.HasText.{HasText, given, item_there, of_found, word_there}
 
 -- a printed value has a text
@@ -52,6 +52,6 @@ held_there : (names : Names) (s : PlainState) (order : List ℕ) (held : Option 
 held_there names s order None some there has = absurd (some refl)
 held_there names s order (Some v) some there has = shown_there names s order v (there v refl) (λ named is. has named (ap Some is))
 
--- each field of object 0 and of each object of the order has a text in the graph
-pub field_there : (names : Names) (s : PlainState) (order : List ℕ) → IsWholeState names s → IsClosedOrder s order → (o f : ℕ) → (o ≡ 0) ⊎ Contains order o → HasField o f s → HasText (shown_in names.texts order (s.heap (o, f)))
-field_there names s order whole closed o f stands has = held_there names s order (s.heap (o, f)) (whole.fields o f has) (whole.values o f) (λ named is. closed.closed o f named stands has is)
+-- a field that an object has has a text in the graph if the order has the object that it names
+pub field_there : (names : Names) (s : PlainState) (order : List ℕ) → IsWholeState names s → (o f : ℕ) → HasField o f s → ((named : ℕ) → s.heap (o, f) ≡ Some (value.Ref named) → Contains order named) → HasText (shown_in names.texts order (s.heap (o, f)))
+field_there names s order whole o f has named = held_there names s order (s.heap (o, f)) (whole.fields o f has) (whole.values o f) named

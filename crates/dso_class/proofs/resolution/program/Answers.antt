@@ -9,7 +9,7 @@ returns c =
     let resolved = c.args.resolved in
     let words = c.in_ok-words.ensures ∙ ap words_of c.as_slice.ensures in
     record {
-      classes = refl;
+      classes = c.in_ok-with_maps.ensures;
       roots = refl;
       locks = ap (λ names. c.args.setting.now.roots + length names) c.as_slice-3.ensures;
       texts = c.len.ensures ∙ ap length words ∙ length-map resolved.texts (λ word. word.now);

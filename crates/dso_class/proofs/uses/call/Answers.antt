@@ -1,5 +1,5 @@
 use Rattle.std.proofs.Common.{rules, ◌≡◌, ◌↔◌, IsTrue, [], subst}
-use Rattle.dso_class.specs.Declarations.{all_methods}
+use Rattle.dso_class.specs.Maps.{reachable_methods}
 use Rattle.dso_class.specs.NameFaults.{HasMethod, TakesArguments}
 use Rattle.dso_class.specs.Mentions as mention
 use Rattle.dso_class.specs.Numbers as numbers
@@ -29,4 +29,4 @@ returns c texts scope source before is has =
     let takes = subst (λ word. (c.in_ok-all.all ≡ []) ↔ (TakesArguments source.ast word c.args.count → ⊥)) c.as_slice-2.ensures (c.in_ok-all.ensures.there source is.tables) in
     call_found c.args.name.now.line c.args.count c.args.name.now.name c.in_ok-all.all has some
     (λ none. cc (c.is_empty.ensures.1 (takes.1 none), c.if-is_empty.false))
-    (λ no_fault. subst (λ word. numbers.AreThePairs (numbers.HasMethod (all_methods source.ast.items) word c.args.count) c.in_ok-all.all) c.as_slice-2.ensures (c.in_ok-all.ensures.number source is.tables no_fault))
+    (λ no_fault. subst (λ word. numbers.AreThePairs (numbers.HasMethod (reachable_methods source.ast) word c.args.count) c.in_ok-all.all) c.as_slice-2.ensures (c.in_ok-all.ensures.number source is.tables no_fault))
