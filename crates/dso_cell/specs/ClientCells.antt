@@ -1,5 +1,5 @@
 -- What a client's cell stands for, by its log.
-use Rattle.std.specs.Prelude.{ℕ, ◌≤◌, ◌≡◌, ◌⊎◌, ◌^◌, Bool, true, false, is_some, List, [], ◌∷◌, ◌++◌, length}
+use Rattle.std.specs.Prelude.{ℕ, ◌+◌, ◌≤◌, ◌≡◌, ◌⊎◌, ◌^◌, Bool, true, false, is_some, List, [], ◌∷◌, ◌++◌, length}
 use Rattle.dso_base.specs.declared.journal.Entry.{Entry}
 use Rattle.dso_base.specs.declared.journal.Node.TheVariants.{Client}
 use Rattle.dso_base.specs.declared.message.Down.{Down}
@@ -20,6 +20,7 @@ use Rattle.dso_client.specs.declared.acted.Acted.TheVariants as acted
 use Rattle.dso_client.specs.declared.client_state.ClientState.{ClientState}
 use Rattle.dso_client.specs.ThreadActs.{Acts, HoldsAtMost}
 use Rattle.dso_client.specs.ClientStands.{ClientStands}
+use Rattle.dso_client.specs.ClientViews.{is_unacknowledged, records_sent}
 use Rattle.dso_client.specs.CodeRuns.{RunsCode}
 use Rattle.dso_client.specs.ObjectFlushes.{NoneDue}
 use Rattle.dso_cell.specs.declared.client_cell.ClientCell.{ClientCell}
@@ -64,6 +65,12 @@ pub record ClientBounds (code : Code) (cell : ClientCell) : Type 0 where
 abbrev pub IsAtLimit : ClientCell → Type 0
 IsAtLimit cell = (2 ^ 28 ≤ last_clock cell.log) ⊎ ((is_some cell.port.late ≡ true)
     ⊎ (2 ^ 62 ≤ sent_count cell.port.session))
+
+-- The client is ahead of the server: it sent 16 records or more behind one that isn't acknowledged yet.
+pub record IsAhead (core : ClientState) : Type 0 where
+  pub first : ℕ
+  pub waits : is_unacknowledged core first ≡ true
+  pub far : first + 16 ≤ records_sent core
 
 -- one entry more where one was added, and else the same entries
 abbrev pub IsOneMore : Bool → List Entry → List Entry → Type 0

@@ -9,11 +9,11 @@ ghost use Rattle.dso_base.specs.declared.journal.Sent.TheVariants as sent;
 ghost use Rattle.dso_log.specs.Logs.{last_clock, next_clock};
 ghost use Rattle.dso_machine.specs.Sound.{IsSoundCode};
 ghost use Rattle.dso_session.specs.Ends.{sent_count};
-ghost use Rattle.dso_cell.specs.ClientCells.{CanAct, CannotAct, ClientBounds, GoesOn, HasNothingToDo, IsAtLimit, IsOneMore, LooksInVain};
+ghost use Rattle.dso_cell.specs.ClientCells.{CanAct, CannotAct, ClientBounds, GoesOn, HasNothingToDo, IsAhead, IsAtLimit, IsOneMore, LooksInVain};
 ghost use Rattle.dso_cell.specs.Meetings.{client_log_of};
 ghost use Rattle.dso_cell.specs.ClientSteps.{HasHeard, HasRejoined, HasSaid, MayAdd};
 
-use crate::limits::MOST_SENT;
+use crate::limits::{MOST_AHEAD, MOST_SENT};
 use crate::made::Made;
 use crate::refusal::refusal_of;
 use dso_base::{Down, NoMemory, Sent, Shared, Up};
@@ -92,6 +92,18 @@ impl ClientCell {
         ensures { IsTrue result ↔ IsAtLimit self.now }
     {
         self.log.last_clock() >= LIMIT || self.port.is_late() || self.port.sent() >= MOST_SENT
+    }
+
+    /// Whether its client is ahead of the server: [`MOST_AHEAD`] records or more were sent behind one that isn't
+    /// acknowledged. It takes no memory.
+    #[tactic(auto, using(crate::proofs::locked::Ahead::ahead_by_first, crate::proofs::locked::Ahead::not_ahead))]
+    pub(crate) fn is_ahead(&self) -> bool
+        ensures { IsTrue result ↔ IsAhead self.now.core }
+    {
+        match self.core.first_unacknowledged() {
+            Some(first) => self.core.sent().saturating_sub(first) >= MOST_AHEAD,
+            None => false,
+        }
     }
 
     /// Logs an entry, and sends its messages.

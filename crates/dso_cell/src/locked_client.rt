@@ -1,6 +1,6 @@
 //! A client's cell behind a lock (`specs/LockedCells.antt`).
-ghost use Rattle.std.specs.Prelude.{◌≡◌, ◌≢◌, ◌⊎◌, IfOk, None, OnErr, Some, false, is_some, true};
-ghost use Rattle.dso_cell.specs.ClientCells.{IsOneMore};
+ghost use Rattle.std.specs.Prelude.{◌≡◌, ◌≢◌, ◌≤◌, ◌⊎◌, IfOk, None, OnErr, Some, false, is_some, true};
+ghost use Rattle.dso_cell.specs.ClientCells.{IsAhead, IsOneMore};
 ghost use Rattle.dso_cell.specs.LockedCells.{ClientStandsFor, RunsNamed};
 ghost use Rattle.dso_machine.specs.Sound.{IsSoundCode};
 
@@ -63,18 +63,23 @@ impl<N: Naming> LockedClient<N> {
     }
 
     /// A turn of the cell ([`ClientCell::turn`]), where it is of the client of this number and isn't spent; whether an
-    /// entry was added. A cell of another number and one that is spent are left alone, and false is answered. Where
-    /// memory was refused the cell is spent, and false is answered.
+    /// entry was added. A cell of another number and one that is spent are left alone, and false is answered; and so
+    /// where a thread is to act whose client is ahead of the server, which lets it answer first. Where memory was
+    /// refused the cell is spent, and false is answered.
     #[tactic(auto, using(crate::proofs::locked::Turns::client_stays_for, crate::proofs::locked::Turns::one_more_or_spent, crate::proofs::locked::Turns::none_where_refused))]
     pub fn turn(&mut self, alloc: Global, code: &Code, number: u8, worker: u8) -> bool
         requires sound { IsSoundCode code.now }
         requires names { RunsNamed code.now N.cluster }
         ensures more { self.new.spent ≡ None → IsOneMore result self.old.log.entries self.new.log.entries }
         ensures other { self.old.number ≢ number → (result ≡ false) × (self.new ≡ self.old) }
+        ensures ahead { 1 ≤ worker → IsAhead self.old.core → (result ≡ false) × (self.new ≡ self.old) }
         ensures refused { is_some self.old.spent ≡ true → (result ≡ false) × (self.new ≡ self.old) }
         ensures number { self.new.number ≡ self.old.number }
     {
         if self.cell.number() != number {
+            return false;
+        }
+        if worker != 0 && self.cell.is_ahead() {
             return false;
         }
         self.cell.turn(alloc, code, worker).unwrap_or(false)

@@ -6,12 +6,13 @@ ghost use Rattle.dso_machine.specs.declared.code.Code.{Code};
 ghost use Rattle.dso_machine.specs.Sound.{IsSoundCode};
 ghost use Rattle.dso_client.specs.ThreadActs.{Acts, HoldsAtMost, LeavesAlone};
 ghost use Rattle.dso_client.specs.ClientStands.{ClientStands};
-ghost use Rattle.dso_client.specs.ClientViews.{IsNextVictim, records_sent};
+ghost use Rattle.dso_client.specs.ClientViews.{IsNextVictim, is_unacknowledged, records_sent};
 ghost use Rattle.dso_client.specs.CodeRuns.{RunsCode};
 ghost use Rattle.dso_client.specs.ObjectFlushes.{Flushes, IsVictimOf, NoneDue, TellsFlush};
 ghost use Rattle.dso_client.specs.Spent.{WhileWhole, is_spent};
 ghost use Rattle.dso_client.specs.TakenMessages.{Takes};
 ghost use Rattle.dso_client.specs.Threads.{IsEnabled, TellsAlive, WhereAbsent};
+ghost use Rattle.dso_txn.specs.Numbers.{IsLeast};
 ghost use Rattle.dso_client.specs.declared.acted.Acted.TheVariants as acted;
 ghost use Rattle.dso_client.specs.Openings.{HasThreads, AreUnusedSequences, IsEmptyLockState, first_threads};
 
@@ -243,6 +244,22 @@ impl Client {
             Some(context) => may_act(&self.kept, context),
             None => false,
         }
+    }
+
+    /// How many records it sent. It takes no memory.
+    pub fn sent(&self) -> u64
+        ensures { result ≡ records_sent self.now }
+    {
+        self.kept.sequences.records
+    }
+
+    /// The number of the first record that the server hasn't acknowledged, None exactly where there is none. It takes no
+    /// memory.
+    pub fn first_unacknowledged(&self) -> Option<u64>
+        ensures first { IfSome result (λ first. IsLeast first (is_unacknowledged self.now)) }
+        ensures none { IfNone result ((n : ℕ) → is_unacknowledged self.now n ≡ false) }
+    {
+        self.kept.sequences.unacked.least()
     }
 
     /// How many threads have a next request: those that haven't ended. It takes no memory.
