@@ -1,7 +1,0 @@
-use Rattle.std.proofs.Common.{◌≡◌, take}
-use Rattle.dso_class.specs.Declarations.{class_names}
-use Rattle.dso_class.proofs.names.class_words.Given as goal
-
--- what is there so far
-abbrev pub invariant-loop-item : goal.invariant-loop-item
-invariant-loop-item l = l.words ≡ class_names (take l.item-index l.items)
