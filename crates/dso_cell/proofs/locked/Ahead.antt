@@ -1,5 +1,5 @@
 -- Whether a client is ahead of the server, by its first record that isn't acknowledged.
-use Rattle.std.proofs.Common.{ℕ, ◌≡◌, ◌≤◌, ◌-◌, ◌↔◌, false, true, arith}
+use Rattle.std.proofs.Common.{ℕ, ◌≡◌, ◌≤◌, ◌-◌, ◌↔◌, false, arith}
 use Rattle.dso_client.specs.declared.client_state.ClientState.{ClientState}
 use Rattle.dso_client.specs.ClientViews.{is_unacknowledged, records_sent}
 use Rattle.dso_txn.specs.Numbers.{IsLeast}
