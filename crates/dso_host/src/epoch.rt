@@ -64,6 +64,7 @@ fn drive<N: Naming + Send + Sync, R: Threads + Wait + Sync, G: Gate>(
         alloc,
         program,
         gate,
+        busy,
     } = *setting;
     thread::for_each_mut(
         rt,
@@ -77,6 +78,7 @@ fn drive<N: Naming + Send + Sync, R: Threads + Wait + Sync, G: Gate>(
                 alloc,
                 program,
                 gate,
+                busy,
             };
             work_at(&setting, worker, clients, server);
         },

@@ -19,6 +19,7 @@ use std::alloc::{AllocError, Global};
 use std::marker::{Brand, Model};
 use std::mem;
 use std::sync::Wait;
+use std::sync::atomic::AtomicUsize;
 use std::thread::Threads;
 
 /// The host of a cluster: its cells, and the workers that drive them in each epoch.
@@ -116,11 +117,13 @@ impl Host {
         ensures refused { self.old ≡ None → is_err result ≡ true }
     {
         let cells = mem::replace(&mut self.state, Err(of_spent()))?;
+        let busy = AtomicUsize::new(self.workers.len());
         let setting = Setting {
             rt,
             alloc,
             program,
             gate,
+            busy: &busy,
         };
         let cells = cells_after(&setting, &mut self.workers, cells)?;
         let is_open = cells.is_any_open(program);

@@ -9,6 +9,7 @@ pub mod laws;
 mod open_slots;
 mod opening;
 mod readings;
+mod rest;
 mod rounds;
 mod setting;
 mod weights;

@@ -2,6 +2,7 @@
 ghost use Rattle.dso_cell.specs.LockedCells.{RunsNamed};
 ghost use Rattle.dso_machine.specs.Sound.{IsSoundCode};
 
+use crate::rest::Rest;
 use crate::{Gate, Setting};
 use dso_base::NoMemory;
 use dso_cell::{LockedClient, LockedServer, Naming};
@@ -13,11 +14,8 @@ use std::{hint, thread};
 /// How many turns a worker makes in an epoch at most.
 const MOST_TURNS: u32 = 256;
 
-/// After so many turns in a row that added nothing it stops.
-const MOST_IDLE: u32 = 16;
-
-/// So long it looks on behind such a turn, some microseconds: what it waits for mostly takes a few turns of others.
-const LOOKS: u32 = 800;
+/// So long it looks on behind a turn that added nothing, some microseconds: what it waits for mostly takes a few turns of others.
+const LOOKS: u32 = 200;
 
 /// A worker: the number of the client whose cell it drives, 0 for the server's; the thread that acts in its turns, 0
 /// for the node's pump; and whether one of its turns in this epoch added an entry.
@@ -57,7 +55,7 @@ impl Worker {
         }
     }
 
-    /// Its turns, until it has made all, or stops.
+    /// Its turns, until it has made all, or it and all other workers are at rest.
     pub fn work<N: Naming, R: Wait, G: Gate>(
         &mut self,
         setting: &Setting<'_, R, G>,
@@ -67,19 +65,19 @@ impl Worker {
         requires names { RunsNamed setting.now.program.now.code N.cluster }
     {
         self.has_added = false;
-        let mut idle = 0;
+        let mut rest = Rest::new(setting.busy);
         for _ in 0..MOST_TURNS {
             setting.gate.turn(self.node, self.index);
             if node.turn(setting, self.index) {
                 self.has_added = true;
-                idle = 0;
-            } else if idle >= MOST_IDLE {
+                rest.end();
+            } else if rest.go_on() {
                 return;
             } else {
                 let_others_run();
-                idle += 1;
             }
         }
+        rest.leave();
     }
 }
 

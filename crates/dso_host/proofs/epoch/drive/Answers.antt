@@ -9,7 +9,7 @@ use Rattle.dso_host.proofs.epoch.drive.Lts as lts
 use Rattle.dso_host.proofs.epoch.drive.Goals as goal
 
 -- what each worker has: the cells behind their locks, the program, the runtime and the gate
-shared : (g : given.Over) (κs : Lfts 12) → IsSync g.row.R → IsSync g.row.G
+shared : (g : given.Over) (κs : Lfts 13) → IsSync g.row.R → IsSync g.row.G
     → IsSync (lts.arg-0-2 g.row.N g.row.R g.row.G g.N.laws g.R.laws g.G.laws g.N.Naming g.N.Naming-dict g.R.Threads g.R.Threads-dict g.R.Wait g.R.Wait-dict g.G.Gate g.G.Gate-dict κs)
 shared g κs r t = search (sendable, crosses, locked_client_send, locked_server.the_send, program_sync) depth 20
 
