@@ -273,12 +273,17 @@ journal_of (Big number) = None
 journal_of (Show call) = None
 journal_of (Lint call) = None
 
--- What of it is built: `sim` without a store and without collections, `run`, and `big`.
+-- the file for its run's store, if it names one; of the commands only `sim` can
+abbrev pub store_of : Command → Option (List ℕ)
+store_of (Sim call) = call.store
+store_of command = None
+
+-- What of it is built: `sim` without collections, `run`, `big` and `show`.
 abbrev pub IsBuilt : Command → Type 0
-IsBuilt (Sim call) = (call.store ≡ None) × (call.collect ≡ None)
+IsBuilt (Sim call) = call.collect ≡ None
 IsBuilt (Run call) = Unit {0}
 IsBuilt (Big number) = Unit {0}
-IsBuilt (Show call) = ⊥
+IsBuilt (Show call) = Unit {0}
 IsBuilt (Lint call) = ⊥
 
 -- The words ask for this, and it is built.
@@ -286,13 +291,21 @@ pub record AreLawful (words : List (List ℕ)) (command : Command) : Type 0 wher
   pub asks : Asks words command
   pub built : IsBuilt command
 
--- what words can ask for: `sim` or `run` within the most steps, or `big` with a number from 1 to 1000
+-- what words can ask for: `sim` or `run` within the most steps, `big` with a number from 1 to 1000, or `show`
 abbrev pub CanBeAsked : Command → Type 0
 CanBeAsked (Sim call) = call.steps ≤ most_steps
 CanBeAsked (Run call) = call.steps ≤ most_steps
 CanBeAsked (Big number) = (1 ≤ number) × (number ≤ 1000)
-CanBeAsked (Show call) = ⊥
+CanBeAsked (Show call) = Unit {0}
 CanBeAsked (Lint call) = ⊥
+
+-- the command is one of those that ask for a run
+abbrev pub AsksForRun : Command → Type 0
+AsksForRun (Sim call) = Unit {0}
+AsksForRun (Run call) = Unit {0}
+AsksForRun (Big number) = Unit {0}
+AsksForRun (Show call) = ⊥
+AsksForRun (Lint call) = ⊥
 
 -- The words ask for a run in threads.
 pub record AskForThreads (words : List (List ℕ)) : Type 0 where

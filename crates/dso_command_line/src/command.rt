@@ -2,7 +2,7 @@
 ghost use Rattle.std.specs.Prelude.{◌≡◌, ◌↔◌, IsTrue};
 ghost use Rattle.dso_command_line.specs.Given.{told};
 ghost use Rattle.dso_command_line.specs.Said.{said};
-ghost use Rattle.dso_command_line.specs.Words.{IsBuilt, journal_of, seed_of, steps_of};
+ghost use Rattle.dso_command_line.specs.Words.{IsBuilt, journal_of, seed_of, steps_of, store_of};
 
 use crate::numbers::BUDGET;
 
@@ -50,14 +50,14 @@ pub enum Command<'a> {
 }
 
 impl<'a> Command<'a> {
-    /// Whether it is built: `sim` without a store and without collections, `run`, and `big`.
+    /// Whether it is built: `sim` without collections, `run`, `big` and `show`.
     pub(crate) fn is_built(&self) -> bool
         ensures { IsTrue result ↔ IsBuilt (said self.now) }
     {
         match self {
-            Command::Sim { store, collect, .. } => store.is_none() && collect.is_none(),
-            Command::Run { .. } | Command::Big { .. } => true,
-            Command::Show { .. } | Command::Lint { .. } => false,
+            Command::Sim { collect, .. } => collect.is_none(),
+            Command::Run { .. } | Command::Big { .. } | Command::Show { .. } => true,
+            Command::Lint { .. } => false,
         }
     }
 
@@ -90,6 +90,16 @@ impl<'a> Command<'a> {
         match self {
             Command::Sim { journal, .. } | Command::Run { journal, .. } => *journal,
             Command::Big { .. } | Command::Show { .. } | Command::Lint { .. } => None,
+        }
+    }
+
+    /// The file for its run's store, if it names one; only `sim` can.
+    pub fn store(&self) -> Option<&'a str>
+        ensures { told result ≡ store_of (said self.now) }
+    {
+        match self {
+            Command::Sim { store, .. } => *store,
+            _ => None,
         }
     }
 }

@@ -15,7 +15,7 @@ use Rattle.dso_syntax.proofs.completeness.ReadPrograms.{one_program}
 use Rattle.dso_run.specs.declared.status.ProgramFault.{ProgramFault}
 use Rattle.dso_run.specs.declared.status.ProgramFault.TheVariants as fault
 use Rattle.dso_run.specs.declared.status.Status.{Status}
-use Rattle.dso_run.specs.declared.status.Status.TheVariants.{Finished, FinishedFault, Usage, BadConfig, BadProgram, ReadFault, WriteFault, Stuck, Budget, NoMemory}
+use Rattle.dso_run.specs.declared.status.Status.TheVariants.{Finished, FinishedFault, Usage, BadConfig, BadProgram, ReadFault, WriteFault, Stuck, Budget, NoMemory, StoreFault, StoreInUse, BadStore, Shown}
 use Rattle.dso_run.specs.Accepted.{AreTaken, HasTree, IsConfigRefusal, IsProgramRefusal, IsTakenText, IsTextFault}
 use Rattle.dso_run.specs.declared.running.Outcome.{Outcome}
 use Rattle.dso_run.specs.declared.running.Outcome.TheVariants as outcome
@@ -62,7 +62,7 @@ program_taken config program p wrong taken is =
     text_taken taken.config program p wrong taken.holds (subst (λ said. IsTextFault said program wrong) same is.holds)
 
 -- words ask for one run
-one_call : (words : List (List ℕ)) (command other : Command) → AreLawful words command → AreLawful words other → command ≡ other
+pub one_call : (words : List (List ℕ)) (command other : Command) → AreLawful words command → AreLawful words other → command ≡ other
 one_call words command other is also = asks-once words command other is.asks also.asks
 
 -- a read of a command's files failed only where that is told of some name
@@ -91,6 +91,10 @@ module _ (input : CallInput) (output : CallOutput) where
   decided Usage sound means = means.due.cause
   decided (BadConfig wrong) sound means = means.due.cause
   decided (BadProgram wrong) sound means = means.due.cause
+  decided StoreInUse sound means = means.due.cause
+  decided (BadStore place) sound means = means.due.cause
+  decided StoreFault sound means = sound.all_stored means.due.cause.failed
+  decided Shown sound means = (means.text, means.due)
   decided ReadFault sound means =
       let some = of_some means.due.cause.command (RoseOf input.failed_before input.failed_after) means.due.cause.failed in
       sound.all_read some.0 some.1
@@ -118,12 +122,16 @@ module _ (input : CallInput) (output : CallOutput) where
     of_run FinishedFault is = tt
     of_run Stuck is = tt
     of_run Budget is = tt
+    of_run Shown is = tt
     of_run NoMemory is = tt
     of_run Usage is = is may.command may.words
     of_run ReadFault never = never
     of_run (BadConfig wrong) is = no_config wrong is
     of_run (BadProgram wrong) is = no_program wrong is
     of_run WriteFault never = never
+    of_run StoreFault never = never
+    of_run StoreInUse is = may.unused is
+    of_run (BadStore place) is = may.good place is
 
 pub completeness : Completeness
 completeness input output status sound means = decided input output status sound means

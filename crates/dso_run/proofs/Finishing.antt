@@ -47,6 +47,7 @@ finished_means input output means =
       report = means.text;
       is_report = means.due.is_text;
       took = means.took;
+      stored = run.stored;
       sink_sound = means.sink_sound;
       files_sound = means.files_sound;
     }

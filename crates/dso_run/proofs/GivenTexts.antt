@@ -1,5 +1,5 @@
 -- What is given for the two texts, and the verdict on it.
-use Rattle.std.proofs.Common.{ℕ, List, subst, Result, Ok, Err, IfOk}
+use Rattle.std.proofs.Common.{◌≡◌, ℕ, List, [], subst, Result, Ok, Err, IfOk}
 use Rattle.dso_base.specs.declared.no_memory.NoMemory.{NoMemory}
 use Rattle.dso_config.specs.declared.fault.ConfigFault.{ConfigFault}
 use Rattle.dso_config.specs.declared.fault.ConfigFault.TheVariants as fault
@@ -14,7 +14,8 @@ use Rattle.dso_run.specs.declared.status.Refusal.TheVariants.{Words, Reading, Pr
 use Rattle.dso_run.specs.declared.status.Refusal.TheVariants as refusal
 use Rattle.dso_run.specs.Accepted.{IsConfigRefusal}
 use Rattle.dso_run.specs.Files.{AreAsBefore}
-use Rattle.dso_run.specs.Headline.{CallInput, FilesGive, Gives, HasCause, IsAccepted, RoseOf, most_read}
+use Rattle.dso_run.specs.Headline.{CallInput, CallOutput, FilesGive, Gives, HasCause, IsAccepted, LeavesNothing, RoseOf, most_read}
+use Rattle.dso_run.specs.Stores.{IsUntouched}
 use Rattle.dso_run.specs.Verdict.{IsVerdictBy, IsVerdictOn, IsVerdictOnGiven, IsVerdictOnTexts}
 use Rattle.dso_command_line.specs.Words.{AreLawful, Command}
 
@@ -39,6 +40,9 @@ module _ (Given : List ℕ → List ℕ → Type 0) (failed : Type 0) (config_te
   verdict_by : (verdict : Verdict) → IsVerdictOnTexts config_text program_text verdict → IsVerdictBy Given failed verdict
   verdict_by (Refused Words) never = absurd never
   verdict_by (Refused Reading) never = absurd never
+  verdict_by (Refused refusal.Store) never = absurd never
+  verdict_by (Refused refusal.InUse) never = absurd never
+  verdict_by (Refused (refusal.BadStore place)) never = absurd never
   verdict_by (Refused (refusal.Config wrong)) is = on_given (Refused (refusal.Config wrong)) is
   verdict_by (Refused (Program wrong)) is = on_given (Refused (Program wrong)) is
   verdict_by (Accepted p) is = on_given (Accepted p) is
@@ -57,17 +61,20 @@ files_give content after_first config program config_text program_text first sam
 -- THE CAUSE, for a lawful command
 module _ (input : CallInput) (command : Command) (words : AreLawful input.words command) where
   -- a refusal by what is given has its cause
-  pub cause_of : (why : Refusal) → IsVerdictOn input.content (RoseOf input.failed_before input.failed_after) command (Refused why) → HasCause input why
-  cause_of Words never = absurd never
-  cause_of Reading is = record { command = command; words = words; failed = is }
-  cause_of (refusal.Config wrong) is = record {
+  pub cause_of : (output : CallOutput) (why : Refusal) → IsVerdictOn input.content (RoseOf input.failed_before input.failed_after) command (Refused why) → HasCause input output why
+  cause_of output Words never = absurd never
+  cause_of output refusal.Store never = absurd never
+  cause_of output refusal.InUse never = absurd never
+  cause_of output (refusal.BadStore place) never = absurd never
+  cause_of output Reading is = record { command = command; words = words; failed = is }
+  cause_of output (refusal.Config wrong) is = record {
     command = command;
     config = is.config_text;
     program = is.program_text;
     read = record { words = words; given = is.given };
     refused = is.verdict;
   }
-  cause_of (Program wrong) is = record {
+  cause_of output (Program wrong) is = record {
     command = command;
     config = is.config_text;
     program = is.program_text;
@@ -83,3 +90,14 @@ module _ (input : CallInput) (command : Command) (words : AreLawful input.words 
     read = record { words = words; given = is.given };
     taken = is.verdict;
   }
+
+-- and leaves nothing, where there is no journal and nothing was done to the disk
+pub leaves_nothing : (input : CallInput) (output : CallOutput) (Given : List ℕ → List ℕ → Type 0) (failed : Type 0) (why : Refusal) → IsVerdictBy Given failed (Refused why)
+    → output.journal ≡ [] → IsUntouched output.disk → LeavesNothing input output why
+leaves_nothing input output Given failed Words is none untouched = (none, untouched)
+leaves_nothing input output Given failed Reading is none untouched = (none, untouched)
+leaves_nothing input output Given failed (refusal.Config wrong) is none untouched = (none, untouched)
+leaves_nothing input output Given failed (Program wrong) is none untouched = (none, untouched)
+leaves_nothing input output Given failed refusal.Store never none untouched = absurd never
+leaves_nothing input output Given failed refusal.InUse never none untouched = absurd never
+leaves_nothing input output Given failed (refusal.BadStore place) never none untouched = absurd never

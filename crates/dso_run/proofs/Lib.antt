@@ -1,4 +1,5 @@
 pub mod runs
+pub mod storing
 pub mod Answering
 pub mod Completing
 pub mod Finishing

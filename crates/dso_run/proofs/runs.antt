@@ -3,3 +3,4 @@ pub mod Failures
 pub mod ChosenOpen
 pub mod Going
 pub mod Halted
+pub mod KeptSteps

@@ -19,7 +19,9 @@ use Rattle.dso_run.specs.declared.status.Status.TheVariants.{Finished}
 use Rattle.dso_run.specs.Accepted.{settings_of, AreTaken}
 use Rattle.dso_run.specs.Headline.{CallInput, CallOutput, Gives, IsKept, IsRunText, StatusMeans}
 use Rattle.dso_run.specs.RunEnds.{has_failed}
-use Rattle.dso_command_line.specs.Words.{AreLawful, Command}
+use Rattle.dso_command_line.specs.Words.{AreLawful, Command, store_of}
+use Rattle.dso_kept.specs.Keeping.{applied}
+use Rattle.dso_run.specs.Stores.{KeepsRecords}
 
 -- Of a program and the entries of a run that finished, the newest first: what became of one of its threads, whose
 -- client wasn't lost. It ended without a fault, and the history has all of its events, in order, as the server resolved them.
@@ -55,6 +57,8 @@ pub record FinishedCall (input : CallInput) (output : CallOutput) : Type 0 where
   pub report : List ℕ
   pub is_report : IsRunText command program output.journal report
   pub took : output.sink_after ≡ taken_after output.sink_before report
+  -- the store that the words name has the records that the server of the journal applied;
+  pub stored : KeepsRecords (store_of command) program.code.shape (applied (reverse output.journal)) output.disk
   -- and nothing failed in writing.
   pub sink_sound : output.failed_after ≡ output.failed_before
   pub files_sound : output.writes_after ≡ output.writes_before

@@ -1,12 +1,16 @@
 -- The program's theorem: what each status of a call means, from the bytes that were read to those that were written.
 -- `StatusMeans`, at the end, is the clause `answer` of `dso_main`. What it is made of stands above it, in the order of
 -- the work.
-use Rattle.std.specs.Prelude.{◌≡◌, ℕ, suc, ℤ, ◌⊎◌, true, false, List, [], Option, Some, None, reverse}
+use Rattle.std.specs.Prelude.{◌≡◌, ℕ, suc, ℤ, ◌⊎◌, ◌<◌, ◌≤◌, true, false, List, [], length, Option, Some, None, reverse}
+use Rattle.std.specs.Option.{IfSome}
 use Rattle.dso_base.specs.declared.journal.Entry.{Entry}
 use Rattle.dso_base.specs.declared.lock.ThreadId.{ThreadId}
+use Rattle.dso_base.specs.declared.record.Txn.{Txn}
 use Rattle.dso_base.specs.declared.request.Event.{Event}
 use Rattle.dso_base.specs.declared.request.Request.{Request}
 use Rattle.dso_class.specs.declared.program.Program.{Program}
+use Rattle.dso_keep.specs.Records.{AllFit, IsBadAt, Reopens, opening}
+use Rattle.dso_kept.specs.Keeping.{ReopensFirst, applied}
 use Rattle.dso_law.specs.Settings.{Settings}
 use Rattle.dso_legal.specs.Central.{CommitsLegally}
 use Rattle.dso_legal.specs.Committed.{committed}
@@ -17,6 +21,7 @@ use Rattle.dso_gen.specs.LoadLine.{load_line}
 use Rattle.dso_report.specs.CounterTotal.{IsCounterTotal}
 use Rattle.dso_report.specs.JournalText.{journal_text}
 use Rattle.dso_report.specs.Report.{IsReport}
+use Rattle.dso_show.specs.Shown.{IsStoreText}
 use Rattle.dso_run.specs.declared.running.Outcome.{Outcome}
 use Rattle.dso_run.specs.declared.running.Outcome.TheVariants as outcome
 use Rattle.dso_config.specs.declared.fault.ConfigFault.{ConfigFault}
@@ -26,14 +31,16 @@ use Rattle.dso_run.specs.declared.status.Refusal.TheVariants as refusal
 use Rattle.dso_run.specs.declared.status.Status.{Status}
 use Rattle.dso_run.specs.declared.status.Status.TheVariants.{Finished, FinishedFault, Usage, BadConfig, BadProgram}
 use Rattle.dso_run.specs.declared.status.Status.TheVariants.{ReadFault, WriteFault, Stuck, Budget, NoMemory}
+use Rattle.dso_run.specs.declared.status.Status.TheVariants.{StoreFault, StoreInUse, BadStore, Shown}
 use Rattle.dso_syntax.specs.TextLimits.{longest_text}
 use Rattle.dso_run.specs.Accepted.{settings_of, AreTaken, IsConfigRefusal, IsProgramRefusal}
 use Rattle.dso_io.specs.Environment.{Told, MayGive, Rose, taken_after, TookPrefix}
 use Rattle.dso_run.specs.Files.{AreAsBefore, IsWritten}
-use Rattle.dso_run.specs.RunEnds.{EndsFinished, EndsStuck, EndsOverBudget, Making, BySlots, ByThreads}
+use Rattle.dso_run.specs.RunEnds.{EndsFinished, EndsStuck, EndsOverBudget, IsRun, Making, BySlots, ByThreads}
 use Rattle.dso_run.specs.Status.{line_of}
+use Rattle.dso_run.specs.Stores.{CallDisk, IsUntouched, IsUnwritten, KeepsRecords, SinceTaken, WasTaken}
 use Rattle.dso_command_line.specs.Words.{AreLawful, AreUnlawful, Command, Sim, Run, Big, Show, Lint}
-use Rattle.dso_command_line.specs.Words.{journal_of, steps_of}
+use Rattle.dso_command_line.specs.Words.{SimCall, ShowCall, journal_of, steps_of, store_of}
 
 -- how many bytes are read of a file at most: one more than a program's text may have
 abbrev pub most_read : ℕ
@@ -49,7 +56,7 @@ pub record CallInput : Type 0 where
 
 -- What a call leaves: what its sink had taken before the call, and has after it; how many calls of the sink had failed
 -- before, and how many have after it; what is told of each file after the call; how many writes of files had failed
--- before, and how many have after it; and the journal of the run, its first entry first.
+-- before, and how many have after it; its disk; and the journal of the run, its first entry first.
 pub record CallOutput : Type 0 where
   pub sink_before : Option (List ℕ)
   pub sink_after : Option (List ℕ)
@@ -58,6 +65,7 @@ pub record CallOutput : Type 0 where
   pub content : List ℕ → Told
   pub writes_before : ℕ
   pub writes_after : ℕ
+  pub disk : CallDisk
   pub journal : List Entry
 
 -- What files and a sink leave of a call, and what was read of them, by their own words (what is told of a file, how
@@ -72,8 +80,8 @@ read_by content read_faults files_before files_after words = record {
 }
 
 abbrev pub left_by : {F K : Type 0} → (F → List ℕ → Told) → (F → ℕ) → (K → Option (List ℕ)) → (K → ℕ)
-    → F → F → K → K → List Entry → CallOutput
-left_by content write_faults taken faults files_before files_after sink_before sink_after journal = record {
+    → F → F → K → K → CallDisk → List Entry → CallOutput
+left_by content write_faults taken faults files_before files_after sink_before sink_after disk journal = record {
   sink_before = taken sink_before;
   sink_after = taken sink_after;
   failed_before = faults sink_before;
@@ -81,6 +89,7 @@ left_by content write_faults taken faults files_before files_after sink_before s
   content = content files_after;
   writes_before = write_faults files_before;
   writes_after = write_faults files_after;
+  disk = disk;
   journal = journal;
 }
 
@@ -150,13 +159,6 @@ module _ (input : CallInput) where
     pub read : WereRead command config program
     pub refused : IsProgramRefusal config program fault
 
-  -- why nothing is run
-  abbrev pub HasCause : Refusal → Type 0
-  HasCause refusal.Words = AreUnlawful input.words
-  HasCause refusal.Reading = IsUnread
-  HasCause (refusal.Config fault) = IsConfigRefused fault
-  HasCause (refusal.Program fault) = IsProgramRefused fault
-
 -- how the entries of a command's run are made: of `run` by threads, and else at the slots that are chosen, by the seed
 -- that `sim` is given or by round robin
 abbrev pub making_of : Command → Making
@@ -213,10 +215,12 @@ IsKept command journal before after =
 
 -- WHAT WAS WRITTEN
 module _ (input : CallInput) (output : CallOutput) where
-  -- A program was accepted, and the journal is that of a run of it, as the command asks, that ended so.
+  -- A program was accepted, and the journal is that of a run of it, as the command asks, that ended so; the store that
+  -- the command names has the records that the journal's server applied.
   pub record HasRunOf (command : Command) (program : Program) (outcome : Outcome) : Type 0 where
     pub accepted : IsAccepted input command program
     pub ran : IsRunOf program (making_of command) (steps_of command) outcome output.journal
+    pub stored : KeepsRecords (store_of command) program.code.shape (applied (reverse output.journal)) output.disk
 
   -- Such a run was made, its journal is kept, and the text is what is told of what the journal commits.
   pub record IsReportDue (outcome : Outcome) (text : List ℕ) : Type 0 where
@@ -226,16 +230,92 @@ module _ (input : CallInput) (output : CallOutput) where
     pub kept : IsKept command output.journal input.content output.content
     pub is_text : IsRunText command program output.journal text
 
-  -- The refusal has its cause, the text is its line, nothing was run, and no file was changed.
+  -- A run of a program over the store of a name was cut off when the disk failed: the journal is that of the run so
+  -- far, and a crash at any moment leaves some of the first records that its server applied.
+  pub record WasCutOff (call : SimCall) (program : Program) : Type 0 where
+    pub name : List ℕ
+    pub named : call.store ≡ Some name
+    pub so_far : IsRun (settings_of program) (next_request program.code) (BySlots call.seed) call.steps
+        (reverse output.journal)
+    pub crash : length (output.disk.found name) ≤ 1
+        → SinceTaken (ReopensFirst program.code.shape (applied (reverse output.journal))) name output.disk
+
+  -- what a call leaves whose disk failed: of `sim` a run that was cut off, of `show` nothing
+  abbrev pub LeavesOfStore : Command → Program → Type 0
+  LeavesOfStore (Sim call) program = WasCutOff call program
+  LeavesOfStore (Show call) program = (output.journal ≡ []) × IsUnwritten call.store output.disk
+  LeavesOfStore command program = ⊥
+
+  -- The disk failed in the call, which had a program for a store.
+  pub record IsStoreFault : Type 0 where
+    pub command : Command
+    pub program : Program
+    pub accepted : IsAccepted input command program
+    pub failed : Rose output.disk.faults_before output.disk.faults_after
+    pub leaves : LeavesOfStore command program
+
+  -- The store that is named for a run has a file of more than one byte, to which nothing was done.
+  pub record IsStoreInUse : Type 0 where
+    pub command : Command
+    pub program : Program
+    pub accepted : IsAccepted input command program
+    pub name : List ℕ
+    pub named : store_of command ≡ Some name
+    pub long : IfSome output.disk.before (λ file. 1 < length (output.disk.found name))
+    pub taken : WasTaken name output.disk
+
+  -- An open gate at this place of the store that is to be shown is followed by no whole record that fits the graph.
+  pub record IsStoreBad (place : ℕ) : Type 0 where
+    pub call : ShowCall
+    pub program : Program
+    pub accepted : IsAccepted input (Show call) program
+    pub bad : IfSome output.disk.before (λ file. IsBadAt program.code.shape (output.disk.found call.store) place)
+    pub taken : WasTaken call.store output.disk
+
+  -- why nothing is run, or no more
+  abbrev pub HasCause : Refusal → Type 0
+  HasCause refusal.Words = AreUnlawful input.words
+  HasCause refusal.Reading = IsUnread input
+  HasCause (refusal.Config fault) = IsConfigRefused input fault
+  HasCause (refusal.Program fault) = IsProgramRefused input fault
+  HasCause refusal.Store = IsStoreFault
+  HasCause refusal.InUse = IsStoreInUse
+  HasCause (refusal.BadStore place) = IsStoreBad place
+
+  -- what else a refusal leaves: no journal, and an untouched disk where its cause says nothing of it
+  abbrev pub LeavesNothing : Refusal → Type 0
+  LeavesNothing refusal.Store = Unit {0}
+  LeavesNothing refusal.InUse = output.journal ≡ []
+  LeavesNothing (refusal.BadStore place) = output.journal ≡ []
+  LeavesNothing refusal = (output.journal ≡ []) × IsUntouched output.disk
+
+  -- The refusal has its cause, the text is its line, it leaves nothing else, and no file was changed.
   pub record IsLineDue (refusal : Refusal) (text : List ℕ) : Type 0 where
-    pub cause : HasCause input refusal
+    pub cause : HasCause refusal
     pub is_line : text ≡ line_of refusal
-    pub nothing_ran : output.journal ≡ []
+    pub nothing_else : LeavesNothing refusal
     pub unchanged : AreAsBefore input.content output.content
 
-  -- what was to be written: the line of a refusal, or what is told of a run
+  -- A store is to be shown: its records fit, each the graph of those before it; where the disk tells its bytes its file
+  -- reopens to them; and the text is the lines of the graph that they leave. Nothing was run, no file was changed, the
+  -- store's was not written to, and no call of the disk failed.
+  pub record IsGraphDue (text : List ℕ) : Type 0 where
+    pub call : ShowCall
+    pub program : Program
+    pub accepted : IsAccepted input (Show call) program
+    pub records : List (ℕ × Txn)
+    pub fit : AllFit program.code.shape (opening program.code.shape) records
+    pub reopens : IfSome output.disk.before (λ file. Reopens program.code.shape (output.disk.found call.store) records)
+    pub is_text : IsStoreText program records text
+    pub nothing_ran : output.journal ≡ []
+    pub unchanged : AreAsBefore input.content output.content
+    pub taken : WasTaken call.store output.disk
+    pub sound : output.disk.faults_after ≡ output.disk.faults_before
+
+  -- what was to be written: the line of a refusal, what is told of a run, or the graph of a store
   abbrev pub IsDue : List ℕ → Type 0
   IsDue text = ((refusal : Refusal) × IsLineDue refusal text) ⊎ ((outcome : Outcome) × IsReportDue outcome text)
+      ⊎ IsGraphDue text
 
   -- What was to be written was written whole, and nothing failed in writing.
   pub record WroteWhole (Due : List ℕ → Type 0) : Type 0 where
@@ -281,6 +361,10 @@ module _ (input : CallInput) (output : CallOutput) where
   StatusMeans ReadFault = WroteWhole (IsLineDue refusal.Reading)
   StatusMeans (BadConfig fault) = WroteWhole (IsLineDue (refusal.Config fault))
   StatusMeans (BadProgram fault) = WroteWhole (IsLineDue (refusal.Program fault))
+  StatusMeans StoreFault = WroteWhole (IsLineDue refusal.Store)
+  StatusMeans StoreInUse = WroteWhole (IsLineDue refusal.InUse)
+  StatusMeans (BadStore place) = WroteWhole (IsLineDue (refusal.BadStore place))
+  StatusMeans Shown = WroteWhole IsGraphDue
   StatusMeans WriteFault = WrotePrefix IsDue ⊎ IsUnkept
   StatusMeans NoMemory = WroteNothing
 

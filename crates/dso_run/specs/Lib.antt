@@ -9,5 +9,9 @@ pub mod Headline
 pub mod RunEnds
 pub mod Status
 pub mod Stepping
+pub mod StoreCalls
+pub mod StoreLaws
+pub mod StoreRuns
+pub mod Stores
 pub mod Verdict
 pub mod Writing

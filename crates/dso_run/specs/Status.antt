@@ -18,10 +18,12 @@ use Rattle.dso_config.specs.declared.fault.Spot.{Spot}
 use Rattle.dso_config.specs.Keys.{IsOfText, key_of}
 use Rattle.dso_run.specs.declared.status.ProgramFault.TheVariants as program
 use Rattle.dso_run.specs.declared.status.Refusal.{Refusal}
-use Rattle.dso_run.specs.declared.status.Refusal.TheVariants.{Words, Reading, Config, Program}
+use Rattle.dso_run.specs.declared.status.Refusal.TheVariants.{Words, Reading, Config, Program, Store, InUse}
+use Rattle.dso_run.specs.declared.status.Refusal.TheVariants as refusal
 use Rattle.dso_run.specs.declared.status.Status.{Status}
 use Rattle.dso_run.specs.declared.status.Status.TheVariants.{Finished, FinishedFault, Usage, BadConfig, BadProgram}
 use Rattle.dso_run.specs.declared.status.Status.TheVariants.{ReadFault, WriteFault, Stuck, Budget, NoMemory}
+use Rattle.dso_run.specs.declared.status.Status.TheVariants.{StoreFault, StoreInUse, BadStore, Shown}
 
 -- the number that the process ends with
 abbrev pub exit_number_of : Status → ℕ
@@ -35,6 +37,10 @@ exit_number_of Stuck = 6
 exit_number_of Budget = 7
 exit_number_of NoMemory = 8
 exit_number_of FinishedFault = 9
+exit_number_of StoreFault = 10
+exit_number_of StoreInUse = 11
+exit_number_of (BadStore place) = 12
+exit_number_of Shown = 0
 
 -- the status of a run that ended so
 abbrev pub status_of_run : Outcome → Status
@@ -49,6 +55,9 @@ status_of Words = Usage
 status_of Reading = ReadFault
 status_of (Config fault) = BadConfig fault
 status_of (Program fault) = BadProgram fault
+status_of Store = StoreFault
+status_of InUse = StoreInUse
+status_of (refusal.BadStore place) = BadStore place
 
 -- a text and the line feed that ends it
 abbrev pub ended : List ℕ → List ℕ
@@ -127,6 +136,9 @@ line_of Words = ended (codes "dsorun: Usage")
 line_of Reading = ended (codes "dsorun: ReadFault")
 line_of (Config fault) = ended (codes "dsorun: BadConfig " ++ config_text fault)
 line_of (Program fault) = ended (codes "dsorun: BadProgram " ++ fault_text fault)
+line_of Store = ended (codes "dsorun: StoreFault")
+line_of InUse = ended (codes "dsorun: StoreInUse")
+line_of (refusal.BadStore place) = ended (at_place (codes "dsorun: BadStore") place)
 
 -- The refusal has a line: its fault is no want of memory.
 abbrev pub HasLine : Refusal → Type 0

@@ -46,6 +46,9 @@ module _ (Given : List ℕ → List ℕ → Type 0) (failed : Type 0) where
   -- a read failed, or the texts come to this
   abbrev pub IsVerdictBy : Verdict → Type 0
   IsVerdictBy (Refused refusal.Words) = ⊥
+  IsVerdictBy (Refused refusal.Store) = ⊥
+  IsVerdictBy (Refused refusal.InUse) = ⊥
+  IsVerdictBy (Refused (refusal.BadStore place)) = ⊥
   IsVerdictBy (Refused refusal.Reading) = failed
   IsVerdictBy (Refused (refusal.Config fault)) = IsVerdictOnGiven (Refused (refusal.Config fault))
   IsVerdictBy (Refused (refusal.Program fault)) = IsVerdictOnGiven (Refused (refusal.Program fault))

@@ -9,7 +9,7 @@ use Rattle.dso_run.specs.declared.status.Status.TheVariants.{Finished, FinishedF
 use Rattle.dso_run.specs.declared.status.Status.TheVariants.{NoMemory}
 use Rattle.dso_io.specs.Environment.{Told, Rose, taken_after, TookPrefix}
 use Rattle.dso_run.specs.Files.{AreAsBefore}
-use Rattle.dso_run.specs.Headline.{CallOutput, IsKept, IsRunOf, IsRunText, making_of}
+use Rattle.dso_run.specs.Headline.{CallInput, CallOutput, IsAccepted, IsKept, IsRunOf, IsRunText, StatusMeans, making_of}
 use Rattle.dso_command_line.specs.Words.{Command, journal_of, steps_of}
 
 -- The sink took the whole text, its count of faults is as before and the answer is this status; or it took a prefix and
@@ -63,3 +63,9 @@ module _ (command : Command) (p : Program) (before : List ℕ → Told) (output 
   ToldRun Stuck = ToldWhole outcome.Stuck
   ToldRun Budget = ToldWhole outcome.Budget
   ToldRun answer = ⊥
+
+  -- Where a call accepted the program for the command, over files that were as they are before what is left: the status
+  -- means what it is to mean.
+  abbrev pub MeansFor : Status → Type 0
+  MeansFor status = (input : CallInput) → IsAccepted input command p → AreAsBefore input.content before
+      → StatusMeans input output status

@@ -6,10 +6,12 @@ ghost use Rattle.std.specs.declared.io.ErrorKind.TheVariants.{OutOfMemory};
 ghost use Rattle.std.specs.Process.{exit_status};
 ghost use Rattle.dso_run.specs.Exit.{EndsWith, IsUsageNumber, words_told};
 ghost use Rattle.dso_run.specs.Headline.{left_by, read_by};
+ghost use Rattle.dso_run.specs.Stores.{disk_by};
 
 use crate::{Status, dso_main};
 use dso_host::Gate;
 use dso_io::{Files, Sink};
+use dso_keep::Disk;
 use std::alloc::Global;
 use std::io;
 use std::process::ExitCode;
@@ -21,16 +23,18 @@ use std::thread::Threads;
 /// The words are those behind the program's name, or why they couldn't be told. Where that was want of memory, nothing is
 /// done, and the number is that of `NoMemory`. Else a word isn't text, and so none of a lawful list: there are no words
 /// then, which is `Usage`.
-pub fn dso_exit<R: Threads + Wait + Sync, F: Files, K: Sink, G: Gate>(
+pub fn dso_exit<R: Threads + Wait + Sync, F: Files, K: Sink, G: Gate, D: Disk>(
     rt: &R,
     alloc: Global,
     words: io::Result<Vec<String>>,
     files: &mut F,
     out: &mut K,
     gate: &G,
+    disk: &mut D,
 ) -> ExitCode
     ensures ends { EndsWith (read_by F.content F.read_faults files.old files.new (words_told (λ texts. map string_bytes texts.items) words))
-        (left_by F.content F.write_faults K.taken K.faults files.old files.new out.old out.new)
+        (left_by F.content F.write_faults K.taken K.faults files.old files.new out.old out.new
+        (disk_by D.faults D.found D.file disk.old disk.new))
         result }
 
     // Words that are no text are answered as other words are.
@@ -43,6 +47,6 @@ pub fn dso_exit<R: Threads + Wait + Sync, F: Files, K: Sink, G: Gate>(
         }
         Err(_) => Vec::new(alloc),
     };
-    let done = dso_main(rt, alloc, words.as_slice(), files, out, gate);
+    let done = dso_main(rt, alloc, words.as_slice(), files, out, gate, disk);
     ExitCode::from(done.status.exit_number())
 }

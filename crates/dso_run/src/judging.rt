@@ -40,8 +40,13 @@ pub(crate) fn judge<F: Files>(
             program,
             ..
         } => judge_files(alloc, config, program, files),
+        Command::Show {
+            config,
+            program,
+            ..
+        } => judge_files(alloc, config, program, files),
         Command::Big { number } => judge_load(alloc, number),
-        Command::Show { .. } | Command::Lint { .. } => unreachable!(),
+        Command::Lint { .. } => unreachable!(),
     }
 }
 

@@ -2,8 +2,10 @@
 //! does nothing.
 ghost use Rattle.dso_run.specs.Completeness.{Completeness, MayRunRuns, TakenIsNotRefused};
 ghost use Rattle.dso_run.specs.Finished.{FinishedMeans};
+ghost use Rattle.dso_run.specs.StoreLaws.{RecordsAreKept};
 
 pub use dso_command_line::words_ask_once;
+pub use dso_kept::keep_laws::{acknowledged_are_applied, applied_records_fit};
 
 /// What exit 0 means, in one place: the words, the bytes of both files, the lawful journal, the legal history that it
 /// commits, each thread's events, the report, and what the sink took.
@@ -26,4 +28,12 @@ pub fn taken_is_not_refused()
 /// that of a run that ended, or `NoMemory`.
 pub fn calls_that_may_run_do()
     ensures { MayRunRuns }
+{}
+
+/// Where the words name a store for a run, its file had at most one byte, and memory didn't run out: nothing was done to
+/// the disk and nothing ran, or a program was accepted, and since the store's file was taken a crash at any moment leaves
+/// some of the first records that the server of the journal applied; after the status of a run that ended, or `WriteFault`
+/// where the disk didn't fail, reopening the file gives all of them.
+pub fn stores_keep_records()
+    ensures { RecordsAreKept }
 {}

@@ -5,6 +5,7 @@
 //! ```rust
 //! use dso_base::NoMemory;
 //! use dso_io::{MemFiles, MemSink};
+//! use dso_keep::MemDisk;
 //! use dso_run::{Done, without_threads};
 //! use std::alloc::Global;
 //!
@@ -18,12 +19,15 @@
 //!         words.push(String::from_str(alloc, word)?)?;
 //!     }
 //!     let mut out = MemSink::new(alloc, 4096, 4096, &[])?;
-//!     let done = without_threads(alloc, words.as_slice(), &mut files, &mut out);
+//!     let mut disk = MemDisk::new(alloc, &[], None, 0, 0)?;
+//!     let done = without_threads(alloc, words.as_slice(), &mut files, &mut out, &mut disk);
 //!     Ok((done, out))
 //! }
 //! ```
 #![tactic(auto)]
 
+mod answers;
+mod asked;
 mod exit;
 mod failing;
 mod journal_file;
@@ -35,9 +39,12 @@ mod replay;
 mod run_texts;
 mod running;
 mod status;
+mod store_run;
+mod stores;
 mod threads;
 mod verdict;
 
+pub use dso_kept::kept_step;
 pub use exit::dso_exit;
 pub use main_call::{dso_main, without_threads};
 pub use status::{Done, ProgramFault, Status};

@@ -27,6 +27,9 @@ pub(crate) fn line_of(refusal: Refusal) -> Line
         Refusal::Reading => line("dsorun: ReadFault\n"),
         Refusal::Config(fault) => config_line(fault),
         Refusal::Program(fault) => program_line(fault),
+        Refusal::Store => line("dsorun: StoreFault\n"),
+        Refusal::InUse => line("dsorun: StoreInUse\n"),
+        Refusal::BadStore(place) => bad_store_line(place),
     }
 }
 
@@ -74,6 +77,18 @@ fn spot_line(name: &str, spot: Spot) -> Line
         line.push_str(" ");
         line.push_str(digits.format(spot.entry));
     }
+    line.push_str("\n");
+    line
+}
+
+/// The line of a store that can't be shown, with the place of its gate.
+fn bad_store_line(place: u64) -> Line
+    ensures { result.bytes ≡ line_of (refusal.BadStore place) }
+{
+    let mut digits = Buffer::new();
+    let mut line = Line::new();
+    line.push_str("dsorun: BadStore at ");
+    line.push_str(digits.format(place));
     line.push_str("\n");
     line
 }

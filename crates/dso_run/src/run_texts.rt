@@ -6,7 +6,7 @@ ghost use Rattle.dso_machine.specs.Next.{next_request};
 ghost use Rattle.dso_run.specs.Accepted.{settings_of};
 ghost use Rattle.dso_run.specs.Headline.{IsRunText};
 ghost use Rattle.dso_command_line.specs.Said.{said};
-ghost use Rattle.dso_command_line.specs.Words.{CanBeAsked};
+ghost use Rattle.dso_command_line.specs.Words.{AsksForRun, CanBeAsked};
 
 use crate::replay::heap_after;
 use dso_base::{Journal, NoMemory};
@@ -25,6 +25,7 @@ pub(crate) fn run_text(
     command: Command<'_>,
 ) -> Result<Vec<u8>, NoMemory>
     requires asked { CanBeAsked (said command) }
+    requires runs { AsksForRun (said command) }
     requires sound { IsSoundProgram program.now }
     requires legal { CommitsLegally (settings_of program.now) (next_request program.now.code) (reverse journal.now.entries) }
     ensures { IfOk result (λ text. IsRunText (said command.entry) program.now journal.now.entries text.items) }

@@ -42,6 +42,14 @@ pub enum Status {
     Budget,
     /// An allocation was refused.
     NoMemory,
+    /// The disk of a store failed.
+    StoreFault,
+    /// The file that is named for a run's store has more than one byte.
+    StoreInUse,
+    /// What is to be shown is no store: an open gate at this place, counted from 0, is followed by no record that fits.
+    BadStore(u64),
+    /// A store was shown.
+    Shown,
 }
 
 impl Status {
@@ -60,6 +68,10 @@ impl Status {
             Status::Budget => 7,
             Status::NoMemory => 8,
             Status::FinishedFault => 9,
+            Status::StoreFault => 10,
+            Status::StoreInUse => 11,
+            Status::BadStore(_) => 12,
+            Status::Shown => 0,
         }
     }
 }
@@ -71,13 +83,16 @@ pub struct Done {
     pub journal: Journal,
 }
 
-/// Why nothing is run.
+/// Why nothing is run, or no more.
 #[derive(Clone, Copy, Debug, PartialEq, Eq)]
 pub(crate) enum Refusal {
     Words,
     Reading,
     Config(ConfigFault),
     Program(ProgramFault),
+    Store,
+    InUse,
+    BadStore(u64),
 }
 
 impl Refusal {
@@ -90,6 +105,9 @@ impl Refusal {
             Refusal::Reading => Status::ReadFault,
             Refusal::Config(fault) => Status::BadConfig(fault),
             Refusal::Program(fault) => Status::BadProgram(fault),
+            Refusal::Store => Status::StoreFault,
+            Refusal::InUse => Status::StoreInUse,
+            Refusal::BadStore(place) => Status::BadStore(place),
         }
     }
 }

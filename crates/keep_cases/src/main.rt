@@ -14,8 +14,9 @@
 //! | `cut FROM STOP NAMES` | to what the first bytes of that file reopen, so many from this number on; each answer with the first number |
 //! | `spoiled FROM STOP NAMES` | to what it reopens with another byte at each place from this one on, and how often |
 //! | `gates AT STOP NAMES` | to what it reopens with each byte at this place, and how often |
+//! | `system CALLS` | what each of these calls answers, given to one disk of the system in a folder of its own |
 //!
-//! A disk that stops at call 0 never stops.
+//! A disk that stops at call 0 never stops. The folder is made in the one for temporary files and removed at the end.
 #![tactic(auto)]
 
 mod changed;
@@ -23,28 +24,33 @@ mod digits;
 mod packets;
 mod reopened;
 mod stopped;
+mod system;
 mod tally;
 
 use case_words::{first_of, row_answer};
 use dso_base::NoMemory;
 use packets::Packets;
 use std::alloc::Global;
-use std::io;
+use std::{env, fs, io};
 use stopped::Stopped;
 
 fn main(rt: HostRuntime) -> io::Result<()> {
     let mut packets = Packets::new(rt.alloc());
+    let folder = system::folder_in(&rt, env::temp_dir(&rt)?.as_path())?;
     for line in rt.lines(rt.alloc()) {
         let line = line?;
         let Some((name, command)) = line.split_once(": ") else {
             println!(rt; "{line}")?;
             continue;
         };
-        let answer = told(rt.alloc(), &mut packets, name, command);
+        let answer = match command.split_once(' ') {
+            Some(("system", calls)) => system::answers(&rt, folder.as_str(), calls),
+            _ => told(rt.alloc(), &mut packets, name, command),
+        };
         let row = row_answer(rt.alloc(), name, answer)?;
         println!(rt; "{row}")?;
     }
-    Ok(())
+    fs::remove_dir_all(&rt, folder.as_str())
 }
 
 /// The answer to a command.

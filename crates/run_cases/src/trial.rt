@@ -2,6 +2,7 @@
 use dso_base::NoMemory;
 use dso_host::Gate;
 use dso_io::{Files, MemFiles, MemSink};
+use dso_keep::MemDisk;
 use dso_run::laws::words_ask_once;
 use dso_run::{Done, NoGate, Status, dso_main};
 use std::alloc::{AllocError, Global};
@@ -57,10 +58,13 @@ pub struct Call<'a, R, G> {
 }
 
 impl<'a, R: System, G: Gate> Call<'a, R, G> {
-    /// Makes the call over these files and this sink.
+    /// Makes the call over these files and this sink. The disk allows no call.
     pub fn answer<F: Files>(&self, files: &mut F, mut out: MemSink) -> Result<Answer, NoMemory> {
         let alloc = self.rt.alloc();
-        let done = dso_main(self.rt, alloc, self.words, files, &mut out, self.gate);
+        let mut disk = MemDisk::new(alloc, &[], None, 0, 0)?;
+        let done = dso_main(
+            self.rt, alloc, self.words, files, &mut out, self.gate, &mut disk,
+        );
         let taken = Vec::from_slice(alloc, out.taken())?;
         Ok(Answer { done, taken })
     }

@@ -40,7 +40,7 @@ some_found test (x ∷ xs) is = refl
 
 module _ (program : Program) (seed : Option ℕ) where
   -- the chosen step makes an entry at the chosen slot
-  turn_of : (made : Bool) (step : Step) (old new : World) → IsChosenStep program seed (Some step) old → IsStepped program step made old new → IsTurn program seed made old new
+  pub turn_of : (made : Bool) (step : Step) (old new : World) → IsChosenStep program seed (Some step) old → IsStepped program step made old new → IsTurn program seed made old new
   turn_of true step old new chosen stepped = record {
     entry = stepped.1.entry;
     slot = slot_of step;

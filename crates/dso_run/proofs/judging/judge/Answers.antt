@@ -7,3 +7,7 @@ returns-in-Sim-clause-verdict g c = rw c.in-Sim.is c.judge_files.ensures.verdict
 -- and those of `run`
 pub returns-in-Run-clause-verdict : goal.returns-in-Run-clause-verdict
 returns-in-Run-clause-verdict g c = rw c.in-Run.is c.judge_files-in-Run.ensures.verdict
+
+-- and those of `show`
+pub returns-in-Show-clause-verdict : goal.returns-in-Show-clause-verdict
+returns-in-Show-clause-verdict g c = rw c.in-Show.is c.judge_files-in-Show.ensures.verdict

@@ -1,0 +1,18 @@
+use Rattle.dso_kept.specs.Keeping.{applied}
+use Rattle.dso_world.specs.WorldStands.{entries_in}
+use Rattle.dso_kept.proofs.keeping.Leaving.{unchanged_reopens}
+use Rattle.dso_kept.proofs.keeping.Steps.{world_fits}
+use Rattle.dso_run.proofs.runs.KeptSteps.{kept_turn_if_ok}
+use Rattle.dso_run.proofs.store_run.Course.take_step.Goals as goal
+
+-- the chosen step is made
+pub returns-in-Some-clause-turn : goal.returns-in-Some-clause-turn
+returns-in-Some-clause-turn g c =
+    kept_turn_if_ok c.args.self.now.program.now c.args.self.now.schedule.seed c.kept_step.result c.in-Some.step c.args.world.now _ _ c.choose.ensures.same
+    (c.in-Some.ensures.chosen c.args.self.now.program.now c.requires.stands c.requires.whole) c.kept_step.ensures.stepped
+
+-- nothing is done
+pub returns-in-None-clause-crash : goal.returns-in-None-clause-crash
+returns-in-None-clause-crash g c =
+    unchanged_reopens c.args.self.now.program.now.code.shape (applied (entries_in c.args.world.now)) (applied (entries_in c.choose.new.self)) c.args.keep (g.D.Disk.file c.args.disk.now) c.requires.keeps
+    (world_fits c.args.self.now.program.now c.args.world.now c.requires.stands)

@@ -1,0 +1,9 @@
+pub mod Listed
+pub mod Objects
+pub mod News
+pub mod Sets
+pub mod Records
+pub mod Bodies
+pub mod There
+pub mod Whole
+pub mod Read
