@@ -1,0 +1,6 @@
+pub mod standing
+pub mod cleanness
+pub mod calling
+pub mod guarding
+pub mod upgrading
+pub mod judging

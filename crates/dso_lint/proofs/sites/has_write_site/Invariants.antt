@@ -1,0 +1,8 @@
+use Rattle.std.proofs.Common.{◌<◌, ℕ, get_or}
+use Rattle.std.specs.Borrow.{Bor}
+use Rattle.dso_machine.specs.declared.tree.Stmt.{Stmt}
+use Rattle.dso_lint.specs.Upgrading.{IsWriteSite}
+use Rattle.dso_lint.proofs.sites.has_write_site.Given as goal
+
+abbrev pub invariant-loop-a : goal.invariant-loop-a
+invariant-loop-a l = (k : ℕ) (d : Bor Stmt) → k < l.a-index → IsWriteSite (get_or l.statements k d).now → ⊥

@@ -1,0 +1,3 @@
+-- Which methods take a lock at Write, and what may be taken from a block.
+pub mod Writers
+pub mod Sites

@@ -1,0 +1,4 @@
+pub mod parts
+pub mod bodies
+pub mod threads
+pub mod history

@@ -1,0 +1,2 @@
+-- Threads of code that keeps the rules are safe.
+pub mod Threads
