@@ -97,7 +97,12 @@ fn verdict(alloc: Global, code: &Code) -> Result<Lint, NoMemory>
     first_failure(alloc, code, &bodies)
 }
 
-/// Whether the program takes its locks as its configuration asks, or the first body where it may not.
+/// Whether the program takes its locks as its configuration asks, or the first body where it may not: methods before
+/// threads, in the order of the text, and at one body access before upgrade.
+///
+/// A Yes promises that no legal history of the program is refused for want of a lock (`yes_is_guarded` of `dso_lint_law`);
+/// a No promises nothing. It reads the code alone and runs nothing. A chain of calls costs the square of its length.
+/// `NoMemory` is answered where an allocation was refused, and then nothing is told.
 pub fn lint(alloc: Global, program: &Program) -> Result<Lint, NoMemory>
     requires { IsSoundProgram program.now }
     ensures { IfOk result (IsVerdict program.now.code) }
