@@ -1,9 +1,8 @@
 //! The bytes that a client sends, by the words of a row.
 
 use crate::cluster::Cluster;
-use crate::digits::bytes_of;
 use crate::messages::message;
-use case_words::{count, first_of, number};
+use case_words::{bytes_of, count, first_of, number};
 use dso_base::{Both, NoMemory, Up};
 use dso_session::{Frame, Session};
 use dso_wire::{can_encode_up, encode_up};

@@ -7,7 +7,6 @@
 mod answers;
 mod cluster;
 mod code;
-mod digits;
 mod frames;
 mod messages;
 mod records;

@@ -2,6 +2,7 @@
 
 use dso_base::{NoMemory, Set, Value};
 use std::alloc::{AllocError, Global};
+use std::collections::BTreeSet;
 use std::fmt::{Debug, Display};
 
 /// The answer as text.
@@ -47,6 +48,32 @@ pub fn with_sets(alloc: Global, text: String, sets: &[Set]) -> Result<String, No
             value,
         } = *set;
         text = format!(in alloc; "{text} {object}.{field}={value:?}")?;
+    }
+    Ok(text)
+}
+
+/// The text with each of these numbers behind it, once and by rising number.
+pub fn with_numbers(alloc: Global, text: String, numbers: &[u64]) -> Result<String, NoMemory> {
+    let mut rising = BTreeSet::new(alloc);
+    for number in numbers {
+        rising.insert(*number)?;
+    }
+    let mut text = text;
+    for number in rising.iter() {
+        text = format!(in alloc; "{text} {number}")?;
+    }
+    Ok(text)
+}
+
+/// The text with each of these edges behind it, once and in order, as `1-2`.
+pub fn with_edges(alloc: Global, text: String, edges: &[(u64, u64)]) -> Result<String, NoMemory> {
+    let mut rising = BTreeSet::new(alloc);
+    for edge in edges {
+        rising.insert(*edge)?;
+    }
+    let mut text = text;
+    for edge in rising.iter() {
+        text = format!(in alloc; "{text} {}-{}", edge.0, edge.1)?;
     }
     Ok(text)
 }

@@ -5,6 +5,7 @@
 #![tactic(auto)]
 
 mod answers;
+mod digits;
 mod escapes;
 mod listed;
 mod lists;
@@ -16,7 +17,8 @@ mod shapes;
 mod values;
 mod words;
 
-pub use answers::{debugged, row_answer, shown, with_sets, with_values};
+pub use answers::{debugged, row_answer, shown, with_edges, with_numbers, with_sets, with_values};
+pub use digits::{bytes_of, digits_of};
 pub use escapes::unescaped;
 pub use listed::is_listed;
 pub use lists::{number_list, single, thread_list, value_list};

@@ -20,14 +20,13 @@
 #![tactic(auto)]
 
 mod changed;
-mod digits;
 mod packets;
 mod reopened;
 mod stopped;
 mod system;
 mod tally;
 
-use case_words::{first_of, row_answer};
+use case_words::{bytes_of, first_of, row_answer};
 use dso_base::NoMemory;
 use packets::Packets;
 use std::alloc::Global;
@@ -64,7 +63,7 @@ fn told(
     match word {
         "packet" => packets.add(alloc, name, rest),
         "create" => stopped::created(alloc, rest),
-        "reopen" => reopened::whole(alloc, &digits::bytes_of(alloc, rest)?),
+        "reopen" => reopened::whole(alloc, &bytes_of(alloc, rest)?),
         "store" => Stopped::over(alloc, packets, rest)?.bytes(alloc),
         "calls" => Stopped::over(alloc, packets, rest)?.images(alloc),
         _ => at_place(alloc, packets, word, rest),

@@ -1,7 +1,6 @@
 //! Packets by their names.
 
-use crate::digits::bytes_of;
-use case_words::{debugged, shown};
+use case_words::{bytes_of, debugged, shown};
 use dso_base::NoMemory;
 use dso_wire::decode_record;
 use std::alloc::Global;

@@ -3,10 +3,9 @@ ghost use Rattle.std.specs.Prelude.{◌≡◌, ◌+◌, ◌*◌, ◌<◌, ◌≤
 ghost use Rattle.dso_base.specs.declared.record.Txn.{Txn};
 ghost use Rattle.dso_keep.specs.Keeping.{KeepStands, gate_of};
 
-use crate::digits::{bytes_of, digits_of};
 use crate::packets::{Packet, Packets};
 use crate::reopened;
-use case_words::{debugged, first_of, number};
+use case_words::{bytes_of, debugged, digits_of, first_of, number};
 use dso_base::NoMemory;
 use dso_keep::{Keep, KeepFault, MemDisk, create};
 use dso_wire::{decode_record, decoded_can_go};

@@ -1,7 +1,6 @@
 //! A file of the system as a disk, in a folder of its own.
 
-use crate::digits::{bytes_of, digits_of};
-use case_words::{count, first_of, number};
+use case_words::{bytes_of, count, digits_of, first_of, number};
 use dso_base::NoMemory;
 use dso_io::{Failed, FileFault};
 use dso_keep::{Disk, StdDisk};

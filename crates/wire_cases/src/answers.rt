@@ -1,7 +1,6 @@
 //! What bytes are.
 
-use crate::digits::{bytes_of, digits_of};
-use case_words::{debugged, first_of, shown};
+use case_words::{bytes_of, debugged, digits_of, first_of, shown};
 use dso_base::NoMemory;
 use dso_wire::{
     can_encode_down, can_encode_up, decode_down, decode_record, decode_up, decoded_can_go,

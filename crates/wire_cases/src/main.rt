@@ -18,7 +18,6 @@
 #![tactic(auto)]
 
 mod answers;
-mod digits;
 mod said;
 
 use case_words::{first_of, row_answer};

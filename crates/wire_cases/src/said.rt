@@ -1,7 +1,8 @@
 //! Messages told by words.
 
-use crate::digits::digits_of;
-use case_words::{bare_record, first_of, level, lock, note, shown, single, thread, thread_list};
+use case_words::{
+    bare_record, digits_of, first_of, level, lock, note, shown, single, thread, thread_list,
+};
 use dso_base::{Down, Ending, NoMemory, Shared, Up};
 use dso_session::Frame;
 use dso_wire::{can_encode_down, can_encode_up, encode_down, encode_up};
