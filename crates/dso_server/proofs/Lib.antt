@@ -3,3 +3,4 @@ pub mod standing
 pub mod answered
 pub mod records
 pub mod due
+pub mod Collected

@@ -10,3 +10,4 @@ pub mod Lacking
 pub mod Answering
 pub mod Laws
 pub mod Tags
+pub mod Collecting

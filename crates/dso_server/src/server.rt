@@ -1,10 +1,14 @@
 //! The server's core (`specs/Answering.antt`).
-ghost use Rattle.std.specs.Prelude.{ℕ, ◌≡◌, ◌≤◌, ◌+◌, ◌<◌, ◌^◌, List, [], IfOk, OnOk};
+ghost use Rattle.std.specs.Prelude.{ℕ, ◌≡◌, ◌↔◌, ◌≤◌, ◌+◌, ◌<◌, ◌^◌, true, List, [], IfOk, OnErr, OnOk};
+ghost use Rattle.std.specs.List.Sorted.{IsStrictlySortedBy};
+ghost use Rattle.std.specs.Ordering.{nat_cmp};
 ghost use Rattle.dso_base.specs.declared.journal.Entry.{Entry};
 ghost use Rattle.dso_law.specs.ServerReadings.{is_lost};
 ghost use Rattle.dso_law.specs.Settings.{Settings};
 ghost use Rattle.dso_locks.specs.Locks.{IsClient};
+ghost use Rattle.dso_lookup.specs.Search.{is_listed};
 ghost use Rattle.dso_server.specs.Answering.{IsLost, IsTaken, given_by};
+ghost use Rattle.dso_server.specs.Collecting.{HasSwept, IsGarbageAt};
 ghost use Rattle.dso_server.specs.Lacking.{KnowsNamed, LacksNothing};
 ghost use Rattle.dso_server.specs.ServerStands.{ServerStands};
 ghost use Rattle.dso_server.specs.Threads.{RunsThreadsOf};
@@ -16,6 +20,7 @@ use crate::taken::{Taken, tag};
 use crate::threads::{Threads, opening, threads_of};
 use crate::waiters::Waiters;
 use dso_base::{Down, NoMemory, Up};
+use dso_gc::garbage;
 use dso_locks::LockTable;
 use dso_machine::Code;
 use dso_store::Store;
@@ -26,8 +31,8 @@ use std::collections::{BTreeMap, BTreeSet};
 /// threads. Contracts see for which lists of the server's entries it stands (`ServerStands`).
 ///
 /// A call costs the logarithm of what the server holds, for each item of its message and each message that it answers;
-/// losing a client costs that for each lock that was ever requested or waited on. After `NoMemory` the server is spent:
-/// its calls still return, but it stands for no list that is told.
+/// losing a client costs that for each lock that was ever requested or waited on. After `NoMemory` the server is spent,
+/// but for that of a collection: its calls still return, but it stands for no list that is told.
 #[derive(Drop)]
 pub struct Server {
     pub(crate) lost: BTreeSet<u8>,
@@ -107,6 +112,47 @@ impl Server {
         ensures given { OnOk result (given_by self.new ≡ given_by self.old) }
     {
         lost(alloc, self, client)
+    }
+
+    /// Drops the bodies of the garbage: of the objects that have a body and that no path reaches from a start, object 0 among
+    /// them. Paths go along these edges, and from an object to each one that its body names. It tells which objects that
+    /// were, each once, by rising id. All else is as before, so it stands for the entries for which it stood: who holds an
+    /// object that was swept may flush it, and a Fault of it doesn't fit any longer.
+    ///
+    /// It costs what [`garbage`] does with all bodies and what they name. It answers `NoMemory` where an allocation was
+    /// refused, and the server is as before then: nothing was dropped.
+    pub fn collect(
+        &mut self,
+        alloc: Global,
+        starts: &[u64],
+        edges: &[(u64, u64)],
+    ) -> Result<Vec<u64>, NoMemory>
+        requires { is_listed 0 starts.now ≡ true }
+        ensures rising { IfOk result (λ swept. IsStrictlySortedBy nat_cmp swept.items) }
+        ensures exact { IfOk result (λ swept. (o : ℕ) → (is_listed o swept.items ≡ true) ↔ IsGarbageAt self.old starts.now edges.now o) }
+        ensures gone { IfOk result (λ swept. HasSwept swept.items self.old self.new) }
+        ensures stands { OnOk result ((p : Settings) (es : List Entry) → ServerStands p self.old es → ServerStands p self.new es) }
+        ensures unchanged { OnErr result (self.new ≡ self.old) }
+    {
+        let swept = self.garbage(alloc, starts, edges)?;
+        self.store.sweep(swept.as_slice());
+        Ok(swept)
+    }
+
+    /// The garbage.
+    fn garbage(
+        &self,
+        alloc: Global,
+        starts: &[u64],
+        edges: &[(u64, u64)],
+    ) -> Result<Vec<u64>, NoMemory>
+        ensures rising { IfOk result (λ swept. IsStrictlySortedBy nat_cmp swept.items) }
+        ensures exact { IfOk result (λ swept. (o : ℕ) → (is_listed o swept.items ≡ true) ↔ IsGarbageAt self.now starts.now edges.now o) }
+    {
+        let objects = self.store.objects(alloc)?;
+        let mut all = self.store.edges(alloc)?;
+        all.extend_from_slice(edges)?;
+        garbage(alloc, objects.as_slice(), starts, all.as_slice())
     }
 
     /// How many batches of ids it gave. It takes no memory.

@@ -1,16 +1,13 @@
 -- What an end sent stays what it sent, and what goes to the channel is of that.
-use Rattle.std.proofs.Common.{ℕ, zero, suc, ◌+◌, ◌-◌, ◌<◌, ◌≤◌, ◌≡◌, refl, sym, ◌∙◌, ap, subst, Bool, true, false, cond, eqb, leb, ltb, not, ◌&&◌, ◌||◌, Option, Some, None, List, [], ◌∷◌, ◌++◌, drop, length, max, slice_get, arith}
+use Rattle.std.proofs.Common.{ℕ, zero, suc, ◌+◌, ◌-◌, ◌≤◌, ◌≡◌, refl, sym, ◌∙◌, ap, subst, Bool, true, false, cond, eqb, leb, ltb, not, ◌||◌, Option, Some, None, List, [], ◌∷◌, ◌++◌, drop, length, max, slice_get, arith}
 use Rattle.std.proofs.Math.Nat.{max-eq_left, max-eq_right, max-le}
 use Rattle.std.proofs.lemmas.List.{drop-append-le, drop-drop, length-append, length-drop}
 use Rattle.std.proofs.lemmas.Bool.{leb-false, leb-true, ltb-false}
-use Rattle.dso_session.specs.declared.frame.Accepted.{Accepted}
 use Rattle.dso_session.specs.declared.frame.Accepted.TheVariants as accepted
 use Rattle.dso_session.specs.declared.frame.Frame.{Frame}
 use Rattle.dso_session.specs.declared.frame.Frame.TheVariants.{Carry, Hello}
 use Rattle.dso_session.specs.declared.session.Posted.{Posted}
-use Rattle.dso_session.specs.declared.session.Role.{Role}
-use Rattle.dso_session.specs.declared.session.Role.TheVariants as role
-use Rattle.dso_session.specs.Ends.{End, after_answer, after_frame, answer, behind_frame, broken, carrying, forgotten, gone_on, is_new, next_frame, next_kept, posted, rejoined, sent_count}
+use Rattle.dso_session.specs.Ends.{End, after_answer, after_frame, behind_frame, broken, carrying, forgotten, gone_on, is_new, next_frame, next_kept, posted, rejoined, sent_count}
 use Rattle.dso_session.specs.Laws.{CarriesSent, GivesSent, Happening, Sends, Gives, Takes, Breaks, HasSent, KeepsSent, happened, sent_by}
 
 -- what is seen of two counts is the greater one

@@ -1,5 +1,5 @@
 -- The two ends of a connection: what each keeps, which frame is next, and what it makes of a frame of the other end.
-use Rattle.std.specs.Prelude.{ℕ, zero, suc, ◌+◌, ◌-◌, ◌^◌, ◌<◌, ◌≤◌, Bool, true, false, cond, eqb, leb, ltb, not}
+use Rattle.std.specs.Prelude.{ℕ, suc, ◌+◌, ◌-◌, ◌^◌, ◌<◌, ◌≤◌, Bool, true, false, cond, eqb, leb, ltb, not}
 use Rattle.std.specs.Prelude.{◌&&◌, ◌||◌, Option, Some, None, List, [], ◌∷◌, ◌++◌, drop, length, max, slice_get}
 use Rattle.dso_session.specs.declared.frame.Accepted.{Accepted}
 use Rattle.dso_session.specs.declared.frame.Accepted.TheVariants as accepted
@@ -33,6 +33,10 @@ pub record IsInOrder {M : Type 0} (end : End M) : Type 0 where
   pub seen : end.seen ≤ end.given
   pub given : end.given ≤ sent_count end
   pub few : sent_count end < 2 ^ 64
+
+-- the messages kept that have greater numbers than this one
+abbrev pub left_behind : {M : Type 0} → ℕ → End M → List (Posted M)
+left_behind number end = drop (number - end.seen) end.kept
 
 -- at first: ready, with nothing sent or accepted
 abbrev pub opened : {M : Type 0} → Role → End M

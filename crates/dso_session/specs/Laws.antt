@@ -1,13 +1,12 @@
 -- What is given up at one end is what was sent at the other, in order and once.
-use Rattle.std.specs.Prelude.{ℕ, ◌+◌, ◌-◌, ◌≤◌, ◌≡◌, Option, Some, None, List, [], ◌∷◌, ◌++◌, drop, length, slice_get}
+use Rattle.std.specs.Prelude.{ℕ, ◌-◌, ◌≤◌, ◌≡◌, Option, Some, None, List, [], ◌∷◌, ◌++◌, drop, length, slice_get}
 use Rattle.std.specs.Prelude.{take}
 use Rattle.dso_session.specs.declared.frame.Accepted.{Accepted}
 use Rattle.dso_session.specs.declared.frame.Accepted.TheVariants as accepted
 use Rattle.dso_session.specs.declared.frame.Frame.{Frame}
 use Rattle.dso_session.specs.declared.frame.Frame.TheVariants.{Carry, Hello}
 use Rattle.dso_session.specs.declared.session.Posted.{Posted}
-use Rattle.dso_session.specs.Ends.{End, IsInOrder, after_frame, answer, behind_frame, broken, next_frame, posted}
-use Rattle.dso_session.specs.Ends.{sent_count}
+use Rattle.dso_session.specs.Ends.{End, after_frame, answer, behind_frame, broken, next_frame, posted}
 
 -- The end sent these messages, in this order: those that are kept are the ones that the other end has not seen.
 pub record HasSent {M : Type 0} (sent : List (Posted M)) (end : End M) : Type 0 where

@@ -1,6 +1,8 @@
 //! One end of a connection (`specs/Ends.antt`).
-ghost use Rattle.std.specs.Prelude.{ℕ, ◌+◌, ◌<◌, ◌≤◌, ◌^◌, ◌≡◌, IfErr, IfOk, OnErr, OnOk, true};
-ghost use Rattle.dso_session.specs.Ends.{IsInOrder, opened, posted, next_frame, behind_frame, answer, answer_hello, after_frame, broken, forgotten, is_new, sent_count};
+ghost use Rattle.std.specs.Prelude.{ℕ, ◌+◌, ◌-◌, ◌<◌, ◌≤◌, ◌^◌, ◌≡◌, ◌++◌, drop, length, IfErr, IfOk, List, OnErr, OnOk, true};
+ghost use Rattle.dso_session.specs.Ends.{IsInOrder, opened, posted, next_frame, behind_frame, answer, answer_hello, after_frame, broken, forgotten, is_new, left_behind, sent_count};
+ghost use Rattle.dso_session.specs.Laws.{HasSent};
+ghost use Rattle.dso_session.specs.declared.session.Posted.{Posted};
 ghost use Rattle.dso_session.specs.declared.frame.Frame.TheVariants.{Hello};
 ghost use Rattle.dso_session.specs.declared.session.Role.TheVariants as role;
 
@@ -39,6 +41,18 @@ pub struct Session<M> {
     given: u64,
     kept: VecDeque<Posted<M>>,
     clock: u64,
+}
+
+/// The items behind so many.
+fn behind<T>(items: &[T], count: usize) -> &[T]
+    ensures { result.now ≡ drop count items.now }
+{
+    let len = items.len();
+    if count < len {
+        &items[count..]
+    } else {
+        &items[len..]
+    }
 }
 
 impl<M> Model for Session<M> {
@@ -128,6 +142,19 @@ impl<M: Drop> Session<M> {
         ensures { result ≡ sent_count self.now }
     {
         self.seen + self.kept.len() as u64
+    }
+
+    /// The messages that are kept and have greater numbers than this one, in order and in two parts: those of the second part
+    /// come behind those of the first. Where the other end has accepted so many, and no fewer than are known here to be seen
+    /// there, these are the messages that were sent and aren't accepted yet. It takes no memory.
+    pub fn left(&self, accepted: u64) -> (&[Posted<M>], &[Posted<M>])
+        ensures kept { result.0.now ++ result.1.now ≡ left_behind accepted self.now }
+        ensures sent { (sent : List (Posted M)) → HasSent sent self.now → self.now.seen ≤ accepted → result.0.now ++ result.1.now ≡ drop accepted sent }
+    {
+        let passed = accepted.saturating_sub(self.seen) as usize;
+        let (first, second) = self.kept.as_slices();
+        let more = passed.saturating_sub(first.len());
+        (behind(first, passed), behind(second, more))
     }
 
     /// Drops the messages that the other end has seen.

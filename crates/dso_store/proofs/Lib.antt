@@ -1,3 +1,4 @@
 pub mod BodiesWritten
 pub mod HoldersWritten
 pub mod Others
+pub mod Collected

@@ -3,6 +3,7 @@
 
 mod bodies;
 mod changes;
+mod collecting;
 mod holders;
 mod store;
 

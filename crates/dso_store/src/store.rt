@@ -1,16 +1,22 @@
 //! The server's graph (`specs/Graph.antt`).
-ghost use Rattle.std.specs.Prelude.{◌≡◌, false, None, Some, cond, eqb, OnOk, IfOk};
+ghost use Rattle.std.specs.Prelude.{ℕ, ◌≡◌, false, None, Some, cond, eqb, is_some, OnOk, IfOk};
+ghost use Rattle.std.specs.List.Sorted.{IsStrictlySortedBy};
 ghost use Rattle.std.specs.Option.{option_copied};
+ghost use Rattle.std.specs.Ordering.{nat_cmp};
+ghost use Rattle.dso_base.specs.Block.{body_names};
 ghost use Rattle.dso_base.specs.declared.journal.Input.TheVariants.{TookUp, Lose};
 ghost use Rattle.dso_base.specs.declared.message.Up.TheVariants as up;
 ghost use Rattle.dso_law.specs.ServerReadings.{number_by};
 ghost use Rattle.dso_law.specs.Settings.{Settings};
 ghost use Rattle.dso_law.specs.Store.{opening_roots, body_by, held_by};
+ghost use Rattle.dso_lookup.specs.Search.{is_listed};
 ghost use Rattle.dso_store.specs.Changes.{messages_of};
+ghost use Rattle.dso_store.specs.Collecting.{count_there, has_edge, without};
 ghost use Rattle.dso_store.specs.Graph.{body_in, holds_in, last_in, changes_by, AreClients};
 
 use crate::bodies::{add_news, opening_bodies, set_all};
 use crate::changes::changes_of;
+use crate::collecting::{edges_in, objects_in, take_bodies};
 use crate::holders::{Holders, add_all, add_holder, drop_client, drop_holder, is_holder};
 use dso_base::{Body, NoMemory, Set, Shape, Txn};
 use dso_lookup::put;
@@ -125,5 +131,38 @@ impl Store {
         ensures { IfOk result (λ changes. (p : Settings) → AreClients p (holds_in self.now) → messages_of changes.items ≡ changes_by p client txn.now (holds_in self.now)) }
     {
         changes_of(alloc, &self.holders, client, txn)
+    }
+
+    /// An edge from each object that has a body to each object that its body names, one for each of its values that names
+    /// it: whether an edge is listed is whether the first object's body names the second.
+    ///
+    /// It costs a step for each body and each value. It answers `NoMemory` where an allocation was refused.
+    pub fn edges(&self, alloc: Global) -> Result<Vec<(u64, u64)>, NoMemory>
+        ensures { IfOk result (λ edges. (a b : ℕ) → has_edge a b edges.items ≡ body_names (body_in self.now a) b) }
+    {
+        edges_in(alloc, &self.bodies)
+    }
+
+    /// The objects that have bodies, each once, by rising id.
+    ///
+    /// It costs a step for each body. It answers `NoMemory` where an allocation was refused.
+    pub fn objects(&self, alloc: Global) -> Result<Vec<u64>, NoMemory>
+        ensures rising { IfOk result (λ objects. IsStrictlySortedBy nat_cmp objects.items) }
+        ensures there { IfOk result (λ objects. (o : ℕ) → is_listed o objects.items ≡ is_some (body_in self.now o)) }
+    {
+        objects_in(alloc, &self.bodies)
+    }
+
+    /// Drops the bodies of these objects, of which object 0 is none. Who holds them stays as it is, so a client may flush an
+    /// object that was swept; of an object without a body nothing changes. It tells how many bodies it dropped: how many
+    /// different objects of the list had one. It takes no memory.
+    pub fn sweep(&mut self, ids: &[u64]) -> u64
+        requires { is_listed 0 ids.now ≡ false }
+        ensures bodies { body_in self.new ≡ without ids.now (body_in self.old) }
+        ensures holds { holds_in self.new ≡ holds_in self.old }
+        ensures last { last_in self.new ≡ last_in self.old }
+        ensures count { result ≡ count_there (body_in self.old) ids.now }
+    {
+        take_bodies(&mut self.bodies, ids)
     }
 }

@@ -1,10 +1,11 @@
-//! Rows of messages to a server and of losses, with what it answers; and of triggers, with which are due.
+//! Rows of messages to a server, of losses and of collections, with what it answers; and of triggers, with which are due.
 //!
 //! A row of the input is a sentence, `: `, and a command; it is printed as the sentence, `: `, and the answer. Any
 //! other line is printed as it stands, and the server is new from there on. The commands are told in `rows.rt`.
 #![tactic(auto)]
 
 mod answers;
+mod collecting;
 mod records;
 mod rows;
 mod triggers;

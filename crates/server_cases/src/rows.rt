@@ -7,12 +7,14 @@
 //! | `1 commit 1 1.1 5.0=7 exit:m5` | a record, its words told in `records.rt` |
 //! | `1 lasting fault 5` | the same, where the message is to stay |
 //! | `1 lose`, `1 lost` | the client is lost; whether it was |
+//! | `collect 5 5>6` | a collection, its words told in `collecting.rt` |
 //! | `1 due 4 0 break 1@5` | which triggers of the client are due, its words told in `triggers.rt` |
 //!
 //! A message that doesn't fit loses its client. Where it isn't to stay the server is made anew by the commands before it,
 //! so that the next row finds what this one found.
 
 use crate::answers::with_messages;
+use crate::collecting::collect;
 use crate::records::record;
 use crate::triggers::due_of;
 use case_words::{
@@ -138,6 +140,10 @@ fn take(
 /// Does the command once more.
 fn redo(alloc: Global, code: &Code, server: &mut Server, command: &str) -> Result<(), NoMemory> {
     let (first, rest) = first_of(command);
+    if first == "collect" {
+        collect(alloc, server, rest)?;
+        return Ok(());
+    }
     let Some(client) = small(first) else {
         return Ok(());
     };
@@ -182,6 +188,9 @@ impl Rows {
     /// The answer to the command.
     fn told(&mut self, alloc: Global, command: &str) -> Result<String, NoMemory> {
         let (first, rest) = first_of(command);
+        if first == "collect" {
+            return self.swept(alloc, command, rest);
+        }
         let Some(client) = small(first) else {
             return shown(alloc, "no such client");
         };
@@ -193,6 +202,14 @@ impl Rows {
                 None => self.sent(alloc, command, client, rest),
             },
         }
+    }
+
+    /// The answer to a collection.
+    fn swept(&mut self, alloc: Global, command: &str, words: &str) -> Result<String, NoMemory> {
+        let swept = collect(alloc, &mut self.server, words)?;
+        self.note(alloc, command)?;
+        let text = format!(in alloc; "Swept {swept:?}")?;
+        Ok(text)
     }
 
     /// The answer to a loss.

@@ -1,9 +1,9 @@
 //! The two ends of a connection, whose messages tell of flushed objects.
 
 use crate::words::{MOST, number_of};
-use case_words::{debugged, first_of};
+use case_words::{debugged, first_of, shown};
 use dso_base::{NoMemory, Up};
-use dso_session::{Frame, Session};
+use dso_session::{Frame, Posted, Session};
 use std::alloc::Global;
 
 /// Both ends.
@@ -31,6 +31,7 @@ pub fn told(alloc: Global, end: &mut Session<Up>, text: &str) -> Result<String, 
         "next" => debugged(alloc, end.next_frame()),
         "carry" => debugged(alloc, end.accept(carry_of(rest))),
         "hello" => debugged(alloc, end.accept(hello_of(rest))),
+        "left" => left(alloc, end, rest),
         _ => broken(alloc, end),
     }
 }
@@ -44,6 +45,24 @@ fn sent(alloc: Global, end: &mut Session<Up>, text: &str) -> Result<String, NoMe
     }
     end.send(Up::Flushed(message), clock)?;
     debugged(alloc, Ok::<(), NoMemory>(()))
+}
+
+/// The messages that are left behind a number.
+fn left(alloc: Global, end: &Session<Up>, text: &str) -> Result<String, NoMemory> {
+    let (number, _) = number_of(text);
+    let (first, second) = end.left(number);
+    let text = with_messages(alloc, shown(alloc, "left")?, first)?;
+    with_messages(alloc, text, second)
+}
+
+/// The text with the messages and their clocks behind it.
+fn with_messages(alloc: Global, text: String, all: &[Posted<Up>]) -> Result<String, NoMemory> {
+    let mut text = text;
+    for posted in all {
+        let (message, clock) = (&posted.message, posted.clock);
+        text = format!(in alloc; "{text} ; {message:?} at {clock}")?;
+    }
+    Ok(text)
 }
 
 /// Breaks the connection, where the epoch fits.

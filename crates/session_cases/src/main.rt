@@ -9,6 +9,7 @@
 //! | `client next` | its next frame |
 //! | `server carry 0 1 0 3 7` | the server's end takes a message: epoch, number, seen, clock, message |
 //! | `server hello 1 0 0` | it takes a Hello: epoch, seen, clock |
+//! | `client left 1` | the messages that the client's end keeps with numbers above 1 |
 //! | `server break` | its connection breaks |
 //! | `log 2 5` | client 2 (0 is the server) adds an entry, having heard clock 5 |
 //! | `merge` | the entries of all logs, by clock and node |

@@ -13,7 +13,7 @@ use Rattle.dso_server.specs.Sending.{sent_of, took}
 use Rattle.dso_server.specs.ServerStands.{ServerStands}
 use Rattle.dso_server.proofs.standing.BatchesGiven.{length_to}
 use Rattle.dso_server.proofs.standing.GraphTook.{graph_same}
-use Rattle.dso_server.proofs.standing.Lacking.{lacked_before}
+use Rattle.dso_server.proofs.standing.Lacking.{lacked_before, lacked_later}
 use Rattle.dso_server.proofs.standing.LocksTook.{locks_same}
 use Rattle.dso_server.proofs.standing.Taking.{stands_took}
 use Rattle.dso_server.proofs.standing.ThreadsTook.{threads_same}
@@ -33,4 +33,5 @@ answered_ids old ids c first messages is given alone p es s its here fits knows 
           (waiters_same old.waiters clock c up.IdAsk (ToClient c (down.Ids first) ∷ []) (counted es) (λ l list. refl) (λ l list. refl, tt) s.waiters)
           (threads_same p old.threads clock c up.IdAsk (ToClient c (down.Ids first) ∷ []) (counted es) (λ t last. refl) (λ t ended. refl) s.threads));
       lacks = λ clock. lacked_before p old (record old { ids = ids }) clock c up.IdAsk (sent_of messages) es here refl s.store;
+      keeps = lacked_later old (record old { ids = ids }) c up.IdAsk refl;
     }

@@ -23,7 +23,7 @@ use Rattle.dso_server.specs.Sending.{sent_of}
 use Rattle.dso_server.specs.Waiters.{lists_in, lists_returned}
 use Rattle.dso_server.proofs.lists.Each.{each_weaker}
 use Rattle.dso_server.proofs.standing.GraphTook.{graph_same}
-use Rattle.dso_server.proofs.standing.Lacking.{lacked_before}
+use Rattle.dso_server.proofs.standing.Lacking.{lacked_before, lacked_later}
 use Rattle.dso_server.proofs.standing.LocksTook.{locks_told, requested_within, returned_within, served_now}
 use Rattle.dso_server.proofs.standing.Quiet.{OffIds, OffWaiters, ids_stay, told_off_ids, told_off_waiters}
 use Rattle.dso_server.proofs.standing.Taking.{stands_took}
@@ -44,6 +44,7 @@ answered_request old table c l level told messages sends stands asked is p es s 
           (waiters_same old.waiters clock c (up.Request l level) (sent_of messages) (counted es) (λ k list. refl) (subst (AllByRecursion OffWaiters) (sym is) (told_off_waiters told)) s.waiters)
           (threads_same p old.threads clock c (up.Request l level) (sent_of messages) (counted es) (λ t e. refl) (λ t ended. refl) s.threads);
       lacks = λ clock. lacked_before p old (record old { locks = table }) clock c (up.Request l level) (sent_of messages) es here refl s.store;
+      keeps = lacked_later old (record old { locks = table }) c (up.Request l level) refl;
     }
 
 pub answered_return : (old : Server) (table : LockRows) (waiters : BTreeMap LockName (List ThreadId)) (c : ℕ) (l : LockName) (threads : List ThreadId) (told : List Told) (messages : List (ℕ × Down))
@@ -62,4 +63,5 @@ answered_return old table waiters c l threads told messages put sends stands ask
           (waiters_returned old.waiters waiters clock c l threads (sent_of messages) (counted es) put (subst (AllByRecursion OffWaiters) (sym is) (told_off_waiters told)) fits.once new s.waiters)
           (threads_same p old.threads clock c (up.Return l threads) (sent_of messages) (counted es) (λ t e. refl) (λ t ended. refl) s.threads);
       lacks = λ clock. lacked_before p old (record old { waiters = waiters; locks = table }) clock c (up.Return l threads) (sent_of messages) es here refl s.store;
+      keeps = lacked_later old (record old { waiters = waiters; locks = table }) c (up.Return l threads) refl;
     }

@@ -61,4 +61,5 @@ answered_loss old gone store table waiters c told messages those bodies holds la
         threads = record { known = s.threads.known; last = s.threads.last; ended = s.threads.ended };
       };
       lacks = λ clock o lacks. (lacks.0, sym (ap (λ f. f o) bodies) ∙ lacks.1);
+      keeps = λ o. ap (λ f. f o) bodies;
     }

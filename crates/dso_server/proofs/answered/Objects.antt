@@ -13,7 +13,7 @@ use Rattle.dso_server.specs.declared.server.Server.{Server}
 use Rattle.dso_server.specs.Answering.{AnswersMessage}
 use Rattle.dso_server.specs.Sending.{sent_of}
 use Rattle.dso_server.proofs.standing.GraphTook.{graph_took}
-use Rattle.dso_server.proofs.standing.Lacking.{lacked_before}
+use Rattle.dso_server.proofs.standing.Lacking.{lacked_before, lacked_later}
 use Rattle.dso_server.proofs.standing.LocksTook.{locks_same}
 use Rattle.dso_server.proofs.standing.Quiet.{OffIds, OffLocks, OffWaiters, ids_stay}
 use Rattle.dso_server.proofs.standing.Taking.{stands_took}
@@ -46,6 +46,7 @@ answered_fault old store c o body messages found is bodies holds last p es s its
       (waiters_same old.waiters clock c (up.Fault o) (sent_of messages) (counted es) (λ l list. refl) (subst (AllByRecursion OffWaiters) (sym is) (off_waiters c body)) s.waiters)
       (threads_same p old.threads clock c (up.Fault o) (sent_of messages) (counted es) (λ t e. refl) (λ t ended. refl) s.threads);
   lacks = λ clock. lacked_before p old (record old { store = store }) clock c (up.Fault o) (sent_of messages) es here bodies s.store;
+  keeps = lacked_later old (record old { store = store }) c (up.Fault o) bodies;
 }
 
 pub answered_flush : (old : Server) (store : Store) (c o : ℕ) (messages : List (ℕ × Down)) → messages ≡ []
@@ -61,4 +62,5 @@ answered_flush old store c o messages none bodies holds last p es s its here fit
           (waiters_same old.waiters clock c (up.Flushed o) (sent_of messages) (counted es) (λ l list. refl) (subst (AllByRecursion OffWaiters) (sym is) tt) s.waiters)
           (threads_same p old.threads clock c (up.Flushed o) (sent_of messages) (counted es) (λ t e. refl) (λ t ended. refl) s.threads);
       lacks = λ clock. lacked_before p old (record old { store = store }) clock c (up.Flushed o) (sent_of messages) es here bodies s.store;
+      keeps = lacked_later old (record old { store = store }) c (up.Flushed o) bodies;
     }

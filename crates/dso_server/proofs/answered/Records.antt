@@ -26,7 +26,7 @@ use Rattle.dso_server.specs.Threads.{known_in, last_in}
 use Rattle.dso_server.specs.Waiters.{lists_in, lists_woken}
 use Rattle.dso_server.proofs.standing.GraphTook.{graph_took}
 use Rattle.dso_server.proofs.lists.Lists.{each_append}
-use Rattle.dso_server.proofs.standing.Lacking.{lacked_before}
+use Rattle.dso_server.proofs.standing.Lacking.{lacked_before, lacked_later}
 use Rattle.dso_server.proofs.standing.LocksTook.{locks_same}
 use Rattle.dso_server.proofs.standing.Quiet.{OffIds, OffLocks, changes_off_ids, changes_off_locks, changes_off_waiters, ids_stay, wakes_off_ids, wakes_off_locks}
 use Rattle.dso_server.proofs.standing.Taking.{stands_took}
@@ -71,4 +71,5 @@ module _ {Z : Type 0} (old : Server) (store : Store) (threads : BTreeMap ThreadI
             (waiters_woken_by old.waiters waiters clock c txn (ToClient c (down.Ack txn.seq) ∷ messages_of changes) (sent_of messages) (counted es) woken (λ l list. refl, changes_off_waiters changes) is s.waiters)
             (threads_ended p old.threads threads clock c txn (sent_of messages) (counted es) there fits.going known ended s.threads);
         lacks = λ clock. lacked_before p old (record old { store = store; threads = threads; waiters = waiters }) clock c (up.Commit txn) (sent_of messages) es here bodies s.store;
+        keeps = lacked_later old (record old { store = store; threads = threads; waiters = waiters }) c (up.Commit txn) bodies;
       }
