@@ -13,6 +13,7 @@
 //! | `offer ids 0` | a message comes that doesn't fit: `nothing`, since nothing is sent |
 //! | `flush` | an object is flushed: the entry, or `nothing` |
 //! | `enabled 1`, `may_flush`, `alive` | what that call answers |
+//! | `named`, `edges` | the objects that the client's threads name, and the edges of its copies, each once and in order |
 //!
 //! An entry is printed as its line in the text of a journal. Its clock counts the entries of the client.
 #![tactic(auto)]

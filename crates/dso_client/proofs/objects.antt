@@ -4,3 +4,4 @@ pub mod SortedSets
 pub mod KnownObjects
 pub mod Blank
 pub mod HeldObjects
+pub mod NamedByThreads

@@ -36,3 +36,8 @@ pub record ContextRuns (code : Code) (context : ThreadContext) : Type 0 where
 -- The code is that of each thread that has a next request.
 abbrev pub RunsCode : Code → ClientState → Type 0
 RunsCode code kept = AllByRecursion (ContextRuns code) kept.contexts.items
+
+-- there is a code that they run
+pub record RunsSomeCode (kept : ClientState) : Type 0 where
+  pub code : Code
+  pub runs : RunsCode code kept

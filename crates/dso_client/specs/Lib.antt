@@ -31,3 +31,4 @@ pub mod LockEntries
 pub mod LeaseReturns
 pub mod AnsweredActs
 pub mod Laws
+pub mod NamedObjects

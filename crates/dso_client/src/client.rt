@@ -7,7 +7,8 @@ ghost use Rattle.dso_machine.specs.Sound.{IsSoundCode};
 ghost use Rattle.dso_client.specs.ThreadActs.{Acts, HoldsAtMost, LeavesAlone};
 ghost use Rattle.dso_client.specs.ClientStands.{ClientStands};
 ghost use Rattle.dso_client.specs.ClientViews.{IsNextVictim, is_unacknowledged, records_sent};
-ghost use Rattle.dso_client.specs.CodeRuns.{RunsCode};
+ghost use Rattle.dso_client.specs.CodeRuns.{RunsCode, RunsSomeCode};
+ghost use Rattle.dso_client.specs.NamedObjects.{TellsEdges, TellsNamed};
 ghost use Rattle.dso_client.specs.ObjectFlushes.{Flushes, IsVictimOf, NoneDue, TellsFlush};
 ghost use Rattle.dso_client.specs.Spent.{WhileWhole, is_spent};
 ghost use Rattle.dso_client.specs.TakenMessages.{Takes};
@@ -19,6 +20,7 @@ ghost use Rattle.dso_client.specs.Openings.{HasThreads, AreUnusedSequences, IsEm
 use crate::acted::Acted;
 use crate::client_state::ClientState;
 use crate::lock_state::LockState;
+use crate::named::named;
 use crate::object_flush::flush;
 use crate::opening::contexts;
 use crate::sequences::Sequences;
@@ -267,5 +269,33 @@ impl Client {
         ensures { TellsAlive self.now result }
     {
         alive(self.kept.contexts.as_slice())
+    }
+
+    /// The objects that a thread of the client names: its frames hold them, its next request names them, or it has them
+    /// in hand, in a private object or in its open block. Whatever entries the client stands for, an object is listed
+    /// exactly where they say so, as often as it is named. A thread that has ended names what it has in hand alone. It
+    /// costs the size of what the threads hold.
+    ///
+    /// It answers `NoMemory` where an allocation was refused, and where the client is spent; then nothing is asked of the
+    /// code of its threads.
+    pub fn named(&self, alloc: Global) -> Result<Vec<u64>, NoMemory>
+        requires runs { WhileWhole self.now (RunsSomeCode self.now) }
+        ensures named { IfOk result (λ named. TellsNamed self.now named.items) }
+        ensures refused { is_spent self.now ≡ true → is_err result ≡ true }
+    {
+        match self.kept.spent {
+            Some(refused) => Err(refused),
+            None => named(alloc, self.kept.contexts.as_slice()),
+        }
+    }
+
+    /// The edges of the client's copies: from a to b exactly where its copy of a names b in a field, whatever entries the
+    /// client stands for. They stand by rising a, and it costs the size of the copies.
+    ///
+    /// It answers `NoMemory` where an allocation was refused.
+    pub fn edges(&self, alloc: Global) -> Result<Vec<(u64, u64)>, NoMemory>
+        ensures { IfOk result (λ edges. TellsEdges self.now edges.items) }
+    {
+        self.kept.table.edges(alloc)
     }
 }

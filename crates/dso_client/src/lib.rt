@@ -51,6 +51,7 @@ mod lock_state_effect;
 mod locks;
 mod message_effect;
 mod message_fit;
+mod named;
 mod object_effect;
 mod object_flush;
 mod opening;

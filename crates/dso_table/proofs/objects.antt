@@ -3,3 +3,4 @@ pub mod StateChanges
 pub mod TableChanges
 pub mod FirstNotes
 pub mod LookedAt
+pub mod CopyEdges

@@ -2,3 +2,4 @@ pub mod States
 pub mod Slots
 pub mod ObjectTables
 pub mod Victims
+pub mod Edges

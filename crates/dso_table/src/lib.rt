@@ -1,6 +1,7 @@
 //! The objects that a client knows: its copies, what keeps each of them from being flushed, and the order of their use.
 #![tactic(auto)]
 
+mod edges;
 mod flush;
 mod not_flushable;
 mod notes;

@@ -1,8 +1,10 @@
 //! The table of a client's objects (`specs/States.antt`).
-ghost use Rattle.std.specs.Prelude.{◌≡◌, IfNone, IfSome, IfOk, IfErr, OnOk, OnErr};
+ghost use Rattle.std.specs.Prelude.{ℕ, ◌≡◌, IfNone, IfSome, IfOk, IfErr, OnOk, OnErr};
 ghost use Rattle.std.specs.Bool.{OnTrue, OnFalse};
 ghost use Rattle.std.specs.Option.{option_copied};
+ghost use Rattle.dso_base.specs.Block.{body_names};
 ghost use Rattle.dso_change.specs.Hands.{has_field};
+ghost use Rattle.dso_table.specs.Edges.{has_edge};
 ghost use Rattle.dso_table.specs.States.{nothing_known, body_of, is_absent, is_asked, asked, put, set, acted, acknowledged, opened, closed, used, flushed};
 ghost use Rattle.dso_table.specs.ObjectTables.{state_in};
 ghost use Rattle.dso_table.specs.Victims.{IsFlushable, IsReason, IsVictim, NoVictim};
@@ -10,7 +12,7 @@ ghost use Rattle.dso_table.specs.Victims.{IsFlushable, IsReason, IsVictim, NoVic
 use crate::not_flushable::NotFlushable;
 use crate::slot::ObjectStanding;
 use crate::tables::ObjectTables;
-use crate::{flush, notes, places, tables, victim};
+use crate::{edges, flush, notes, places, tables, victim};
 use dso_base::{Body, NoMemory, Set, ThreadId};
 use std::alloc::Global;
 use std::marker::Model;
@@ -61,6 +63,16 @@ impl Table {
             ObjectStanding::Asked => None,
             ObjectStanding::Resident(body) => Some(body),
         }
+    }
+
+    /// The edges of the copies: from a to b exactly where the copy of a names b in a field, as often as it does. They stand
+    /// by rising a, and it costs the size of the copies.
+    ///
+    /// It answers `NoMemory` where an allocation was refused.
+    pub fn edges(&self, alloc: Global) -> Result<Vec<(u64, u64)>, NoMemory>
+        ensures { IfOk result (λ edges. (a b : ℕ) → has_edge a b edges.items ≡ body_names (body_of ((state_in self.now).standing a)) b) }
+    {
+        edges::edges(&self.tables.places, alloc)
     }
 
     /// Whether an object was asked for and isn't resident yet. It takes no memory.

@@ -1,1 +1,2 @@
 pub mod LastSet
+pub mod NamesInHand

@@ -2,6 +2,7 @@
 //! acknowledged yet.
 #![tactic(auto)]
 
+mod named;
 mod open_block;
 mod privates;
 mod unacked;

@@ -2,10 +2,13 @@
 ghost use Rattle.std.specs.Prelude.{◌≡◌, OnOk, IfOk};
 ghost use Rattle.std.specs.Option.{option_copied};
 ghost use Rattle.dso_base.specs.Block.{Work, put_shared, publish};
+ghost use Rattle.dso_base.specs.Naming.{work_names};
 ghost use Rattle.dso_change.specs.Hands.{hand_of, record_from, IsOnce};
 ghost use Rattle.dso_txn.specs.InHand.{IsEmpty, hand_in, news_in, sets_in, thread_of, value_in, with_note, with_output};
+ghost use Rattle.dso_txn.specs.NamedInHand.{AddsNamed};
 ghost use Rattle.dso_txn.specs.declared.privates.Privates as privates;
 
+use crate::named::{add_bodies, add_notes, add_sets, add_values};
 use crate::privates::Privates;
 use dso_base::{Body, Ending, NoMemory, Note, Set, ThreadId, Txn, Value};
 use dso_change::{Draft, put};
@@ -77,6 +80,21 @@ impl OpenBlock {
     {
         self.draft.notes.push(note)?;
         Ok(())
+    }
+
+    /// Adds the objects that the thread's work in hand names to a list, that of the block and that of its private objects
+    /// beside it: whatever work the two stand for, an object is listed exactly where it was before or the work names it, as
+    /// often as it does. It costs the size of what there is.
+    ///
+    /// It answers `NoMemory` where an allocation was refused; the list has some of the objects more then.
+    pub fn named(&self, privates: &Privates, into: &mut Vec<u64>) -> Result<(), NoMemory>
+        ensures { OnOk result ((work : Work) → IsOnce work → hand_in privates.now self.now ≡ hand_of work → AddsNamed (work_names work) into.old.items into.new.items) }
+    {
+        add_bodies(&privates.bodies, into)?;
+        add_bodies(&self.draft.news, into)?;
+        add_sets(&self.draft.sets, into)?;
+        add_values(self.draft.outs.as_slice(), into)?;
+        add_notes(self.draft.notes.as_slice(), into)
     }
 
     /// The record of the block, with its number and its ending: of whatever work the block stood for, beside whatever

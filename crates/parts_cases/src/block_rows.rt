@@ -8,13 +8,14 @@
 //! | `put 1 0 r5` | it puts a value in a field of a shared object |
 //! | `print l7`, `note m1 there` | it prints a value; it notifies |
 //! | `get 5`, `body 5`, `value 1 0` | the private object; the published one; the block's value of the field |
+//! | `named` | the objects that what is in hand names |
 //! | `fold 3 exit m1` | the record of this number and ending, from all these events |
 //! | `close 3 exit m1` | the record from the open block, which is empty then |
 //! | `changes 1 2` | the sets of the last record closed that are for a client that holds these objects |
 
 use crate::block_words::{body_of, made_by, note_of, note_request, numbered_ending, shape};
 use crate::record_words::{body_text, record_text, sets_text};
-use case_words::{debugged, first_of, number, number_list, set, shown, value};
+use case_words::{debugged, first_of, number, number_list, set, shown, value, with_numbers};
 use dso_base::{Body, Ending, Event, NoMemory, Note, Reply, Request, Set, ThreadId, Txn, Value};
 use dso_change::{changes_for, fold, opening_body};
 use dso_txn::{OpenBlock, Privates};
@@ -200,8 +201,16 @@ impl Hand {
                 debugged(alloc, self.block.value(object, field as u32))
             }
             ("changes", _, _) => self.changes(alloc, text),
+            ("named", _, _) => self.named(alloc),
             _ => shown(alloc, "no such call"),
         }
+    }
+
+    /// The objects that what is in hand names.
+    fn named(&self, alloc: Global) -> Result<String, NoMemory> {
+        let mut named = Vec::new(alloc);
+        self.block.named(&self.privates, &mut named)?;
+        with_numbers(alloc, String::new(alloc), named.as_slice())
     }
 
     /// The changes of the last record for a client that holds these objects.

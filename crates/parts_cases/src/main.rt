@@ -21,6 +21,7 @@ mod record_words;
 mod server_parts;
 mod store_records;
 mod store_rows;
+mod store_sweeps;
 mod table_rows;
 mod unacked_rows;
 mod waits;

@@ -183,7 +183,7 @@ fn puts(
 {
     let changed = new_record(plain, drawn);
     let value = drawn_value(drawn);
-    put_value(alloc, table, id_of(at), value, changed)?;
+    put_value(alloc, table, id_of(at), Value::Long(value), changed)?;
     let row = &mut plain.rows[at];
     row.is_asked = false;
     row.value = Some(value);

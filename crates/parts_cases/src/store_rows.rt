@@ -1,9 +1,11 @@
 //! The server's graph, of two roots: `publish 1 7 5` (client 1's record 7 publishes object 5, an array of two longs),
 //! `set 1 8 5 0 9` (its record 8 sets element 0 of object 5 to 9), `others 1 8 5 0 9` (who is told of that record),
-//! `hold 1 5`, `unhold 1 5`, `lose 1`, `holds 1 5`, `last 1`, `object 5`, `random 7 500`.
+//! `hold 1 5`, `unhold 1 5`, `lose 1`, `holds 1 5`, `last 1`, `object 5`, `random 7 500`; `edges`, `objects`, `sweep 5 6` (what
+//! a collection reads, and what it drops).
 
 use crate::plain_store::compared_stores;
 use crate::store_records::{publishing, setting};
+use crate::store_sweeps::swept;
 use case_words::{debugged, first_of, number, set, shown, small};
 use dso_base::{Items, NoMemory, Shape, Txn};
 use dso_store::Store;
@@ -23,16 +25,17 @@ pub fn opened(alloc: Global) -> Result<Store, NoMemory> {
 /// The answer to the call.
 pub fn told(alloc: Global, store: &mut Store, text: &str) -> Result<String, NoMemory> {
     let (word, rest) = first_of(text);
-    let (first, rest) = first_of(rest);
-    if word == "random" {
-        return compared_stores(alloc, first, rest);
-    }
-    if word == "object" {
-        return body_of(alloc, store, first);
-    }
-    match small(first) {
-        Some(client) => of_client(alloc, store, word, client, rest),
-        None => shown(alloc, "no such client"),
+    let (first, others) = first_of(rest);
+    match word {
+        "random" => compared_stores(alloc, first, others),
+        "object" => body_of(alloc, store, first),
+        "edges" => debugged(alloc, store.edges(alloc)?),
+        "objects" => debugged(alloc, store.objects(alloc)?),
+        "sweep" => swept(alloc, store, rest),
+        _ => match small(first) {
+            Some(client) => of_client(alloc, store, word, client, others),
+            None => shown(alloc, "no such client"),
+        },
     }
 }
 

@@ -1,10 +1,12 @@
 //! The table of a client's objects: `new 2`, `put 5 7`, `put 5 7 1`, `set 5 0 9`, `set 5 0 9 1`, `get 5`, `asked 5`,
-//! `ask 5 1.1`, `opened 5 1.1`, `used 5`, `flush 5`, `acted 1.1`, `closed 1.1`, `acked 1`, `victim`, `random 7 500`.
+//! `ask 5 1.1`, `opened 5 1.1`, `used 5`, `flush 5`, `acted 1.1`, `closed 1.1`, `acked 1`, `victim`, `edges`,
+//! `random 7 500`.
 //!
-//! An object has one field, a long. A number behind a `put` or a `set` is that of the own record that changed it.
+//! An object has one field, a long or, as `put 5 r7`, a reference. A number behind a `put` or a `set` is that of the own
+//! record that changed it.
 
 use crate::plain_table::compared_tables;
-use case_words::{count, debugged, first_of, long, number, shown, single, thread};
+use case_words::{count, debugged, first_of, number, shown, single, thread, value, with_edges};
 use dso_base::{Body, ClassId, NoMemory, Set, ThreadId, Value};
 use dso_table::Table;
 use std::alloc::Global;
@@ -40,6 +42,10 @@ fn called(alloc: Global, table: &mut Table, word: &str, text: &str) -> Result<St
     let (first, rest) = first_of(text);
     if word == "victim" {
         return debugged(alloc, table.victim());
+    }
+    if word == "edges" {
+        let edges = table.edges(alloc)?;
+        return with_edges(alloc, String::new(alloc), edges.as_slice());
     }
     if let Some(thread) = thread(first) {
         return ended(alloc, table, word, thread);
@@ -109,10 +115,10 @@ pub fn put_value(
     alloc: Global,
     table: &mut Table,
     object: u64,
-    value: i64,
+    value: Value,
     changed: Option<u64>,
 ) -> Result<(), NoMemory> {
-    let values = single(alloc, Value::Long(value))?;
+    let values = single(alloc, value)?;
     let body = Body {
         object,
         class: ClassId::Plain(0),
@@ -124,7 +130,7 @@ pub fn put_value(
 /// The answer to a copy that comes.
 fn put(alloc: Global, table: &mut Table, object: u64, text: &str) -> Result<String, NoMemory> {
     let (first, second) = first_of(text);
-    match long(first) {
+    match value(first) {
         Some(value) => {
             put_value(alloc, table, object, value, number(second))?;
             shown(alloc, "put")
@@ -137,13 +143,13 @@ fn put(alloc: Global, table: &mut Table, object: u64, text: &str) -> Result<Stri
 fn set(alloc: Global, table: &mut Table, object: u64, text: &str) -> Result<String, NoMemory> {
     let (first, rest) = first_of(text);
     let (second, third) = first_of(rest);
-    let (Some(field), Some(value)) = (count(first), long(second)) else {
+    let (Some(field), Some(value)) = (count(first), value(second)) else {
         return shown(alloc, "no such field");
     };
     let change = Set {
         object,
         field,
-        value: Value::Long(value),
+        value,
     };
     shown(alloc, table.set(alloc, change, number(third)))
 }

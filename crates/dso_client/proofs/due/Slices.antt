@@ -19,7 +19,7 @@ use Rattle.dso_client.proofs.due.Settled.{adds_both}
 abbrev pub others : {X : Type 0} → List X → List X
 others xs = take (length xs - 1) (drop 1 xs)
 
-others_are : {X : Type 0} (x : X) (xs : List X) → others (x ∷ xs) ≡ xs
+pub others_are : {X : Type 0} (x : X) (xs : List X) → others (x ∷ xs) ≡ xs
 others_are x xs =
     let many : suc (length xs) - 1 ≡ length xs = omega arith in
     ap (λ n. take n xs) many ∙ take_all (length xs) xs (omega arith)
