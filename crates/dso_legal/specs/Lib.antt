@@ -11,6 +11,7 @@ pub mod Holds
 pub mod Residency
 pub mod MadeOnce
 pub mod ClassesKept
+pub mod Collection
 pub mod OwnObjects
 pub mod NewsAreNew
 pub mod Sorted

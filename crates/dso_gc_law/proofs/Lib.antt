@@ -1,0 +1,5 @@
+pub mod Known
+pub mod leases
+pub mod threads
+pub mod server
+pub mod garbage
