@@ -12,3 +12,4 @@ pub mod finished
 pub mod places
 pub mod programs
 pub mod worlds
+pub mod collecting

@@ -6,3 +6,5 @@ pub mod Stepped
 pub mod Ready
 pub mod Outcomes
 pub mod Cut
+pub mod Known
+pub mod Lacking

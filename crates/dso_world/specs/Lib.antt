@@ -16,3 +16,4 @@ pub mod SentMessages
 pub mod Touched
 pub mod WorldStands
 pub mod WorldSteps
+pub mod Collections

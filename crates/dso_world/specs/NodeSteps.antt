@@ -1,16 +1,19 @@
 -- What a step makes of all nodes. Entries stand with the newest first.
 use Rattle.std.specs.List.{list_any}
-use Rattle.std.specs.Prelude.{ℕ, suc, ◌+◌, ◌-◌, ◌≡◌, ◌<◌, ◌^◌, true, false, cond, eqb, List, ◌∷◌, Option, Some}
-use Rattle.std.specs.Prelude.{option_and_then, option_map, slice_get}
+use Rattle.std.specs.Prelude.{ℕ, suc, ◌+◌, ◌-◌, ◌≡◌, ◌<◌, ◌^◌, ◌↔◌, true, false, cond, eqb, List, ◌∷◌, Option}
+use Rattle.std.specs.Prelude.{Some, option_and_then, option_map, slice_get}
 use Rattle.dso_base.specs.declared.journal.Entry.{Entry}
 use Rattle.dso_base.specs.declared.message.Down.{Down}
 use Rattle.dso_base.specs.declared.message.Up.{Up}
 use Rattle.dso_class.specs.declared.program.Program.{Program}
+use Rattle.dso_gc_law.specs.Lacking.{IsLacked}
 use Rattle.dso_law.specs.Channels.{Letter, up_in_flight}
 use Rattle.dso_law.specs.Settings.{clients_of}
 use Rattle.dso_legal.specs.Lawful.{IsLawful}
 use Rattle.dso_legal.specs.Slots.{Slot, is_loss_or_break_due}
 use Rattle.dso_machine.specs.Next.{next_request}
+use Rattle.dso_server.specs.declared.server.Server.{Server}
+use Rattle.dso_store.specs.Graph.{body_in}
 use Rattle.dso_session.specs.declared.frame.Accepted.{Accepted}
 use Rattle.dso_base.specs.declared.both.Both.{Both}
 use Rattle.dso_base.specs.declared.both.Both.TheVariants as both
@@ -71,17 +74,25 @@ module _ (program : Program) where
     pub stands : NodesStand program nodes es
     pub opened : IsOpenAfter program es slot
 
-  -- the journal stays lawful with the entry, which is made at the slot, and the nodes stand for the entries with it
-  pub record FollowsAll (slot : Slot) (entry : Entry) (nodes : Nodes) (es : List Entry) : Type 0 where
+  -- what the server lacks after the entry it lacked before, and the other way
+  abbrev pub LacksAsBefore : Entry → Server → Server → List Entry → Type 0
+  LacksAsBefore entry old new es = (o : ℕ) → IsLacked (settings_of program) (body_in new.store) (entry ∷ es) o
+      ↔ IsLacked (settings_of program) (body_in old.store) es o
+
+  -- the journal stays lawful with the entry, which is made at the slot, and the nodes stand for the entries with it; what
+  -- the server lacks it lacked before
+  pub record FollowsAll (slot : Slot) (entry : Entry) (server : Server) (nodes : Nodes) (es : List Entry) : Type 0 where
     pub lawful : IsLawful (settings_of program) (next_request program.code) (entry ∷ es)
     pub at : slot_at entry.node entry.input ≡ Some slot
     pub stands : NodesStand program nodes (entry ∷ es)
+    pub swept : LacksAsBefore entry server nodes.server es
 
   -- so for whatever entries the nodes stood for, after which the slot is open
   abbrev pub StepsAll : ℕ → Slot → Entry → Nodes → Nodes → Type 0
   StepsAll c slot entry old new = (es : List Entry) → IsJournal program es
       → list_any (eqb c) (clients_of (settings_of program)) ≡ true
-      → NodesStand program old es → IsOpenAfter program es slot → FollowsAll slot entry new es
+      → NodesStand program old es → IsOpenAfter program es slot
+      → FollowsAll slot entry old.server new es
 
   -- the course and the past of the connection of client d, where the server has taken one message more of client c
   abbrev pub course_heard : ℕ → List Entry → ℕ → Course

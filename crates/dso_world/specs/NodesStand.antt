@@ -10,9 +10,13 @@ use Rattle.dso_client.specs.CodeRuns.{RunsCode}
 use Rattle.dso_law.specs.Channels.{last_clock}
 use Rattle.dso_law.specs.Entries.{entries_of}
 use Rattle.dso_server.specs.Answering.{given_by}
-use Rattle.dso_server.specs.Lacking.{LacksNothing}
+use Rattle.dso_gc_law.specs.Lacking.{LacksOnlyGarbage}
+use Rattle.dso_machine.specs.Frames.{frames_after}
+use Rattle.dso_machine.specs.Next.{next_request}
+use Rattle.dso_server.specs.declared.server.Server.{Server}
 use Rattle.dso_server.specs.ServerStands.{ServerStands}
 use Rattle.dso_server.specs.Triggers.{AreTriggersOf}
+use Rattle.dso_store.specs.Graph.{body_in}
 use Rattle.dso_base.specs.declared.both.Both.{Both}
 use Rattle.dso_base.specs.declared.both.Both.TheVariants as both
 use Rattle.dso_world.specs.declared.client_node.ClientNode.{ClientNode}
@@ -40,8 +44,13 @@ module _ (program : Program) where
   ClientNodeStands c client_node es =
       ClientNodeStandsBy c (course_of (settings_of program) c es) (past_of both.Up both.Down c es) client_node es
 
+  -- the server lacks nothing but garbage
+  abbrev pub LacksGarbage : Server → List Entry → Type 0
+  LacksGarbage server es =
+      LacksOnlyGarbage (settings_of program) (next_request program.code) (frames_after program.code) (body_in server.store) es
+
   -- The nodes after the entries: each client, by the course and the past of its connection; and the server's core
-  -- stands for the server's entries and has each stored object, its clock is that of its last entry, and it gave no
+  -- stands for the server's entries and lacks nothing but garbage, its clock is that of its last entry, and it gave no
   -- more batches of ids than there are entries.
   pub record NodesStandBy (course : ℕ → Course) (past : ℕ → Past Both) (nodes : Nodes) (es : List Entry) : Type 0 where
     pub count : length nodes.client_nodes.items ≡ program.clients
@@ -49,7 +58,7 @@ module _ (program : Program) where
         → slice_get nodes.client_nodes.items place ≡ Some client_node
         → ClientNodeStandsBy (suc place) (course (suc place)) (past (suc place)) client_node es
     pub server : ServerStands (settings_of program) nodes.server (entries_of node.Server es)
-    pub lacks : LacksNothing (settings_of program) nodes.server (entries_of node.Server es)
+    pub lacks : LacksGarbage nodes.server es
     pub given : given_by nodes.server ≤ length es
     pub clock : nodes.clock ≡ last_clock node.Server es
 

@@ -5,9 +5,11 @@ use Rattle.std.specs.Prelude.{◌++◌, is_some, length, map, option_map, revers
 use Rattle.dso_base.specs.declared.journal.Entry.{Entry}
 use Rattle.dso_base.specs.declared.journal.Journal.{Journal}
 use Rattle.dso_class.specs.declared.program.Program.{Program}
+use Rattle.dso_gc_law.specs.Lacking.{IsLacked}
 use Rattle.dso_legal.specs.Lawful.{IsLawful}
 use Rattle.dso_legal.specs.Slots.{is_finished, open_slots, slots, weight}
 use Rattle.dso_machine.specs.Next.{next_request}
+use Rattle.dso_store.specs.Graph.{body_in}
 use Rattle.dso_world.specs.declared.open_steps.OpenSteps.{OpenSteps}
 use Rattle.dso_world.specs.declared.step.Step.{Step}
 use Rattle.dso_world.specs.declared.world.World.{World}
@@ -49,6 +51,14 @@ module _ (program : Program) where
     pub lawful : IsLawful (settings_of program) (next_request program.code) (entries_in world)
     pub parts : is_spent world ≡ false → WorldPartsStand world (entries_in world)
 
+  -- the object was swept: it is stored, and the server has no body of it
+  abbrev pub IsSweptIn : World → ℕ → Type 0
+  IsSweptIn world o = IsLacked (settings_of program) (body_in world.nodes.server.store) (entries_in world) o
+
+  -- the same objects were swept
+  abbrev pub SweepsNothing : World → World → Type 0
+  SweepsNothing old new = (o : ℕ) → IsSweptIn new o ↔ IsSweptIn old o
+
   -- whether the step's slot is one of the cluster's that are open
   abbrev pub is_open_step : Step → World → Bool
   is_open_step step world = list_any (is_slot (slot_of step))
@@ -75,6 +85,7 @@ pub record IsMade (program : Program) (step : Step) (old new : World) : Type 0 w
   pub makes : MakesEntry step old new
   pub lawful : IsLawful (settings_of program) (next_request program.code) (entries_in new)
   pub parts : WorldPartsStand program new (entries_in new)
+  pub swept : SweepsNothing program old new
 
 -- the step makes an entry where its slot is open; where that isn't open, nothing changes
 abbrev pub IsStepped : Program → Step → Bool → World → World → Type 0

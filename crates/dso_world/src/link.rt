@@ -1,11 +1,11 @@
 //! The connection of a client (`specs/Link.antt`).
-ghost use Rattle.std.specs.Prelude.{◌≡◌, ◌↔◌, ◌≤◌, ◌<◌, ◌+◌, ◌^◌, [], IfOk, IsTrue, OnOk};
-ghost use Rattle.dso_session.specs.Ends.{sent_count};
+ghost use Rattle.std.specs.Prelude.{◌≡◌, ◌↔◌, ◌≤◌, ◌<◌, ◌+◌, ◌++◌, ◌^◌, [], IfOk, IsTrue, OnOk};
+ghost use Rattle.dso_session.specs.Ends.{left_behind, sent_count};
 ghost use Rattle.dso_world.specs.Link.{opening_line, sent_up, sent_down, taken_up, taken_down, pumped_up, pumped_down, first_answer, cut};
 
 use crate::pump::{pump, take_first};
 use dso_base::{Data, NoMemory};
-use dso_session::{Accepted, Frame, Session};
+use dso_session::{Accepted, Frame, Posted, Session};
 use std::alloc::Global;
 use std::collections::VecDeque;
 use std::marker::Model;
@@ -92,6 +92,20 @@ impl<M: Data + Drop> Link<M> {
         ensures { result ≡ self.now.server.epoch }
     {
         self.server.epoch()
+    }
+
+    /// The messages that the client sent and the server hasn't taken, in order and in two parts. It takes no memory.
+    pub fn left_up(&self) -> (&[Posted<M>], &[Posted<M>])
+        ensures { result.0.now ++ result.1.now ≡ left_behind self.now.server.accepted self.now.client }
+    {
+        self.client.left(self.server.accepted())
+    }
+
+    /// The messages that the server sent and the client hasn't taken, in order and in two parts. It takes no memory.
+    pub fn left_down(&self) -> (&[Posted<M>], &[Posted<M>])
+        ensures { result.0.now ++ result.1.now ≡ left_behind self.now.client.accepted self.now.server }
+    {
+        self.server.left(self.client.accepted())
     }
 
     /// The client gives its frames; those of a connection that is broken are dropped.

@@ -55,7 +55,7 @@ fn hear(
 ) -> Result<Entry, NoMemory>
     requires { IsHeard program.now incoming.client (record { message = incoming.message; clock = incoming.clock }) nodes.old }
     ensures { IfOk result (λ entry. (es : List Entry) → Heard program.now incoming.client (record { message = incoming.message; clock = incoming.clock }) nodes.old es
-        → FollowsAll program.now (slot.TakesUp incoming.client) entry nodes.new es) }
+        → FollowsAll program.now (slot.TakesUp incoming.client) entry nodes.old.server nodes.new es) }
 {
     let IncomingMessage {
         client,

@@ -4,9 +4,11 @@ ghost use Rattle.std.specs.Option.{option_copied};
 ghost use Rattle.dso_class.specs.declared.program.Program.{Program};
 ghost use Rattle.dso_class.specs.Sound.{IsSoundProgram};
 ghost use Rattle.dso_legal.specs.Slots.{is_finished, weight};
-ghost use Rattle.dso_world.specs.WorldStands.{IsChosenStep, IsMade, IsMakeable, IsStepped, WorldStands, entries_in, is_open_step, is_spent, journal_of};
+ghost use Rattle.dso_world.specs.Collections.{IsSomeWorld, Sweeps};
+ghost use Rattle.dso_world.specs.WorldStands.{IsChosenStep, IsMade, IsMakeable, IsStepped, SweepsNothing, WorldStands, entries_in, is_open_step, is_spent, journal_of};
 ghost use Rattle.dso_world.specs.WorldSteps.{settings_of};
 
+use crate::collection::sweep;
 use crate::node_step::apply;
 use crate::nodes::Nodes;
 use crate::open_steps::OpenSteps;
@@ -65,6 +67,7 @@ impl World {
         requires few { length (journal_of self.old).entries < 2 ^ 28 }
         ensures stands { WorldStands program.now self.new }
         ensures stepped { IfOk result (λ made. IsStepped program.now step made self.old self.new) }
+        ensures swept { OnOk result (SweepsNothing program.now self.old self.new) }
         ensures whole { OnOk result (is_spent self.new ≡ false) }
         ensures spent { OnErr result (is_spent self.new ≡ true) }
         ensures refused { is_spent self.old ≡ true → IsErr result × (self.new ≡ self.old) }
@@ -101,6 +104,36 @@ impl World {
         self.weight = with_weight(self.weight, &entry);
         self.journal.entries.push(entry)?;
         Ok(())
+    }
+
+    /// A collection: sweeps the bodies of those objects of the server's graph that are garbage after the journal, which no
+    /// path reaches from what the threads of clients that aren't lost hold or what is in flight, and tells how many that
+    /// were. It makes no entry, and no later step tells of it (`specs/Collections.antt`).
+    ///
+    /// It costs the logarithm of what there is, for each object, copy, value and message. It answers `NoMemory` where an
+    /// allocation was refused: nothing is swept, and the world is spent then, with the journal that it had. A spent world
+    /// answers that refusal.
+    pub fn collect(&mut self, alloc: Global) -> Result<u64, NoMemory>
+        requires { IsSomeWorld self.old }
+        ensures stands { (program : Program) → IsSoundProgram program → WorldStands program self.old → WorldStands program self.new }
+        ensures swept { IfOk result (λ count. (program : Program) → IsSoundProgram program → WorldStands program self.old
+            → Sweeps program count self.old self.new) }
+        ensures whole { OnOk result (is_spent self.new ≡ false) }
+        ensures spent { OnErr result (is_spent self.new ≡ true) }
+        ensures refused { is_spent self.old ≡ true → IsErr result × (self.new ≡ self.old) }
+        ensures unswept { OnErr result ((program : Program) → SweepsNothing program self.old self.new) }
+        ensures journal { journal_of self.new ≡ journal_of self.old }
+    {
+        if let Some(refused) = self.spent {
+            return Err(refused);
+        }
+        match sweep(alloc, &mut self.nodes) {
+            Ok(swept) => Ok(swept),
+            Err(refused) => {
+                self.spent = Some(refused);
+                Err(refused)
+            }
+        }
     }
 
     /// Whether the step's slot is open. It takes no memory.

@@ -1,5 +1,5 @@
 -- The nodes once one of the clients made its step.
-use Rattle.std.proofs.Common.{ℕ, zero, suc, ◌-◌, ◌<◌, ◌≡◌, ◌≢◌, ◌⊎◌, inl, inr, refl, sym, ◌∙◌, ap, subst, false, cond, eqb, Some, List, [], ◌∷◌, length, slice_get, slice_index_or, slice_set, arith}
+use Rattle.std.proofs.Common.{ℕ, zero, suc, ◌-◌, ◌<◌, ◌≡◌, ◌≢◌, ◌↔◌, ◌⊎◌, inl, inr, refl, sym, ◌∙◌, ap, subst, false, cond, eqb, Some, List, [], ◌∷◌, length, slice_get, slice_index_or, slice_set, arith}
 use Rattle.std.proofs.lemmas.Bool.{ne_eqb}
 use Rattle.std.specs.Vec.{with_item}
 use Rattle.dso_base.specs.declared.journal.Entry.{Entry}
@@ -10,18 +10,19 @@ use Rattle.dso_client.specs.ClientStands.{ClientStands}
 use Rattle.dso_law.specs.Channels.{last_clock}
 use Rattle.dso_law.specs.Entries.{entries_of}
 use Rattle.dso_legal.specs.Slots.{Slot}
-use Rattle.dso_server.specs.Lacking.{LacksNothing}
+use Rattle.dso_server.specs.Lacking.{Lacks}
 use Rattle.dso_server.specs.ServerStands.{ServerStands}
 use Rattle.dso_base.specs.declared.both.Both.TheVariants as both
 use Rattle.dso_world.specs.declared.client_node.ClientNode.{ClientNode}
 use Rattle.dso_world.specs.declared.nodes.Nodes.{Nodes}
 use Rattle.dso_world.specs.LinkStands.{LinkStands}
 use Rattle.dso_world.specs.ClientSteps.{Steps}
-use Rattle.dso_world.specs.NodeSteps.{StepsAll}
+use Rattle.dso_world.specs.NodeSteps.{LacksAsBefore, StepsAll}
 use Rattle.dso_world.specs.NodesStand.{ClientNodeStands}
 use Rattle.dso_world.specs.PastOf.{course_of, past_of}
 use Rattle.dso_world.specs.WorldSteps.{settings_of}
 use Rattle.dso_client.proofs.standing.Bounds.{holds_more}
+use Rattle.dso_world.proofs.nodes.Lacking.{garbage_still}
 use Rattle.dso_world.proofs.pasts.OwnEntry.{other_course, other_past}
 use Rattle.dso_world.proofs.places.Clients.{numbered_so}
 
@@ -81,6 +82,8 @@ module _ (program : Program) (c : ℕ) (slot : Slot) (nodes : Nodes) (old new : 
       let place : suc (c - 1) ≡ c = (let low = (numbered_so c program.clients its).0 in omega (arith, low)) in
       let follows = steps es journal its (subst (λ d. ClientNodeStands program d old es) place (stands.client_nodes (c - 1) old there)) opened in
       let given = stands.given in
+      let lacked : LacksAsBefore program entry nodes.server nodes.server es =
+      λ o. subst (λ own. Lacks (settings_of program) nodes.server own o ↔ Lacks (settings_of program) nodes.server (entries_of node.Server es) o) (server_same program c entry follows.its es) (λ lacks. lacks, λ lacks. lacks) in
       record {
         lawful = follows.lawful;
         at = follows.at;
@@ -91,8 +94,9 @@ module _ (program : Program) (c : ℕ) (slot : Slot) (nodes : Nodes) (old new : 
             | inr h ↦ other_client_node program c entry follows.its es (suc at) client_node (ne_eqb (suc at) c (λ same. h.0 (omega (arith, same)))) (stands.client_nodes at client_node h.1)
           ];
           server = subst (ServerStands (settings_of program) nodes.server) (server_same program c entry follows.its es) stands.server;
-          lacks = subst (LacksNothing (settings_of program) nodes.server) (server_same program c entry follows.its es) stands.lacks;
+          lacks = garbage_still program es journal entry nodes.server nodes.server follows.lawful lacked stands.lacks;
           given = omega (arith, given);
           clock = stands.clock ∙ server_clock program c entry follows.its es;
         };
+        swept = lacked;
       }

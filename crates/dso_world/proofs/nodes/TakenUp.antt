@@ -12,7 +12,6 @@ use Rattle.dso_law.specs.Settings.{clients_of}
 use Rattle.dso_legal.specs.Slots.{TakesUp, is_loss_or_break_due}
 use Rattle.dso_machine.specs.Next.{next_request}
 use Rattle.dso_server.specs.Answering.{given_by}
-use Rattle.dso_server.specs.Lacking.{LacksNothing}
 use Rattle.dso_server.specs.ServerStands.{ServerStands}
 use Rattle.dso_session.specs.declared.frame.Accepted.{Accepted}
 use Rattle.dso_session.specs.declared.frame.Accepted.TheVariants as accepted
@@ -24,7 +23,7 @@ use Rattle.dso_world.specs.Link.{first_answer, taken_up}
 use Rattle.dso_world.specs.LinkStands.{Half, Joined, LinkStands}
 use Rattle.dso_world.specs.ClientSteps.{IsJournal, IsOpenAfter}
 use Rattle.dso_world.specs.NodeSteps.{ChangesLine, Heard, course_heard, first_up, with_line}
-use Rattle.dso_world.specs.NodesStand.{ClientNodeStandsBy, NodesStand}
+use Rattle.dso_world.specs.NodesStand.{ClientNodeStandsBy, LacksGarbage, NodesStand}
 use Rattle.dso_world.specs.PastOf.{course_of, past_of}
 use Rattle.dso_world.specs.WorldSteps.{settings_of}
 use Rattle.dso_world.proofs.coming.Up.{MessageComes, RejoinComes, comes_up, none_due}
@@ -111,7 +110,7 @@ module _ (program : Program) (c : ℕ) (nodes : Nodes) (es : List Entry) (journa
                       stands.client_nodes changes (at_place (λ before. LinkStands Joined (record (past_of both.Up both.Down c es) { up_taken = (past_of both.Up both.Down c es).up_taken + 1 }) (taken_up before.link)) come.stands)
                       place client_node (sym (ap (λ list. slice_get list place) is_client_nodes) ∙ is);
                   server = subst (λ server. ServerStands (settings_of program) server (entries_of node.Server es)) (sym same_server) stands.server;
-                  lacks = subst (λ server. LacksNothing (settings_of program) server (entries_of node.Server es)) (sym same_server) stands.lacks;
+                  lacks = subst (λ server. LacksGarbage program server es) (sym same_server) stands.lacks;
                   given = subst (λ server. given_by server ≤ length es) (sym same_server) stands.given;
                   clock = same_clock ∙ stands.clock;
                 };

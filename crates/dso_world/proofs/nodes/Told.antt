@@ -7,7 +7,6 @@ use Rattle.dso_base.specs.declared.message.Down.{Down}
 use Rattle.dso_class.specs.declared.program.Program.{Program}
 use Rattle.dso_law.specs.Entries.{entries_of}
 use Rattle.dso_server.specs.Answering.{given_by}
-use Rattle.dso_server.specs.Lacking.{LacksNothing}
 use Rattle.dso_server.specs.ServerStands.{ServerStands}
 use Rattle.dso_base.specs.declared.both.Both.{Both}
 use Rattle.dso_base.specs.declared.both.Both.TheVariants as both
@@ -17,7 +16,7 @@ use Rattle.dso_world.specs.declared.nodes.Nodes.{Nodes}
 use Rattle.dso_world.specs.LinkStands.{Course, LinkStands, Past}
 use Rattle.dso_world.specs.Link.{sent_down}
 use Rattle.dso_world.specs.NodeSteps.{AreTold, ChangesLine, HasTold, HaveRoom, with_line}
-use Rattle.dso_world.specs.NodesStand.{ClientNodeStandsBy, NodesStand}
+use Rattle.dso_world.specs.NodesStand.{ClientNodeStandsBy, LacksGarbage, NodesStand}
 use Rattle.dso_world.specs.PastOf.{course_of, past_of}
 use Rattle.dso_world.specs.SentMessages.{after_hearing, server_entry}
 use Rattle.dso_world.specs.WorldSteps.{settings_of}
@@ -101,7 +100,7 @@ module _ (program : Program) (course : ℕ → Course) (past : ℕ → Past Both
   pub told_stand : length old.client_nodes.items ≡ program.clients
       → ((place : ℕ) (client_node : ClientNode) → slice_get old.client_nodes.items place ≡ Some client_node → ClientNodeStandsBy program (suc place) (course (suc place)) (past (suc place)) client_node es)
       → HasTold made messages old new
-      → ServerStands (settings_of program) old.server (entry ∷ entries_of node.Server es) → LacksNothing (settings_of program) old.server (entry ∷ entries_of node.Server es)
+      → ServerStands (settings_of program) old.server (entry ∷ entries_of node.Server es) → LacksGarbage program old.server (entry ∷ es)
       → given_by old.server ≤ suc (length es)
       → ((d : ℕ) → course_of (settings_of program) d (entry ∷ es) ≡ course d)
       → ((d : ℕ) → past_of both.Up both.Down d (entry ∷ es) ≡ with_down (down_posts d entry.clock messages) (past d))
@@ -112,7 +111,7 @@ module _ (program : Program) (course : ℕ → Course) (past : ℕ → Past Both
         let from = came_of (after_hearing (suc place) entry.clock messages) (slice_get old.client_nodes.items place) client_node (sym is ∙ told.client_nodes place) in
         told_client_node place from.0 client_node from.2 (client_nodes place from.0 from.1) (same_course (suc place)) (same_past (suc place));
     server = subst (λ server. ServerStands (settings_of program) server (entry ∷ entries_of node.Server es)) (sym told.server) server;
-    lacks = subst (λ server. LacksNothing (settings_of program) server (entry ∷ entries_of node.Server es)) (sym told.server) lacks;
+    lacks = subst (λ server. LacksGarbage program server (entry ∷ es)) (sym told.server) lacks;
     given = subst (λ server. given_by server ≤ suc (length es)) (sym told.server) given;
     clock = told.clock;
   }

@@ -148,7 +148,7 @@ module _ (program : Program) (sound : IsSoundProgram program) where
     count = are.many;
     client_nodes = are.each;
     server = serves (settings_of program) refl (runs_threads program.code sound.code program.threads sound.threads) refl;
-    lacks = lacks (settings_of program) refl;
+    lacks = λ o lacking. absurd (lacking.0 (sym (lacks (settings_of program) refl o) ∙ lacking.1));
     given = omega (arith, given);
     clock = clock;
   }

@@ -43,7 +43,7 @@ returns c =
     (λ entry is told. λ program es journal its stands opened.
     let told_none : HasTold breaking [] between c.tell_all.new.nodes = subst (λ made. HasTold made [] between c.tell_all.new.nodes) c.of-made.ensures
     (subst (λ messages. HasTold c.of-made.result messages between c.tell_all.new.nodes) c.new.ensures.items told) in
-    subst (λ entry. FollowsAll program (slot.Breaks number) entry c.tell_all.new.nodes es)
+    subst (λ entry. FollowsAll program (slot.Breaks number) entry old.server c.tell_all.new.nodes es)
     (sym (is ∙ ap (λ made. server_entry old.clock made c.new.result.items) c.of-made.ensures ∙ ap (λ messages. server_entry old.clock breaking messages) c.new.ensures.items))
     (broke_follows_all program number old es journal its stands (even program number old es journal its stands opened) opened between c.tell_all.new.nodes
     (same_length (λ place. with_line number cut (suc place)) old.client_nodes.items client_nodes c.in_ok-break_line.ensures ∙ stands.count) refl refl

@@ -31,7 +31,7 @@ returns c =
     both_ok c.tell_all.result (λ entry. entry ≡ server_entry old.clock c.of-made.result messages) (HasTold c.of-made.result messages (record old { server = server }) c.tell_all.new.nodes)
     (λ entry. (program : Program) → StepsAll program number (slot.Loses number) entry old c.tell_all.new.nodes)
     (λ entry is told. λ program es journal its stands opened.
-    subst (λ entry. FollowsAll program (slot.Loses number) entry c.tell_all.new.nodes es) (sym (is ∙ ap (λ made. server_entry old.clock made messages) c.of-made.ensures))
+    subst (λ entry. FollowsAll program (slot.Loses number) entry old.server c.tell_all.new.nodes es) (sym (is ∙ ap (λ made. server_entry old.clock made messages) c.of-made.ensures))
     (lost_follows_all program number old es journal its stands messages server (c.in_ok-messages.ensures.lost (settings_of program) (entries_of node.Server es) stands.server)
     c.in_ok-messages.ensures.given opened c.tell_all.new.nodes
     (subst (λ made. HasTold made messages (record old { server = server }) c.tell_all.new.nodes) c.of-made.ensures told)))

@@ -92,7 +92,7 @@ returns-in-Up c =
     let letter : Letter Up = record { message = c.in-Up.message; clock = c.in-Some-Up.clock } in
     let between : Nodes = record old { client_nodes = c.take_frame.new.client_nodes } in
     if_ok c.hear.result
-    (λ entry. (es : List Entry) → Heard c.args.program.now c.args.number letter between es → FollowsAll c.args.program.now (slot.TakesUp c.args.number) entry c.hear.new.nodes es)
+    (λ entry. (es : List Entry) → Heard c.args.program.now c.args.number letter between es → FollowsAll c.args.program.now (slot.TakesUp c.args.number) entry old.server c.hear.new.nodes es)
     (λ entry. StepsAll c.args.program.now c.args.number (slot.TakesUp c.args.number) entry old c.hear.new.nodes)
     (λ entry follows. λ es journal its stands opened. follows es (message_heard c.args.program.now c.args.number old es journal its stands opened c.take_frame.new.client_nodes.items c.in_ok-both.ensures.after c.in-Up.message c.in-Some-Up.clock
     (sym c.in_ok-both.ensures.answer ∙ c.in-Some-Up.is ∙ ap (λ x. Some x) (c.in-Some-Up.field-0-is ∙ ap (λ b. accepted.Up b c.in-Some-Up.clock) c.in-Up.is))
@@ -112,7 +112,7 @@ returns-in-Some-Rejoined c =
     (sym c.in_ok-both.ensures.answer ∙ c.in-Some-Rejoined.is ∙ ap (λ x. Some x) c.in-Some-Rejoined.field-0-is) in
     let told_none : HasTold rejoining [] between c.tell_all.new.nodes = subst (λ made. HasTold made [] between c.tell_all.new.nodes) c.of-made.ensures
     (subst (λ messages. HasTold c.of-made.result messages between c.tell_all.new.nodes) c.new.ensures.items told) in
-    subst (λ entry. FollowsAll program (slot.TakesUp number) entry c.tell_all.new.nodes es)
+    subst (λ entry. FollowsAll program (slot.TakesUp number) entry old.server c.tell_all.new.nodes es)
     (sym (is ∙ ap (λ made. server_entry old.clock made c.new.result.items) c.of-made.ensures ∙ ap (λ messages. server_entry old.clock rejoining messages) c.new.ensures.items))
     (rejoined_follows_all program number old es journal its stands between c.tell_all.new.nodes
     (same_length (λ place. with_line number taken_up (suc place)) old.client_nodes.items c.take_frame.new.client_nodes.items c.in_ok-both.ensures.after ∙ stands.count) refl refl joined.0 joined.1 told_none))

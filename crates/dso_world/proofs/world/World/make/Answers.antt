@@ -42,6 +42,6 @@ returns-clause-made c =
     let old = c.args.self.now in
     let slot = slot_of step in
     let its = of_a_client slot (settings_of program) (among_slots slot (slots (settings_of program)) c.args.place can.at) in
-    let follows : FollowsAll program slot c.in_ok-entry.entry c.apply.new.nodes (entries_in old) = c.in_ok-entry.ensures (entries_in old) can.journal its can.parts.nodes can.opened in
+    let follows : FollowsAll program slot c.in_ok-entry.entry old.nodes.server c.apply.new.nodes (entries_in old) = c.in_ok-entry.ensures (entries_in old) can.journal its can.parts.nodes can.opened in
     made_so program step c.args.place old (record { spent = old.spent; nodes = c.apply.new.nodes; open_steps = c.follow.new.open_steps; weight = c.with_weight-self.result; journal = record { entries = c.push.new.self } })
     c.in_ok-entry.entry can follows c.follow.ensures c.with_weight-self.ensures c.in_ok-push.ensures.ok
