@@ -176,11 +176,15 @@ abbrev pub steps_said : Option (List ℕ) → Option ℕ
 steps_said None = Some usual_steps
 steps_said (Some word) = number_within 1 most_steps word
 
--- after how many entries each garbage is collected, as an option says it: 1 to 1,000,000, and never where the option is
+-- the most entries after which garbage can be collected
+abbrev pub most_interval : ℕ
+most_interval = 1000000
+
+-- after how many entries each garbage is collected, as an option says it: 1 to the most, and never where the option is
 -- left out
 abbrev pub collect_said : Option (List ℕ) → Option (Option ℕ)
 collect_said None = Some None
-collect_said (Some word) = option_map Some (number_within 1 1000000 word)
+collect_said (Some word) = option_map Some (number_within 1 most_interval word)
 
 -- `sim`, with two names and what its options say
 pub record IsSim (command : List ℕ) (given : Given) (call : SimCall) : Type 0 where
@@ -239,7 +243,7 @@ IsAsked command given (Show call) = IsShow command given call
 IsAsked command given (Lint call) = IsLint command given call
 
 -- The words ask for this: they are a command, and what is given behind it.
-pub record Asks (words : List (List ℕ)) (command : Command) : Type 0 where
+pub record AreLawful (words : List (List ℕ)) (command : Command) : Type 0 where
   pub first : List ℕ
   pub rest : List (List ℕ)
   pub given : Given
@@ -250,7 +254,7 @@ pub record Asks (words : List (List ℕ)) (command : Command) : Type 0 where
 -- Words ask for one thing at most.
 abbrev pub WordsAskOnce : Type 0
 WordsAskOnce = (words : List (List ℕ)) (command other : Command)
-    → Asks words command → Asks words other → command ≡ other
+    → AreLawful words command → AreLawful words other → command ≡ other
 
 -- the seed that a command gives its run, if it gives one; of the commands only `sim` can
 abbrev pub seed_of : Command → Option ℕ
@@ -278,26 +282,24 @@ abbrev pub store_of : Command → Option (List ℕ)
 store_of (Sim call) = call.store
 store_of command = None
 
--- What of it is built: `sim` without collections, `run`, `big` and `show`.
-abbrev pub IsBuilt : Command → Type 0
-IsBuilt (Sim call) = call.collect ≡ None
-IsBuilt (Run call) = Unit {0}
-IsBuilt (Big number) = Unit {0}
-IsBuilt (Show call) = Unit {0}
-IsBuilt (Lint call) = ⊥
+-- after how many entries of its journal each its run collects garbage, if it does; of the commands only `sim` can
+abbrev pub collect_of : Command → Option ℕ
+collect_of (Sim call) = call.collect
+collect_of command = None
 
--- The words ask for this, and it is built.
-pub record AreLawful (words : List (List ℕ)) (command : Command) : Type 0 where
-  pub asks : Asks words command
-  pub built : IsBuilt command
+-- after how many entries each a run can collect garbage: 1 to 1,000,000, if it does
+abbrev pub IsInterval : Option ℕ → Type 0
+IsInterval None = Unit {0}
+IsInterval (Some n) = (1 ≤ n) × (n ≤ most_interval)
 
--- what words can ask for: `sim` or `run` within the most steps, `big` with a number from 1 to 1000, or `show`
+-- what words can ask for: `sim` or `run` within the most steps, `sim` with such an interval, `big` with a number from 1
+-- to 1000, `show` or `lint`
 abbrev pub CanBeAsked : Command → Type 0
-CanBeAsked (Sim call) = call.steps ≤ most_steps
+CanBeAsked (Sim call) = (call.steps ≤ most_steps) × IsInterval call.collect
 CanBeAsked (Run call) = call.steps ≤ most_steps
 CanBeAsked (Big number) = (1 ≤ number) × (number ≤ 1000)
 CanBeAsked (Show call) = Unit {0}
-CanBeAsked (Lint call) = ⊥
+CanBeAsked (Lint call) = Unit {0}
 
 -- the command is one of those that ask for a run
 abbrev pub AsksForRun : Command → Type 0

@@ -1,8 +1,8 @@
 //! What the words ask for (`specs/Words.antt`).
-ghost use Rattle.std.specs.Prelude.{◌≡◌, ◌↔◌, IsTrue};
+ghost use Rattle.std.specs.Prelude.{◌≡◌};
 ghost use Rattle.dso_command_line.specs.Given.{told};
 ghost use Rattle.dso_command_line.specs.Said.{said};
-ghost use Rattle.dso_command_line.specs.Words.{IsBuilt, journal_of, seed_of, steps_of, store_of};
+ghost use Rattle.dso_command_line.specs.Words.{collect_of, journal_of, seed_of, steps_of, store_of};
 
 use crate::numbers::BUDGET;
 
@@ -50,17 +50,6 @@ pub enum Command<'a> {
 }
 
 impl<'a> Command<'a> {
-    /// Whether it is built: `sim` without collections, `run`, `big` and `show`.
-    pub(crate) fn is_built(&self) -> bool
-        ensures { IsTrue result ↔ IsBuilt (said self.now) }
-    {
-        match self {
-            Command::Sim { collect, .. } => collect.is_none(),
-            Command::Run { .. } | Command::Big { .. } | Command::Show { .. } => true,
-            Command::Lint { .. } => false,
-        }
-    }
-
     /// The seed that it gives its run, if it gives one; only `sim` can.
     pub fn seed(&self) -> Option<u64>
         ensures { result ≡ seed_of (said self.now) }
@@ -99,6 +88,16 @@ impl<'a> Command<'a> {
     {
         match self {
             Command::Sim { store, .. } => *store,
+            _ => None,
+        }
+    }
+
+    /// After how many entries of its journal each its run collects garbage, if it does; only `sim` can.
+    pub fn collect(&self) -> Option<u64>
+        ensures { result ≡ collect_of (said self.now) }
+    {
+        match self {
+            Command::Sim { collect, .. } => *collect,
             _ => None,
         }
     }

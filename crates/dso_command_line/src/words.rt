@@ -21,17 +21,11 @@ pub fn command_of(words: &[String]) -> Option<Command<'_>>
 }
 
 /// What a first word and those behind it ask for.
-#[tactic(auto, using(crate::proofs::reading_words::Asking::unlawful_unread, crate::proofs::reading_words::Asking::unlawful_unasked, crate::proofs::reading_words::Asking::unlawful_unbuilt, crate::proofs::reading_words::Asking::lawful))]
 fn command_behind<'a>(first: &str, rest: &'a [String]) -> Option<Command<'a>>
     ensures { MatchOption result (AreUnlawful (first.now ∷ map string_bytes rest.now)) (λ command. AreLawful (first.now ∷ map string_bytes rest.now) (said command)) }
 {
     let given = read(rest)?;
-    let command = asked(first, &given)?;
-    if command.is_built() {
-        Some(command)
-    } else {
-        None
-    }
+    asked(first, &given)
 }
 
 impl<'a> Arguments<'a> {

@@ -12,7 +12,7 @@ ghost use Rattle.dso_keep.specs.Keeping.{IsFromOutside, KeepStands, gate_of};
 ghost use Rattle.dso_keep.specs.Records.{AllFit, opening};
 ghost use Rattle.dso_keep.specs.declared.fault.KeepFault.TheVariants as fault;
 ghost use Rattle.dso_legal.specs.Slots.{weight};
-ghost use Rattle.dso_world.specs.WorldStands.{IsStepped, WorldStands, entries_in, is_spent, journal_of};
+ghost use Rattle.dso_world.specs.WorldStands.{IsStepped, SweepsNothing, WorldStands, entries_in, is_spent, journal_of};
 ghost use Rattle.dso_kept.specs.Keeping.{CanBeKept, GoesOnByOne, ReopensEither, applied, record_applied, with_one};
 
 use dso_base::{Entry, Input, Txn, Up};
@@ -45,6 +45,7 @@ pub fn kept_step<D: Disk>(
     requires room { gate_of keep + 2 ^ 32 + 6 < 2 ^ 63 }
     ensures stands { WorldStands program.now world.new }
     ensures stepped { IfOk result (λ made. IsStepped program.now step made.0 world.old world.new) }
+    ensures swept { OnOk result (SweepsNothing program.now world.old world.new) }
     ensures whole { OnOk result (is_spent world.new ≡ false) }
     ensures keeps { IfOk result (λ made. KeepStands (applied (entries_in world.new)) made.1 (D.file disk.new)) }
     ensures gate { IfOk result (λ made. gate_of made.1 ≤ gate_of keep + 2 ^ 32 + 4) }

@@ -15,7 +15,7 @@ use Rattle.dso_syntax.proofs.completeness.ReadPrograms.{one_program}
 use Rattle.dso_run.specs.declared.status.ProgramFault.{ProgramFault}
 use Rattle.dso_run.specs.declared.status.ProgramFault.TheVariants as fault
 use Rattle.dso_run.specs.declared.status.Status.{Status}
-use Rattle.dso_run.specs.declared.status.Status.TheVariants.{Finished, FinishedFault, Usage, BadConfig, BadProgram, ReadFault, WriteFault, Stuck, Budget, NoMemory, StoreFault, StoreInUse, BadStore, Shown}
+use Rattle.dso_run.specs.declared.status.Status.TheVariants.{Finished, FinishedFault, Usage, BadConfig, BadProgram, ReadFault, WriteFault, Stuck, Budget, NoMemory, StoreFault, StoreInUse, BadStore, Shown, LintYes, LintNo}
 use Rattle.dso_run.specs.Accepted.{AreTaken, HasTree, IsConfigRefusal, IsProgramRefusal, IsTakenText, IsTextFault}
 use Rattle.dso_run.specs.declared.running.Outcome.{Outcome}
 use Rattle.dso_run.specs.declared.running.Outcome.TheVariants as outcome
@@ -63,7 +63,7 @@ program_taken config program p wrong taken is =
 
 -- words ask for one run
 pub one_call : (words : List (List ℕ)) (command other : Command) → AreLawful words command → AreLawful words other → command ≡ other
-one_call words command other is also = asks-once words command other is.asks also.asks
+one_call words command other is also = asks-once words command other is also
 
 -- a read of a command's files failed only where that is told of some name
 of_some : (command : Command) (failed : List ℕ → Type 0) → ReadFailed command failed → (name : List ℕ) × failed name
@@ -95,6 +95,8 @@ module _ (input : CallInput) (output : CallOutput) where
   decided (BadStore place) sound means = means.due.cause
   decided StoreFault sound means = sound.all_stored means.due.cause.failed
   decided Shown sound means = (means.text, means.due)
+  decided LintYes sound means = (means.text, means.due)
+  decided (LintNo place why) sound means = (means.text, means.due)
   decided ReadFault sound means =
       let some = of_some means.due.cause.command (RoseOf input.failed_before input.failed_after) means.due.cause.failed in
       sound.all_read some.0 some.1
@@ -123,6 +125,8 @@ module _ (input : CallInput) (output : CallOutput) where
     of_run Stuck is = tt
     of_run Budget is = tt
     of_run Shown is = tt
+    of_run LintYes is = tt
+    of_run (LintNo place why) is = tt
     of_run NoMemory is = tt
     of_run Usage is = is may.command may.words
     of_run ReadFault never = never

@@ -1,6 +1,8 @@
 pub mod runs
 pub mod storing
+pub mod sweeping
 pub mod Answering
+pub mod Checking
 pub mod Completing
 pub mod Finishing
 pub mod GivenTexts

@@ -1,5 +1,5 @@
 -- What a status means, from the verdict and from what was written.
-use Rattle.std.proofs.Common.{◌≡◌, ◌≢◌, ◌∙◌, inl, inr, refl, sym, ap, subst, ℕ, List, [], Option, Some, None, reverse}
+use Rattle.std.proofs.Common.{◌≡◌, ◌≢◌, ◌∙◌, inl, inr, refl, sym, ap, subst, ℕ, List, Option, Some, None, reverse}
 use Rattle.dso_class.specs.declared.program.Program.{Program}
 use Rattle.dso_class.specs.declared.fault.NameFault.TheVariants as name
 use Rattle.dso_config.specs.declared.config.Config as set
@@ -12,17 +12,19 @@ use Rattle.dso_run.specs.declared.status.Refusal.{Refusal}
 use Rattle.dso_run.specs.declared.status.Refusal.TheVariants.{Words, Reading, Config}
 use Rattle.dso_run.specs.declared.status.Refusal.TheVariants as refusal
 use Rattle.dso_run.specs.declared.status.Status.{Status}
-use Rattle.dso_run.specs.declared.status.Status.TheVariants.{Finished, FinishedFault, Usage, BadConfig, BadProgram, ReadFault, WriteFault, Stuck, Budget, NoMemory, StoreFault, StoreInUse, BadStore, Shown}
+use Rattle.dso_run.specs.declared.status.Status.TheVariants.{Finished, FinishedFault, Usage, BadConfig, BadProgram, ReadFault, WriteFault, Stuck, Budget, NoMemory, StoreFault, StoreInUse, BadStore, Shown, LintYes, LintNo}
+use Rattle.dso_lint.specs.declared.answer.Lint.{Lint}
+use Rattle.dso_lint.specs.declared.answer.Lint.TheVariants as lint
 use Rattle.dso_run.specs.Accepted.{IsConfigRefusal, IsTextFault}
 use Rattle.dso_io.specs.Environment.{Told, replaced, taken_after}
 use Rattle.dso_run.specs.declared.running.Outcome.{Outcome}
 use Rattle.dso_run.specs.declared.running.Outcome.TheVariants as outcome
 use Rattle.dso_run.specs.Files.{AreAsBefore, IsWritten}
 use Rattle.dso_kept.specs.Keeping.{applied}
-use Rattle.dso_run.specs.Headline.{CallInput, CallOutput, HasCause, HasRunOf, IsAccepted, IsGraphDue, IsKept, IsLineDue, IsReportDue, IsRunText, LeavesNothing, StatusMeans, WroteWhole}
+use Rattle.dso_run.specs.Headline.{CallInput, CallOutput, HasCause, HasRunOf, IsAccepted, IsGraphDue, IsKept, IsLineDue, IsReportDue, IsRunText, IsVerdictDue, LeavesNothing, StatusMeans, WroteWhole}
 use Rattle.dso_run.specs.declared.verdict.Verdict.TheVariants.{Refused}
 use Rattle.dso_run.specs.Verdict.{IsVerdictBy}
-use Rattle.dso_run.specs.Status.{HasLine, line_of, status_of}
+use Rattle.dso_run.specs.Status.{HasLine, line_of, status_of, status_of_lint}
 use Rattle.dso_run.specs.Stores.{KeepsRecords}
 use Rattle.dso_command_line.specs.Words.{Command, journal_of, store_of}
 use Rattle.dso_run.specs.Writing.{Ran, ToldRun, ToldWhole, Wrote}
@@ -97,6 +99,8 @@ module _ (input : CallInput) (output : CallOutput) where
     run_means StoreInUse stored told = absurd told
     run_means (BadStore place) stored told = absurd told
     run_means Shown stored told = absurd told
+    run_means LintYes stored told = absurd told
+    run_means (LintNo place why) stored told = absurd told
 
   -- a refusal's line is due
   line_due : (refusal : Refusal) → HasCause input output refusal → LeavesNothing input output refusal → AreAsBefore input.content output.content
@@ -147,7 +151,21 @@ module _ (input : CallInput) (output : CallOutput) where
       let shown : StatusMeans input output Shown = record { text = text; due = due; took = whole.1; sink_sound = whole.2; files_sound = files } in
       subst (StatusMeans input output) (sym whole.0) shown
   graph_means text answer due files (inr part) =
-      let cut : StatusMeans input output WriteFault = inl (record { text = text; due = inr (inr due); took = part.1; failed = part.2 }) in
+      let cut : StatusMeans input output WriteFault = inl (record { text = text; due = inr (inr (inl due)); took = part.1; failed = part.2 }) in
+      subst (StatusMeans input output) (sym part.0) cut
+
+  -- the lock checker's answer, by what was written of its line
+  of_verdict : (answer : Lint) → WroteWhole input output (IsVerdictDue input output answer) → StatusMeans input output (status_of_lint answer)
+  of_verdict lint.Yes whole = whole
+  of_verdict (lint.No place why) whole = whole
+
+  pub verdict_means : (answer : Lint) (text : List ℕ) (status : Status) → IsVerdictDue input output answer text → output.writes_after ≡ output.writes_before
+      → Wrote output.sink_before output.sink_after output.failed_before output.failed_after text (status_of_lint answer) status → StatusMeans input output status
+  verdict_means answer text status due files (inl whole) =
+      subst (StatusMeans input output) (sym whole.0)
+      (of_verdict answer (record { text = text; due = due; took = whole.1; sink_sound = whole.2; files_sound = files }))
+  verdict_means answer text status due files (inr part) =
+      let cut : StatusMeans input output WriteFault = inl (record { text = text; due = inr (inr (inr (answer, due))); took = part.1; failed = part.2 }) in
       subst (StatusMeans input output) (sym part.0) cut
 
 -- A refusal by what is given has a line: no want of memory is a fault of a configuration or a program.

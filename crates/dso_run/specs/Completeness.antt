@@ -9,10 +9,11 @@ use Rattle.dso_run.specs.declared.status.ProgramFault.{ProgramFault}
 use Rattle.dso_run.specs.declared.status.Status.{Status}
 use Rattle.dso_run.specs.declared.status.Status.TheVariants.{Finished, FinishedFault, Usage, BadConfig, BadProgram}
 use Rattle.dso_run.specs.declared.status.Status.TheVariants.{ReadFault, WriteFault, Stuck, Budget, NoMemory}
-use Rattle.dso_run.specs.declared.status.Status.TheVariants.{StoreFault, StoreInUse, BadStore, Shown}
+use Rattle.dso_run.specs.declared.status.Status.TheVariants.{StoreFault, StoreInUse, BadStore, Shown, LintYes, LintNo}
+use Rattle.dso_lint.specs.declared.answer.Lint.TheVariants as lint
 use Rattle.dso_run.specs.Accepted.{AreTaken, IsConfigRefusal, IsProgramRefusal}
 use Rattle.dso_run.specs.Headline.{CallInput, CallOutput, HasRunOf, IsConfigRefused, IsProgramRefused, RoseOf}
-use Rattle.dso_run.specs.Headline.{IsGraphDue, IsStoreBad, IsStoreInUse, StatusMeans, WereRead}
+use Rattle.dso_run.specs.Headline.{IsGraphDue, IsStoreBad, IsStoreInUse, IsVerdictDue, StatusMeans, WereRead}
 use Rattle.dso_command_line.specs.Words.{AreLawful, AreUnlawful, Command}
 
 module _ (input : CallInput) (output : CallOutput) where
@@ -31,7 +32,7 @@ module _ (input : CallInput) (output : CallOutput) where
 
   -- why a call answers so where nothing failed: the words are unlawful; the bytes of the configuration that were read
   -- fail, or those of the program; a run ended so; the file of a store has more than one byte, or an open gate that no
-  -- record follows; a store's graph was due; or memory ran out
+  -- record follows; a store's graph was due, or the lock checker's answer; or memory ran out
   abbrev pub IsDecided : Status → Type 0
   IsDecided Usage = AreUnlawful input.words
   IsDecided (BadConfig fault) = IsConfigRefused input fault
@@ -43,6 +44,8 @@ module _ (input : CallInput) (output : CallOutput) where
   IsDecided StoreInUse = IsStoreInUse input output
   IsDecided (BadStore place) = IsStoreBad input output place
   IsDecided Shown = (text : List ℕ) × IsGraphDue input output text
+  IsDecided LintYes = (text : List ℕ) × IsVerdictDue input output lint.Yes text
+  IsDecided (LintNo place why) = (text : List ℕ) × IsVerdictDue input output (lint.No place why) text
   IsDecided NoMemory = Unit {0}
   IsDecided ReadFault = ⊥
   IsDecided WriteFault = ⊥
@@ -59,7 +62,7 @@ TakenIsNotRefused = (config program : List ℕ) (p : Program) → AreTaken confi
     → ((fault : ConfigFault) → IsConfigRefusal config program fault → ⊥)
     × ((fault : ProgramFault) → IsProgramRefusal config program fault → ⊥)
 
--- The words ask for a run, or for a store's graph; what is given for the two texts is only what is taken; no store is in
+-- The words ask for a run, for a store's graph, or for the lock checker's answer; what is given for the two texts is only what is taken; no store is in
 -- use that a run is to have, and none is bad that is to be shown; and no count of faults rises.
 pub record MayRun (input : CallInput) (output : CallOutput) : Type 0 where
   pub command : Command
@@ -70,17 +73,20 @@ pub record MayRun (input : CallInput) (output : CallOutput) : Type 0 where
   pub good : (place : ℕ) → IsStoreBad input output place → ⊥
   pub sound : NothingFailed input output
 
--- the status is that of a run that ended, or of a store that was shown, or memory ran out
+-- the status is that of a run that ended, of a store that was shown, or of an answer of the lock checker, or memory ran
+-- out
 abbrev pub IsOfRun : Status → Type 0
 IsOfRun Finished = Unit {0}
 IsOfRun FinishedFault = Unit {0}
 IsOfRun Stuck = Unit {0}
 IsOfRun Budget = Unit {0}
 IsOfRun Shown = Unit {0}
+IsOfRun LintYes = Unit {0}
+IsOfRun (LintNo place why) = Unit {0}
 IsOfRun NoMemory = Unit {0}
 IsOfRun status = ⊥
 
--- So a call that may run has no other status than those of runs and of what was shown, and NoMemory.
+-- So a call that may run has no other status than those of runs, of what was shown and of the lock checker, and NoMemory.
 abbrev pub MayRunRuns : Type 0
 MayRunRuns = (input : CallInput) (output : CallOutput) (status : Status) → MayRun input output
     → StatusMeans input output status → IsOfRun status

@@ -1,7 +1,8 @@
 -- The program's theorem: what each status of a call means, from the bytes that were read to those that were written.
 -- `StatusMeans`, at the end, is the clause `answer` of `dso_main`. What it is made of stands above it, in the order of
 -- the work.
-use Rattle.std.specs.Prelude.{◌≡◌, ℕ, suc, ℤ, ◌⊎◌, ◌<◌, ◌≤◌, true, false, List, [], length, Option, Some, None, reverse}
+use Rattle.std.specs.Prelude.{◌≡◌, ℕ, suc, ℤ, ◌⊎◌, ◌<◌, ◌≤◌, true, false, List, [], ◌++◌, length}
+use Rattle.std.specs.Prelude.{Option, Some, None, reverse}
 use Rattle.std.specs.Option.{IfSome}
 use Rattle.dso_base.specs.declared.journal.Entry.{Entry}
 use Rattle.dso_base.specs.declared.lock.ThreadId.{ThreadId}
@@ -14,6 +15,9 @@ use Rattle.dso_kept.specs.Keeping.{ReopensFirst, applied}
 use Rattle.dso_law.specs.Settings.{Settings}
 use Rattle.dso_legal.specs.Central.{CommitsLegally}
 use Rattle.dso_legal.specs.Committed.{committed}
+use Rattle.dso_lint.specs.declared.answer.Lint as checker
+use Rattle.dso_lint.specs.declared.answer.Lint.TheVariants as lint
+use Rattle.dso_lint.specs.Verdict.{IsVerdict}
 use Rattle.dso_machine.specs.Next.{next_request}
 use Rattle.dso_plain.specs.History.{last_state}
 use Rattle.dso_gen.specs.GeneratedLoad.{load_config, load_program}
@@ -31,16 +35,17 @@ use Rattle.dso_run.specs.declared.status.Refusal.TheVariants as refusal
 use Rattle.dso_run.specs.declared.status.Status.{Status}
 use Rattle.dso_run.specs.declared.status.Status.TheVariants.{Finished, FinishedFault, Usage, BadConfig, BadProgram}
 use Rattle.dso_run.specs.declared.status.Status.TheVariants.{ReadFault, WriteFault, Stuck, Budget, NoMemory}
-use Rattle.dso_run.specs.declared.status.Status.TheVariants.{StoreFault, StoreInUse, BadStore, Shown}
+use Rattle.dso_run.specs.declared.status.Status.TheVariants.{StoreFault, StoreInUse, BadStore, Shown, LintYes, LintNo}
 use Rattle.dso_syntax.specs.TextLimits.{longest_text}
 use Rattle.dso_run.specs.Accepted.{settings_of, AreTaken, IsConfigRefusal, IsProgramRefusal}
 use Rattle.dso_io.specs.Environment.{Told, MayGive, Rose, taken_after, TookPrefix}
 use Rattle.dso_run.specs.Files.{AreAsBefore, IsWritten}
 use Rattle.dso_run.specs.RunEnds.{EndsFinished, EndsStuck, EndsOverBudget, IsRun, Making, BySlots, ByThreads}
-use Rattle.dso_run.specs.Status.{line_of}
+use Rattle.dso_run.specs.Status.{line_of, lint_line}
 use Rattle.dso_run.specs.Stores.{CallDisk, IsUntouched, IsUnwritten, KeepsRecords, SinceTaken, WasTaken}
+use Rattle.dso_run.specs.Swept.{IsSweptCount, swept_line}
 use Rattle.dso_command_line.specs.Words.{AreLawful, AreUnlawful, Command, Sim, Run, Big, Show, Lint}
-use Rattle.dso_command_line.specs.Words.{SimCall, ShowCall, journal_of, steps_of, store_of}
+use Rattle.dso_command_line.specs.Words.{SimCall, ShowCall, LintCall, journal_of, steps_of, store_of}
 
 -- how many bytes are read of a file at most: one more than a program's text may have
 abbrev pub most_read : ℕ
@@ -197,13 +202,25 @@ abbrev pub IsRunReport : Program → List Entry → List ℕ → Type 0
 IsRunReport p journal text =
     IsReport p.names p.threads (last_state p.code.shape (committed (reverse journal))) text
 
+-- the report, and behind it the line of how many objects were swept by collections after n entries each
+abbrev pub IsReportAndLine : Program → ℕ → List Entry → List ℕ → Type 0
+IsReportAndLine p n journal text =
+    (report : List ℕ) × IsRunReport p journal report
+    × ((count : ℕ) × IsSweptCount p n journal count × (text ≡ report ++ swept_line count))
+
+-- what is told of a run that collects after so many entries each, if it does
+abbrev pub IsToldOf : Option ℕ → Program → List Entry → List ℕ → Type 0
+IsToldOf None p journal text = IsRunReport p journal text
+IsToldOf (Some n) p journal text = IsReportAndLine p n journal text
+
 -- the text is what is told of the history that a journal commits: with `big` the line of its load, with what the
--- counters come to that can be reached, and else the report; `show` and `lint` tell of no journal
+-- counters come to that can be reached, and else the report, behind which `sim` may tell of its collections; `show` and
+-- `lint` tell of no journal
 abbrev pub IsRunText : Command → Program → List Entry → List ℕ → Type 0
 IsRunText (Big number) p journal text =
     (total : ℤ) × IsCounterTotal p.names (last_state p.code.shape (committed (reverse journal))) total
     × (text ≡ load_line number total)
-IsRunText (Sim call) p journal text = IsRunReport p journal text
+IsRunText (Sim call) p journal text = IsToldOf call.collect p journal text
 IsRunText (Run call) p journal text = IsRunReport p journal text
 IsRunText (Show call) p journal text = ⊥
 IsRunText (Lint call) p journal text = ⊥
@@ -312,10 +329,23 @@ module _ (input : CallInput) (output : CallOutput) where
     pub taken : WasTaken call.store output.disk
     pub sound : output.disk.faults_after ≡ output.disk.faults_before
 
-  -- what was to be written: the line of a refusal, what is told of a run, or the graph of a store
+  -- A program's locks are to be checked: this is the checker's answer, and the text is its line. Nothing was run, no file
+  -- was changed, and nothing was done to the disk.
+  pub record IsVerdictDue (answer : checker.Lint) (text : List ℕ) : Type 0 where
+    pub call : LintCall
+    pub program : Program
+    pub accepted : IsAccepted input (Lint call) program
+    pub verdict : IsVerdict program.code answer
+    pub is_line : text ≡ lint_line answer
+    pub nothing_ran : output.journal ≡ []
+    pub unchanged : AreAsBefore input.content output.content
+    pub untouched : IsUntouched output.disk
+
+  -- what was to be written: the line of a refusal, what is told of a run, the graph of a store, or the line of the lock
+  -- checker's answer
   abbrev pub IsDue : List ℕ → Type 0
   IsDue text = ((refusal : Refusal) × IsLineDue refusal text) ⊎ ((outcome : Outcome) × IsReportDue outcome text)
-      ⊎ IsGraphDue text
+      ⊎ IsGraphDue text ⊎ ((answer : checker.Lint) × IsVerdictDue answer text)
 
   -- What was to be written was written whole, and nothing failed in writing.
   pub record WroteWhole (Due : List ℕ → Type 0) : Type 0 where
@@ -365,6 +395,8 @@ module _ (input : CallInput) (output : CallOutput) where
   StatusMeans StoreInUse = WroteWhole (IsLineDue refusal.InUse)
   StatusMeans (BadStore place) = WroteWhole (IsLineDue (refusal.BadStore place))
   StatusMeans Shown = WroteWhole IsGraphDue
+  StatusMeans LintYes = WroteWhole (IsVerdictDue lint.Yes)
+  StatusMeans (LintNo place why) = WroteWhole (IsVerdictDue (lint.No place why))
   StatusMeans WriteFault = WrotePrefix IsDue ⊎ IsUnkept
   StatusMeans NoMemory = WroteNothing
 

@@ -1,4 +1,5 @@
 pub mod Accepted
+pub mod Collecting
 pub mod Completeness
 pub mod Exit
 pub mod Failing
@@ -6,6 +7,7 @@ pub mod Files
 pub mod Finished
 pub mod Halting
 pub mod Headline
+pub mod LintLaw
 pub mod RunEnds
 pub mod Status
 pub mod Stepping
@@ -13,5 +15,6 @@ pub mod StoreCalls
 pub mod StoreLaws
 pub mod StoreRuns
 pub mod Stores
+pub mod Swept
 pub mod Verdict
 pub mod Writing

@@ -5,6 +5,12 @@ use Rattle.dso_class.specs.declared.fault.NameFault.{NameFault}
 use Rattle.dso_class.specs.declared.fault.NameFault.TheVariants as name
 use Rattle.dso_class.specs.declared.fault.NameKind.{NameKind}
 use Rattle.dso_class.specs.declared.fault.NameKind.TheVariants as kind
+use Rattle.dso_lint.specs.declared.answer.Lint.{Lint}
+use Rattle.dso_lint.specs.declared.answer.Lint.TheVariants as lint
+use Rattle.dso_lint.specs.declared.answer.Place.{Place}
+use Rattle.dso_lint.specs.declared.answer.Place.TheVariants as place
+use Rattle.dso_lint.specs.declared.answer.Why.{Why}
+use Rattle.dso_lint.specs.declared.answer.Why.TheVariants as why
 use Rattle.dso_syntax.specs.declared.fault.SyntaxFault.{SyntaxFault}
 use Rattle.dso_syntax.specs.declared.fault.SyntaxFault.TheVariants as syntax
 use Rattle.dso_run.specs.declared.running.Outcome.{Outcome}
@@ -23,7 +29,7 @@ use Rattle.dso_run.specs.declared.status.Refusal.TheVariants as refusal
 use Rattle.dso_run.specs.declared.status.Status.{Status}
 use Rattle.dso_run.specs.declared.status.Status.TheVariants.{Finished, FinishedFault, Usage, BadConfig, BadProgram}
 use Rattle.dso_run.specs.declared.status.Status.TheVariants.{ReadFault, WriteFault, Stuck, Budget, NoMemory}
-use Rattle.dso_run.specs.declared.status.Status.TheVariants.{StoreFault, StoreInUse, BadStore, Shown}
+use Rattle.dso_run.specs.declared.status.Status.TheVariants.{StoreFault, StoreInUse, BadStore, Shown, LintYes, LintNo}
 
 -- the number that the process ends with
 abbrev pub exit_number_of : Status → ℕ
@@ -41,6 +47,8 @@ exit_number_of StoreFault = 10
 exit_number_of StoreInUse = 11
 exit_number_of (BadStore place) = 12
 exit_number_of Shown = 0
+exit_number_of LintYes = 0
+exit_number_of (LintNo place why) = 13
 
 -- the status of a run that ended so
 abbrev pub status_of_run : Outcome → Status
@@ -146,3 +154,22 @@ HasLine (Config fault) = IsOfText fault
 HasLine (Program (program.Syntax (syntax.NoMemory refusal))) = ⊥
 HasLine (Program (program.Name (name.NoMemory refusal))) = ⊥
 HasLine refusal = Unit {0}
+
+-- the status of an answer of the lock checker
+abbrev pub status_of_lint : Lint → Status
+status_of_lint lint.Yes = LintYes
+status_of_lint (lint.No place why) = LintNo place why
+
+-- a place of the program, and the rule that it fails
+abbrev pub place_text : Place → List ℕ
+place_text (place.Method number) = codes "method " ++ decimal number
+place_text (place.Thread number) = codes "thread " ++ decimal number
+
+abbrev pub why_text : Why → List ℕ
+why_text why.Access = codes "access"
+why_text why.Upgrade = codes "upgrade"
+
+-- the line of an answer of the lock checker
+abbrev pub lint_line : Lint → List ℕ
+lint_line lint.Yes = ended (codes "lint yes")
+lint_line (lint.No place why) = ended (codes "lint no " ++ (place_text place ++ (codes " " ++ why_text why)))

@@ -10,7 +10,8 @@ use Rattle.dso_run.specs.declared.status.Status.TheVariants.{NoMemory}
 use Rattle.dso_io.specs.Environment.{Told, Rose, taken_after, TookPrefix}
 use Rattle.dso_run.specs.Files.{AreAsBefore}
 use Rattle.dso_run.specs.Headline.{CallInput, CallOutput, IsAccepted, IsKept, IsRunOf, IsRunText, StatusMeans, making_of}
-use Rattle.dso_command_line.specs.Words.{Command, journal_of, steps_of}
+use Rattle.dso_run.specs.Swept.{CountsSwept}
+use Rattle.dso_command_line.specs.Words.{Command, collect_of, journal_of, steps_of}
 
 -- The sink took the whole text, its count of faults is as before and the answer is this status; or it took a prefix and
 -- counted a fault, and the answer is WriteFault.
@@ -19,9 +20,10 @@ Wrote before now faults_before faults_now text status answer =
     ((answer ≡ status) × (now ≡ taken_after before text) × (faults_now ≡ faults_before))
     ⊎ ((answer ≡ WriteFault) × TookPrefix before text now × Rose faults_before faults_now)
 
--- the run is one of this program that was made as the command asks
-abbrev pub IsRunFor : Command → Program → Run → Type 0
-IsRunFor command p run = IsRunOf p (making_of command) (steps_of command) run.outcome run.journal.entries
+-- The run is one of this program that was made as the command asks, and its collections swept so many objects.
+pub record IsRunFor (command : Command) (p : Program) (run : Run) : Type 0 where
+  pub made : IsRunOf p (making_of command) (steps_of command) run.outcome run.journal.entries
+  pub swept : CountsSwept p (collect_of command) run.journal.entries run.swept
 
 -- For a command, its program, what is told of the files before the run, and what the run leaves:
 module _ (command : Command) (p : Program) (before : List ℕ → Told) (output : CallOutput) where

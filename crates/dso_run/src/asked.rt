@@ -6,7 +6,7 @@ ghost use Rattle.dso_run.specs.RunEnds.{BySlots, ByThreads};
 ghost use Rattle.dso_run.specs.Stores.{CallDisk};
 ghost use Rattle.dso_run.specs.Writing.{IsRunFor, ToldRun};
 ghost use Rattle.dso_command_line.specs.Said.{said};
-ghost use Rattle.dso_command_line.specs.Words.{AsksForRun, CanBeAsked, journal_of, seed_of, steps_of};
+ghost use Rattle.dso_command_line.specs.Words.{AsksForRun, CanBeAsked, collect_of, journal_of, seed_of, steps_of};
 
 use crate::answers::{ended, out_of_memory, status_of_run, write_or_fail};
 use crate::journal_file::keep_journal;
@@ -45,7 +45,7 @@ impl<'a> Asked<'a> {
         ensures unchanged { (name : List ℕ) → journal_of (said self.now.command) ≢ Some name → F.content files.new name ≡ F.content files.old name }
         ensures reads { (name : List ℕ) → F.read_faults files.new name ≡ F.read_faults files.old name }
     {
-        let text = match run_text(self.alloc, self.program, &run.journal, self.command) {
+        let text = match run_text(self.alloc, self.program, &run, self.command) {
             Ok(text) => text,
             Err(refused) => return out_of_memory(self.alloc, refused),
         };
@@ -80,14 +80,17 @@ impl<'a> Asked<'a> {
     pub(crate) fn schedule(&self) -> Schedule
         ensures seed { result.seed ≡ seed_of (said self.now.command) }
         ensures steps { result.steps ≡ steps_of (said self.now.command) }
+        ensures collect { result.collect ≡ collect_of (said self.now.command) }
     {
         Schedule {
             seed: self.command.seed(),
             steps: self.command.steps(),
+            collect: self.command.collect(),
         }
     }
 
     /// Runs the program in threads, and writes what is told of the run.
+    #[tactic(auto, using(crate::proofs::runs::Halted::run_for_threads))]
     pub(crate) fn run_by_threads<R: Threads + Wait + Sync, F: Files, K: Sink, G: Gate>(
         &self,
         threading: &Threading<'_, R, G>,

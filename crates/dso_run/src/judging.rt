@@ -45,8 +45,8 @@ pub(crate) fn judge<F: Files>(
             program,
             ..
         } => judge_files(alloc, config, program, files),
+        Command::Lint { config, program } => judge_files(alloc, config, program, files),
         Command::Big { number } => judge_load(alloc, number),
-        Command::Lint { .. } => unreachable!(),
     }
 }
 

@@ -2,10 +2,12 @@
 //! does nothing.
 ghost use Rattle.dso_run.specs.Completeness.{Completeness, MayRunRuns, TakenIsNotRefused};
 ghost use Rattle.dso_run.specs.Finished.{FinishedMeans};
+ghost use Rattle.dso_run.specs.LintLaw.{YesMeansGuarded};
 ghost use Rattle.dso_run.specs.StoreLaws.{RecordsAreKept};
 
 pub use dso_command_line::words_ask_once;
 pub use dso_kept::keep_laws::{acknowledged_are_applied, applied_records_fit};
+use dso_lint_law::yes_is_guarded;
 
 /// What exit 0 means, in one place: the words, the bytes of both files, the lawful journal, the legal history that it
 /// commits, each thread's events, the report, and what the sink took.
@@ -37,3 +39,12 @@ pub fn calls_that_may_run_do()
 pub fn stores_keep_records()
     ensures { RecordsAreKept }
 {}
+
+/// Where the status is LintYes, a program was accepted, and no legal history of it, whatever its schedule and its losses, has
+/// a reply UnlockedSharedObject, WrongLock, ReadOnly or LockUpgrade, or an unguarded read. So has each run of it, by the
+/// headline.
+pub fn lint_yes_is_guarded()
+    ensures { YesMeansGuarded }
+{
+    yes_is_guarded();
+}

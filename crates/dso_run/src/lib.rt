@@ -28,11 +28,13 @@
 
 mod answers;
 mod asked;
+mod collecting;
 mod exit;
 mod failing;
 mod journal_file;
 mod judging;
 pub mod laws;
+mod lock_check;
 mod main_call;
 mod refusal_lines;
 mod replay;

@@ -34,8 +34,9 @@ use std::thread::Threads;
 /// program, judging the configuration, judging the program, the store's file, where the words name one, the run, writing:
 /// the journal to its file, where the words name one, and then what is told of the run. With `big` the texts of the
 /// generated load stand for those that are read, and the line of the load for the report; with `show` the graph of the
-/// store for it, and there is no run. Clause `answer` is the table of the statuses: what each means of the words, the
-/// files, the journal, the sink and the disk. Each but `NoMemory` has its cause: other words; a count of failed reads
+/// store for it, and there is no run. Where `sim` is to collect garbage, a line behind the report tells how many objects the
+/// run swept. Clause `answer` is the table of the statuses: what each means of the words, the files, the journal, the sink
+/// and the disk. Each but `NoMemory` has its cause: other words; a count of failed reads
 /// that rose, of one of the two files; the bytes that were read; a store's file, or the disk's count, which rose; the
 /// journal of the run, of which all was written and nothing failed in writing; or, for `WriteFault`, the sink's count or
 /// the files' count of writes, which rose. `NoMemory` is answered where an allocation was refused. So where no count rises
@@ -172,7 +173,7 @@ impl<'a> Asked<'a> {
             Command::Sim { .. } | Command::Run { .. } | Command::Big { .. } => {
                 self.simulate(files, out, disk)
             }
-            Command::Lint { .. } => unreachable!(),
+            Command::Lint { .. } => self.check_locks(out),
         }
     }
 

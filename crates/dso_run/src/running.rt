@@ -1,12 +1,16 @@
 //! The run of a program over the simulated cluster, step by step (`specs/RunEnds.antt`).
 ghost use Rattle.std.specs.Prelude.{◌≡◌, ◌≤◌, ◌<◌, false, reverse, IfOk, OnOk};
 ghost use Rattle.dso_class.specs.Sound.{IsSoundProgram};
+ghost use Rattle.dso_command_line.specs.Words.{IsInterval};
 ghost use Rattle.dso_legal.specs.Slots.{weight};
+ghost use Rattle.dso_run.specs.Collecting.{CountsSoFar};
 ghost use Rattle.dso_run.specs.Headline.{IsRunOf};
 ghost use Rattle.dso_run.specs.RunEnds.{BySlots, is_faulty};
 ghost use Rattle.dso_run.specs.Stepping.{IsTurn, RunsOn, finish_by};
-ghost use Rattle.dso_world.specs.WorldStands.{WorldStands, entries_in, is_spent};
+ghost use Rattle.dso_run.specs.Swept.{CountsSwept};
+ghost use Rattle.dso_world.specs.WorldStands.{SweepsNothing, WorldStands, entries_in, is_spent};
 
+use crate::collecting::collect_if_due;
 use crate::failing::is_faulty;
 use dso_base::{Journal, NoMemory};
 use dso_class::Program;
@@ -23,22 +27,25 @@ pub(crate) enum Outcome {
     Budget,
 }
 
-/// A run: how it ended, and its journal.
+/// A run: how it ended, how many objects its collections swept, and its journal.
 #[derive(Drop)]
 pub(crate) struct Run {
     pub(crate) outcome: Outcome,
+    pub(crate) swept: u64,
     pub(crate) journal: Journal,
 }
 
-/// How a run goes: by round robin, or by a seed, and how many steps it may make.
+/// How a run goes: by round robin, or by a seed; how many steps it may make; and after how many entries each it collects
+/// garbage, if it does.
 #[derive(Clone, Copy, Debug)]
 pub(crate) struct Schedule {
     pub(crate) seed: Option<u64>,
     pub(crate) steps: u64,
+    pub(crate) collect: Option<u64>,
 }
 
 /// Runs the program until it is finished, has used up its steps, or is stuck. These are tested in that order after each
-/// step, the first also before the first step.
+/// step, the first also before the first step; where a collection is due after a step, it is made before them.
 pub(crate) fn run_program(
     alloc: Global,
     program: &Program,
@@ -46,38 +53,47 @@ pub(crate) fn run_program(
 ) -> Result<Run, NoMemory>
     requires sound { IsSoundProgram program.now }
     requires steps { schedule.steps ≤ BUDGET }
-    ensures { IfOk result (λ run. IsRunOf program.now (BySlots schedule.seed) schedule.steps run.outcome run.journal.entries) }
+    requires interval { IsInterval schedule.collect }
+    ensures run { IfOk result (λ run. IsRunOf program.now (BySlots schedule.seed) schedule.steps run.outcome run.journal.entries) }
+    ensures swept { IfOk result (λ run. CountsSwept program.now schedule.collect run.journal.entries run.swept) }
 {
     let mut world = World::new(alloc, program)?;
     let ended = run_on(alloc, program, &mut world, schedule);
     let journal = world.into_journal();
+    let (outcome, swept) = ended?;
     Ok(Run {
-        outcome: ended?,
+        outcome,
+        swept,
         journal,
     })
 }
 
-/// The run of a cluster from where it stands to its end.
+/// The run of a cluster from where it stands to its end, and how many objects were swept by then.
 fn run_on(
     alloc: Global,
     program: &Program,
     world: &mut World,
     schedule: Schedule,
-) -> Result<Outcome, NoMemory>
+) -> Result<(Outcome, u64), NoMemory>
     requires sound { IsSoundProgram program.now }
     requires steps { schedule.steps ≤ BUDGET }
+    requires interval { IsInterval schedule.collect }
     requires runs { RunsOn program.now schedule.seed schedule.steps world.old }
-    ensures { IfOk result (λ outcome. IsRunOf program.now (BySlots schedule.seed) schedule.steps outcome world.new.journal.entries) }
+    requires swept { CountsSoFar program.now schedule.collect 0 world.old }
+    ensures run { IfOk result (λ ended. IsRunOf program.now (BySlots schedule.seed) schedule.steps ended.0 world.new.journal.entries) }
+    ensures swept { IfOk result (λ ended. CountsSwept program.now schedule.collect world.new.journal.entries ended.1) }
 {
+    let mut swept = 0;
     while !world.finished() && world.weight() < schedule.steps {
         if !take_step(alloc, program, world, schedule)? {
-            return Ok(Outcome::Stuck);
+            return Ok((Outcome::Stuck, swept));
         }
+        swept += collect_if_due(alloc, world, schedule.collect)?;
     }
     if world.finished() {
-        Ok(finish_of(program, world.journal()))
+        Ok((finish_of(program, world.journal()), swept))
     } else {
-        Ok(Outcome::Budget)
+        Ok((Outcome::Budget, swept))
     }
 }
 
@@ -104,6 +120,7 @@ fn take_step(
     requires whole { is_spent world.old ≡ false }
     requires light { weight (entries_in world.old) < BUDGET }
     ensures turn { IfOk result (λ made. IsTurn program.now schedule.seed made world.old world.new) }
+    ensures swept { OnOk result (SweepsNothing program.now world.old world.new) }
     ensures stands { OnOk result (WorldStands program.now world.new) }
     ensures whole { OnOk result (is_spent world.new ≡ false) }
 {

@@ -5,6 +5,7 @@ ghost use Rattle.dso_run.specs.Status.{exit_number_of, status_of};
 use dso_base::Journal;
 use dso_class::NameFault;
 use dso_config::ConfigFault;
+use dso_lint::{Place, Why};
 use dso_syntax::SyntaxFault;
 use thiserror::Error;
 
@@ -50,6 +51,10 @@ pub enum Status {
     BadStore(u64),
     /// A store was shown.
     Shown,
+    /// `lint`: both rules of the lock checker hold everywhere in the program.
+    LintYes,
+    /// `lint`: this is the first place of the program that fails a rule, and this the rule.
+    LintNo(Place, Why),
 }
 
 impl Status {
@@ -72,6 +77,8 @@ impl Status {
             Status::StoreInUse => 11,
             Status::BadStore(_) => 12,
             Status::Shown => 0,
+            Status::LintYes => 0,
+            Status::LintNo(_, _) => 13,
         }
     }
 }

@@ -53,6 +53,7 @@ impl<'a, R: Threads + Wait + Sync, G: Gate> Threading<'a, R, G> {
         let journal = host.gather(self.alloc)?;
         Ok(Run {
             outcome: outcome_of(program, halt, &journal),
+            swept: 0,
             journal,
         })
     }

@@ -2,6 +2,7 @@
 use crate::trial::{Answer, Call, ROOM, System, Trial, show_answer};
 use dso_base::NoMemory;
 use dso_io::{MemSink, StdFiles};
+use dso_report::journal_text;
 use dso_run::NoGate;
 use std::{fs, io};
 
@@ -23,7 +24,16 @@ pub fn show_threaded<R: System>(rt: &R, name: &str) -> io::Result<()> {
     }
 }
 
-/// Does so with a file for the journal, and prints whether that holds what lies in the folder, or all that it holds.
+/// Asks the lock checker about the program of a folder, and prints what it answers.
+pub fn show_linted<R: System>(rt: &R, name: &str) -> io::Result<()> {
+    let label = format!(in rt.alloc(); "the locks of {name}")?;
+    match example_answer(rt, "lint", name, "") {
+        Ok(answer) => show_answer(rt, label.as_str(), &answer),
+        Err(_) => println!(rt; "{label}: no memory"),
+    }
+}
+
+/// Runs it with a file for the journal, and prints whether that holds what lies in the folder, or all that it holds.
 pub fn show_traced<R: System>(rt: &R, name: &str) -> io::Result<()> {
     match example_answer(rt, "sim", name, " --journal written") {
         Ok(answer) => {
@@ -31,6 +41,74 @@ pub fn show_traced<R: System>(rt: &R, name: &str) -> io::Result<()> {
             show_written(rt, name)
         }
         Err(_) => println!(rt; "{name}: no memory"),
+    }
+}
+
+/// After how many entries each garbage is collected, in turn.
+const INTERVALS: [u64; 3] = [1, 7, 50];
+
+/// Two calls over a folder, without collections and with them, and whether they left the same journal.
+#[derive(Drop)]
+struct Collected {
+    plain: Answer,
+    answer: Answer,
+    has_same_journal: bool,
+}
+
+impl Collected {
+    /// What the sink took of the call with collections behind what it took of the one without. None where the status or
+    /// the journal differs, or what comes before.
+    fn line(&self) -> Option<&[u8]> {
+        let line = self
+            .answer
+            .taken
+            .as_slice()
+            .strip_prefix(self.plain.taken.as_slice())?;
+        let is_silent = self.has_same_journal && self.answer.done.status == self.plain.done.status;
+        is_silent.then_some(line)
+    }
+}
+
+/// Runs the program of a folder with collections, and prints whether what its sink took is what it takes without them and
+/// the line of the collections, and whether the journal is the same.
+pub fn show_collected<R: System>(rt: &R, name: &str) -> io::Result<()> {
+    for interval in INTERVALS {
+        let label = format!(in rt.alloc(); "{name}, collected after {interval}")?;
+        let options = format!(in rt.alloc(); " --collect {interval}")?;
+        match collected(rt, name, options.as_str()) {
+            Ok(calls) => show_line(rt, label.as_str(), &calls)?,
+            Err(_) => println!(rt; "{label}: no memory")?,
+        }
+    }
+    Ok(())
+}
+
+/// Calls the program over a folder without these options, and with them.
+fn collected<R: System>(rt: &R, name: &str, options: &str) -> Result<Collected, NoMemory> {
+    let plain = example_answer(rt, "sim", name, "")?;
+    let answer = example_answer(rt, "sim", name, options)?;
+    let one = journal_text(rt.alloc(), &plain.done.journal)?;
+    let other = journal_text(rt.alloc(), &answer.done.journal)?;
+    Ok(Collected {
+        plain,
+        answer,
+        has_same_journal: one.as_slice() == other.as_slice(),
+    })
+}
+
+/// Prints how a call with collections ended, with the line that tells of them; and all that it came to where anything else
+/// differs from the call without.
+fn show_line<R: System>(rt: &R, label: &str, calls: &Collected) -> io::Result<()> {
+    let status = calls.answer.done.status;
+    match calls.line() {
+        Some(line) => {
+            let line = String::from_utf8_lossy(rt.alloc(), line)?;
+            print!(rt;
+                "{label}: {status:?}, exit {}, with its report and its journal, {line}",
+                status.exit_number()
+            )
+        }
+        None => show_answer(rt, label, &calls.answer),
     }
 }
 

@@ -11,8 +11,9 @@
 //! gate, and prints how many of five workers saw all of them come to their first turns. Then all but the program is
 //! set back. `words LINE` tells what becomes of a command line. `example NAME` runs the program of a folder of the
 //! gallery, and prints whether its report is the stored one; `traced NAME` does so for its journal too, and `threaded
-//! NAME` for a run in threads. The other words are those of `Trial::set`. In texts `\n`, `\t`, `\r` and `\1` stand for
-//! bytes.
+//! NAME` for a run in threads; `collected NAME` compares runs with collections to the one without, and `linted NAME`
+//! prints what the lock checker answers of it. The other words are those of `Trial::set`. In texts `\n`, `\t`, `\r`
+//! and `\1` stand for bytes.
 #![tactic(auto)]
 
 mod examples;
@@ -22,7 +23,7 @@ mod settling;
 mod trial;
 mod variants;
 
-use examples::{show_example, show_threaded, show_traced};
+use examples::{show_collected, show_example, show_linted, show_threaded, show_traced};
 use keeping::show_keeps;
 use meeting::show_meeting;
 use settling::show_settles;
@@ -69,6 +70,8 @@ fn shows<R: System>(rt: &R, word: &str, rest: &str) -> io::Result<bool> {
         "example" => show_example(rt, rest)?,
         "traced" => show_traced(rt, rest)?,
         "threaded" => show_threaded(rt, rest)?,
+        "collected" => show_collected(rt, rest)?,
+        "linted" => show_linted(rt, rest)?,
         "words" => show_words(rt, rest)?,
         _ => return Ok(false),
     }

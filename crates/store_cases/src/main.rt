@@ -26,7 +26,6 @@
 #![tactic(auto)]
 
 mod crashed;
-mod digits;
 mod stopped;
 mod surroundings;
 mod system;

@@ -1,8 +1,8 @@
 //! Calls of the program over the files of the folder that this program runs in, and the system's disk.
 
-use crate::digits::digits_of;
 use crate::surroundings::status_of;
 use crate::trial::{ROOM, Trial};
+use case_words::digits_of;
 use dso_base::NoMemory;
 use dso_io::{MemSink, StdFiles};
 use dso_keep::StdDisk;

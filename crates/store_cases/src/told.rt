@@ -1,8 +1,8 @@
 //! What a call comes to, as text.
 
-use crate::digits::digits_of;
 use crate::surroundings::Surroundings;
 use crate::trial::Trial;
+use case_words::digits_of;
 use dso_base::NoMemory;
 use std::alloc::Global;
 

@@ -1,7 +1,7 @@
 //! What a call of the program is tried on.
 
-use crate::digits::bytes_of;
 use crate::surroundings::Surroundings;
+use case_words::bytes_of;
 use dso_base::NoMemory;
 use dso_io::{MemFiles, MemSink};
 use dso_keep::MemDisk;

@@ -1,10 +1,11 @@
 -- What words ask for: one thing at most, and it is what is read of them.
-use Rattle.std.proofs.Common.{arith, ◌≡◌, ◌∙◌, sym, ap, refl, subst, ℕ, ◌≤◌, List, [], ◌∷◌, length, Option, Some, None, Bool, false, true, ◌&&◌, nat_le, if◌then◌else◌, codes}
+use Rattle.std.proofs.Common.{arith, ◌≡◌, ◌∙◌, sym, ap, refl, subst, ℕ, ◌≤◌, List, [], ◌∷◌, length, Option, Some, None, Bool, false, true, ◌&&◌, nat_le, if◌then◌else◌, codes, MatchOption}
 use Rattle.std.proofs.lemmas.Bool.{leb-true}
 use Rattle.std.proofs.lemmas.Slice.Eq.{bytes_eq-Decides}
+use Rattle.std.specs.Option.{option_map}
 use Rattle.std.specs.Str.{all_ascii_digits, bytes_eq}
 use Rattle.std.specs.Str.Parse.{digits_value}
-use Rattle.dso_command_line.specs.Words.{AreLawful, AreUnlawful, Asks, CanBeAsked, Command, IsBuilt, number_within, steps_said, Sim, Run, Big, Show, Lint, SimCall, RunCall, ShowCall, LintCall, Given, IsAsked, IsSim, IsRun, IsBig, IsShow, IsLint}
+use Rattle.dso_command_line.specs.Words.{AreLawful, AreUnlawful, CanBeAsked, Command, IsInterval, collect_said, number_within, steps_said, Sim, Run, Big, Show, Lint, SimCall, RunCall, ShowCall, LintCall, Given, IsAsked, IsSim, IsRun, IsBig, IsShow, IsLint}
 use Rattle.dso_command_line.specs.WordReading.{read}
 use Rattle.dso_command_line.proofs.reading_words.GivesRead.{gives-read}
 use Rattle.dso_command_line.proofs.reading_words.ReadGives.{read-gives}
@@ -24,7 +25,7 @@ pub record AsksRead (first : List ℕ) (rest : List (List ℕ)) (command : Comma
   pub asked : IsAsked first given command
 
 -- so what words ask for is asked by what is read of them
-pub asks-read : (first : List ℕ) (rest : List (List ℕ)) (command : Command) → Asks (first ∷ rest) command → AsksRead first rest command
+pub asks-read : (first : List ℕ) (rest : List (List ℕ)) (command : Command) → AreLawful (first ∷ rest) command → AsksRead first rest command
 asks-read first rest command asks =
     let same : first ≡ asks.first = cc asks.spelled in
     let behind : rest ≡ asks.rest = cc asks.spelled in
@@ -144,39 +145,35 @@ asked-once first given (Lint call) (Lint other) is so = ap Lint (lint-once first
 
 -- the words are unlawful where what is behind the first can't be read
 pub unlawful_unread : (first : List ℕ) (rest : List (List ℕ)) → read rest ≡ None → AreUnlawful (first ∷ rest)
-unlawful_unread first rest none command lawful = let asks = asks-read first rest command lawful.asks in cc (none, asks.is_read)
+unlawful_unread first rest none command lawful = let asks = asks-read first rest command lawful in cc (none, asks.is_read)
 
 -- or where it asks for nothing
 pub unlawful_unasked : (first : List ℕ) (rest : List (List ℕ)) (given : Given) → read rest ≡ Some given
     → ((command : Command) → IsAsked first given command → ⊥) → AreUnlawful (first ∷ rest)
 unlawful_unasked first rest given is never command lawful =
-    let asks = asks-read first rest command lawful.asks in
+    let asks = asks-read first rest command lawful in
     let same : asks.given ≡ given = cc (is, asks.is_read) in
     never command (subst (λ g. IsAsked first g command) same asks.asked)
 
--- or where what it asks for isn't built
-pub unlawful_unbuilt : (first : List ℕ) (rest : List (List ℕ)) (given : Given) (command : Command) → read rest ≡ Some given
-    → IsAsked first given command → (IsBuilt command → ⊥) → AreUnlawful (first ∷ rest)
-unlawful_unbuilt first rest given command is asked never other lawful =
-    let asks = asks-read first rest other lawful.asks in
-    let same : asks.given ≡ given = cc (is, asks.is_read) in
-    let so : IsAsked first given other = subst (λ g. IsAsked first g other) same asks.asked in
-    never (subst IsBuilt (asked-once first given other command so asked) lawful.built)
-
 -- and else they are lawful
 pub lawful : (first : List ℕ) (rest : List (List ℕ)) (given : Given) (command : Command) → read rest ≡ Some given
-    → IsAsked first given command → IsBuilt command → AreLawful (first ∷ rest) command
-lawful first rest given command is asked built = record {
-  asks = record { first = first; rest = rest; given = given; spelled = refl; gives = read-gives rest given is; asked = asked };
-  built = built;
-}
+    → IsAsked first given command → AreLawful (first ∷ rest) command
+lawful first rest given command is asked =
+    record { first = first; rest = rest; given = given; spelled = refl; gives = read-gives rest given is; asked = asked }
+
+-- so by what is made of what was read
+pub lawful_if_asked : {X : Type 0} (found : Option X) (said : X → Command) (first : List ℕ) (rest : List (List ℕ)) (given : Given) → read rest ≡ Some given
+    → MatchOption found ((other : Command) → IsAsked first given other → ⊥) (λ x. IsAsked first given (said x))
+    → MatchOption found (AreUnlawful (first ∷ rest)) (λ x. AreLawful (first ∷ rest) (said x))
+lawful_if_asked None said first rest given is never = unlawful_unasked first rest given is never
+lawful_if_asked (Some x) said first rest given is asked = lawful first rest given (said x) is asked
 
 -- no words ask for nothing
-pub none-asks : (command : Command) → Asks [] command → ⊥
+pub none-asks : (command : Command) → AreLawful [] command → ⊥
 none-asks command asks = cc asks.spelled
 
 -- words ask for one thing at most
-pub asks-once : (words : List (List ℕ)) (command other : Command) → Asks words command → Asks words other → command ≡ other
+pub asks-once : (words : List (List ℕ)) (command other : Command) → AreLawful words command → AreLawful words other → command ≡ other
 asks-once [] command other asks more = absurd (none-asks command asks)
 asks-once (first ∷ rest) command other asks more =
     let one = asks-read first rest command asks in
@@ -215,13 +212,25 @@ steps_by : (said : Option (List ℕ)) (steps : ℕ) → steps_said said ≡ Some
 steps_by None steps is = let same : 1000000 ≡ steps = cc is in omega (arith, same)
 steps_by (Some word) steps is = most_of 1 4000000 word steps is
 
+-- the number that an option may say, where it says one
+some_said : (number : Option ℕ) (interval : Option ℕ) → option_map Some number ≡ Some interval → (n : ℕ) × (number ≡ Some n) × (interval ≡ Some n)
+some_said None interval is = cc is
+some_said (Some n) interval is = (n, refl, cc is)
+
+-- garbage is collected after 1 to 1,000,000 entries each, if it is
+interval_by : (said : Option (List ℕ)) (interval : Option ℕ) → collect_said said ≡ Some interval → IsInterval interval
+interval_by None interval is = let same : interval ≡ None = cc is in rw same tt
+interval_by (Some word) interval is =
+    let some = some_said (number_within 1 1000000 word) interval is in
+    rw some.2 (least_of 1 1000000 word some.0 some.1, most_of 1 1000000 word some.0 some.1)
+
 -- lawful words ask for what can be asked
-can_be : (first : List ℕ) (given : Given) (command : Command) → IsAsked first given command → IsBuilt command → CanBeAsked command
-can_be first given (Sim call) asked built = steps_by given.steps call.steps asked.steps
-can_be first given (Run call) asked built = steps_by given.steps call.steps asked.steps
-can_be first given (Show call) asked built = tt
-can_be first given (Lint call) asked built = built
-can_be first given (Big number) asked built = (least_of 1 1000 asked.name number asked.said, most_of 1 1000 asked.name number asked.said)
+can_be : (first : List ℕ) (given : Given) (command : Command) → IsAsked first given command → CanBeAsked command
+can_be first given (Sim call) asked = (steps_by given.steps call.steps asked.steps, interval_by given.collect call.collect asked.collect)
+can_be first given (Run call) asked = steps_by given.steps call.steps asked.steps
+can_be first given (Show call) asked = tt
+can_be first given (Lint call) asked = tt
+can_be first given (Big number) asked = (least_of 1 1000 asked.name number asked.said, most_of 1 1000 asked.name number asked.said)
 
 pub lawful_can : (words : List (List ℕ)) (command : Command) → AreLawful words command → CanBeAsked command
-lawful_can words command lawful = can_be lawful.asks.first lawful.asks.given command lawful.asks.asked lawful.built
+lawful_can words command lawful = can_be lawful.first lawful.given command lawful.asked

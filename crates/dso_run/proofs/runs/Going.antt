@@ -13,7 +13,7 @@ use Rattle.dso_legal.proofs.programs.SoundCode.{sound_program}
 use Rattle.dso_machine.specs.Next.{next_request}
 use Rattle.dso_world.specs.declared.step.Step.{Step}
 use Rattle.dso_world.specs.declared.world.World.{World}
-use Rattle.dso_world.specs.WorldStands.{IsChosenStep, IsStepped, WorldStands, entries_in, is_spent}
+use Rattle.dso_world.specs.WorldStands.{IsChosenStep, IsStepped, WorldStands, entries_in, is_spent, journal_of}
 use Rattle.dso_world.specs.WorldSteps.{settings_of, slot_of}
 use Rattle.dso_run.specs.declared.running.Outcome.TheVariants.{Stuck, Budget}
 use Rattle.dso_run.specs.Headline.{IsRunOf}
@@ -80,6 +80,15 @@ module _ (program : Program) (seed : Option ℕ) where
           turns = subst (TakesTurns (settings_of program) (next_request program.code) seed budget) (sym turn.added)
               (runs.turns, record { unfinished = unfinished; light = light; unstuck = rw unfinished (rw there refl) }, turn.at ∙ sym turn.chosen);
         }
+
+    -- so with the same journal
+    pub still_runs : (old new : World) → RunsOn program seed budget old → journal_of new ≡ journal_of old → WorldStands program new → is_spent new ≡ false
+        → RunsOn program seed budget new
+    still_runs old new runs same stands whole = record {
+      stands = stands;
+      whole = whole;
+      turns = subst (λ journal. TakesTurns (settings_of program) (next_request program.code) seed budget (reverse journal.entries)) (sym same) runs.turns;
+    }
 
     module _ (sound : IsSoundProgram program) (world : World) (runs : RunsOn program seed budget world) where
       commits : CommitsLegally (settings_of program) (next_request program.code) (entries_in world)

@@ -1,5 +1,5 @@
 -- A run over a store goes on, and what its store has at the end.
-use Rattle.std.proofs.Common.{ℕ, ◌≡◌, inl, inr, ◌+◌, ◌*◌, ◌≤◌, ◌<◌, ◌^◌, sym, ◌∙◌, ap, subst, arith, Bool, Option, Some, None, List, [], ◌∷◌, Result, Ok, Err, IfOk}
+use Rattle.std.proofs.Common.{ℕ, ◌≡◌, inl, inr, ◌+◌, ◌*◌, ◌≤◌, ◌<◌, ◌^◌, sym, ◌∙◌, ap, subst, arith, Bool, Option, Some, List, [], ◌∷◌, Result, Ok, Err, IfOk}
 use Rattle.std.proofs.lemmas.List.{append-nil}
 use Rattle.dso_base.specs.declared.journal.Entry.{Entry}
 use Rattle.dso_base.specs.declared.record.Txn.{Txn}

@@ -1,5 +1,5 @@
 -- What a crash leaves of the store that words name for a run, whatever the call's status.
-use Rattle.std.proofs.Common.{◌≡◌, ◌≢◌, ◌⊎◌, inl, inr, ◌∙◌, refl, sym, subst, arith, ℕ, ◌<◌, ◌≤◌, List, [], length, Option, Some, None, reverse}
+use Rattle.std.proofs.Common.{◌≡◌, ◌≢◌, ◌⊎◌, inl, inr, ◌∙◌, refl, sym, subst, arith, ℕ, ◌<◌, ◌≤◌, List, length, Option, Some, None, reverse}
 use Rattle.std.specs.Option.{IfSome}
 use Rattle.dso_class.specs.declared.program.Program.{Program}
 use Rattle.dso_command_line.specs.Words.{AreLawful, Command, Sim, Run, Big, Show, Lint, store_of}
@@ -10,10 +10,12 @@ use Rattle.dso_run.specs.declared.running.Outcome.TheVariants as outcome
 use Rattle.dso_run.specs.declared.status.Refusal.{Refusal}
 use Rattle.dso_run.specs.declared.status.Refusal.TheVariants as refusal
 use Rattle.dso_run.specs.declared.status.Status.{Status}
-use Rattle.dso_run.specs.declared.status.Status.TheVariants.{Finished, FinishedFault, Usage, BadConfig, BadProgram, ReadFault, WriteFault, Stuck, Budget, NoMemory, StoreFault, StoreInUse, BadStore, Shown}
-use Rattle.dso_run.specs.Headline.{CallInput, CallOutput, HasRunOf, IsAccepted, IsDue, IsGraphDue, IsLineDue, LeavesOfStore, StatusMeans}
+use Rattle.dso_run.specs.declared.status.Status.TheVariants.{Finished, FinishedFault, Usage, BadConfig, BadProgram, ReadFault, WriteFault, Stuck, Budget, NoMemory, StoreFault, StoreInUse, BadStore, Shown, LintYes, LintNo}
+use Rattle.dso_lint.specs.declared.answer.Lint as checker
+use Rattle.dso_lint.specs.declared.answer.Lint.TheVariants as lint
+use Rattle.dso_run.specs.Headline.{CallInput, CallOutput, HasRunOf, IsAccepted, IsDue, IsGraphDue, IsLineDue, IsVerdictDue, LeavesOfStore, StatusMeans}
 use Rattle.dso_run.specs.StoreLaws.{HasAll, HasKept, LeftAlone, RecordsAreKept}
-use Rattle.dso_run.specs.Stores.{CallDisk, KeepsRecords, SinceTaken, file_taken}
+use Rattle.dso_run.specs.Stores.{KeepsRecords, SinceTaken, file_taken}
 use Rattle.dso_run.proofs.Completing.{one_call}
 
 -- a file of at most one byte isn't longer than that, where it is told; where it isn't, nothing is known of it
@@ -82,6 +84,12 @@ module _ (input : CallInput) (output : CallOutput) (command : Command) (name : L
       let same = one_call input.words (Show due.call) command due.accepted.read.words words in
       let wrong : store_of (Show due.call) ≡ Some name = subst (λ c. store_of c ≡ Some name) (sym same) named in absurd (cc wrong)
 
+  -- and no locks are to be checked
+  of_verdict : (status : Status) (answer : checker.Lint) (text : List ℕ) → IsVerdictDue input output answer text → Kept status
+  of_verdict status answer text due =
+      let same = one_call input.words (Lint due.call) command due.accepted.read.words words in
+      let wrong : store_of (Lint due.call) ≡ Some name = subst (λ c. store_of c ≡ Some name) (sym same) named in absurd (cc wrong)
+
   kept : (status : Status) → StatusMeans input output status → status ≢ NoMemory → Kept status
   kept Finished means some = of_run Finished means.due.command means.due.program outcome.Finished means.due.run
   kept FinishedFault means some = of_run FinishedFault means.due.command means.due.program outcome.FinishedFault means.due.run
@@ -95,13 +103,16 @@ module _ (input : CallInput) (output : CallOutput) (command : Command) (name : L
   kept StoreInUse means some = of_line StoreInUse refusal.InUse means.text means.due (λ is. absurd (cc is))
   kept (BadStore place) means some = of_line (BadStore place) (refusal.BadStore place) means.text means.due (λ is. absurd (cc is))
   kept Shown means some = of_graph Shown means.text means.due
+  kept LintYes means some = of_verdict LintYes lint.Yes means.text means.due
+  kept (LintNo place why) means some = of_verdict (LintNo place why) (lint.No place why) means.text means.due
   kept WriteFault (inl cut) some = by cut.due
     where
       by : IsDue input output cut.text → Kept WriteFault
       by (inl line) = of_line WriteFault line.0 cut.text line.1
           (λ is all. let due = subst (λ why. IsLineDue input output why cut.text) is line.1 in all due.cause.failed)
       by (inr (inl report)) = of_run WriteFault report.1.command report.1.program report.0 report.1.run
-      by (inr (inr graph)) = of_graph WriteFault cut.text graph
+      by (inr (inr (inl graph))) = of_graph WriteFault cut.text graph
+      by (inr (inr (inr verdict))) = of_verdict WriteFault verdict.0 cut.text verdict.1
   kept WriteFault (inr unkept) some = of_run WriteFault unkept.command unkept.program unkept.ended unkept.run
   kept NoMemory means some = absurd (some refl)
 

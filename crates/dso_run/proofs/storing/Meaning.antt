@@ -1,25 +1,24 @@
 -- What a call's answer means that had a store: from what became of the store, and from what was written.
-use Rattle.std.proofs.Common.{◌≡◌, ◌≢◌, ◌⊎◌, inl, inr, ◌∙◌, refl, sym, ap, subst, ℕ, ◌≤◌, List, [], length, Option, Some, None, reverse}
+use Rattle.std.proofs.Common.{◌≡◌, ◌≢◌, ◌⊎◌, inl, inr, ◌∙◌, refl, sym, subst, ℕ, ◌≤◌, List, [], length, Option, Some, None, reverse}
 use Rattle.dso_base.specs.declared.journal.Entry.{Entry}
 use Rattle.dso_base.specs.declared.shape.Shape.{Shape}
 use Rattle.dso_class.specs.declared.program.Program.{Program}
-use Rattle.dso_command_line.specs.Words.{Command, Sim, Run, Big, Show, Lint, SimCall, ShowCall, seed_of, steps_of, store_of}
+use Rattle.dso_command_line.specs.Words.{Command, Sim, Run, Big, Show, Lint, seed_of, steps_of, store_of}
 use Rattle.dso_io.specs.Environment.{Rose, Told}
-use Rattle.dso_keep.specs.Crash.{CrashLeaves}
 use Rattle.dso_keep.specs.Records.{HoldsRecords}
-use Rattle.dso_kept.specs.Keeping.{IsStoreOf, ReopensFirst, applied}
+use Rattle.dso_kept.specs.Keeping.{ReopensFirst, applied}
 use Rattle.dso_kept.proofs.keeping.Leaving.{none_first}
 use Rattle.dso_machine.specs.Next.{next_request}
 use Rattle.dso_run.specs.declared.status.Refusal.{Refusal}
 use Rattle.dso_run.specs.declared.status.Refusal.TheVariants as refusal
 use Rattle.dso_run.specs.declared.status.Status.{Status}
-use Rattle.dso_run.specs.declared.status.Status.TheVariants.{NoMemory, Shown}
+use Rattle.dso_run.specs.declared.status.Status.TheVariants.{NoMemory}
 use Rattle.dso_run.specs.Accepted.{settings_of}
 use Rattle.dso_run.specs.Files.{AreAsBefore}
-use Rattle.dso_run.specs.Headline.{CallInput, CallOutput, HasCause, IsAccepted, LeavesNothing, LeavesOfStore, StatusMeans, WasCutOff, making_of}
+use Rattle.dso_run.specs.Headline.{CallInput, CallOutput, LeavesOfStore, making_of}
 use Rattle.dso_run.specs.RunEnds.{BySlots, ByThreads, IsRun}
 use Rattle.dso_run.specs.Status.{HasLine, line_of, status_of}
-use Rattle.dso_run.specs.StoreCalls.{IsOpenRefused, IsOpened, IsShowRefused}
+use Rattle.dso_run.specs.StoreCalls.{IsOpenRefused, IsShowRefused}
 use Rattle.dso_run.specs.Stores.{CallDisk, IsStored, IsUntouched, KeepsRecords, SinceTaken, file_taken}
 use Rattle.dso_run.specs.Writing.{MeansFor, ToldRun, Wrote}
 use Rattle.dso_run.proofs.StatusMeaning.{refusal_means, run_means}

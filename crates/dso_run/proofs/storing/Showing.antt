@@ -1,5 +1,5 @@
 -- What a call's answer means that shows a store.
-use Rattle.std.proofs.Common.{◌≡◌, ◌∙◌, refl, sym, subst, ℕ, List, [], Option, Some}
+use Rattle.std.proofs.Common.{◌≡◌, ◌∙◌, ℕ, List, []}
 use Rattle.std.specs.Option.{IfSome}
 use Rattle.dso_base.specs.declared.record.Txn.{Txn}
 use Rattle.dso_class.specs.declared.program.Program.{Program}

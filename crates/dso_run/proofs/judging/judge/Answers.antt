@@ -11,3 +11,7 @@ returns-in-Run-clause-verdict g c = rw c.in-Run.is c.judge_files-in-Run.ensures.
 -- and those of `show`
 pub returns-in-Show-clause-verdict : goal.returns-in-Show-clause-verdict
 returns-in-Show-clause-verdict g c = rw c.in-Show.is c.judge_files-in-Show.ensures.verdict
+
+-- and those of `lint`
+pub returns-in-Lint-clause-verdict : goal.returns-in-Lint-clause-verdict
+returns-in-Lint-clause-verdict g c = rw c.in-Lint.is c.judge_files-in-Lint.ensures.verdict

@@ -2,12 +2,20 @@ use Rattle.std.proofs.Common.{refl, rules, subst, sym, map}
 use Rattle.std.specs.String.{string_bytes}
 use Rattle.dso_command_line.specs.Said.{said}
 use Rattle.dso_command_line.specs.Words.{Run, Show}
+use Rattle.dso_command_line.proofs.reading_words.Asking.{lawful_can}
 use Rattle.dso_run.specs.declared.status.Refusal.TheVariants as refusal
 use Rattle.dso_run.specs.Headline.{CallInput, CallOutput, StatusMeans, left_by, read_by}
 use Rattle.dso_run.specs.Stores.{CallDisk, disk_by}
 use Rattle.dso_run.proofs.Completing.{one_call}
 use Rattle.dso_run.proofs.StatusMeaning.{refusal_means}
 use Rattle.dso_run.proofs.main_call.without_threads.Goals as goal
+
+-- the words ask for what can be asked
+pub carry_out-requires : goal.carry_out-requires
+carry_out-requires g c = record {
+  asked = lawful_can (map string_bytes c.args.words.now) (said c.in-Some.command) c.in-Some.ensures;
+  slots = search rules;
+}
 
 -- the words ask for this, and for nothing else
 pub returns-in-Some : goal.returns-in-Some

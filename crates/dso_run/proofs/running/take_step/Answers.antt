@@ -1,5 +1,7 @@
-use Rattle.std.proofs.Common.{◌<◌, ◌^◌, length, sym, subst}
+use Rattle.std.proofs.Common.{◌<◌, ◌^◌, length, sym, subst, OnOk}
+use Rattle.dso_world.specs.WorldStands.{SweepsNothing}
 use Rattle.dso_run.proofs.runs.Going.{is_short, turn_if_ok}
+use Rattle.dso_run.proofs.sweeping.Rounds.{nothing_swept}
 use Rattle.dso_run.proofs.running.take_step.Goals as goal
 
 -- the journal is short
@@ -11,3 +13,10 @@ pub returns-in-Some-clause-turn : goal.returns-in-Some-clause-turn
 returns-in-Some-clause-turn c =
     turn_if_ok c.args.program.now c.args.schedule.seed c.step.result c.in-Some.step c.args.world.now _ _ c.choose.ensures.same
     (c.in-Some.ensures.chosen c.args.program.now c.requires.stands c.requires.whole) c.step.ensures.stepped
+
+pub returns-in-Some-clause-swept : goal.returns-in-Some-clause-swept
+returns-in-Some-clause-swept c = subst (λ world. OnOk c.step.result (SweepsNothing c.args.program.now world c.step.new.self)) c.choose.ensures.same c.step.ensures.swept
+
+-- nothing is done
+pub returns-in-None-clause-swept : goal.returns-in-None-clause-swept
+returns-in-None-clause-swept c = nothing_swept c.args.program.now c.args.world.now c.choose.new.self c.choose.ensures.same

@@ -1,4 +1,4 @@
-use Rattle.std.proofs.Common.{◌≡◌, ◌∙◌, inr, refl, sym, subst, reverse, length, ◌≤◌}
+use Rattle.std.proofs.Common.{◌∙◌, inr, refl, sym, subst, reverse}
 use Rattle.dso_command_line.specs.Said.{said}
 use Rattle.dso_command_line.specs.Words.{steps_of}
 use Rattle.dso_keep.specs.Crash.{CrashLeaves}

@@ -13,5 +13,5 @@ returns-in-Ok-keep_journal-clause-told g c = λ disk.
     rw c.journal.ensures at c.in-Ok-keep_journal.ensures.written in
     rw (c.ended.ensures.journal, c.ended.ensures.status)
     (told_run (said c.args.self.now.command) c.args.self.now.program.now (g.F.Files.content c.args.files.now) output c.args.run.outcome c.in-Ok.text.items
-    c.write_or_fail-status.result c.requires.run kept c.in-Ok.ensures c.in-Ok-keep_journal.ensures.sound
+    c.write_or_fail-status.result c.requires.run.made kept c.in-Ok.ensures c.in-Ok-keep_journal.ensures.sound
     (rw (c.as_slice.ensures.value, c.status_of_run.ensures) at c.write_or_fail-status.ensures))
