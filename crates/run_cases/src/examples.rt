@@ -75,7 +75,7 @@ pub fn show_collected<R: System>(rt: &R, name: &str) -> io::Result<()> {
     for interval in INTERVALS {
         let label = format!(in rt.alloc(); "{name}, collected after {interval}")?;
         let options = format!(in rt.alloc(); " --collect {interval}")?;
-        match collected(rt, name, options.as_str()) {
+        match calls_collected(rt, name, options.as_str()) {
             Ok(calls) => show_line(rt, label.as_str(), &calls)?,
             Err(_) => println!(rt; "{label}: no memory")?,
         }
@@ -84,7 +84,7 @@ pub fn show_collected<R: System>(rt: &R, name: &str) -> io::Result<()> {
 }
 
 /// Calls the program over a folder without these options, and with them.
-fn collected<R: System>(rt: &R, name: &str, options: &str) -> Result<Collected, NoMemory> {
+fn calls_collected<R: System>(rt: &R, name: &str, options: &str) -> Result<Collected, NoMemory> {
     let plain = example_answer(rt, "sim", name, "")?;
     let answer = example_answer(rt, "sim", name, options)?;
     let one = journal_text(rt.alloc(), &plain.done.journal)?;
