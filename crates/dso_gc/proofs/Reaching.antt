@@ -7,9 +7,9 @@ use Rattle.dso_base.specs.Reach.{Found, start, onward}
 use Rattle.dso_base.specs.Reached.{Reaches, begins, goes_on}
 use Rattle.dso_lookup.specs.Lists.{lists_of}
 use Rattle.dso_lookup.specs.Maps.{look}
-use Rattle.dso_lookup.specs.Search.{is_listed}
+use Rattle.dso_lookup.specs.Search.{has_edge, is_listed}
 use Rattle.dso_gc.specs.declared.edges.Edges.{Edges}
-use Rattle.dso_gc.specs.Garbage.{IsIn, IsEdgeIn, has_edge}
+use Rattle.dso_gc.specs.Garbage.{IsIn, IsEdgeIn}
 use Rattle.dso_gc.specs.Edges.{is_target, HasEdges}
 
 pub both : (a b : Bool) → (a && b) ≡ true → (a ≡ true) × (b ≡ true)

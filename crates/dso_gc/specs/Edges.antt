@@ -4,8 +4,7 @@ use Rattle.std.specs.Ordering.{nat_cmp}
 use Rattle.std.specs.Prelude.{ℕ, ◌≡◌, Bool, eqb, is_some, List}
 use Rattle.dso_lookup.specs.Lists.{lists_of}
 use Rattle.dso_lookup.specs.Maps.{look}
-use Rattle.dso_lookup.specs.Search.{is_listed}
-use Rattle.dso_gc.specs.Garbage.{has_edge}
+use Rattle.dso_lookup.specs.Search.{has_edge, is_listed}
 use Rattle.dso_gc.specs.declared.edges.Edges.{Edges}
 
 -- whether an edge of the list goes to the object

@@ -10,6 +10,10 @@ use Rattle.dso_base.specs.declared.value.Value.TheVariants as value
 abbrev pub is_listed : ℕ → List ℕ → Bool
 is_listed o objects = list_any (λ listed. eqb listed o) objects
 
+-- whether the list has the edge from a to b
+abbrev pub has_edge : ℕ → ℕ → List (ℕ × ℕ) → Bool
+has_edge a b edges = list_any (λ edge. eqb edge.0 a && eqb edge.1 b) edges
+
 -- the set has exactly the objects of the list
 abbrev pub IsSetOf : BTreeSet ℕ → List ℕ → Type 0
 IsSetOf set objects = (o : ℕ) → contains nat_cmp set o ≡ is_listed o objects

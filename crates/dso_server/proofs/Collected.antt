@@ -12,7 +12,7 @@ use Rattle.dso_gc.specs.Garbage.{IsGarbageOf}
 use Rattle.dso_law.specs.ServerReadings.{counted}
 use Rattle.dso_law.specs.Settings.{Settings}
 use Rattle.dso_law.specs.Store.{stored}
-use Rattle.dso_lookup.specs.Search.{is_listed}
+use Rattle.dso_lookup.specs.Search.{has_edge, is_listed}
 use Rattle.dso_lookup.proofs.Tests.{left_holds, right_holds}
 use Rattle.dso_server.specs.declared.server.Server.{Server}
 use Rattle.dso_server.specs.Batches.{batches_to}
@@ -22,7 +22,7 @@ use Rattle.dso_server.specs.ServerStands.{LocksStand, ServerStands, ThreadsStand
 use Rattle.dso_store.specs.declared.store.Store.{Store}
 use Rattle.dso_store.specs.Graph as graph
 use Rattle.dso_store.specs.Graph.{body_in, holds_in}
-use Rattle.dso_store.specs.Collecting.{has_edge, without}
+use Rattle.dso_store.specs.Collecting.{without}
 
 -- what is reached along edges is reached along more edges
 reached_on : {IsStart : ℕ → Type 0} {IsEdge IsOther : ℕ → ℕ → Type 0} → ((a b : ℕ) → IsEdge a b → IsOther a b) → (o : ℕ) → Reaches IsStart IsEdge o → Reaches IsStart IsOther o

@@ -2,10 +2,10 @@
 use Rattle.std.specs.Prelude.{ℕ, ◌≡◌, ◌≢◌, ◌⊎◌, true, None, List}
 use Rattle.dso_base.specs.Block.{body_names}
 use Rattle.dso_base.specs.Reached.{IsGarbage}
-use Rattle.dso_lookup.specs.Search.{is_listed}
+use Rattle.dso_lookup.specs.Search.{has_edge, is_listed}
 use Rattle.dso_server.specs.declared.server.Server.{Server}
 use Rattle.dso_server.specs.Fitting.{graph_in}
-use Rattle.dso_store.specs.Collecting.{has_edge, without}
+use Rattle.dso_store.specs.Collecting.{without}
 use Rattle.dso_store.specs.Graph as graph
 use Rattle.dso_store.specs.Graph.{holds_in}
 

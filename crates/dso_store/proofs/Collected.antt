@@ -16,10 +16,10 @@ use Rattle.dso_base.specs.declared.value.Value.{Value}
 use Rattle.dso_base.specs.declared.value.Value.TheVariants as value
 use Rattle.dso_base.specs.Block.{body_names, has_reference}
 use Rattle.dso_lookup.specs.Maps.{look, writes, written}
-use Rattle.dso_lookup.specs.Search.{is_listed}
+use Rattle.dso_lookup.specs.Search.{has_edge, is_listed}
 use Rattle.dso_lookup.proofs.Tests.{number_at}
 use Rattle.dso_store.proofs.BodiesWritten.{flipped, written_from}
-use Rattle.dso_store.specs.Collecting.{count_there, edges_from, edges_of, has_edge, without}
+use Rattle.dso_store.specs.Collecting.{count_there, edges_from, edges_of, without}
 
 -- the edges from an object are those to what the values name
 edge_from : (x a b : ℕ) (values : List Value) → has_edge a b (edges_from x values) ≡ (eqb x a && has_reference b values)

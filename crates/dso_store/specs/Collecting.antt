@@ -1,13 +1,8 @@
 -- What a collection reads of a table of bodies, and what is left of the table where it takes bodies out.
-use Rattle.std.specs.List.{list_any}
-use Rattle.std.specs.Prelude.{ℕ, suc, Bool, cond, eqb, not, ◌&&◌, is_some, Option, None, List, [], ◌∷◌, flat_map, map}
+use Rattle.std.specs.Prelude.{ℕ, suc, cond, not, ◌&&◌, is_some, Option, None, List, [], ◌∷◌, flat_map, map}
 use Rattle.dso_base.specs.declared.record.Body.{Body}
 use Rattle.dso_base.specs.declared.value.Value.{Value}
 use Rattle.dso_lookup.specs.Search.{is_listed, reference_in}
-
--- whether the list has the edge from a to b
-abbrev pub has_edge : ℕ → ℕ → List (ℕ × ℕ) → Bool
-has_edge a b edges = list_any (λ edge. eqb edge.0 a && eqb edge.1 b) edges
 
 -- an edge from the object to each object that the values name
 abbrev pub edges_from : ℕ → List Value → List (ℕ × ℕ)

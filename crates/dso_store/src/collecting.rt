@@ -4,8 +4,8 @@ ghost use Rattle.std.specs.List.Sorted.{IsStrictlySortedBy};
 ghost use Rattle.std.specs.Ordering.{nat_cmp};
 ghost use Rattle.dso_base.specs.Block.{body_names};
 ghost use Rattle.dso_lookup.specs.Maps.{look};
-ghost use Rattle.dso_lookup.specs.Search.{is_listed};
-ghost use Rattle.dso_store.specs.Collecting.{count_there, edges_from, has_edge, without};
+ghost use Rattle.dso_lookup.specs.Search.{has_edge, is_listed};
+ghost use Rattle.dso_store.specs.Collecting.{count_there, edges_from, without};
 
 use dso_base::{Body, NoMemory, Value};
 use dso_lookup::take;

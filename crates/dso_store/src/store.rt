@@ -9,9 +9,9 @@ ghost use Rattle.dso_base.specs.declared.message.Up.TheVariants as up;
 ghost use Rattle.dso_law.specs.ServerReadings.{number_by};
 ghost use Rattle.dso_law.specs.Settings.{Settings};
 ghost use Rattle.dso_law.specs.Store.{opening_roots, body_by, held_by};
-ghost use Rattle.dso_lookup.specs.Search.{is_listed};
+ghost use Rattle.dso_lookup.specs.Search.{has_edge, is_listed};
 ghost use Rattle.dso_store.specs.Changes.{messages_of};
-ghost use Rattle.dso_store.specs.Collecting.{count_there, has_edge, without};
+ghost use Rattle.dso_store.specs.Collecting.{count_there, without};
 ghost use Rattle.dso_store.specs.Graph.{body_in, holds_in, last_in, changes_by, AreClients};
 
 use crate::bodies::{add_news, opening_bodies, set_all};

@@ -1,16 +1,11 @@
 -- Edges in a list, each from an object to one that its copy names.
-use Rattle.std.specs.List.{list_any}
 use Rattle.std.specs.Prelude.{ℕ, ◌≡◌, Bool, eqb, ◌&&◌, ◌||◌, Option, List, ◌++◌, map, fold}
 use Rattle.dso_base.specs.declared.value.Value.{Value}
 use Rattle.dso_base.specs.Block.{body_names}
-use Rattle.dso_lookup.specs.Search.{reference_in}
+use Rattle.dso_lookup.specs.Search.{has_edge, reference_in}
 use Rattle.dso_table.specs.declared.slot.Slot.{Slot}
 use Rattle.dso_table.specs.ObjectTables.{standing_of}
 use Rattle.dso_table.specs.States.{body_of}
-
--- whether the list has the edge from a to b
-abbrev pub has_edge : ℕ → ℕ → List (ℕ × ℕ) → Bool
-has_edge a b edges = list_any (λ edge. eqb edge.0 a && eqb edge.1 b) edges
 
 -- the edge from the object to the one that a value names, if it names one
 abbrev pub edges_in : ℕ → Value → List (ℕ × ℕ)

@@ -1,7 +1,8 @@
 //! The edges of a client's copies: from each of them to the objects that it names (`specs/Edges.antt`).
 ghost use Rattle.std.specs.Prelude.{ℕ, ◌≡◌, OnOk, IfOk, Some};
 ghost use Rattle.dso_base.specs.Block.{body_names};
-ghost use Rattle.dso_table.specs.Edges.{AddsEdges, copy_names, has_edge, with_edges};
+ghost use Rattle.dso_lookup.specs.Search.{has_edge};
+ghost use Rattle.dso_table.specs.Edges.{AddsEdges, copy_names, with_edges};
 ghost use Rattle.dso_table.specs.ObjectTables.{at_place, slot_in};
 ghost use Rattle.dso_table.specs.States.{copy_of};
 

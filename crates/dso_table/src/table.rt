@@ -4,7 +4,7 @@ ghost use Rattle.std.specs.Bool.{OnTrue, OnFalse};
 ghost use Rattle.std.specs.Option.{option_copied};
 ghost use Rattle.dso_base.specs.Block.{body_names};
 ghost use Rattle.dso_change.specs.Hands.{has_field};
-ghost use Rattle.dso_table.specs.Edges.{has_edge};
+ghost use Rattle.dso_lookup.specs.Search.{has_edge};
 ghost use Rattle.dso_table.specs.States.{nothing_known, body_of, is_absent, is_asked, asked, put, set, acted, acknowledged, opened, closed, used, flushed};
 ghost use Rattle.dso_table.specs.ObjectTables.{state_in};
 ghost use Rattle.dso_table.specs.Victims.{IsFlushable, IsReason, IsVictim, NoVictim};

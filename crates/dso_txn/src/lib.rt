@@ -7,6 +7,7 @@ mod open_block;
 mod privates;
 mod unacked;
 
+pub use named::{add_monitor, add_notes, add_values, add_with_values};
 pub use open_block::OpenBlock;
 pub use privates::Privates;
 pub use unacked::Unacked;

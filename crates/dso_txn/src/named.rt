@@ -10,8 +10,8 @@ ghost use Rattle.dso_txn.specs.NamedInHand.{AddsNamed};
 use dso_base::{Body, LockName, NoMemory, Note, Value};
 use std::collections::BTreeMap;
 
-/// Adds the objects that the values name.
-pub(crate) fn add_values(values: &[Value], into: &mut Vec<u64>) -> Result<(), NoMemory>
+/// Adds the objects that the values name. NoMemory: some of them may have been added.
+pub fn add_values(values: &[Value], into: &mut Vec<u64>) -> Result<(), NoMemory>
     ensures { OnOk result (into.new.items ≡ with_references values.now into.old.items) }
 {
     for value in values {
@@ -22,8 +22,8 @@ pub(crate) fn add_values(values: &[Value], into: &mut Vec<u64>) -> Result<(), No
     Ok(())
 }
 
-/// Adds an object, and those that its values name.
-fn add_object(object: u64, values: &[Value], into: &mut Vec<u64>) -> Result<(), NoMemory>
+/// Adds an object, and those that its values name. NoMemory: some of them may have been added.
+pub fn add_with_values(object: u64, values: &[Value], into: &mut Vec<u64>) -> Result<(), NoMemory>
     ensures { OnOk result (into.new.items ≡ with_references values.now (into.old.items ++ object ∷ [])) }
 {
     into.push(object)?;
@@ -36,7 +36,7 @@ pub(crate) fn add_bodies(bodies: &BTreeMap<u64, Body>, into: &mut Vec<u64>) -> R
     ensures ordered { IsOrdered nat_cmp bodies.now }
 {
     for (_, body) in bodies {
-        add_object(body.object, body.values.as_slice(), into)?;
+        add_with_values(body.object, body.values.as_slice(), into)?;
     }
     Ok(())
 }
@@ -49,13 +49,13 @@ pub(crate) fn add_sets(
     ensures { OnOk result (AddsNamed (λ o. list_any (λ set. set_names set o) (sets_of sets.now)) into.old.items into.new.items) }
 {
     for (field, value) in sets {
-        add_object(field.0, &[*value], into)?;
+        add_with_values(field.0, &[*value], into)?;
     }
     Ok(())
 }
 
-/// Adds the object whose monitor a lock is.
-fn add_monitor(lock: LockName, into: &mut Vec<u64>) -> Result<(), NoMemory>
+/// Adds the object whose monitor a lock is. NoMemory: nothing was added.
+pub fn add_monitor(lock: LockName, into: &mut Vec<u64>) -> Result<(), NoMemory>
     ensures { OnOk result (AddsNamed (lock_names lock) into.old.items into.new.items) }
 {
     if let LockName::Mon(object) = lock {
@@ -64,8 +64,8 @@ fn add_monitor(lock: LockName, into: &mut Vec<u64>) -> Result<(), NoMemory>
     Ok(())
 }
 
-/// Adds the objects of whose monitors there are notifications.
-pub(crate) fn add_notes(notes: &[Note], into: &mut Vec<u64>) -> Result<(), NoMemory>
+/// Adds the objects of whose monitors there are notifications. NoMemory: some of them may have been added.
+pub fn add_notes(notes: &[Note], into: &mut Vec<u64>) -> Result<(), NoMemory>
     ensures { OnOk result (AddsNamed (λ o. list_any (λ note. note_names note o) notes.now) into.old.items into.new.items) }
 {
     for note in notes {

@@ -12,9 +12,10 @@ use Rattle.std.specs.declared.cmp.Ordering.TheVariants.{Less}
 use Rattle.dso_base.specs.declared.value.Value.{Value}
 use Rattle.dso_base.specs.declared.value.Value.TheVariants as value
 use Rattle.dso_base.specs.Block.{has_reference}
+use Rattle.dso_lookup.specs.Search.{has_edge}
 use Rattle.dso_lookup.proofs.Tests.{number_at}
 use Rattle.dso_table.specs.declared.places.Places.{Places}
-use Rattle.dso_table.specs.Edges.{copy_names, has_edge, with_edges}
+use Rattle.dso_table.specs.Edges.{copy_names, with_edges}
 use Rattle.dso_table.specs.ObjectTables.{at_place}
 
 -- whether the copies at these places, by their objects, have the edge from a to b

@@ -1,7 +1,8 @@
 use Rattle.std.proofs.Common.{rules, ◌≡◌, ◌∙◌, ap}
 use Rattle.std.specs.BTreeMap.{IsOrdered}
 use Rattle.std.specs.Ordering.{nat_cmp}
-use Rattle.dso_store.specs.Collecting.{edges_of, has_edge}
+use Rattle.dso_lookup.specs.Search.{has_edge}
+use Rattle.dso_store.specs.Collecting.{edges_of}
 use Rattle.dso_store.proofs.Collected.{edge_of}
 use Rattle.dso_store.proofs.collecting.edges_in.Goals as goal
 

@@ -1,7 +1,8 @@
 use Rattle.std.proofs.Common.{ap, sym, ◌∙◌, ◌||◌, ◌&&◌, eqb}
 use Rattle.std.proofs.lemmas.Result.{on_ok_weaker}
 use Rattle.dso_base.specs.Block.{body_names}
-use Rattle.dso_table.specs.Edges.{has_edge, with_edges}
+use Rattle.dso_lookup.specs.Search.{has_edge}
+use Rattle.dso_table.specs.Edges.{with_edges}
 use Rattle.dso_table.specs.States.{copy_of}
 use Rattle.dso_table.proofs.objects.CopyEdges.{edges_listed}
 use Rattle.dso_table.proofs.edges.add_copy.Goals as goal

@@ -1,5 +1,5 @@
 use Rattle.std.proofs.Common.{ap, sym, ◌∙◌, ◌||◌}
-use Rattle.dso_table.specs.Edges.{has_edge}
+use Rattle.dso_lookup.specs.Search.{has_edge}
 use Rattle.dso_table.proofs.objects.CopyEdges.{at_own_place, entries_name, or_false, place_on}
 use Rattle.dso_table.proofs.edges.edges.Goals as goal
 

@@ -1,5 +1,5 @@
 use Rattle.std.proofs.Common.{ℕ, ◌≡◌, ◌||◌}
-use Rattle.dso_table.specs.Edges.{has_edge}
+use Rattle.dso_lookup.specs.Search.{has_edge}
 use Rattle.dso_table.proofs.objects.CopyEdges.{entries_name}
 use Rattle.dso_table.proofs.edges.edges.Given as goal
 

@@ -8,9 +8,9 @@ use Rattle.dso_txn.proofs.named.add_bodies.Goals as goal
 
 pub loop-body-preserved : goal.loop-body-preserved
 loop-body-preserved c = λ o. let body = c.in-Some.body.now in
-    one_on (λ b. body_with_names b o) body (map (λ e. e.1) c.next.new.self) (is_listed o c.loop-body.into.items) (is_listed o c.add_object.new.into.items)
+    one_on (λ b. body_with_names b o) body (map (λ e. e.1) c.next.new.self) (is_listed o c.loop-body.into.items) (is_listed o c.add_with_values.new.into.items)
     (is_listed o c.args.into.now.items || list_any (λ b. body_with_names b o) (values_of c.args.bodies.now))
-    (ap (is_listed o) (c.in_ok-add_object.ensures ∙ ap (λ values. with_references values (c.loop-body.into.items ++ body.object ∷ [])) c.as_slice.ensures) ∙ object_added body.object body.values c.loop-body.into.items o)
+    (ap (is_listed o) (c.in_ok-add_with_values.ensures ∙ ap (λ values. with_references values (c.loop-body.into.items ++ body.object ∷ [])) c.as_slice.ensures) ∙ object_added body.object body.values c.loop-body.into.items o)
     (ap (λ es. is_listed o c.loop-body.into.items || list_any (λ b. body_with_names b o) (map (λ e. e.1) es)) (sym c.in-Some.ensures.steps) ∙ c.loop-body.invariant o)
 
 pub returns-clause-named : goal.returns-clause-named
