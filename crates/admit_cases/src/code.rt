@@ -2,7 +2,7 @@
 
 use case_words::{class_shape, field_shape, single};
 use dso_base::{Guard, Items, Kind, NoMemory, Shape, ThreadId};
-use dso_machine::{Code, ThreadBody};
+use dso_machine::{Branch, Code, ThreadBody};
 use std::alloc::Global;
 
 /// Class 0 with a long guarded by the object's monitor and an object guarded by the named lock 1; one root, two named
@@ -22,20 +22,20 @@ fn shape(alloc: Global) -> Result<Shape, NoMemory> {
 }
 
 /// A thread that does nothing.
-fn body(alloc: Global, thread: ThreadId) -> ThreadBody {
-    ThreadBody {
+fn body(alloc: Global, thread: ThreadId) -> Result<ThreadBody, NoMemory> {
+    Ok(ThreadBody {
         thread,
         vars: 0,
-        body: Items::new(alloc),
-    }
+        body: Branch::new(alloc, Items::new(alloc))?,
+    })
 }
 
 /// The bodies of the threads.
 fn bodies(alloc: Global) -> Result<Items<ThreadBody>, NoMemory> {
     let mut bodies = Items::new(alloc);
     for client in 1..5 {
-        bodies.push(body(alloc, ThreadId { client, index: 1 }))?;
-        bodies.push(body(alloc, ThreadId { client, index: 2 }))?;
+        bodies.push(body(alloc, ThreadId { client, index: 1 })?)?;
+        bodies.push(body(alloc, ThreadId { client, index: 2 })?)?;
     }
     Ok(bodies)
 }

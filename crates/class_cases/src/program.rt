@@ -6,7 +6,7 @@ use crate::names::{program_of, refusal_line};
 use dso_base::{FieldShape, Guard, Kind, NoMemory, ThreadId};
 use dso_class::Program;
 use dso_config::Config;
-use dso_machine::{Method, Stmt, ThreadBody};
+use dso_machine::{Branch, Method, Stmt, ThreadBody};
 use std::alloc::Global;
 use std::fmt::Write;
 
@@ -102,18 +102,18 @@ fn add_method(words: &mut String, method: &Method) -> Result<(), NoMemory> {
         "named {:?}, synchronized {:?}",
         method.named, method.synced
     )?;
-    add_statements(words, method.body.as_slice())
+    add_statements(words, method.body.get().as_slice())
 }
 
 /// Adds a thread with its statements.
 fn add_thread(words: &mut String, body: &ThreadBody) -> Result<(), NoMemory> {
     let (client, index) = (body.thread.client, body.thread.index);
     writeln!(words, "thread {client}.{index}: variables {}", body.vars)?;
-    add_statements(words, body.body.as_slice())
+    add_statements(words, body.body.get().as_slice())
 }
 
 /// Adds statements, one a line.
-fn add_statements(words: &mut String, statements: &[Stmt]) -> Result<(), NoMemory> {
+fn add_statements(words: &mut String, statements: &[Branch<Stmt>]) -> Result<(), NoMemory> {
     for statement in statements {
         writeln!(words, "    {statement:?}")?;
     }

@@ -26,7 +26,7 @@ IsClass ast name = Contains (class_names ast.items) name
 abbrev pub IsReachableClass : Ast → Word → Type 0
 IsReachableClass ast name = Contains (reachable_classes ast) name
 
--- a call may reach a method of this name: the text declares one in some class, or maps have one and the text makes a map
+-- a call may reach a method of this name: the text declares it in some class, or maps have one and the text makes a map
 pub record HasMethod (ast : Ast) (name : Word) : Type 0 where
   pub declared : MethodTree
   pub there : Contains (reachable_methods ast) declared

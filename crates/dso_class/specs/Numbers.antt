@@ -24,7 +24,7 @@ use Rattle.dso_class.specs.Declarations.{MethodTree}
 
 -- What is numbered: each list has at a number's place what the number is of. The classes, the fields of each class,
 -- the roots, the methods of all classes and the text literals are those of the text, with the class and the methods of
--- maps at the end where it makes a map; the variables, and the level at which `synchronized` locks, are those of a body.
+-- maps at the end where it makes a map; the variables and the level at which `synchronized` locks are those of a body.
 pub record Numbers : Type 0 where
   pub classes : List Word
   pub fields : List (List Word)

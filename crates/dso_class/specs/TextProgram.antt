@@ -1,6 +1,6 @@
 -- Which program a text and a configuration are.
-use Rattle.std.specs.Prelude.{◌≡◌, ◌⊎◌, ℕ, suc, ◌+◌, ◌<◌, pos, Bool, true, false, eqb, List, [], ◌++◌, length, map, take}
-use Rattle.std.specs.Prelude.{slice_get, count_by, AllPairs, IsPermutation, Option, Some, None}
+use Rattle.std.specs.Prelude.{◌≡◌, ◌⊎◌, ℕ, suc, ◌+◌, ◌<◌, pos, Bool, true, false, eqb, List, [], ◌++◌, length, map}
+use Rattle.std.specs.Prelude.{take, slice_get, count_by, AllPairs, IsPermutation, Option, Some, None}
 use Rattle.std.specs.List.{AllZip}
 use Rattle.dso_base.specs.declared.lock.Grade.{Grade}
 use Rattle.dso_base.specs.declared.lock.ThreadId.{ThreadId}

@@ -21,7 +21,7 @@ use crate::statement::block;
 use crate::variables::{know, parameter};
 use dso_base::Items;
 use dso_config_entries::Interner;
-use dso_machine::Stmt;
+use dso_machine::Block;
 use dso_syntax::{Ident, StmtTree};
 use std::alloc::Global;
 
@@ -29,7 +29,7 @@ use std::alloc::Global;
 #[derive(Drop)]
 pub(crate) struct Body {
     pub(crate) vars: u32,
-    pub(crate) statements: Items<Stmt>,
+    pub(crate) statements: Block,
 }
 
 /// Judges parameters one by one. They aren't known yet.

@@ -23,9 +23,9 @@ use crate::scope::Scope;
 use crate::tables::field_ref;
 use crate::texts::text;
 use crate::uses::{Head, Role, alone, call, called, dotted, new_object, this};
-use dso_base::{Boxed, Items, Kind, Op, Value, Word};
+use dso_base::{Items, Kind, Op, Value, Word};
 use dso_config_entries::Interner;
-use dso_machine::Expr;
+use dso_machine::{Arguments, Branch, Expr};
 use dso_syntax::{ExprForm, ExprTree, Ident};
 use std::alloc::Global;
 
@@ -99,7 +99,7 @@ fn field<'a>(
     ensures { (texts : List (Bor Word)) (scope : Scope) → Walks place.now texts scope texts scope (λ owner known. []) (λ n a. MeansField n object name.now a) result }
 {
     let field = field_ref(alloc, place.tables, name.as_slice())?;
-    Ok(Expr::Field(Boxed::new(alloc, object)?, field))
+    Ok(Expr::Field(Branch::new(alloc, object)?, field))
 }
 
 /// A bare name, a dot and a name: a root, or the field of a variable.
@@ -123,39 +123,41 @@ fn call_of(
     alloc: Global,
     object: Expr,
     methods: Items<(u32, u32)>,
-    arguments: Items<Expr>,
+    arguments: Arguments,
 ) -> Result<Expr, NameFault>
     ensures { IsMade result (x.Call object methods arguments) }
 {
-    Ok(Expr::Call(Boxed::new(alloc, object)?, methods, arguments))
+    let object = Branch::new(alloc, object)?;
+    let methods = Branch::new(alloc, methods)?;
+    Ok(Expr::Call(object, methods, arguments))
 }
 
 /// An operand behind its operator.
 fn unary(alloc: Global, op: Op, operand: Expr) -> Result<Expr, NameFault>
     ensures { IsMade result (x.Unary op operand) }
 {
-    Ok(Expr::Unary(op, Boxed::new(alloc, operand)?))
+    Ok(Expr::Unary(op, Branch::new(alloc, operand)?))
 }
 
 /// A new array of this size.
 fn array(alloc: Global, kind: Kind, size: Expr) -> Result<Expr, NameFault>
     ensures { IsMade result (x.NewArray kind size) }
 {
-    Ok(Expr::NewArray(kind, Boxed::new(alloc, size)?))
+    Ok(Expr::NewArray(kind, Branch::new(alloc, size)?))
 }
 
 /// The element of an array.
 fn element(alloc: Global, array: Expr, index: Expr) -> Result<Expr, NameFault>
     ensures { IsMade result (x.Elem array index) }
 {
-    Ok(Expr::Elem(Boxed::new(alloc, array)?, Boxed::new(alloc, index)?))
+    Ok(Expr::Elem(Branch::new(alloc, array)?, Branch::new(alloc, index)?))
 }
 
 /// Two operands with an operator between them.
 fn binary(alloc: Global, op: Op, left: Expr, right: Expr) -> Result<Expr, NameFault>
     ensures { IsMade result (x.Binary op left right) }
 {
-    Ok(Expr::Binary(op, Boxed::new(alloc, left)?, Boxed::new(alloc, right)?))
+    Ok(Expr::Binary(op, Branch::new(alloc, left)?, Branch::new(alloc, right)?))
 }
 
 /// An expression in numbers.
@@ -269,13 +271,14 @@ fn expressions<'a>(
     environment: Environment<'_, '_, 'a>,
     texts: &mut Interner<&'a [u8]>,
     trees: &'a [ExprTree],
-) -> Result<Items<Expr>, NameFault>
+) -> Result<Arguments, NameFault>
     ensures { Walks environment.entry.place.now texts.old environment.entry.scope.now texts.new environment.entry.scope.now (λ owner. all_of (map (mention.expression owner) trees.now)) (λ n all. MeansExprs n trees.now all) result }
 {
-    let mut all = Items::new(environment.alloc);
+    let alloc = environment.alloc;
+    let mut all = Items::new(alloc);
     for tree in trees {
         let one = expression(environment, texts, Role::Value, tree)?;
-        all.push(one)?;
+        all.push(Branch::new(alloc, one)?)?;
     }
-    Ok(all)
+    Ok(Branch::new(alloc, all)?)
 }

@@ -25,22 +25,22 @@ use crate::scope::Scope;
 use crate::tables::field_ref;
 use crate::uses::{Head, Role, alone, dotted};
 use crate::variables::{know, synchronized, variable};
-use dso_base::{Boxed, Grade, Items, Word};
+use dso_base::{Grade, Items, Word};
 use dso_config_entries::Interner;
-use dso_machine::{Expr, Stmt};
+use dso_machine::{Block, Branch, Expr, Stmt};
 use dso_syntax::{ExprForm, ExprTree, Ident, StmtForm, StmtTree};
 use std::alloc::Global;
 
-/// The expression of a statement in numbers, in a block of its own.
+/// The expression of a statement in numbers, as a branch of the statement.
 fn value_of<'a>(
     environment: Environment<'_, '_, 'a>,
     texts: &mut Interner<&'a [u8]>,
     tree: &'a ExprTree,
-) -> Result<Boxed<Expr>, NameFault>
+) -> Result<Branch<Expr>, NameFault>
     ensures { Walks environment.entry.place.now texts.old environment.entry.scope.now texts.new environment.entry.scope.now (λ owner. (mention.expression owner tree.now).mentions) (λ n a. MeansExpr n tree.now a) result }
 {
     let value = expression(environment, texts, Role::Value, tree)?;
-    Ok(Boxed::new(environment.alloc, value)?)
+    Ok(Branch::new(environment.alloc, value)?)
 }
 
 /// A variable as it is declared: its name, and the value that it begins with.
@@ -76,9 +76,9 @@ fn declared<'a>(
 fn field<'a>(
     alloc: Global,
     place: &Place<'_, 'a>,
-    object: Boxed<Expr>,
+    object: Branch<Expr>,
     name: &'a Word,
-    value: Boxed<Expr>,
+    value: Branch<Expr>,
 ) -> Result<Stmt, NameFault>
     ensures { (texts : List (Bor Word)) (scope : Scope) → Walks place.now texts scope texts scope (λ owner known. []) (λ n a. PutsField n object name.now value a) result }
 {
@@ -92,14 +92,14 @@ fn named<'a>(
     place: &Place<'_, 'a>,
     head: Head,
     name: &'a Word,
-    value: Boxed<Expr>,
+    value: Branch<Expr>,
 ) -> Result<Stmt, NameFault>
     ensures { (texts : List (Bor Word)) (scope : Scope) → Walks place.now texts scope texts scope (λ owner known. []) (λ n a. (owner : Word) → HeadMeans owner name.now n head → PutsNamed n owner name.now value a) result }
 {
     match head {
         Head::Root(number) => Ok(Stmt::PutRoot(number, value)),
         Head::Variable(number) => {
-            let object = Boxed::new(alloc, Expr::Var(number))?;
+            let object = Branch::new(alloc, Expr::Var(number))?;
             field(alloc, place, object, name, value)
         }
     }
@@ -218,7 +218,7 @@ fn lock<'a>(
     texts: &mut Interner<&'a [u8]>,
     line: u32,
     on: &'a ExprTree,
-) -> Result<(Grade, Boxed<Expr>), NameFault>
+) -> Result<(Grade, Branch<Expr>), NameFault>
     ensures { Walks environment.entry.place.now texts.old environment.entry.scope.now texts.new environment.entry.scope.now (λ owner known. mention.on line (mention.synchronized owner.class owner.method) ∷ (mention.expression owner on.now).mentions known)
         (λ n pair. (n.grade ≡ Some pair.0) × MeansExpr n on.now pair.1) result }
 {
@@ -327,7 +327,7 @@ pub(crate) fn block<'a>(
     scope: &mut Scope<'a>,
     texts: &mut Interner<&'a [u8]>,
     trees: &'a [StmtTree],
-) -> Result<Items<Stmt>, NameFault>
+) -> Result<Block, NameFault>
     requires { AreAssignable trees.now }
     ensures walks { Walks place.now texts.old scope.old texts.new scope.new (λ owner. mention.block (map (mention.statement owner) trees.now)) (λ n all. MeansBlock n trees.now all) result }
     ensures known { OnOk result (known_in scope.new ≡ known_in scope.old) }
@@ -336,8 +336,8 @@ pub(crate) fn block<'a>(
     let mut all = Items::new(alloc);
     for tree in trees {
         let one = statement(alloc, place, scope, texts, tree)?;
-        all.push(one)?;
+        all.push(Branch::new(alloc, one)?)?;
     }
     forget(scope, height);
-    Ok(all)
+    Ok(Branch::new(alloc, all)?)
 }

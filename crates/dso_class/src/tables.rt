@@ -20,7 +20,7 @@ use crate::narrow::narrow;
 use crate::new_maps::{in_items, map_name};
 use dso_base::{Items, NoMemory};
 use dso_config_entries::{Interner, number_of};
-use dso_machine::FieldRef;
+use dso_machine::{Branch, FieldRef};
 use dso_syntax::Ast;
 use std::alloc::Global;
 use std::collections::BTreeMap;
@@ -116,8 +116,9 @@ pub(crate) fn field_ref<'a>(
 ) -> Result<FieldRef, NoMemory>
     ensures { (source : Source) → AreTables source.ast tables.now → HasNoFault source.config source.ast → IfOk result (IsFieldRef (field_names source) name.now) }
 {
+    let places = narrowed(alloc, row(&tables.fields, &name))?;
     Ok(FieldRef {
-        places: narrowed(alloc, row(&tables.fields, &name))?,
+        places: Branch::new(alloc, places)?,
         length: name == b"length".as_slice(),
     })
 }

@@ -1,5 +1,5 @@
--- What a thread's frames hold after its events, and the law that they are kept: after one more event nothing is held that
--- was not held before, but for what the reply tells.
+-- What a thread's frames hold after its events, and the law that they are kept: after one more event nothing is held
+-- that was not held before, but for what the reply tells.
 use Rattle.std.specs.List.{fold, list_any}
 use Rattle.std.specs.Option.{option_map_or}
 use Rattle.std.specs.Prelude.{◌≡◌, ◌≢◌, ◌⊎◌, ℕ, Bool, true, false, ◌||◌, eqb, List, [], ◌∷◌, ◌++◌}

@@ -1,3 +1,4 @@
+pub mod formers
 pub mod Calls
 pub mod Expressions
 pub mod Frames

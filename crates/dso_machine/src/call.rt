@@ -9,11 +9,11 @@ ghost use Rattle.dso_base.specs.declared.value.Value.{Value};
 ghost use Rattle.dso_machine.specs.Continuation.{Takes, body_at, in_frame, meant, stepped};
 ghost use Rattle.dso_machine.specs.Statements.{methods};
 
-use crate::Code;
 use crate::continuation::{Call, Frame, Locked, Now, OnReply, Step};
 use crate::map::call_map;
 use crate::on_reply::{enter_monitor, unwanted};
 use crate::operators::{level_of, lookup};
+use crate::{Code, Places};
 use dso_base::{ClassId, Fault, Grade, Items, LockName, NoMemory, Reply, Request, Value};
 use std::mem;
 
@@ -94,13 +94,13 @@ pub(crate) fn call_seen(
     frame: &mut Frame,
     reply: Reply,
     object: u64,
-    callees: Items<(u32, u32)>,
+    callees: Places,
     args: Items<Value>,
 ) -> Result<Step, NoMemory>
     ensures takes { IfOk result (λ step. Takes code.now (OnReply.Call object callees args) reply frame.old step frame.new) }
 {
     match reply {
-        Reply::Seen(ClassId::Plain(class), _) => match lookup(callees.as_slice(), class) {
+        Reply::Seen(ClassId::Plain(class), _) => match lookup(callees.get().as_slice(), class) {
             Some(number) => call_method(code, frame, object, number, args),
             None => Ok(Step::fail(Fault::NoSuchField)),
         },

@@ -1,4 +1,4 @@
-use crate::Stmt;
+use crate::Block;
 use dso_base::{Grade, Items, Shape, ThreadId};
 
 /// A method: the number of its class, how many parameters and how many variables it has, and its statements.
@@ -12,7 +12,7 @@ pub struct Method {
     pub vars: u32,
     pub named: Option<(u32, Grade)>,
     pub synced: Option<Grade>,
-    pub body: Items<Stmt>,
+    pub body: Block,
 }
 
 /// What a thread runs, with how many variables.
@@ -20,7 +20,7 @@ pub struct Method {
 pub struct ThreadBody {
     pub thread: ThreadId,
     pub vars: u32,
-    pub body: Items<Stmt>,
+    pub body: Block,
 }
 
 /// A program as the machine runs it. Methods are numbered over all classes, in the order of the text.

@@ -1,10 +1,10 @@
-//! What a thread is about to do, and its continuation: the tasks that come after that, which own the trees that are left.
-ghost use Rattle.std.specs.Prelude.{◌≡◌, Some};
+//! What a thread is about to do, and its continuation: the tasks that come after that, which hold the parts of the trees that are left.
+ghost use Rattle.std.specs.Prelude.{◌≡◌, IfOk, Some};
 ghost use Rattle.dso_machine.specs.Continuation.{alone, used};
 
-use crate::stack::Stack;
-use crate::{Expr, FieldRef, Stmt};
-use dso_base::{Boxed, Fault, Grade, Items, Kind, LockName, Op, Request, Value};
+use crate::rest::Rest;
+use crate::{Block, Branch, Expr, FieldRef, Places, Stmt};
+use dso_base::{Fault, Grade, Items, Kind, LockName, NoMemory, Op, Request, Value};
 use dso_map::MapCall;
 
 /// The frame of a method, or of the thread's body: the object, the variables, and how many more frames may stand on it.
@@ -34,7 +34,7 @@ pub(crate) struct Call {
 /// What starts with a move: the evaluation of a loop's condition, or a method's body.
 #[derive(Debug, Drop)]
 pub(crate) enum Move {
-    Turn(Boxed<Expr>, Items<Stmt>),
+    Turn(Branch<Expr>, Block),
     Body(u32),
 }
 
@@ -46,7 +46,7 @@ pub(crate) enum Locked {
     /// A root is bound to a value, if it is not bound.
     Bind(u32, Value),
     /// The statements of a block.
-    Block(Items<Stmt>),
+    Block(Block),
     /// A method whose monitor is still to be entered, if it takes one.
     Monitor(Call),
     /// The body of a method that has its locks.
@@ -59,13 +59,13 @@ pub(crate) enum Locked {
 #[derive(Debug, Drop)]
 pub(crate) enum Writing {
     /// A field of the object that comes now; the new value comes next.
-    FieldOf(FieldRef, Boxed<Expr>),
+    FieldOf(FieldRef, Branch<Expr>),
     /// A field of this object; the new value comes now.
     Field(Value, FieldRef),
     /// An element of the array that comes now; the index and the new value come next.
-    ElementOf(Boxed<Expr>, Boxed<Expr>),
+    ElementOf(Branch<Expr>, Branch<Expr>),
     /// An element of this array at the index that comes now; the new value comes next.
-    ElementAt(Value, Boxed<Expr>),
+    ElementAt(Value, Branch<Expr>),
     /// An element of this array at this index; the new value comes now.
     Element(Value, Value),
     /// A root; the new value comes now.
@@ -76,10 +76,10 @@ pub(crate) enum Writing {
 #[derive(Debug, Drop)]
 pub(crate) enum Monitor {
     /// These statements are under it.
-    Sync(Grade, Items<Stmt>),
+    Sync(Grade, Block),
     Wait,
     /// The thread waits on it for as many ticks as come next.
-    TimedWait(Boxed<Expr>),
+    TimedWait(Branch<Expr>),
     /// The thread waits on this object's monitor, for as many ticks as come now.
     WaitFor(Value),
     Notify,
@@ -92,19 +92,19 @@ pub(crate) enum OnValue {
     /// It is an object, of which a field is read.
     Field(FieldRef),
     /// It is an array; its index comes next.
-    Array(Boxed<Expr>),
+    Array(Branch<Expr>),
     /// It is the index into this array.
     Index(Value),
     /// It is the object of a call; the arguments come next.
-    Object(Items<(u32, u32)>, Stack<Expr>),
+    Object(Places, Rest<Expr>),
     /// It is an argument of a call on this object, behind those before it; the rest comes next.
-    Argument(Items<(u32, u32)>, Value, Items<Value>, Stack<Expr>),
+    Argument(Places, Value, Items<Value>, Rest<Expr>),
     /// It is the size of a new array.
     Size(Kind),
     /// It is the operand.
     Operand(Op),
     /// It is the first operand; the second one comes next, if it is wanted.
-    First(Op, Boxed<Expr>),
+    First(Op, Branch<Expr>),
     /// It is the second operand; the first one is known.
     Second(Op, Value),
     /// It is to be a boolean.
@@ -114,17 +114,17 @@ pub(crate) enum OnValue {
     /// It is written, or that into which another one is written.
     Write(Writing),
     /// It decides between these blocks.
-    If(Items<Stmt>, Items<Stmt>),
+    If(Block, Block),
     /// It decides whether a loop goes on.
-    While(Boxed<Expr>, Items<Stmt>),
+    While(Branch<Expr>, Block),
     /// A turn of this loop is done.
-    Again(Boxed<Expr>, Items<Stmt>),
+    Again(Branch<Expr>, Block),
     /// It is an object whose monitor is used.
     Monitor(Monitor),
     Print,
     Return,
     /// The statement is done, and these come next.
-    Next(Stack<Stmt>),
+    Next(Rest<Stmt>),
 }
 
 /// What is done with a reply.
@@ -138,7 +138,7 @@ pub(crate) enum OnReply {
     /// The element at this index is read.
     Element(u64, i64),
     /// A method is called with these arguments.
-    Call(u64, Items<(u32, u32)>, Items<Value>),
+    Call(u64, Places, Items<Value>),
     /// A field is written.
     PutField(u64, FieldRef, Value),
     /// The element at this index is written.
@@ -181,11 +181,11 @@ pub(crate) enum Task {
 /// What the thread is about to do.
 #[derive(Debug, Drop)]
 pub(crate) enum Now {
-    Evaluate(Expr),
+    Evaluate(Branch<Expr>),
     /// The arguments that are left are evaluated, behind those before them, and then the call is made on the object.
-    Arguments(Items<(u32, u32)>, Value, Items<Value>, Stack<Expr>),
-    Execute(Stmt),
-    Run(Stack<Stmt>),
+    Arguments(Places, Value, Items<Value>, Rest<Expr>),
+    Execute(Branch<Stmt>),
+    Run(Rest<Stmt>),
     /// A move, before which a pause may be due.
     Pace(Move),
     /// A part has ended.
@@ -240,20 +240,20 @@ impl Step {
     }
 
     /// An expression, and what is done with its value.
-    pub(crate) fn evaluate(expr: Boxed<Expr>, then: OnValue) -> Step
-        ensures { result ≡ used (Now.Evaluate expr) then }
-    {
-        Step::begin(expr.into_inner(), then)
-    }
-
-    /// An expression that is in no block of its own, and what is done with its value.
-    pub(crate) fn begin(expr: Expr, then: OnValue) -> Step
+    pub(crate) fn evaluate(expr: Branch<Expr>, then: OnValue) -> Step
         ensures { result ≡ used (Now.Evaluate expr) then }
     {
         Step {
             now: Now::Evaluate(expr),
             then: Some(Task::Then(then)),
         }
+    }
+
+    /// A part of a tree that stays there too, and what is done with its value.
+    pub(crate) fn part(expr: &Branch<Expr>, then: OnValue) -> Result<Step, NoMemory>
+        ensures { IfOk result (λ step. step ≡ used (Now.Evaluate expr.now) then) }
+    {
+        Ok(Step::evaluate(expr.again()?, then))
     }
 
     /// What a method begins with, after which the frame below is the thread's again.

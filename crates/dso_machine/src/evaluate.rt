@@ -1,5 +1,5 @@
 //! How the evaluation of an expression begins.
-ghost use Rattle.std.specs.Prelude.{◌<◌, ◌≡◌, length, slice_index_or};
+ghost use Rattle.std.specs.Prelude.{◌<◌, ◌≡◌, IfOk, length, slice_index_or};
 ghost use Rattle.dso_base.specs.Shape.{fields_at};
 ghost use Rattle.dso_machine.specs.declared.continuation.Now.{Now};
 ghost use Rattle.dso_machine.specs.Continuation.{Opens};
@@ -7,9 +7,9 @@ ghost use Rattle.dso_machine.specs.Sound.{IsSoundCode};
 ghost use Rattle.dso_machine.specs.Weight.{expr_weight, step_weight};
 
 use crate::continuation::{Frame, Locked, OnReply, OnValue, Step};
-use crate::stack::Stack;
+use crate::rest::Rest;
 use crate::{Code, Expr};
-use dso_base::{ClassId, Grade, Level, LockName, Request, Value};
+use dso_base::{ClassId, Grade, Level, LockName, NoMemory, Request, Value};
 
 impl Frame {
     /// The value of a variable.
@@ -35,37 +35,37 @@ fn count_of_fields(code: &Code, class: u32) -> u32
     }
 }
 
-/// The evaluation of an expression begins.
+/// The evaluation of an expression begins. NoMemory: a part of it has as many owners as can be counted.
 #[tactic(auto, using(crate::proofs::forms::Beginnings::evaluating, crate::proofs::forms::Weights::weights))]
-pub(crate) fn evaluate(code: &Code, frame: &Frame, expr: Expr) -> Step
+pub(crate) fn evaluate(code: &Code, frame: &Frame, expr: &Expr) -> Result<Step, NoMemory>
     requires sound { IsSoundCode code.now }
-    ensures opens { Opens code.now (Now.Evaluate expr) frame.now result }
-    ensures lighter { step_weight result < expr_weight expr }
+    ensures opens { IfOk result (λ step. Opens code.now (Now.Evaluate expr.now) frame.now step) }
+    ensures lighter { IfOk result (λ step. step_weight step < expr_weight expr.now) }
 {
     match expr {
-        Expr::Const(value) => Step::give(value),
-        Expr::Var(index) => Step::give(frame.var(index)),
-        Expr::This => Step::give(frame.this),
+        Expr::Const(value) => Ok(Step::give(*value)),
+        Expr::Var(index) => Ok(Step::give(frame.var(*index))),
+        Expr::This => Ok(Step::give(frame.this)),
         Expr::Root(root) => {
-            let lock = LockName::Name(root);
-            let entered = OnReply::Entered(lock, Grade::Read, Locked::Read(root));
-            Step::ask(Request::Enter(lock, Level::Read), entered)
+            let lock = LockName::Name(*root);
+            let entered = OnReply::Entered(lock, Grade::Read, Locked::Read(*root));
+            Ok(Step::ask(Request::Enter(lock, Level::Read), entered))
         }
-        Expr::Field(object, field) => Step::evaluate(object, OnValue::Field(field)),
-        Expr::Elem(array, index) => Step::evaluate(array, OnValue::Array(index)),
+        Expr::Field(object, field) => Step::part(object, OnValue::Field(field.again()?)),
+        Expr::Elem(array, index) => Step::part(array, OnValue::Array(index.again()?)),
         Expr::Call(object, callees, args) => {
-            let then = OnValue::Object(callees, Stack::from_items(args));
-            Step::evaluate(object, then)
+            let then = OnValue::Object(callees.again()?, Rest::new(args.again()?));
+            Step::part(object, then)
         }
         Expr::NewObject(class) => {
-            let request = Request::New(ClassId::Plain(class), count_of_fields(code, class));
-            Step::ask(request, OnReply::Made)
+            let request = Request::New(ClassId::Plain(*class), count_of_fields(code, *class));
+            Ok(Step::ask(request, OnReply::Made))
         }
-        Expr::NewArray(kind, size) => Step::evaluate(size, OnValue::Size(kind)),
-        Expr::Unary(op, operand) => Step::evaluate(operand, OnValue::Operand(op)),
+        Expr::NewArray(kind, size) => Step::part(size, OnValue::Size(*kind)),
+        Expr::Unary(op, operand) => Step::part(operand, OnValue::Operand(*op)),
         Expr::Binary(op, first, second) => {
-            let then = OnValue::First(op, second);
-            Step::evaluate(first, then)
+            let then = OnValue::First(*op, second.again()?);
+            Step::part(first, then)
         }
     }
 }

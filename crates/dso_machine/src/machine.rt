@@ -13,15 +13,15 @@ ghost use Rattle.dso_machine.specs.Statements.{statements_of};
 ghost use Rattle.dso_machine.specs.Weight.{step_weight, task_weight, tasks_weight, then_weight, use_weight, weigh};
 
 use crate::continuation::{End, Frame, Move, Now, OnReply, OnValue, Step, Task};
-use crate::copies::{copy_block, copy_expr};
 use crate::evaluate::evaluate;
 use crate::execute::execute;
 use crate::known::known;
 use crate::next_part::{next_argument, next_statement};
 use crate::on_value::use_value;
+use crate::rest::Rest;
 use crate::stack::Stack;
-use crate::{Code, Expr, Stmt};
-use dso_base::{Boxed, Items, NoMemory, Request, Value};
+use crate::{Block, Branch, Code, Expr, Places, Stmt};
+use dso_base::{Items, NoMemory, Request, Value};
 use std::alloc::Global;
 
 /// The most moves of a thread between two of its requests.
@@ -82,23 +82,28 @@ impl Core {
 
     /// An expression begins whose value is used so: where the value is known it is used at once.
     #[tactic(auto, using(crate::proofs::steps::Goes::begins))]
-    fn begin(&mut self, alloc: Global, expr: Expr, then: OnValue) -> Result<Now, NoMemory>
+    fn begin(&mut self, alloc: Global, expr: Branch<Expr>, then: OnValue) -> Result<Now, NoMemory>
         ensures keeps { IfOk result (λ now. (code : Code) → Keeps code (Now.Evaluate expr) (with_then (Some (Task.Then then)) self.old) now self.new) }
         ensures lighter { IfOk result (λ now. weigh now self.new ≤ weigh (Now.Evaluate expr) self.old + use_weight then) }
         ensures calm { IfOk result (λ now. self.new.moves ≡ self.old.moves) }
     {
-        match known(&self.frame, &expr) {
+        match known(&self.frame, expr.get()) {
             Some(Ok(value)) => self.use_value(alloc, value, then),
             Some(Err(fault)) => {
                 discard(then);
                 Ok(Now::Have(End::Fails(fault)))
             }
-            None => self.follow(Step::begin(expr, then)),
+            None => self.follow(Step::evaluate(expr, then)),
         }
     }
 
     /// An expression comes, and then this task. Where the task uses its value and that is known, it is used at once.
-    fn evaluate_for(&mut self, alloc: Global, expr: Expr, then: Task) -> Result<Now, NoMemory>
+    fn evaluate_for(
+        &mut self,
+        alloc: Global,
+        expr: Branch<Expr>,
+        then: Task,
+    ) -> Result<Now, NoMemory>
         ensures keeps { IfOk result (λ now. (code : Code) → Keeps code (Now.Evaluate expr) (with_then (Some then) self.old) now self.new) }
         ensures lighter { IfOk result (λ now. weigh now self.new ≤ weigh (Now.Evaluate expr) self.old + task_weight then) }
         ensures calm { IfOk result (λ now. self.new.moves ≡ self.old.moves) }
@@ -114,7 +119,7 @@ impl Core {
     fn evaluate_first(
         &mut self,
         alloc: Global,
-        expr: Expr,
+        expr: Branch<Expr>,
         then: Option<Task>,
     ) -> Result<Now, NoMemory>
         ensures keeps { IfOk result (λ now. (code : Code) → Keeps code (Now.Evaluate expr) (with_then then self.old) now self.new) }
@@ -186,17 +191,22 @@ impl Core {
 
     /// The evaluation of an expression begins.
     #[tactic(auto, using(crate::proofs::steps::Goes::goes))]
-    fn begin_expr(&mut self, alloc: Global, code: &Code, expr: Expr) -> Result<Now, NoMemory>
+    fn begin_expr(
+        &mut self,
+        alloc: Global,
+        code: &Code,
+        expr: Branch<Expr>,
+    ) -> Result<Now, NoMemory>
         requires sound { IsSoundCode code.now }
         ensures keeps { IfOk result (λ then. Keeps code.now (Now.Evaluate expr) self.old then self.new) }
         ensures lighter { IfOk result (λ then. weigh then self.new < weigh (Now.Evaluate expr) self.old) }
         ensures calm { IfOk result (λ then. self.new.moves ≡ self.old.moves) }
     {
-        match known(&self.frame, &expr) {
+        match known(&self.frame, expr.get()) {
             Some(Ok(value)) => self.close(alloc, End::Gives(value)),
             Some(Err(fault)) => self.close(alloc, End::Fails(fault)),
             None => {
-                let step = evaluate(code, &self.frame, expr);
+                let step = evaluate(code, &self.frame, expr.get())?;
                 self.advance(alloc, step)
             }
         }
@@ -207,36 +217,39 @@ impl Core {
     fn begin_argument(
         &mut self,
         alloc: Global,
-        callees: Items<(u32, u32)>,
+        callees: Places,
         object: Value,
         before: Items<Value>,
-        rest: Stack<Expr>,
+        rest: Rest<Expr>,
     ) -> Result<Now, NoMemory>
         ensures keeps { IfOk result (λ then. (code : Code) → Keeps code (Now.Arguments callees object before rest) self.old then self.new) }
         ensures lighter { IfOk result (λ then. weigh then self.new < weigh (Now.Arguments callees object before rest) self.old) }
         ensures calm { IfOk result (λ then. self.new.moves ≡ self.old.moves) }
     {
-        self.advance(alloc, next_argument(callees, object, before, rest))
+        let step = next_argument(callees, object, before, rest)?;
+        self.advance(alloc, step)
     }
 
     /// The execution of a statement begins.
     #[tactic(auto, using(crate::proofs::steps::Goes::goes))]
-    fn begin_statement(&mut self, alloc: Global, statement: Stmt) -> Result<Now, NoMemory>
+    fn begin_statement(&mut self, alloc: Global, statement: Branch<Stmt>) -> Result<Now, NoMemory>
         ensures keeps { IfOk result (λ then. (code : Code) → Keeps code (Now.Execute statement) self.old then self.new) }
         ensures lighter { IfOk result (λ then. weigh then self.new < weigh (Now.Execute statement) self.old) }
         ensures calm { IfOk result (λ then. self.new.moves ≡ self.old.moves) }
     {
-        self.advance(alloc, execute(statement))
+        let step = execute(statement.get())?;
+        self.advance(alloc, step)
     }
 
     /// The next statement comes, or the end where none is left.
     #[tactic(auto, using(crate::proofs::steps::Steps::steps))]
-    fn begin_next(&mut self, rest: Stack<Stmt>) -> Result<Now, NoMemory>
+    fn begin_next(&mut self, rest: Rest<Stmt>) -> Result<Now, NoMemory>
         ensures keeps { IfOk result (λ then. (code : Code) → Keeps code (Now.Run rest) self.old then self.new) }
         ensures lighter { IfOk result (λ then. weigh then self.new < weigh (Now.Run rest) self.old) }
         ensures calm { IfOk result (λ then. self.new.moves ≡ self.old.moves) }
     {
-        self.follow(next_statement(rest))
+        let step = next_statement(rest)?;
+        self.follow(step)
     }
 
     /// One step, which makes no move.
@@ -273,14 +286,9 @@ impl Core {
         Ok(now)
     }
 
-    /// A turn of a loop is made: its condition is evaluated, which stays for the next turn. Where its value is known it isn't copied.
+    /// A turn of a loop is made: its condition is evaluated, which stays for the next turn. Where its value is known nothing of it is begun.
     #[tactic(auto, using(crate::proofs::standing::AfterReplies::turned))]
-    fn make_turn(
-        &mut self,
-        alloc: Global,
-        test: Boxed<Expr>,
-        body: Items<Stmt>,
-    ) -> Result<Now, NoMemory>
+    fn make_turn(&mut self, alloc: Global, test: Branch<Expr>, body: Block) -> Result<Now, NoMemory>
         requires { self.old.moves < most_moves }
         ensures makes { IfOk result (λ then. (code : Code) → MakesMove code (Now.Pace (Move.Turn test body)) self.old then self.new) }
         ensures moved { IfOk result (λ then. self.new.moves ≡ self.old.moves + 1) }
@@ -293,8 +301,8 @@ impl Core {
                 Ok(Now::Have(End::Fails(fault)))
             }
             None => {
-                let once = copy_expr(alloc, test.get())?;
-                self.follow(Step::begin(once, OnValue::While(test, body)))
+                let once = test.again()?;
+                self.follow(Step::evaluate(once, OnValue::While(test, body)))
             }
         }
     }
@@ -308,7 +316,7 @@ impl Core {
     {
         let body = body_of(alloc, code, method)?;
         self.moves += 1;
-        Ok(Now::Run(Stack::from_items(body)))
+        Ok(Now::Run(Rest::new(body)))
     }
 
     /// A move is made.
@@ -372,12 +380,12 @@ fn is_suspended(now: &Now) -> bool
     matches!(now, Now::Pace(_) | Now::Ask(_, _) | Now::End(_))
 }
 
-/// The statements of a method, once more.
-fn body_of(alloc: Global, code: &Code, method: u32) -> Result<Items<Stmt>, NoMemory>
+/// The statements of a method.
+fn body_of(alloc: Global, code: &Code, method: u32) -> Result<Block, NoMemory>
     ensures { IfOk result (λ body. body ≡ statements_of (slice_get code.now.methods method)) }
 {
     match code.methods.get(method as usize) {
-        Some(method) => copy_block(alloc, method.body.as_slice()),
-        None => Ok(Items::new(alloc)),
+        Some(method) => Ok(method.body.again()?),
+        None => Ok(Branch::new(alloc, Items::new(alloc))?),
     }
 }

@@ -13,7 +13,7 @@ use crate::call::call_seen;
 use crate::continuation::{Call, End, Frame, Locked, Move, Now, OnReply, Step, Task};
 use crate::map::{ask_map, map_heard};
 use crate::operators::{level_of, lookup, takes, within};
-use crate::stack::Stack;
+use crate::rest::Rest;
 use crate::{Code, FieldRef};
 use dso_base::{ClassId, Fault, Grade, Kind, LockName, NoMemory, Reply, Request, Value};
 use dso_reply::{AfterExit, AfterWait, Binding, after_exit, after_tick, after_wait, binding_of};
@@ -63,7 +63,7 @@ fn field_in(field: FieldRef, object: u64, class: ClassId, size: u32) -> Step
     ensures takes { (code : Code) (frame : Frame) → Takes code (OnReply.Field object field) (Reply.Seen class size) frame result frame }
 {
     match class {
-        ClassId::Plain(class) => match lookup(field.places.as_slice(), class) {
+        ClassId::Plain(class) => match lookup(field.places.get().as_slice(), class) {
             Some(place) => Step::ask(Request::Get(object, place), OnReply::Got),
             None => Step::fail(Fault::NoSuchField),
         },
@@ -215,7 +215,7 @@ fn begin(locked: Locked) -> Now
     match locked {
         Locked::Read(root) => Now::Ask(Request::Get(0, root), OnReply::Got),
         Locked::Bind(root, value) => Now::Ask(Request::Get(0, root), OnReply::Bind(root, value)),
-        Locked::Block(body) => Now::Run(Stack::from_items(body)),
+        Locked::Block(body) => Now::Run(Rest::new(body)),
         Locked::Monitor(call) => enter_monitor(call),
         Locked::Body(method) => Now::Pace(Move::Body(method)),
         Locked::Map(call) => ask_map(call),
@@ -266,7 +266,10 @@ fn put_field_seen(code: &Code, reply: Reply, object: u64, field: FieldRef, value
     ensures takes { (frame : Frame) → Takes code.now (OnReply.PutField object field value) reply frame result frame }
 {
     match reply {
-        Reply::Seen(ClassId::Plain(class), _) => match lookup(field.places.as_slice(), class) {
+        Reply::Seen(ClassId::Plain(class), _) => match lookup(
+            field.places.get().as_slice(),
+            class,
+        ) {
             Some(place) => put_fitting(kind_of(code, class, place), object, place, value),
             None => Step::fail(Fault::NoSuchField),
         },

@@ -15,13 +15,10 @@ ghost use Rattle.dso_machine.specs.Weight.{block_weight, expr_weight, monitor_we
 use crate::continuation::{
     End, Frame, Locked, Monitor, Move, Now, OnReply, OnValue, Step, Task, Writing,
 };
-use crate::copies::copy_block;
 use crate::operators::{binary, level_of, takes, unary};
-use crate::stack::Stack;
-use crate::{Code, Expr, FieldRef, Stmt};
-use dso_base::{
-    Boxed, ClassId, Fault, Grade, Items, Kind, Level, LockName, NoMemory, Op, Request, Value,
-};
+use crate::rest::Rest;
+use crate::{Block, Branch, Expr, FieldRef};
+use dso_base::{ClassId, Fault, Grade, Items, Kind, Level, LockName, NoMemory, Op, Request, Value};
 use std::alloc::Global;
 use std::mem;
 
@@ -125,7 +122,7 @@ fn outcome_of(operation: Result<Value, Fault>) -> Step
 }
 
 /// The second operand of `&&`.
-fn second_of_and(operand: Boxed<Expr>, first: Value) -> Step
+fn second_of_and(operand: Branch<Expr>, first: Value) -> Step
     ensures uses { (code : Code) (frame : Frame) → Uses code (OnValue.First Op.And operand) first frame result frame }
     ensures lighter { step_weight result < expr_weight operand + 3 }
 {
@@ -137,7 +134,7 @@ fn second_of_and(operand: Boxed<Expr>, first: Value) -> Step
 }
 
 /// The second operand of `||`.
-fn second_of_or(operand: Boxed<Expr>, first: Value) -> Step
+fn second_of_or(operand: Branch<Expr>, first: Value) -> Step
     ensures uses { (code : Code) (frame : Frame) → Uses code (OnValue.First Op.Or operand) first frame result frame }
     ensures lighter { step_weight result < expr_weight operand + 3 }
 {
@@ -149,7 +146,7 @@ fn second_of_or(operand: Boxed<Expr>, first: Value) -> Step
 }
 
 /// The second operand, after the value of the first; of `&&` and `||` only where the first doesn't decide.
-fn second(op: Op, operand: Boxed<Expr>, first: Value) -> Step
+fn second(op: Op, operand: Branch<Expr>, first: Value) -> Step
     ensures uses { (code : Code) (frame : Frame) → Uses code (OnValue.First op operand) first frame result frame }
     ensures lighter { step_weight result < expr_weight operand + 3 }
 {
@@ -185,27 +182,27 @@ fn write_root(root: u32, value: Value) -> Step
 }
 
 /// One block or the other.
-fn choose(test: Value, all: Items<Stmt>, others: Items<Stmt>) -> Step
+fn choose(test: Value, all: Block, others: Block) -> Step
     ensures uses { (code : Code) (frame : Frame) → Uses code (OnValue.If all others) test frame result frame }
     ensures lighter { step_weight result < block_weight all + block_weight others + 3 }
 {
     match test {
-        Value::Bool(true) => Step::alone(Now::Run(Stack::from_items(all))),
-        Value::Bool(false) => Step::alone(Now::Run(Stack::from_items(others))),
+        Value::Bool(true) => Step::alone(Now::Run(Rest::new(all))),
+        Value::Bool(false) => Step::alone(Now::Run(Rest::new(others))),
         _ => Step::fail(Fault::BadValue),
     }
 }
 
 /// A turn of a loop, or its end.
-fn turn(alloc: Global, test: Value, again: Boxed<Expr>, body: Items<Stmt>) -> Result<Step, NoMemory>
+fn turn(test: Value, again: Branch<Expr>, body: Block) -> Result<Step, NoMemory>
     ensures uses { IfOk result (λ step. (code : Code) (frame : Frame) → Uses code (OnValue.While again body) test frame step frame) }
     ensures lighter { IfOk result (λ step. step_weight step < block_weight body + 3) }
 {
     match test {
         Value::Bool(true) => {
-            let once = copy_block(alloc, body.as_slice())?;
+            let once = body.again()?;
             Ok(Step {
-                now: Now::Run(Stack::from_items(once)),
+                now: Now::Run(Rest::new(once)),
                 then: Some(Task::Then(OnValue::Again(again, body))),
             })
         }
@@ -215,7 +212,7 @@ fn turn(alloc: Global, test: Value, again: Boxed<Expr>, body: Items<Stmt>) -> Re
 }
 
 /// Statements under the monitor of a value.
-fn synchronize(object: Value, grade: Grade, body: Items<Stmt>) -> Step
+fn synchronize(object: Value, grade: Grade, body: Block) -> Step
     ensures uses { (code : Code) (frame : Frame) → Uses code (OnValue.Monitor (Monitor.Sync grade body)) object frame result frame }
     ensures lighter { step_weight result < block_weight body + 3 }
 {
@@ -294,7 +291,7 @@ impl Frame {
 }
 
 /// An expression comes next, and its value is used for what is written.
-fn next(expr: Boxed<Expr>, then: Writing) -> Step
+fn next(expr: Branch<Expr>, then: Writing) -> Step
     ensures { result ≡ used (Now.Evaluate expr) (OnValue.Write then) }
 {
     Step::evaluate(expr, OnValue::Write(then))
@@ -365,7 +362,7 @@ pub(crate) fn use_value(
         }
         OnValue::Write(then) => Ok(write(value, then)),
         OnValue::If(all, others) => Ok(choose(value, all, others)),
-        OnValue::While(test, body) => turn(alloc, value, test, body),
+        OnValue::While(test, body) => turn(value, test, body),
         OnValue::Again(test, body) => Ok(Step::alone(Now::Pace(Move::Turn(test, body)))),
         OnValue::Monitor(then) => Ok(use_monitor(value, then)),
         OnValue::Print => Ok(Step::ask(Request::Print(value), OnReply::Done)),

@@ -2,7 +2,6 @@
 ghost use Rattle.std.specs.Prelude.{◌≡◌, ◌↔◌, [], ◌∷◌, ◌++◌, IsNone, IsTrue, OnOk, OnErr, IfErr, reverse};
 ghost use Rattle.std.specs.Option.{option_to_list};
 
-use dso_base::Items;
 use std::alloc::{AllocFailed, Global};
 use std::marker::Model;
 
@@ -28,15 +27,6 @@ impl<T> Stack<T> {
         Stack {
             items: Vec::new(alloc),
         }
-    }
-
-    /// The items as a stack, the first of them on top. It takes no memory.
-    pub(crate) fn from_items(items: Items<T>) -> Self
-        ensures { result ≡ items }
-    {
-        let mut items = items.into_vec();
-        items.as_mut_slice().reverse();
-        Stack { items }
     }
 
     /// Whether there is no item.

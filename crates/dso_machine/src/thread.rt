@@ -15,10 +15,10 @@ ghost use Rattle.dso_machine.specs.Standing.{IsAnswered, IsOver, Resumes, Thread
 
 use crate::call::variables;
 use crate::continuation::{Frame, Now, OnReply};
-use crate::copies::copy_block;
 use crate::held::objects_held;
 use crate::machine::Core;
 use crate::on_reply::hear;
+use crate::rest::Rest;
 use crate::stack::Stack;
 use crate::{Code, ThreadBody};
 use dso_base::{Items, NoMemory, Reply, Request, ThreadId, Value};
@@ -61,9 +61,9 @@ impl Thread {
             unreachable!()
         };
         let vars = variables(found.vars, Items::new(alloc))?;
-        let body = copy_block(alloc, found.body.as_slice())?;
+        let body = found.body.again()?;
         Ok(Thread {
-            due: Due::Going(Now::Run(Stack::from_items(body))),
+            due: Due::Going(Now::Run(Rest::new(body))),
             core: Core {
                 frame: Frame {
                     this: Value::Null,

@@ -5,10 +5,8 @@ ghost use Rattle.dso_machine.specs.Sound as machine;
 ghost use Rattle.map_cases.specs.CallCode.{AreMethods, IsPart, call_shape};
 ghost use Rattle.dso_map.specs.MapClass.{map_fields, own_field};
 
-use dso_base::{
-    Boxed, ClassShape, FieldShape, Guard, Items, Kind, NoMemory, Shape, ThreadId, Value,
-};
-use dso_machine::{Code, Expr, Stmt, ThreadBody};
+use dso_base::{ClassShape, FieldShape, Guard, Items, Kind, NoMemory, Shape, ThreadId, Value};
+use dso_machine::{Arguments, Branch, Code, Expr, Stmt, ThreadBody};
 use std::alloc::Global;
 
 /// The class of the objects that are put, which has no field.
@@ -51,12 +49,15 @@ pub fn code_of(alloc: Global, map: Expr, method: &str, values: &[Value]) -> Resu
 {
     let args = arguments(alloc, values)?;
     let callees = callees(alloc, method, values.len())?;
-    let call = Expr::Call(Boxed::new(alloc, map)?, callees, args);
-    let body = one(alloc, Stmt::Print(Boxed::new(alloc, call)?))?;
+    let on = Branch::new(alloc, map)?;
+    let called = Branch::new(alloc, callees)?;
+    let call = Branch::new(alloc, Expr::Call(on, called, args))?;
+    let print = Branch::new(alloc, Stmt::Print(call))?;
+    let body = one(alloc, print)?;
     let thread = ThreadBody {
         thread: THREAD,
         vars: 0,
-        body,
+        body: Branch::new(alloc, body)?,
     };
     Ok(Code {
         shape: shape(alloc)?,
@@ -90,15 +91,15 @@ fn argument(value: Value) -> Expr
 
 /// The arguments.
 #[tactic(auto, using(crate::proofs::Soundness::part_pushed))]
-fn arguments(alloc: Global, values: &[Value]) -> Result<Items<Expr>, NoMemory>
+fn arguments(alloc: Global, values: &[Value]) -> Result<Arguments, NoMemory>
     ensures parts { IfOk result (λ args. All IsPart args) }
     ensures count { IfOk result (λ args. length args ≡ length values.now) }
 {
     let mut args = Items::new(alloc);
     for value in values {
-        args.push(argument(*value))?;
+        args.push(Branch::new(alloc, argument(*value))?)?;
     }
-    Ok(args)
+    Ok(Branch::new(alloc, args)?)
 }
 
 /// The number of the map's method that has this name and so many parameters.

@@ -22,7 +22,7 @@ use case_words::{
     thread_list,
 };
 use dso_base::{Down, Guard, Items, Kind, NoMemory, Shape, Shared, ThreadId, Up};
-use dso_machine::{Code, ThreadBody};
+use dso_machine::{Branch, Code, ThreadBody};
 use dso_server::{Server, Taken};
 use std::alloc::{AllocError, Global};
 
@@ -57,19 +57,19 @@ fn shape(alloc: Global) -> Result<Shape, NoMemory> {
 fn bodies(alloc: Global) -> Result<Items<ThreadBody>, NoMemory> {
     let mut bodies = Items::new(alloc);
     for client in 1..4 {
-        bodies.push(body(alloc, ThreadId { client, index: 1 }))?;
-        bodies.push(body(alloc, ThreadId { client, index: 2 }))?;
+        bodies.push(body(alloc, ThreadId { client, index: 1 })?)?;
+        bodies.push(body(alloc, ThreadId { client, index: 2 })?)?;
     }
     Ok(bodies)
 }
 
 /// A thread that does nothing.
-fn body(alloc: Global, thread: ThreadId) -> ThreadBody {
-    ThreadBody {
+fn body(alloc: Global, thread: ThreadId) -> Result<ThreadBody, NoMemory> {
+    Ok(ThreadBody {
         thread,
         vars: 0,
-        body: Items::new(alloc),
-    }
+        body: Branch::new(alloc, Items::new(alloc))?,
+    })
 }
 
 /// The code and a server of it.

@@ -1,4 +1,4 @@
-use Rattle.std.proofs.Common.{rules, ◌≡◌, ◌∷◌, ◌+◌, [], Err, length, map, take, drop, refl, sym, subst, ap, ◌∙◌, append-nil}
+use Rattle.std.proofs.Common.{rules, ◌≡◌, ◌++◌, ◌∷◌, ◌+◌, [], Err, length, map, take, drop, refl, sym, subst, ap, ◌∙◌, append-nil}
 use Rattle.std.proofs.lemmas.List.{take_all}
 use Rattle.dso_base.specs.declared.value.Value.TheVariants as value
 use Rattle.dso_machine.specs.declared.tree.Expr.TheVariants as x
@@ -324,7 +324,8 @@ expressions-loop-tree-preserved t c source before place has =
     let near = behind before (all_of (map (mention.expression owner) (take i trees)) known) in
     let second = c.in_ok-one.ensures source near place first.answer.met in
     both_made c.push.new.self (one_more owner trees i tree known c.loop-tree-test.true c.tree-item.is) refl
-    (λ n before_it one. means_more n trees i tree c.loop-tree.all c.push.new.self c.in_ok-one.one c.loop-tree-test.true c.tree-item.is c.in_ok-push.ensures.ok before_it one) first second
+    (λ n before_it one. means_more n trees i tree c.loop-tree.all c.push.new.self c.in_ok-one.one c.loop-tree-test.true c.tree-item.is
+    (c.in_ok-push.ensures.ok ∙ ap (λ a. c.loop-tree.all ++ a ∷ []) c.in_ok-new.ensures.ok) before_it one) first second
 
 pub expressions-returns : goal.expressions-returns
 expressions-returns t c source before place has =
@@ -333,4 +334,5 @@ expressions-returns t c source before place has =
     let known = known_in c.args.environment.scope.now in
     let i = c.loop-tree.tree-index in
     let whole : take i trees ≡ trees = take_all i trees c.loop-tree-test.false in
-    one_made c.loop-tree.all (ap (λ all. all_of (map (mention.expression owner) all) known) (sym whole)) refl (λ n. subst (λ all. MeansExprs n all c.loop-tree.all) whole) (c.loop-tree.invariant source before place has)
+    one_made c.in_ok-new-2.field-0 (ap (λ all. all_of (map (mention.expression owner) all) known) (sym whole)) refl
+    (λ n means. subst (MeansExprs n trees) (sym c.in_ok-new-2.ensures.ok) (subst (λ all. MeansExprs n all c.loop-tree.all) whole means)) (c.loop-tree.invariant source before place has)

@@ -292,7 +292,8 @@ block-loop-tree-preserved t c =
           let near = behind before (mention.block steps known) in
           let second = at_known (mention.statement owner tree).mentions c.loop-tree.invariant.1 (c.in_ok-one.ensures.walks source near place first.answer.met) in
           both_made c.push.new.self (one_more owner trees i tree known c.loop-tree-test.true c.tree-item.is) refl
-          (λ n before_it one. means_more n trees i tree c.loop-tree.all c.push.new.self c.in_ok-one.one c.loop-tree-test.true c.tree-item.is c.in_ok-push.ensures.ok before_it one) first second,
+          (λ n before_it one. means_more n trees i tree c.loop-tree.all c.push.new.self c.in_ok-one.one c.loop-tree-test.true c.tree-item.is
+          (c.in_ok-push.ensures.ok ∙ ap (λ a. c.loop-tree.all ++ a ∷ []) c.in_ok-new.ensures.ok) before_it one) first second,
       more,
     )
 
@@ -323,7 +324,8 @@ block-returns-clause-walks t c source before place has =
     ap (λ names. reverse (words_of names)) c.forget.ensures.known ∙ ap reverse (stack_back c.args.scope.now.known c.loop-tree.scope.known c.len-height.result c.len-height.ensures grows) in
     let whole : take c.loop-tree.tree-index trees ≡ trees = take_all c.loop-tree.tree-index trees c.loop-tree-test.false in
     let walked = forgotten (met_in c.loop-tree.texts c.forget.new.scope) refl (ap words_of c.forget.ensures.variables) back has (c.loop-tree.invariant.0 source before place has) in
-    one_made c.loop-tree.all (ap (λ all. mention.block (map (mention.statement owner) all) known) (sym whole)) refl (λ n. subst (λ all. MeansBlock n all c.loop-tree.all) whole) walked
+    one_made c.in_ok-new-2.field-0 (ap (λ all. mention.block (map (mention.statement owner) all) known) (sym whole)) refl
+    (λ n means. subst (MeansBlock n trees) (sym c.in_ok-new-2.ensures.ok) (subst (λ all. MeansBlock n all c.loop-tree.all) whole means)) walked
 
 pub block-statement-requires : goal.block-statement-requires
 block-statement-requires t c =

@@ -4,5 +4,5 @@ use Rattle.dso_machine.proofs.machine.Core.begin_argument.Goals as goal
 
 pub returns-clause-keeps : goal.returns-clause-keeps
 returns-clause-keeps c =
-    opens_goes (now.Arguments c.args.callees c.args.object c.args.before c.args.rest) c.args.self.now c.next_argument.result c.advance.result c.advance.new.self
-    (λ code. c.next_argument.ensures.opens code c.args.self.now.frame) c.advance.ensures.keeps
+    opens_goes (now.Arguments c.args.callees c.args.object c.args.before c.args.rest) c.args.self.now c.in_ok-step.step c.advance.result c.advance.new.self
+    (λ code. c.in_ok-step.ensures.opens code c.args.self.now.frame) c.advance.ensures.keeps
