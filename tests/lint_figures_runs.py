@@ -97,6 +97,18 @@ def clique(names, head='', level=WRITE):
     return level, alike(['%sf%d() { %s }' % (head, n, body) for n in range(names)]), names * CLASSES
 
 
+def tangle(count):
+    """Methods that all call each other: each the next one on `this`, and the others on a root.
+
+    The first is called on a new object: so one method after the other loses its clean `this`.
+    """
+    methods = []
+    for n in range(count):
+        called = ['%s.f%d();' % ('this' if m == n + 1 else 'x', m) for m in range(count)]
+        methods.append('f%d() { var x = Main.a; %s }' % (n, ' '.join(called)))
+    return WRITE, classes(methods) + ROOT + 'thread 1 { new C0().f0(); }\n', count
+
+
 def sites(names, each):
     """Such methods, each with so many blocks at level read with a call in each."""
     methods = []
@@ -119,6 +131,9 @@ PROGRAMS = [
     ('a chain, each at level read', lambda: chain(1000, 'synchronized ', READ)),
     ('a chain, each at level read', lambda: chain(4000, 'synchronized ', READ)),
     ('all call each other', lambda: clique(16)),
+    ('a chain among methods that all call each other', lambda: tangle(100)),
+    ('a chain among methods that all call each other', lambda: tangle(200)),
+    ('a chain among methods that all call each other', lambda: tangle(300)),
     ('all call each other, at level read', lambda: clique(4, 'synchronized ', READ)),
     ('all call each other, at level read', lambda: clique(8, 'synchronized ', READ)),
     ('all call each other, at level read', lambda: clique(16, 'synchronized ', READ)),

@@ -1,3 +1,5 @@
--- Which methods calls mark, and that in the end those are marked to which calls lead.
+-- Which methods calls mark, who calls each method, and from which methods calls lead to one that is marked.
 pub mod MarkSteps
-pub mod Reaching
+pub mod Calling
+pub mod CallerSteps
+pub mod Leading

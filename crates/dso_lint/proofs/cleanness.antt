@@ -5,3 +5,4 @@ pub mod EachRow
 pub mod FirstRows
 pub mod ExposedSteps
 pub mod Choices
+pub mod Looks

@@ -1,6 +1,6 @@
 -- The rows of all bodies, and the choice that they stand for.
-use Rattle.std.specs.Prelude.{◌≡◌, ◌<◌, ◌≤◌, ◌+◌, ℕ, zero, suc, ◌-◌, Bool, true, false, cond, nat_lt, count_by}
-use Rattle.std.specs.Prelude.{List, Contains, length, slice_get, slice_index_or, Option, None, Some}
+use Rattle.std.specs.Prelude.{◌≡◌, ◌<◌, ◌≤◌, ◌⊎◌, ◌+◌, ℕ, zero, suc, ◌-◌, Bool, true, false, cond, nat_lt, count_by}
+use Rattle.std.specs.Prelude.{List, Contains, length, slice_get, slice_index_or, slice_set, Option, None, Some}
 use Rattle.dso_machine.specs.declared.code.Code.{Code}
 use Rattle.dso_machine.specs.declared.tree.Expr.{Expr}
 use Rattle.dso_machine.specs.declared.tree.Expr.TheVariants as x
@@ -8,11 +8,9 @@ use Rattle.dso_machine.specs.declared.tree.Stmt.{Stmt}
 use Rattle.dso_machine.specs.declared.tree.Stmt.TheVariants as s
 use Rattle.dso_lint.specs.declared.answer.Place.{Place}
 use Rattle.dso_lint.specs.declared.answer.Place.TheVariants as place
-use Rattle.dso_lint.specs.declared.listed.Listed.{Listed}
 use Rattle.dso_lint.specs.declared.marks.Marks.{Marks}
 use Rattle.dso_lint.specs.declared.row.Row.{Row}
 use Rattle.dso_lint.specs.Clean.{Chosen, Choice, is_clean, IsCleanChoice}
-use Rattle.dso_lint.specs.Listed.{IsListed}
 use Rattle.dso_lint.specs.Marked.{IsMarked}
 use Rattle.dso_lint.specs.Narrowing.{Settles}
 use Rattle.dso_lint.specs.Routines.{Routine}
@@ -64,37 +62,28 @@ pub record AreFirst (bodies : List Routine) (methods : ℕ) (rows : List Row) : 
 abbrev pub this_count : List Row → ℕ
 this_count = count_by (λ row. row.this)
 
--- a row that was settled over its body, if it covers what the body assigns
-pub record IsSettledRow (listed : Listed) (old new : Row) : Type 0 where
+-- a row that was settled over the body, if it covers what the body assigns
+pub record IsSettledRow (body : Routine) (old new : Row) : Type 0 where
   pub this : new.this ≡ old.this
   pub number : length new.variables.items ≡ length old.variables.items
   pub below : IsBelow (chosen_by new) (chosen_by old)
-  pub right : (body : Routine) → IsListed listed body → Covers body.statements old → Settles body.statements old new
+  pub right : Covers body.statements old → Settles body.statements old new
 
--- each row was settled over its body
-pub record AreSettled (bodies : List Listed) (old new : List Row) : Type 0 where
-  pub number : length new ≡ length old
-  pub each : (p : ℕ) (listed : Listed) (row : Row) → p < length bodies →
-      IsSettledRow (slice_index_or bodies p listed) (slice_index_or old p row) (slice_index_or new p row)
-  pub count : this_count new ≡ this_count old
-
--- a call in one of the first so many bodies may reach the method, and its receiver isn't clean by the body's row
-pub record IsExposed (bodies : List Routine) (rows : List Row) (count m : ℕ) : Type 0 where
-  pub body : ℕ
-  pub low : body < count
+-- a call in the body may reach the method, and its receiver isn't clean by the row
+pub record IsExposed (body : Routine) (row : Row) (m : ℕ) : Type 0 where
   pub receiver : Expr
   pub callees : List (ℕ × ℕ)
   pub args : List Expr
   pub class : ℕ
-  pub uses : (d : Routine) → Uses (slice_index_or bodies body d).statements (x.Call receiver callees args)
+  pub uses : Uses body.statements (x.Call receiver callees args)
   pub may : Contains callees (class, m)
-  pub unclean : (d : Row) → is_clean (chosen_by (slice_index_or rows body d)) receiver ≡ false
+  pub unclean : is_clean (chosen_by row) receiver ≡ false
 
 -- of so many numbers those of exposed methods are marked
-pub record MarksExposed (bodies : List Routine) (rows : List Row) (count size : ℕ) (marks : Marks) : Type 0 where
+pub record MarksExposed (body : Routine) (row : Row) (size : ℕ) (marks : Marks) : Type 0 where
   pub number : length marks.marked.items ≡ size
-  pub only : (m : ℕ) → IsMarked marks m → IsExposed bodies rows count m
-  pub all : (m : ℕ) → m < size → IsExposed bodies rows count m → IsMarked marks m
+  pub only : (m : ℕ) → IsMarked marks m → IsExposed body row m
+  pub all : (m : ℕ) → m < size → IsExposed body row m → IsMarked marks m
 
 -- a marked row's `this` isn't clean any more, and nothing else has changed
 pub record LosesThis (marked : Bool) (old new : Row) : Type 0 where
@@ -108,19 +97,33 @@ pub record TakesThis (marked : Bool) (old new : Row) (did : Bool) : Type 0 where
   pub gone : did ≡ true → new.this ≡ false
   pub same : did ≡ false → new ≡ old
 
--- each row whose number is marked has lost its `this`, and whether one was clean
-pub record Strips (marked : List Bool) (old new : List Row) (any : Bool) : Type 0 where
+-- the numbers are those below this one
+pub record AreBelow (size : ℕ) (numbers : List ℕ) : Type 0 where
+  pub only : (p : ℕ) → Contains numbers p → p < size
+  pub all : (p : ℕ) → p < size → Contains numbers p
+
+-- For each `this` that the rows have lost one number more waits, and each that has come is that of a row.
+pub record StillWait (old new : List Row) (before after : List ℕ) : Type 0 where
   pub number : length new ≡ length old
+  pub only : (p : ℕ) → Contains after p → Contains before p ⊎ (p < length old)
+  pub sum : this_count new + length after ≡ this_count old + length before
+
+-- Each row whose number is marked has lost its `this`; what waited still waits, and so does each row that has changed.
+pub record Strips (marked : List Bool) (old new : List Row) (before after : List ℕ) : Type 0 where
+  pub wait : StillWait old new before after
+  pub kept : (p : ℕ) → Contains before p → Contains after p
   pub each : (p : ℕ) (row : Row) → p < length old →
       LosesThis (slice_index_or marked p false) (slice_index_or old p row) (slice_index_or new p row)
-  pub same : any ≡ false → new ≡ old
-  pub fewer : any ≡ true → this_count new < this_count old
+  pub waits : (p : ℕ) → p < length old →
+      Contains after p ⊎ ((row : Row) → slice_index_or new p row ≡ slice_index_or old p row)
 
--- The rows lost the `this` of each method that may be called on what isn't clean, and whether one was lost.
-pub record Exposes (bodies : List Routine) (methods : ℕ) (old new : List Row) (any : Bool) : Type 0 where
+-- The row of this number was settled over its body, and then each method that is exposed there has lost its `this`.
+pub record LooksAt (body : Routine) (methods number : ℕ) (old new : List Row) (before after : List ℕ) : Type 0 where
+  pub row : Row
+  pub settled : (d : Row) → IsSettledRow body (slice_index_or old number d) row
   pub marks : Marks
-  pub exposed : MarksExposed bodies old (length bodies) methods marks
-  pub strips : Strips marks.marked.items old new any
+  pub exposed : MarksExposed body row methods marks
+  pub strips : Strips marks.marked.items (slice_set old number row) new before after
 
 -- the rows are those of the clean variables, each what is chosen at its body's place
 pub record AreClean (code : Code) (rows : List Row) : Type 0 where

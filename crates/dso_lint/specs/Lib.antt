@@ -10,11 +10,13 @@ pub mod Rows
 pub mod Narrowing
 pub mod Marked
 pub mod Listed
-pub mod Reached
+pub mod Callers
+pub mod Leads
 pub mod CleanRows
 pub mod Quiet
 pub mod Holds
 pub mod Scenes
 pub mod Upgrading
+pub mod Tables
 pub mod Judged
 pub mod Laws

@@ -1,5 +1,5 @@
 -- What of the upgrade rule is looked at, one after the other.
-use Rattle.std.specs.Prelude.{◌≡◌, ◌⊎◌, ℕ, suc, Bool, true, false, List, slice_index_or, Some}
+use Rattle.std.specs.Prelude.{◌≡◌, ◌⊎◌, ℕ, suc, true, false, List, Some}
 use Rattle.dso_base.specs.declared.lock.Grade.{Grade}
 use Rattle.dso_machine.specs.declared.code.Code.{Code}
 use Rattle.dso_machine.specs.declared.tree.Expr.{Expr}
@@ -8,7 +8,8 @@ use Rattle.dso_machine.specs.declared.tree.Stmt.TheVariants as s
 use Rattle.dso_lint.specs.declared.answer.Place.TheVariants as place
 use Rattle.dso_lint.specs.Routines.{Routine, IsAt}
 use Rattle.dso_lint.specs.Access.{writes}
-use Rattle.dso_lint.specs.Upgrades.{HasWriteSite, IsWriter, LocksForWrite}
+use Rattle.dso_lint.specs.Trees.{StandsIn}
+use Rattle.dso_lint.specs.Upgrades.{HasWriteSite, LocksForWrite}
 use Rattle.dso_lint.specs.Upgrades.{MayWriteMonitor, MayWriteName, TakesForWrite}
 
 -- the statement itself is a site at a grade that allows writes
@@ -24,21 +25,9 @@ abbrev pub TakesMonitor : Routine → Type 0
 TakesMonitor body = HasWriteSite body.statements ⊎ LocksForWrite body.synced
 
 module _ (code : Code) where
-  -- one of the marked methods takes a monitor at Write
-  pub record HasWriter (marked : List Bool) : Type 0 where
-    pub method : ℕ
-    pub is_marked : slice_index_or marked method false ≡ true
-    pub writer : IsWriter code method
-
   -- the method takes the named lock at Write
   abbrev pub TakesName : ℕ → ℕ → Type 0
   TakesName lock m = (body : Routine) × IsAt code (place.Method (suc m)) body × TakesForWrite lock body.named
-
-  -- one of the marked methods does
-  pub record HasTaker (lock : ℕ) (marked : List Bool) : Type 0 where
-    pub method : ℕ
-    pub is_marked : slice_index_or marked method false ≡ true
-    pub takes : TakesName lock method
 
   -- the statement itself is a site at Read from which a monitor may be taken at Write
   pub record UpgradesAt (a : Stmt) : Type 0 where
@@ -55,6 +44,10 @@ module _ (code : Code) where
     pub is : body.synced ≡ Some grade
     pub reads : writes grade ≡ false
     pub may : MayWriteMonitor code body.statements
+
+  -- a site in the body does, or the method's own
+  abbrev pub UpgradesSite : Routine → Type 0
+  UpgradesSite body = ((a : Stmt) × StandsIn a body.statements × UpgradesAt a) ⊎ UpgradesWhole body
 
   -- and its named lock
   pub record UpgradesName (body : Routine) : Type 0 where

@@ -18,7 +18,7 @@ use crate::lists::{expressions_in, expressions_of, statements_in};
 use crate::quiet::is_quiet;
 use crate::row::{Row, is_clean};
 use dso_base::{ClassId, Grade, LockName, NoMemory, Shape};
-use dso_machine::{Expr, FieldRef, Stmt};
+use dso_machine::{Branch, Expr, FieldRef, Stmt};
 use std::alloc::Global;
 
 /// What the accesses at a place of a body are judged by: the shape, the clean variables and the named lock of the body,
@@ -59,7 +59,7 @@ fn is_guarded(scene: &Scene<'_>, object: &Expr, field: &FieldRef, write: bool) -
         return false;
     }
     let locked = is_locked(scene, object, write);
-    let places = field.places.as_slice();
+    let places = field.places.get().as_slice();
     for place in places {
         if !is_guarded_at(scene, *place, locked, write) {
             return false;
@@ -109,7 +109,7 @@ fn good_hold(
     alloc: Global,
     scene: &Scene<'_>,
     lock: &Expr,
-    block: &[Stmt],
+    block: &[Branch<Stmt>],
 ) -> Result<Option<Variable>, NoMemory>
     ensures { IfOk result (λ held. (grade : Level) → IsGoodHold scene.now.shape.now (chosen_by scene.now.row.now) (record { lock = lock.now; grade = grade; block = block.now }) held) }
 {
@@ -133,10 +133,11 @@ fn good_hold(
 
 /// Whether each access in the block is guarded.
 #[cycle(guarded)]
-fn all_guarded(block: &[Stmt], alloc: Global, scene: &Scene<'_>) -> Result<bool, NoMemory>
+fn all_guarded(block: &[Branch<Stmt>], alloc: Global, scene: &Scene<'_>) -> Result<bool, NoMemory>
     ensures { IfOk result (λ guarded. (sites : List Site) → IsScene scene.now sites → IsTrue guarded ↔ AllGuarded scene.now sites block.now) }
 {
     for a in block {
+        let a = a.get();
         let made = makes_guarded(alloc, scene, a)?;
         if !made {
             return Ok(false);
@@ -156,15 +157,15 @@ fn inner_guarded(a: &Stmt, alloc: Global, scene: &Scene<'_>) -> Result<bool, NoM
 {
     match a {
         Stmt::If(_, all, others) => {
-            let first = all_guarded(all.as_slice(), alloc, scene)?;
+            let first = all_guarded(all.get().as_slice(), alloc, scene)?;
             if !first {
                 return Ok(false);
             }
-            all_guarded(others.as_slice(), alloc, scene)
+            all_guarded(others.get().as_slice(), alloc, scene)
         }
-        Stmt::While(_, all) => all_guarded(all.as_slice(), alloc, scene),
+        Stmt::While(_, all) => all_guarded(all.get().as_slice(), alloc, scene),
         Stmt::Sync(lock, grade, all) => {
-            let block = all.as_slice();
+            let block = all.get().as_slice();
             let held = good_hold(alloc, scene, lock.get(), block)?;
             let holds = with_hold(alloc, scene.holds, held, *grade)?;
             let inner = Scene {

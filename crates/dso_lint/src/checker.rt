@@ -1,9 +1,10 @@
 //! The lock checker (`specs/Verdict.antt`, `specs/Judged.antt`).
-ghost use Rattle.std.specs.Prelude.{◌≡◌, ◌<◌, ◌^◌, IfOk, length};
+ghost use Rattle.std.specs.Prelude.{◌≡◌, ◌<◌, ◌^◌, IfOk, OnOk, length};
 ghost use Rattle.dso_class.specs.Sound.{IsSoundProgram};
 ghost use Rattle.dso_machine.specs.Sound.{IsSoundCode};
 ghost use Rattle.dso_lint.specs.CleanRows.{place_at};
 ghost use Rattle.dso_lint.specs.Judged.{AreBodies, IsJudged, choice_by};
+ghost use Rattle.dso_lint.specs.Tables.{AreTables};
 ghost use Rattle.dso_lint.specs.Verdict.{IsVerdict, Tells};
 
 use crate::access::keeps_access;
@@ -11,6 +12,7 @@ use crate::answer::{Lint, Place, Why};
 use crate::listed::{Listed, all_listed};
 use crate::row::Row;
 use crate::rows::clean_rows;
+use crate::tables::{Tables, tables_of};
 use crate::upgrades::never_upgrades;
 use dso_base::NoMemory;
 use dso_class::Program;
@@ -40,11 +42,14 @@ fn failed_rule(
     alloc: Global,
     code: &Code,
     bodies: &Bodies<'_>,
+    tables: &mut Tables,
     number: usize,
 ) -> Result<Option<Why>, NoMemory>
     requires bodies { AreBodies code.now bodies.now }
     requires there { number < length bodies.now.all.items }
-    ensures { IfOk result (IsJudged code.now (choice_by code.now bodies.now) (place_at (length code.now.methods) number)) }
+    requires tables { AreTables code.now tables.old }
+    ensures right { OnOk result (AreTables code.now tables.new) }
+    ensures judged { IfOk result (IsJudged code.now (choice_by code.now bodies.now) (place_at (length code.now.methods) number)) }
 {
     let all = bodies.all.as_slice();
     let rows = bodies.rows.as_slice();
@@ -53,7 +58,7 @@ fn failed_rule(
     if !access {
         return Ok(Some(Why::Access));
     }
-    let never = never_upgrades(alloc, all, bodies.methods, body)?;
+    let never = never_upgrades(alloc, all, bodies.methods, tables, body)?;
     if !never {
         return Ok(Some(Why::Upgrade));
     }
@@ -78,8 +83,9 @@ fn first_failure(alloc: Global, code: &Code, bodies: &Bodies<'_>) -> Result<Lint
     ensures { IfOk result (Tells code.now (choice_by code.now bodies.now)) }
 {
     let all = bodies.all.as_slice();
+    let mut tables = tables_of(alloc, all, bodies.methods)?;
     for number in 0..all.len() {
-        let failed = failed_rule(alloc, code, bodies, number)?;
+        let failed = failed_rule(alloc, code, bodies, &mut tables, number)?;
         match failed {
             Some(why) => return Ok(Lint::No(place_of(number, bodies.methods), why)),
             None => {}

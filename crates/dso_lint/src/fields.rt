@@ -29,7 +29,7 @@ pub(crate) fn is_named(named: Option<(u32, Grade)>, write: bool, lock: u32) -> b
 pub(crate) fn is_ref_field(shape: &Shape, field: &FieldRef) -> bool
     ensures { IsTrue result ↔ rule.IsRefField shape.now field.now }
 {
-    let places = field.places.as_slice();
+    let places = field.places.get().as_slice();
     for place in places {
         if shape.kind(ClassId::Plain(place.0), place.1) == Kind::Ref {
             return true;

@@ -3,19 +3,21 @@
 
 mod access;
 mod answer;
+mod callers;
 mod checker;
 mod fields;
 mod holds;
 mod laws;
+mod leads;
 mod listed;
 mod lists;
 mod marks;
 mod narrow;
 mod quiet;
-mod reach;
 mod row;
 mod rows;
 mod sites;
+mod tables;
 mod upgrades;
 
 pub use answer::{Lint, Place, Why};

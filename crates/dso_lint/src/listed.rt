@@ -5,14 +5,14 @@ ghost use Rattle.dso_lint.specs.Listed.{AreListed, IsListed, routine_of, routine
 use crate::lists::{expressions_in, statements_in};
 use crate::sites::has_write_site;
 use dso_base::{Grade, NoMemory};
-use dso_machine::{Code, Expr, Method, Stmt, ThreadBody};
+use dso_machine::{Branch, Code, Expr, Method, Stmt, ThreadBody};
 use std::alloc::Global;
 
 /// A body, each statement that stands in it and each expression that one of them evaluates, listed, and whether it has
 /// a `synchronized` statement that allows writes.
 #[derive(Drop)]
 pub(crate) struct Listed<'a> {
-    pub(crate) block: &'a [Stmt],
+    pub(crate) block: &'a [Branch<Stmt>],
     pub(crate) statements: Vec<&'a Stmt>,
     pub(crate) expressions: Vec<&'a Expr>,
     pub(crate) writes: bool,
@@ -22,7 +22,10 @@ pub(crate) struct Listed<'a> {
 }
 
 /// A block that takes no lock around it, with what stands in it.
-pub(crate) fn list_block<'a>(alloc: Global, block: &'a [Stmt]) -> Result<Listed<'a>, NoMemory>
+pub(crate) fn list_block<'a>(
+    alloc: Global,
+    block: &'a [Branch<Stmt>],
+) -> Result<Listed<'a>, NoMemory>
     ensures { IfOk result (λ listed. IsListed listed (routine_of_block block.now)) }
 {
     let statements = statements_in(alloc, block)?;
@@ -44,7 +47,7 @@ pub(crate) fn list_block<'a>(alloc: Global, block: &'a [Stmt]) -> Result<Listed<
 fn list_method<'a>(alloc: Global, method: &'a Method) -> Result<Listed<'a>, NoMemory>
     ensures { IfOk result (λ listed. IsListed listed (routine_of method.now)) }
 {
-    let mut listed = list_block(alloc, method.body.as_slice())?;
+    let mut listed = list_block(alloc, method.body.get().as_slice())?;
     listed.params = method.params;
     listed.named = method.named;
     listed.synced = method.synced;
@@ -55,7 +58,7 @@ fn list_method<'a>(alloc: Global, method: &'a Method) -> Result<Listed<'a>, NoMe
 fn list_thread<'a>(alloc: Global, body: &'a ThreadBody) -> Result<Listed<'a>, NoMemory>
     ensures { IfOk result (λ listed. IsListed listed (routine_of_thread body.now)) }
 {
-    list_block(alloc, body.body.as_slice())
+    list_block(alloc, body.body.get().as_slice())
 }
 
 /// The bodies of all methods, and then those of all threads.

@@ -6,8 +6,8 @@ ghost use Rattle.dso_machine.specs.declared.tree.Stmt as stmt;
 ghost use Rattle.dso_lint.specs.Lists.{Adds, Lists};
 ghost use Rattle.dso_lint.specs.Trees.{Evaluates, IsPart, StandsIn, Uses, blocks};
 
-use dso_base::{Boxed, NoMemory};
-use dso_machine::{Expr, Stmt};
+use dso_base::NoMemory;
+use dso_machine::{Branch, Expr, Stmt};
 use std::alloc::Global;
 
 /// Adds an expression and all that stand in it.
@@ -35,25 +35,25 @@ fn add_parts<'a>(whole: &'a Expr, list: &mut Vec<&'a Expr>) -> Result<(), NoMemo
         }
         Expr::Call(a, _, args) => {
             add_parts(a.get(), list)?;
-            add_all_parts(args.as_slice(), list)
+            add_all_parts(args.get().as_slice(), list)
         }
     }
 }
 
 /// Adds expressions and all that stand in them.
 #[cycle(parts)]
-fn add_all_parts<'a>(all: &'a [Expr], list: &mut Vec<&'a Expr>) -> Result<(), NoMemory>
+fn add_all_parts<'a>(all: &'a [Branch<Expr>], list: &mut Vec<&'a Expr>) -> Result<(), NoMemory>
     ensures { OnOk result (Adds (λ e. (whole : tree.Expr) × Contains all.now whole × IsPart e whole) list.old.items list.new.items) }
 {
     for whole in all {
-        add_parts(whole, list)?;
+        add_parts(whole.get(), list)?;
     }
     Ok(())
 }
 
 /// Adds what a return evaluates, if it has an expression.
 fn add_returned<'a>(
-    returned: &'a Option<Boxed<Expr>>,
+    returned: &'a Option<Branch<Expr>>,
     list: &mut Vec<&'a Expr>,
 ) -> Result<(), NoMemory>
     ensures { OnOk result (Adds (λ e. (whole : tree.Expr) × Contains (option_to_list returned.now) whole × IsPart e whole) list.old.items list.new.items) }
@@ -98,10 +98,11 @@ fn add_evaluated<'a>(a: &'a Stmt, list: &mut Vec<&'a Expr>) -> Result<(), NoMemo
 
 /// Adds the statements of a block, at any depth.
 #[cycle(statements)]
-fn add_statements<'a>(block: &'a [Stmt], list: &mut Vec<&'a Stmt>) -> Result<(), NoMemory>
+fn add_statements<'a>(block: &'a [Branch<Stmt>], list: &mut Vec<&'a Stmt>) -> Result<(), NoMemory>
     ensures { OnOk result (Adds (λ a. StandsIn a block.now) list.old.items list.new.items) }
 {
     for a in block {
+        let a = a.get();
         list.push(a)?;
         add_inner(a, list)?;
     }
@@ -115,11 +116,11 @@ fn add_inner<'a>(a: &'a Stmt, list: &mut Vec<&'a Stmt>) -> Result<(), NoMemory>
 {
     match a {
         Stmt::If(_, all, others) => {
-            add_statements(all.as_slice(), list)?;
-            add_statements(others.as_slice(), list)
+            add_statements(all.get().as_slice(), list)?;
+            add_statements(others.get().as_slice(), list)
         }
-        Stmt::While(_, all) => add_statements(all.as_slice(), list),
-        Stmt::Sync(_, _, all) => add_statements(all.as_slice(), list),
+        Stmt::While(_, all) => add_statements(all.get().as_slice(), list),
+        Stmt::Sync(_, _, all) => add_statements(all.get().as_slice(), list),
         Stmt::Assign(_, _) | Stmt::PutField(_, _, _) | Stmt::PutElem(_, _, _) => Ok(()),
         Stmt::PutRoot(_, _) | Stmt::Eval(_) | Stmt::Wait(_) | Stmt::TimedWait(_, _) => Ok(()),
         Stmt::Notify(_) | Stmt::NotifyAll(_) | Stmt::Print(_) | Stmt::Return(_) => Ok(()),
@@ -136,7 +137,10 @@ pub(crate) fn expressions_of<'a>(alloc: Global, a: &'a Stmt) -> Result<Vec<&'a E
 }
 
 /// The statements of a block, at any depth.
-pub(crate) fn statements_in<'a>(alloc: Global, block: &'a [Stmt]) -> Result<Vec<&'a Stmt>, NoMemory>
+pub(crate) fn statements_in<'a>(
+    alloc: Global,
+    block: &'a [Branch<Stmt>],
+) -> Result<Vec<&'a Stmt>, NoMemory>
     ensures { IfOk result (λ list. Lists (λ a. StandsIn a block.now) list.items) }
 {
     let mut list = Vec::new(alloc);

@@ -49,18 +49,37 @@ impl Marks {
     }
 
     /// Marks a number, if it is one of these.
-    fn add(&mut self, number: u32) -> Result<(), NoMemory>
+    fn add(&mut self, number: usize) -> Result<(), NoMemory>
         ensures { OnOk result (MarksMore (λ m. number ≡ m) self.old self.new) }
     {
-        let place = number as usize;
-        if place >= self.marked.len() {
+        if number >= self.marked.len() {
             return Ok(());
         }
-        if self.marked[place] {
+        if self.marked[number] {
             return Ok(());
         }
-        self.found.push(place)?;
-        self.marked[place] = true;
+        self.found.push(number)?;
+        self.marked[number] = true;
+        Ok(())
+    }
+
+    /// Marks a number if that is wanted.
+    pub(crate) fn add_if(&mut self, number: usize, wanted: bool) -> Result<(), NoMemory>
+        ensures { OnOk result (MarksMore (λ m. (number ≡ m) × IsTrue wanted) self.old self.new) }
+    {
+        if !wanted {
+            return Ok(());
+        }
+        self.add(number)
+    }
+
+    /// Marks each of these numbers.
+    pub(crate) fn add_each(&mut self, numbers: &[usize]) -> Result<(), NoMemory>
+        ensures { OnOk result (MarksMore (λ m. Contains numbers.now m) self.old self.new) }
+    {
+        for number in numbers {
+            self.add(*number)?;
+        }
         Ok(())
     }
 
@@ -69,7 +88,7 @@ impl Marks {
         ensures { OnOk result (MarksMore (λ m. (class : ℕ) × Contains callees.now (class, m)) self.old self.new) }
     {
         for callee in callees {
-            self.add(callee.1)?;
+            self.add(callee.1 as usize)?;
         }
         Ok(())
     }
@@ -95,7 +114,7 @@ impl Marks {
     {
         match e {
             Expr::Call(receiver, callees, _) => {
-                self.add_counted(receiver.get(), callees.as_slice(), row)
+                self.add_counted(receiver.get(), callees.get().as_slice(), row)
             }
             _ => Ok(()),
         }

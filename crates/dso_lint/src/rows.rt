@@ -1,7 +1,7 @@
 //! The clean variables of all bodies (`specs/CleanRows.antt`).
 ghost use Rattle.std.specs.Prelude.{◌≡◌, ◌<◌, ◌≤◌, ℕ, List, IfOk, OnOk, length, slice_index_or, true, false};
 ghost use Rattle.dso_machine.specs.declared.code.Code.{Code as Program};
-ghost use Rattle.dso_lint.specs.CleanRows.{AreClean, AreFirst, AreSettled, Exposes, HasRoom, HasRoomFor, IsFirst, MarksExposed, Strips, TakesThis, this_count};
+ghost use Rattle.dso_lint.specs.CleanRows.{AreBelow, AreClean, AreFirst, HasRoom, HasRoomFor, IsFirst, LooksAt, MarksExposed, StillWait, Strips, TakesThis};
 ghost use Rattle.dso_lint.specs.Listed.{AreListed, IsListed, routines};
 ghost use Rattle.dso_lint.specs.Routines.{Routine};
 
@@ -59,30 +59,12 @@ fn first_rows(alloc: Global, bodies: &[Listed<'_>], methods: usize) -> Result<Ve
     Ok(rows)
 }
 
-/// Takes out variables until each that is left in any row is assigned only what is clean.
-fn settle_all(bodies: &[Listed<'_>], rows: &mut Vec<Row>)
-    requires { length rows.old.items ≡ length bodies.now }
-    ensures { AreSettled bodies.now rows.old.items rows.new.items }
-{
-    for number in 0..bodies.len() {
-        settle(bodies[number].statements.as_slice(), &mut rows[number]);
-    }
-}
-
-/// Marks the methods that may be called on what isn't clean.
-fn exposed(
-    alloc: Global,
-    bodies: &[Listed<'_>],
-    rows: &[Row],
-    methods: usize,
-) -> Result<Marks, NoMemory>
-    requires { length rows.now ≡ length bodies.now }
-    ensures { (all : List Routine) → AreListed all bodies.now → IfOk result (MarksExposed all rows.now (length bodies.now) methods) }
+/// Marks the methods that the body may call on what isn't clean by its row.
+fn exposed(alloc: Global, body: &Listed<'_>, row: &Row, methods: usize) -> Result<Marks, NoMemory>
+    ensures { (routine : Routine) → IsListed body.now routine → IfOk result (MarksExposed routine row.now methods) }
 {
     let mut marks = Marks::new(alloc, methods)?;
-    for number in 0..bodies.len() {
-        marks.add_calls(bodies[number].expressions.as_slice(), Some(&rows[number]))?;
-    }
+    marks.add_calls(body.expressions.as_slice(), Some(row))?;
     Ok(marks)
 }
 
@@ -100,37 +82,50 @@ fn take_this(row: &mut Row, marked: bool) -> bool
     true
 }
 
-/// Takes the `this` of each marked row away. Tells whether one was clean.
-fn strip(rows: &mut Vec<Row>, marks: &Marks) -> bool
-    ensures { Strips marks.now.marked.items rows.old.items rows.new.items result }
+/// Takes the `this` of each marked row away. The numbers of those whose `this` was clean wait now.
+fn strip(rows: &mut Vec<Row>, marks: &Marks, waiting: &mut Vec<usize>) -> Result<(), NoMemory>
+    ensures { OnOk result (Strips marks.now.marked.items rows.old.items rows.new.items waiting.old.items waiting.new.items) }
 {
-    let mut changed = false;
     for number in 0..rows.len() {
         if take_this(&mut rows[number], marks.has(number)) {
-            changed = true;
+            waiting.push(number)?;
         }
     }
-    changed
+    Ok(())
 }
 
-/// Takes the `this` of each method away that may be called on what isn't clean. Tells whether there was one.
-fn expose(
+/// Looks at the body of this number: takes variables out of its row until each that is left is assigned only what is
+/// clean, and takes the `this` of each method away that it may call on what isn't. Those that lose it wait now.
+fn look(
     alloc: Global,
-    bodies: &[Listed<'_>],
+    body: &Listed<'_>,
+    number: usize,
     rows: &mut Vec<Row>,
     methods: usize,
-) -> Result<bool, NoMemory>
-    requires { length rows.old.items ≡ length bodies.now }
-    ensures fewer { IfOk result (λ changed. changed ≡ true → this_count rows.new.items < this_count rows.old.items) }
-    ensures same { IfOk result (λ changed. changed ≡ false → rows.new.items ≡ rows.old.items) }
-    ensures number { length rows.new.items ≡ length rows.old.items }
-    ensures right { (all : List Routine) → AreListed all bodies.now → IfOk result (Exposes all methods rows.old.items rows.new.items) }
+    waiting: &mut Vec<usize>,
+) -> Result<(), NoMemory>
+    requires { number < length rows.old.items }
+    ensures wait { OnOk result (StillWait rows.old.items rows.new.items waiting.old.items waiting.new.items) }
+    ensures looks { (routine : Routine) → IsListed body.now routine → OnOk result (LooksAt routine methods number rows.old.items rows.new.items waiting.old.items waiting.new.items) }
 {
-    let marks = exposed(alloc, bodies, rows.as_slice(), methods)?;
-    Ok(strip(rows, &marks))
+    settle(body.statements.as_slice(), &mut rows[number]);
+    let marks = exposed(alloc, body, &rows[number], methods)?;
+    strip(rows, &marks, waiting)
 }
 
-/// The clean variables of each body.
+/// The numbers below this one.
+fn numbers_below(alloc: Global, size: usize) -> Result<Vec<usize>, NoMemory>
+    ensures { IfOk result (λ numbers. AreBelow size numbers.items) }
+{
+    let mut numbers = Vec::new(alloc);
+    for number in 0..size {
+        numbers.push(number)?;
+    }
+    Ok(numbers)
+}
+
+/// The clean variables of each body. A body is looked at again only where its own row has lost `this` since, so each
+/// is looked at twice at most.
 pub(crate) fn clean_rows(
     alloc: Global,
     bodies: &[Listed<'_>],
@@ -139,10 +134,16 @@ pub(crate) fn clean_rows(
     ensures { (code : Program) → AreListed (routines code) bodies.now → methods ≡ length code.methods → IfOk result (λ rows. AreClean code rows.items) }
 {
     let mut rows = first_rows(alloc, bodies, methods)?;
-    let mut changed = true;
-    while changed {
-        settle_all(bodies, &mut rows);
-        changed = expose(alloc, bodies, &mut rows, methods)?;
+    let mut waiting = numbers_below(alloc, bodies.len())?;
+    while let Some(number) = waiting.pop() {
+        look(
+            alloc,
+            &bodies[number],
+            number,
+            &mut rows,
+            methods,
+            &mut waiting,
+        )?;
     }
     Ok(rows)
 }

@@ -213,3 +213,18 @@ marks_call row e receiver callees args old new is a = marks_as (IsCounted row re
     back m call =
         let same = call_same call.receiver receiver call.callees callees call.args args (sym call.is ∙ is) in
         record { class = call.class; may = subst (λ cs. Contains cs (call.class, m)) same.1 call.may; counts = subst (Counts row) same.0 call.counts }
+
+-- ---- numbers themselves
+
+abbrev pub IsNumber : ℕ → ℕ → Type 0
+IsNumber number m = number ≡ m
+
+pub marks_numbers : (numbers : List ℕ) (old new : Marks) → MarksMore (OfAny IsNumber numbers) old new → MarksMore (λ m. Contains numbers m) old new
+marks_numbers numbers old new a = marks_as (OfAny IsNumber numbers) (λ m. Contains numbers m) old new (λ m one. subst (Contains numbers) one.2 one.1) (λ m is. (m, is, refl)) a
+
+-- a number if it is wanted
+pub marks_wanted : (number : ℕ) (wanted : Bool) (old new : Marks) → wanted ≡ true → MarksMore (IsNumber number) old new → MarksMore (λ m. (number ≡ m) × (wanted ≡ true)) old new
+marks_wanted number wanted old new is a = marks_as (IsNumber number) (λ m. (number ≡ m) × (wanted ≡ true)) old new (λ m same. (same, is)) (λ m both. both.0) a
+
+pub marks_unwanted : (number : ℕ) (wanted : Bool) (marks : Marks) → wanted ≡ false → MarksMore (λ m. (number ≡ m) × (wanted ≡ true)) marks marks
+marks_unwanted number wanted marks not = marks_none (λ m. (number ≡ m) × (wanted ≡ true)) marks (λ m both. absurd (cc (sym both.1 ∙ not)))

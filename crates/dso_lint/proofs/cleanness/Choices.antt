@@ -1,8 +1,8 @@
 -- The choice that the rows of all bodies stand for: it is the largest that keeps the rules.
-use Rattle.std.proofs.Common.{◌≡◌, ◌⊎◌, inl, inr, refl, ℕ, zero, suc, ◌+◌, ◌-◌, ◌<◌, ◌≤◌, arith, Bool, true, false, cond, List, length, map, get_or, sym, subst, ap, ◌∙◌, length-append}
+use Rattle.std.proofs.Common.{◌≡◌, ◌⊎◌, inl, inr, refl, ℕ, zero, suc, ◌+◌, ◌-◌, ◌<◌, ◌≤◌, arith, true, false, cond, List, length, map, get_or, sym, subst, ap, ◌∙◌, length-append}
 use Rattle.std.specs.Prelude.{Contains, nat_lt, slice_get, Option, None, Some}
 use Rattle.std.proofs.lemmas.Bool.{cases_Bool, cases_lt, le-ltb, lt-ltb}
-use Rattle.std.proofs.lemmas.List.{length-map, get_or_append_left, get_or-append_right, get_or-map, get_or_default, get_or_past}
+use Rattle.std.proofs.lemmas.List.{length-map, get_or_append_left, get_or-append_right, get_or-map}
 use Rattle.std.proofs.lemmas.Option.{slice_get_cases, slice_get_within, get_or_from_slice_get}
 use Rattle.dso_machine.specs.declared.code.Code.{Code}
 use Rattle.dso_machine.specs.declared.code.Method.{Method}
@@ -12,17 +12,14 @@ use Rattle.dso_machine.specs.declared.tree.Expr.TheVariants as x
 use Rattle.dso_machine.specs.declared.tree.Stmt.TheVariants as s
 use Rattle.dso_lint.specs.declared.answer.Place.{Place}
 use Rattle.dso_lint.specs.declared.answer.Place.TheVariants as place
-use Rattle.dso_lint.specs.declared.listed.Listed.{Listed}
 use Rattle.dso_lint.specs.declared.row.Row.{Row}
 use Rattle.dso_lint.specs.Clean.{Chosen, Choice, IsClean, KeepsRules, is_clean}
-use Rattle.dso_lint.specs.CleanRows.{AreClean, AreFirst, AreSettled, Exposes, IsExposed, IsFirst, LosesThis, chosen_in, choice_of}
-use Rattle.dso_lint.specs.Listed.{AreListed, routines, routine_of, routine_of_thread}
-use Rattle.dso_lint.specs.Marked.{IsMarked}
+use Rattle.dso_lint.specs.CleanRows.{AreClean, AreFirst, IsExposed, IsFirst, chosen_in, choice_of}
+use Rattle.dso_lint.specs.Listed.{routines, routine_of, routine_of_thread}
 use Rattle.dso_lint.specs.Routines.{Routine, IsAt, of_method, of_thread}
 use Rattle.dso_lint.specs.Rows.{Covers, IsBelow, KeepsAssigned, chosen_by}
 use Rattle.dso_lint.specs.Trees.{StandsIn, Uses}
-use Rattle.dso_lint.proofs.cleanness.CleanGrows.{clean_grows}
-use Rattle.dso_lint.proofs.calling.Reaching.{method_low}
+use Rattle.dso_lint.proofs.calling.Calling.{method_low}
 
 module _ {X : Type 0} where
   -- an item of a list at a place that it has
@@ -51,7 +48,7 @@ module _ (code : Code) where
   abbrev pub place_of : ℕ → Place
   place_of p = cond (nat_lt p n) (place.Method (suc p)) (place.Thread (suc (p - n)))
 
-  place_method : (p : ℕ) → p < n → place_of p ≡ place.Method (suc p)
+  pub place_method : (p : ℕ) → p < n → place_of p ≡ place.Method (suc p)
   place_method p low = ap (λ b. cond b (place.Method (suc p)) (place.Thread (suc (p - n)))) (lt-ltb p n low)
 
   place_thread : (p : ℕ) → n ≤ p → place_of p ≡ place.Thread (suc (p - n))
@@ -134,12 +131,12 @@ module _ (code : Code) where
     pub number : length rows ≡ length all
     pub each : (p : ℕ) (d : Routine) (e : Row) → p < length all → RowHolds p (get_or all p d) (get_or rows p e)
 
-  -- each keeps the rule on assignments, and no method of a clean `this` is exposed
-  pub record RowsKeep (rows : List Row) : Type 0 where
-    pub assigned : (p : ℕ) (d : Routine) (e : Row) → p < length all → KeepsAssigned (get_or all p d).statements (chosen_by (get_or rows p e))
-    pub unexposed : (m : ℕ) (e : Row) → m < n → IsExposed all rows (length all) m → (get_or rows m e).this ≡ false
+  -- nothing is left to do at a body: its row keeps the rule on assignments, and exposes no method of a clean `this`
+  pub record IsDone (rows : List Row) (p : ℕ) : Type 0 where
+    pub assigned : (d : Routine) (e : Row) → KeepsAssigned (get_or all p d).statements (chosen_by (get_or rows p e))
+    pub unexposed : (m : ℕ) (d : Routine) (e f : Row) → m < n → IsExposed (get_or all p d) (get_or rows p e) m → (get_or rows m f).this ≡ false
 
-  assigned_by : (other : Choice) → KeepsRules code other → (p : ℕ) (d : Routine) → p < length all → KeepsAssigned (get_or all p d).statements (other (place_of p))
+  pub assigned_by : (other : Choice) → KeepsRules code other → (p : ℕ) (d : Routine) → p < length all → KeepsAssigned (get_or all p d).statements (other (place_of p))
   assigned_by other keeps p d low i a stands so_is = keeps.assigned (place_of p) (get_or all p d) i a (stands_at p d low) stands so_is
 
   pub hold_first : (rows : List Row) → AreFirst all n rows → RowsHold rows
@@ -163,94 +160,9 @@ module _ (code : Code) where
               let never : (other (place_of p)).this ≡ false = ap (λ at. (other at).this) (place_thread p high) ∙ keeps.no_thread (suc (p - n)) in
               absurd (cc (sym so_is ∙ never))
 
-  -- what isn't true is false
-  not_true : (b : Bool) → (b ≡ true → ⊥) → b ≡ false
-  not_true true never = absurd (never refl)
-  not_true false never = refl
-
-  module _ (bodies : List Listed) (listed : AreListed all bodies) (old mid : List Row) (holds : RowsHold old) (settled : AreSettled bodies old mid) where
-    few : (p : ℕ) → p < length all → p < length bodies
-    few p low = omega (arith, low, listed.number)
-
-    pub hold_settled : RowsHold mid
-    hold_settled = record { number = settled.number ∙ holds.number; each = λ p d e low. one p d e low (item_at bodies p (few p low)) (holds.each p d e low) }
-      where
-        one : (p : ℕ) (d : Routine) (e : Row) → p < length all → Listed → RowHolds p (get_or all p d) (get_or old p e) → RowHolds p (get_or all p d) (get_or mid p e)
-        one p d e low x0 so =
-            let is = settled.each p x0 e (few p low) in
-            let settles = is.right (get_or all p d) (listed.each p x0 d low) so.covers in
-            record {
-              params = λ i under. not_true ((chosen_by (get_or mid p e)).variable i) (λ still. cc (sym (is.below.variable i still) ∙ so.params i under));
-              covers = λ i a stands. subst (λ m. i < m) (sym is.number) (so.covers i a stands);
-              thread = λ high. is.this ∙ so.thread high;
-              below = λ other keeps. settles.forced (other (place_of p)) (assigned_by other keeps p d low) (so.below other keeps);
-            }
-
-    pub settled_keep : (p : ℕ) (d : Routine) (e : Row) → p < length all → KeepsAssigned (get_or all p d).statements (chosen_by (get_or mid p e))
-    settled_keep p d e low =
-        let x0 = item_at bodies p (few p low) in
-        ((settled.each p x0 e (few p low)).right (get_or all p d) (listed.each p x0 d low) (holds.each p d e low).covers).keeps
-
-  -- ---- a `this` is taken away
-
-  module _ (mid new : List Row) (any : Bool) (holds : RowsHold mid) (exposes : Exposes all n mid new any) where
-    -- no choice that keeps the rules has the `this` of an exposed method
-    forced : (other : Choice) → KeepsRules code other → (p : ℕ) (d : Routine) (e : Row) → p < length all → p < n → IsExposed all mid (length all) p → (other (place_of p)).this ≡ true → ⊥
-    forced other keeps p d e low under by so_is =
-        let callee : IsAt code (place.Method (suc p)) (get_or all p d) = subst (λ at. IsAt code at (get_or all p d)) (place_method p under) (stands_at p d low) in
-        let chosen : (other (place.Method (suc p))).this ≡ true = ap (λ at. (other at).this) (sym (place_method p under)) ∙ so_is in
-        let clean = keeps.receivers (place_of by.body) (get_or all by.body d) (get_or all p d) by.receiver by.callees by.args by.class p (stands_at by.body d by.low) (by.uses d) by.may callee chosen in
-        let grown = clean_grows (other (place_of by.body)) (chosen_by (get_or mid by.body e)) ((holds.each by.body d e by.low).below other keeps) by.receiver clean in
-        cc (sym grown ∙ by.unclean e)
-
-    pub hold_exposed : RowsHold new
-    hold_exposed = record {
-      number = exposes.strips.number ∙ holds.number;
-      each = λ p d e low. one p d e low (holds.each p d e low) (exposes.strips.each p e (omega (arith, low, holds.number)));
-    }
-      where
-        one : (p : ℕ) (d : Routine) (e : Row) → p < length all → RowHolds p (get_or all p d) (get_or mid p e) → LosesThis (get_or exposes.marks.marked.items p false) (get_or mid p e) (get_or new p e)
-            → RowHolds p (get_or all p d) (get_or new p e)
-        one p d e low so loses = record {
-          params = λ i under. subst (λ v. get_or v.items i true ≡ false) (sym loses.variables) (so.params i under);
-          covers = λ i a stands. subst (λ v. i < length v.items) (sym loses.variables) (so.covers i a stands);
-          thread = λ high. loses.this ∙ lost (get_or exposes.marks.marked.items p false) (so.thread high);
-          below = λ other keeps. record {
-            variable = λ i so_is. subst (λ v. get_or v.items i true ≡ true) (sym loses.variables) ((so.below other keeps).variable i so_is);
-            this = λ so_is. loses.this ∙ kept other keeps so_is (get_or exposes.marks.marked.items p false) refl;
-          };
-        }
-          where
-            lost : (b : Bool) → (get_or mid p e).this ≡ false → cond b false (get_or mid p e).this ≡ false
-            lost true is = refl
-            lost false is = is
-
-            kept : (other : Choice) → KeepsRules code other → (other (place_of p)).this ≡ true → (b : Bool) → get_or exposes.marks.marked.items p false ≡ b → cond b false (get_or mid p e).this ≡ true
-            kept other keeps so_is false is = (so.below other keeps).this so_is
-            kept other keeps so_is true is =
-                let under : p < n = under_marks is (cases_lt p n) in
-                absurd (forced other keeps p d e low under (exposes.exposed.only p is) so_is)
-              where
-                under_marks : IsMarked exposes.marks p → (p < n) ⊎ (n ≤ p) → p < n
-                under_marks is (inl few) = few
-                under_marks is (inr high) = absurd (cc (sym is ∙ get_or_past exposes.marks.marked.items p false (omega (arith, high, exposes.exposed.number))))
-
-    -- where none was taken, none is exposed
-    pub exposed_keep : any ≡ false → ((p : ℕ) (d : Routine) (e : Row) → p < length all → KeepsAssigned (get_or all p d).statements (chosen_by (get_or mid p e))) → RowsKeep new
-    exposed_keep un keep = record {
-      assigned = λ p d e low. subst (λ rows. KeepsAssigned (get_or all p d).statements (chosen_by (get_or rows p e))) (sym same) (keep p d e low);
-      unexposed = λ m e under by.
-          let marked : IsMarked exposes.marks m = exposes.exposed.all m under (subst (λ rows. IsExposed all rows (length all) m) same by) in
-          let low : m < length mid = omega (arith, under, long, holds.number) in
-          (exposes.strips.each m e low).this ∙ ap (λ b. cond b false (get_or mid m e).this) marked;
-    }
-      where
-        same : new ≡ mid
-        same = exposes.strips.same un
-
   -- ---- the choice of rows to which nothing is left to do
 
-  module _ (rows : List Row) (holds : RowsHold rows) (keep : RowsKeep rows) where
+  module _ (rows : List Row) (holds : RowsHold rows) (keep : (p : ℕ) → p < length all → IsDone rows p) where
     abbrev choice : Choice
     choice = choice_of n rows
 
@@ -292,7 +204,7 @@ module _ (code : Code) where
         assigned : (at : Place) (body : Routine) (i : ℕ) (a : Expr) → IsAt code at body → StandsIn (s.Assign i a) body.statements → (choice at).variable i ≡ true → IsClean (choice at) a
         assigned at body i a is stands so_is =
             let c = chosen_row at body is in
-            let mine = keep.assigned c.number.number body c.row c.number.low i a (subst (λ b. StandsIn (s.Assign i a) b.statements) (sym (c.number.is_body body)) stands) (ap (λ (ch : Chosen). ch.variable i) (sym c.is) ∙ so_is) in
+            let mine = (keep c.number.number c.number.low).assigned body c.row i a (subst (λ b. StandsIn (s.Assign i a) b.statements) (sym (c.number.is_body body)) stands) (ap (λ (ch : Chosen). ch.variable i) (sym c.is) ∙ so_is) in
             subst (λ ch. IsClean ch a) (sym c.is) mine
 
         receivers : (at : Place) (body callee : Routine) (a : Expr) (callees : List (ℕ × ℕ)) (args : List Expr) (class m : ℕ) → IsAt code at body → Uses body.statements (x.Call a callees args) → Contains callees (class, m)
@@ -314,24 +226,19 @@ module _ (code : Code) where
             clean : (get_or rows m its).this ≡ true
             clean = ap (λ (ch : Chosen). ch.this) (sym (chosen_at m its low)) ∙ ap (λ at. (choice at).this) (place_method m under) ∙ so_is
 
-            same_row : (d : Row) → get_or rows c.number.number d ≡ get_or rows c.number.number c.row
-            same_row d = get_or_default rows c.number.number d c.row (in_range c.number.number c.number.low)
-
             by : (is_clean (choice at) a ≡ true) ⊎ (is_clean (choice at) a ≡ false) → IsClean (choice at) a
             by (inl so) = so
             by (inr un) =
-                let exposed : IsExposed all rows (length all) m = record {
-                  body = c.number.number;
-                  low = c.number.low;
+                let exposed : IsExposed (get_or all c.number.number body) (get_or rows c.number.number c.row) m = record {
                   receiver = a;
                   callees = callees;
                   args = args;
                   class = class;
-                  uses = λ d. subst (λ b. Uses b.statements (x.Call a callees args)) (sym (c.number.is_body d)) uses;
+                  uses = subst (λ b. Uses b.statements (x.Call a callees args)) (sym (c.number.is_body body)) uses;
                   may = may;
-                  unclean = λ d. ap (λ row. is_clean (chosen_by row) a) (same_row d) ∙ ap (λ ch. is_clean ch a) (sym c.is) ∙ un;
+                  unclean = ap (λ ch. is_clean ch a) (sym c.is) ∙ un;
                 } in
-                absurd (cc (sym clean ∙ keep.unexposed m its under exposed))
+                absurd (cc (sym clean ∙ (keep c.number.number c.number.low).unexposed m body c.row its under exposed))
 
         no_thread : (k : ℕ) → (choice (place.Thread k)).this ≡ false
         no_thread zero = refl

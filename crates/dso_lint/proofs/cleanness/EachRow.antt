@@ -1,11 +1,12 @@
 -- Rows that are changed one after the other.
-use Rattle.std.proofs.Common.{◌≡◌, ◌⊎◌, inl, inr, refl, ℕ, ◌+◌, ◌<◌, ◌≤◌, arith, Bool, true, false, cond, List, length, get_or, set, sym, subst, ap, ◌∙◌, get_or-set_other, get_or-set_same}
+use Rattle.std.proofs.Common.{◌≡◌, ◌⊎◌, inl, inr, refl, ℕ, ◌+◌, ◌<◌, ◌≤◌, arith, Bool, true, false, cond, List, [], ◌∷◌, ◌++◌, length, get_or, set, sym, subst, ap, ◌∙◌, get_or-set_other, get_or-set_same, length-append}
+use Rattle.std.specs.Prelude.{Contains}
 use Rattle.std.proofs.lemmas.Bool.{cases_eq}
 use Rattle.std.proofs.lemmas.List.{length-set, get_or_default, set-get_or}
+use Rattle.std.proofs.lemmas.List.Elements.{Contains-append_left, Contains-push, Contains-push_cases}
 use Rattle.std.proofs.lemmas.List.Sums.{sum_by-set}
-use Rattle.dso_lint.specs.declared.listed.Listed.{Listed}
 use Rattle.dso_lint.specs.declared.row.Row.{Row}
-use Rattle.dso_lint.specs.CleanRows.{AreSettled, IsSettledRow, LosesThis, Strips, TakesThis, this_count}
+use Rattle.dso_lint.specs.CleanRows.{LosesThis, StillWait, Strips, TakesThis, this_count}
 
 -- the first so many are changed as R says, and the others are as before
 pub record EachSoFar (R : ℕ → Row → Row → Type 0) (k : ℕ) (old new : List Row) : Type 0 where
@@ -51,79 +52,95 @@ count_kept rows k new e low is =
     let same : one_this new ≡ one_this (get_or rows k e) = ap (λ b. cond b 1 0) is in
     omega (arith, sums, same)
 
-pub count_less : (rows : List Row) (k : ℕ) (new e : Row) → k < length rows → (get_or rows k e).this ≡ true → new.this ≡ false → this_count (set rows k new) < this_count rows
+pub count_less : (rows : List Row) (k : ℕ) (new e : Row) → k < length rows → (get_or rows k e).this ≡ true → new.this ≡ false → this_count (set rows k new) + 1 ≡ this_count rows
 count_less rows k new e low was gone =
     let sums = count_set rows k new e low in
     let before : one_this (get_or rows k e) ≡ 1 = ap (λ b. cond b 1 0) was in
     let after : one_this new ≡ 0 = ap (λ b. cond b 1 0) gone in
     omega (arith, sums, before, after)
 
--- ---- rows that are settled
-
-abbrev pub Settling : List Listed → ℕ → Row → Row → Type 0
-Settling bodies p old new = (listed : Listed) → IsSettledRow (get_or bodies p listed) old new
-
-abbrev pub SettledSoFar : List Listed → ℕ → List Row → List Row → Type 0
-SettledSoFar bodies k old new = EachSoFar (Settling bodies) k old new × (this_count new ≡ this_count old)
-
-pub settled_next : (bodies : List Listed) (k : ℕ) (old mid : List Row) (new e : Row) (d : Listed) → k < length old → k < length bodies → SettledSoFar bodies k old mid → IsSettledRow (get_or bodies k d) (get_or mid k e) new
-    → SettledSoFar bodies (k + 1) old (set mid k new)
-settled_next bodies k old mid new e d low few so is =
-    let low_mid : k < length mid = omega (arith, low, so.0.number) in
-    let any : Settling bodies k (get_or mid k e) new = λ listed. subst (λ l. IsSettledRow l (get_or mid k e) new) (get_or_default bodies k d listed few) is in
-    (each_more (Settling bodies) k old mid new e low so.0 any, count_kept mid k new e low_mid is.this ∙ so.1)
-
-pub settled_whole : (bodies : List Listed) (k : ℕ) (old new : List Row) → length bodies ≤ k → length old ≡ length bodies → SettledSoFar bodies k old new → AreSettled bodies old new
-settled_whole bodies k old new past same so = record {
-  number = so.0.number;
-  each = λ p listed row low. so.0.done p row (omega (arith, low, past)) (omega (arith, low, same)) listed;
-  count = so.1;
-}
-
 -- ---- rows that lose their `this`
 
 abbrev pub Losing : List Bool → ℕ → Row → Row → Type 0
 Losing marked p old new = LosesThis (get_or marked p false) old new
 
-pub record StripsSoFar (marked : List Bool) (k : ℕ) (old new : List Row) (any : Bool) : Type 0 where
+-- so far, where the first so many rows were looked at
+pub record StripsSoFar (marked : List Bool) (k : ℕ) (old new : List Row) (before after : List ℕ) : Type 0 where
   pub each : EachSoFar (Losing marked) k old new
-  pub same : any ≡ false → new ≡ old
-  pub fewer : any ≡ true → this_count new < this_count old
+  pub kept : (p : ℕ) → Contains before p → Contains after p
+  pub only : (p : ℕ) → Contains after p → Contains before p ⊎ (p < length old)
+  pub sum : this_count new + length after ≡ this_count old + length before
+  pub waits : (p : ℕ) → p < length old → Contains after p ⊎ ((d : Row) → get_or new p d ≡ get_or old p d)
 
-pub strips_none : (marked : List Bool) (rows : List Row) → StripsSoFar marked 0 rows rows false
-strips_none marked rows = record { each = each_none (Losing marked) rows; same = λ is. refl; fewer = λ never. absurd (cc never) }
+pub strips_none : (marked : List Bool) (rows : List Row) (waiting : List ℕ) → StripsSoFar marked 0 rows rows waiting waiting
+strips_none marked rows waiting = record {
+  each = each_none (Losing marked) rows;
+  kept = λ p is. is;
+  only = λ p is. inl is;
+  sum = refl;
+  waits = λ p low. inr (λ d. refl);
+}
 
-module _ (marked : List Bool) (k : ℕ) (old mid : List Row) (new e : Row) (any : Bool) (low : k < length old) (so : StripsSoFar marked k old mid any) where
+module _ (marked : List Bool) (k : ℕ) (old mid : List Row) (new e : Row) (before after : List ℕ) (low : k < length old) (so : StripsSoFar marked k old mid before after) where
   low_mid : k < length mid
   low_mid = omega (arith, low, so.each.number)
 
-  pub strips_took : TakesThis (get_or marked k false) (get_or mid k e) new true → StripsSoFar marked (k + 1) old (set mid k new) true
+  pub strips_took : TakesThis (get_or marked k false) (get_or mid k e) new true → StripsSoFar marked (k + 1) old (set mid k new) before (after ++ k ∷ [])
   strips_took took = record {
     each = each_more (Losing marked) k old mid new e low so.each took.loses;
-    same = λ never. absurd (cc never);
-    fewer = λ is. by any refl;
+    kept = λ p is. Contains-append_left after (k ∷ []) p (so.kept p is);
+    only = λ p is. only p (Contains-push_cases after k p is);
+    sum = sum;
+    waits = λ p within. waits p (cases_eq p k) (so.waits p within);
   }
     where
-      less : this_count (set mid k new) < this_count mid
-      less = count_less mid k new e low_mid (took.was refl) (took.gone refl)
+      only : (p : ℕ) → Contains after p ⊎ (k ≡ p) → Contains before p ⊎ (p < length old)
+      only p (inl was) = so.only p was
+      only p (inr same) = inr (subst (λ i. i < length old) same low)
 
-      by : (b : Bool) → any ≡ b → this_count (set mid k new) < this_count old
-      by true is = let before = so.fewer is in omega (arith, before, less)
-      by false is = subst (λ rows. this_count (set mid k new) < this_count rows) (so.same is) less
+      sum : this_count (set mid k new) + length (after ++ k ∷ []) ≡ this_count old + length before
+      sum =
+          let less = count_less mid k new e low_mid (took.was refl) (took.gone refl) in
+          let longer : length (after ++ k ∷ []) ≡ length after + 1 = length-append after (k ∷ []) in
+          let was = so.sum in
+          omega (arith, less, longer, was)
 
-  pub strips_left : TakesThis (get_or marked k false) (get_or mid k e) new false → StripsSoFar marked (k + 1) old (set mid k new) any
+      waits : (p : ℕ) → (p ≡ k) ⊎ (p ≡ k → ⊥) → Contains after p ⊎ ((d : Row) → get_or mid p d ≡ get_or old p d)
+          → Contains (after ++ k ∷ []) p ⊎ ((d : Row) → get_or (set mid k new) p d ≡ get_or old p d)
+      waits p (inl same) was = inl (subst (Contains (after ++ k ∷ [])) (sym same) (Contains-push after k))
+      waits p (inr differs) (inl was) = inl (Contains-append_left after (k ∷ []) p was)
+      waits p (inr differs) (inr same) = inr (λ d. get_or-set_other mid k p new d differs ∙ same d)
+
+  pub strips_left : TakesThis (get_or marked k false) (get_or mid k e) new false → StripsSoFar marked (k + 1) old (set mid k new) before after
   strips_left took =
       let stays : set mid k new ≡ mid = ap (set mid k) (took.same refl) ∙ set-get_or mid k e in
       record {
         each = each_more (Losing marked) k old mid new e low so.each took.loses;
-        same = λ is. stays ∙ so.same is;
-        fewer = λ is. subst (λ rows. this_count rows < this_count old) (sym stays) (so.fewer is);
+        kept = so.kept;
+        only = so.only;
+        sum = ap (λ rows. this_count rows + length after) stays ∙ so.sum;
+        waits = subst (λ rows. (p : ℕ) → p < length old → Contains after p ⊎ ((d : Row) → get_or rows p d ≡ get_or old p d)) (sym stays) so.waits;
       }
 
-pub strips_whole : (marked : List Bool) (k : ℕ) (old new : List Row) (any : Bool) → length old ≤ k → StripsSoFar marked k old new any → Strips marked old new any
-strips_whole marked k old new any past so = record {
-  number = so.each.number;
+pub strips_whole : (marked : List Bool) (k : ℕ) (old new : List Row) (before after : List ℕ) → length old ≤ k → StripsSoFar marked k old new before after → Strips marked old new before after
+strips_whole marked k old new before after past so = record {
+  wait = record { number = so.each.number; only = so.only; sum = so.sum };
+  kept = so.kept;
   each = λ p row low. so.each.done p row (omega (arith, low, past)) low;
-  same = so.same;
-  fewer = so.fewer;
+  waits = so.waits;
 }
+
+-- the same for a row that was settled before
+pub wait_settled : (old new : List Row) (k : ℕ) (row e : Row) (before after : List ℕ) → k < length old → row.this ≡ (get_or old k e).this → StillWait (set old k row) new before after → StillWait old new before after
+wait_settled old new k row e before after low is wait = record {
+  number = wait.number ∙ long;
+  only = λ p waits. only p (wait.only p waits);
+  sum = wait.sum ∙ ap (λ n. n + length before) (count_kept old k row e low is);
+}
+  where
+    long : length (set old k row) ≡ length old
+    long = length-set old k row
+
+    only : (p : ℕ) → Contains before p ⊎ (p < length (set old k row)) → Contains before p ⊎ (p < length old)
+    only p (inl was) = inl was
+    only p (inr few) = inr (omega (arith, few, long))

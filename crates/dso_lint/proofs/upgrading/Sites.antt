@@ -1,5 +1,5 @@
 -- Sites at Read from which a lock may be taken at Write, and the upgrade rule.
-use Rattle.std.proofs.Common.{◌≡◌, refl, false, List, sym, subst, ap, ◌∙◌}
+use Rattle.std.proofs.Common.{◌≡◌, inl, inr, refl, false, List, sym, subst, ap, ◌∙◌}
 use Rattle.std.specs.Prelude.{Option, None, Some}
 use Rattle.dso_base.specs.declared.lock.Grade.{Grade}
 use Rattle.dso_machine.specs.declared.code.Code.{Code}
@@ -11,7 +11,7 @@ use Rattle.dso_lint.specs.Access.{writes}
 use Rattle.dso_lint.specs.Routines.{Routine}
 use Rattle.dso_lint.specs.Trees.{StandsIn}
 use Rattle.dso_lint.specs.Upgrades.{MayWriteMonitor, NeverUpgrades}
-use Rattle.dso_lint.specs.Upgrading.{UpgradesAt, UpgradesName, UpgradesWhole}
+use Rattle.dso_lint.specs.Upgrading.{UpgradesAt, UpgradesName, UpgradesSite, UpgradesWhole}
 
 -- a `synchronized` statement has one grade and one block
 abbrev grade_and_block : Stmt-F Stmt → Option (Grade × List Stmt)
@@ -53,3 +53,11 @@ module _ (code : Code) where
 
   pub never_name : (body : Routine) → NeverUpgrades code body → UpgradesName code body → ⊥
   never_name body rule up = rule.name up.lock up.grade up.is up.reads up.may
+
+  -- the same where neither the sites of the body nor its own are told apart
+  pub never_of : (body : Routine) → (UpgradesSite code body → ⊥) → (UpgradesName code body → ⊥) → NeverUpgrades code body
+  never_of body site name = never body (λ a stands up. site (inl (a, stands, up))) (λ up. site (inr up)) name
+
+  pub never_site : (body : Routine) → NeverUpgrades code body → UpgradesSite code body → ⊥
+  never_site body rule (inl up) = never_at body up.0 rule up.1 up.2
+  never_site body rule (inr up) = never_whole body rule up

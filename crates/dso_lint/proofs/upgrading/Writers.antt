@@ -1,24 +1,16 @@
 -- Which methods take a lock at Write, and what may be taken from a block by what calls lead to.
-use Rattle.std.proofs.Common.{◌≡◌, ◌⊎◌, inl, inr, ℕ, suc, ◌+◌, ◌-◌, ◌<◌, ◌≤◌, arith, Bool, true, false, List, length, get_or, sym, subst, ◌∙◌}
-use Rattle.std.proofs.lemmas.Bool.{cases_lt}
-use Rattle.std.proofs.lemmas.List.{get_or_past}
+use Rattle.std.proofs.Common.{◌≡◌, ◌⊎◌, inl, inr, ℕ, suc, ◌+◌, ◌-◌, ◌<◌, ◌≤◌, arith, Bool, List, length, sym, subst, ◌∙◌}
 use Rattle.dso_machine.specs.declared.code.Code.{Code}
 use Rattle.dso_machine.specs.declared.tree.Stmt.{Stmt}
 use Rattle.dso_lint.specs.declared.answer.Place.{Place}
 use Rattle.dso_lint.specs.declared.answer.Place.TheVariants as place
-use Rattle.dso_lint.specs.Reached.{IsReached}
+use Rattle.dso_lint.specs.Leads.{CallsMarked}
+use Rattle.dso_lint.specs.Tables.{AreMonitors, AreTakers}
 use Rattle.dso_lint.specs.Routines.{Routine, IsAt}
 use Rattle.dso_lint.specs.Upgrades.{HasWriteSite, IsWriter, MayWriteMonitor, MayWriteName, TakesForWrite}
-use Rattle.dso_lint.specs.Upgrading.{HasTaker, HasWriter, TakesMonitor, TakesName}
-use Rattle.dso_lint.proofs.calling.Reaching.{method_low}
-
--- a number that is marked is one of those that may be
-pub marked_low : (marked : List Bool) (m : ℕ) → get_or marked m false ≡ true → m < length marked
-marked_low marked m is = by (cases_lt m (length marked))
-  where
-    by : (m < length marked) ⊎ (length marked ≤ m) → m < length marked
-    by (inl low) = low
-    by (inr past) = absurd (cc (sym is ∙ get_or_past marked m false past))
+use Rattle.dso_lint.specs.Upgrading.{TakesMonitor, TakesName}
+use Rattle.dso_lint.proofs.calling.Calling.{method_low}
+use Rattle.dso_lint.proofs.calling.Leading.{leads_marked, marked_leads}
 
 -- the place of a map's method behind so many
 pub place_map : (n methods m : ℕ) → methods ≡ n → n ≤ m → (m - methods ≡ 3) ⊎ (m - methods ≡ 4) → (m ≡ n + 3) ⊎ (m ≡ n + 4)
@@ -52,31 +44,35 @@ module _ (code : Code) where
   map_writer m (inl is) = inl is
   map_writer m (inr is) = inr (inl is)
 
-  writer_low : (m : ℕ) → IsWriter code m → m < length code.methods + 5
+  pub writer_low : (m : ℕ) → IsWriter code m → m < length code.methods + 5
   writer_low m (inl is) = omega (arith, is)
   writer_low m (inr (inl is)) = omega (arith, is)
   writer_low m (inr (inr is)) = let low = method_low code m is.0 is.1 in omega (arith, low)
 
-  -- what is marked as reached from a block, and what the block may take
-  module _ (block : List Stmt) (size : ℕ) (marked : List Bool) (reached : IsReached code block size marked) where
-    pub marked_may : HasWriter code marked → MayWriteMonitor code block
-    marked_may has = inr (has.method, reached.sound has.method has.is_marked, has.writer)
+  pub taker_low : (lock m : ℕ) → TakesName code lock m → m < length code.methods + 5
+  taker_low lock m takes = let low = method_low code m takes.0 takes.1 in omega (arith, low)
 
-    pub may_marked : length code.methods + 5 ≤ size → (HasWriteSite block → ⊥) → MayWriteMonitor code block → HasWriter code marked
-    may_marked few never (inl site) = absurd (never site)
-    may_marked few never (inr may) =
-        let low = writer_low may.0 may.2 in
-        record { method = may.0; is_marked = reached.whole may.0 (omega (arith, low, few)) may.1; writer = may.2 }
+  -- what a block may take whose calls may reach what is marked
+  module _ (block : List Stmt) (marked : List Bool) where
+    pub monitors_may : AreMonitors code marked → CallsMarked marked block → MayWriteMonitor code block
+    monitors_may are has =
+        let into = marked_leads code (IsWriter code) (length code.methods + 5) marked are block has in
+        inr (into.0, into.2, into.1)
+
+    pub may_monitors : AreMonitors code marked → (HasWriteSite block → ⊥) → MayWriteMonitor code block → CallsMarked marked block
+    may_monitors are never (inl site) = absurd (never site)
+    may_monitors are never (inr may) = leads_marked code (IsWriter code) (length code.methods + 5) marked are block writer_low (omega (arith)) (may.0, may.2, may.1)
 
     -- ---- named locks
 
-    pub marked_name : (lock : ℕ) → HasTaker code lock marked → MayWriteName code lock block
-    marked_name lock has = (has.method, has.takes.0, reached.sound has.method has.is_marked, has.takes.1, has.takes.2)
+    pub takers_may : (lock : ℕ) → AreTakers code lock marked → CallsMarked marked block → MayWriteName code lock block
+    takers_may lock are has =
+        let into = marked_leads code (TakesName code lock) (length code.methods + 5) marked are block has in
+        (into.0, into.1.0, into.2, into.1.1, into.1.2)
 
-    pub name_marked : (lock : ℕ) → length code.methods ≤ size → MayWriteName code lock block → HasTaker code lock marked
-    name_marked lock few may =
-        let low = method_low code may.0 may.1 may.3 in
-        record { method = may.0; is_marked = reached.whole may.0 (omega (arith, low, few)) may.2; takes = (may.1, may.3, may.4) }
+    pub may_takers : (lock : ℕ) → AreTakers code lock marked → MayWriteName code lock block → CallsMarked marked block
+    may_takers lock are may =
+        leads_marked code (TakesName code lock) (length code.methods + 5) marked are block (λ m takes. taker_low lock m takes) (omega (arith)) (may.0, (may.1, may.3, may.4), may.2)
 
   pub takes_named : (lock m : ℕ) (body : Routine) → IsAt code (place.Method (suc m)) body → TakesName code lock m → TakesForWrite lock body.named
   takes_named lock m body at takes = subst (λ (b : Routine). TakesForWrite lock b.named) (same_body (place.Method (suc m)) takes.0 body takes.1 at) takes.2

@@ -16,8 +16,8 @@ use Rattle.dso_lint.proofs.access.+guarded.Goals as goal
 pub all_guarded-returns-then-not-made : goal.all_guarded-returns-then-not-made
 all_guarded-returns-then-not-made t c sites scene =
     let block = c.args.block.now in
-    let a = c.a-item.result in
-    let there : Contains block a = (c.loop-a.a-index, c.loop-a-test.true, sym c.a-item.is) in (
+    let a = c.get-a.result.now in
+    let there : Contains block a = subst (Contains block) (sym c.get-a.ensures) (c.loop-a.a-index, c.loop-a-test.true, sym c.a-item.is) in (
       λ q. absurd (cc q),
       λ all. sym c.if-not-made.true ∙ (c.in_ok-made.ensures sites scene).1 (makes_there c.args.scene.now sites block a there all),
     )
@@ -25,8 +25,8 @@ all_guarded-returns-then-not-made t c sites scene =
 pub all_guarded-returns-then-not-inner : goal.all_guarded-returns-then-not-inner
 all_guarded-returns-then-not-inner t c sites scene =
     let block = c.args.block.now in
-    let a = c.a-item.result in
-    let there : Contains block a = (c.loop-a.a-index, c.loop-a-test.true, sym c.a-item.is) in (
+    let a = c.get-a.result.now in
+    let there : Contains block a = subst (Contains block) (sym c.get-a.ensures) (c.loop-a.a-index, c.loop-a-test.true, sym c.a-item.is) in (
       λ q. absurd (cc q),
       λ all. sym c.if-not-inner.true ∙ (c.in_ok-inner.ensures sites scene).1 (inner_there c.args.scene.now sites block a there all),
     )
@@ -34,13 +34,14 @@ all_guarded-returns-then-not-inner t c sites scene =
 pub all_guarded-loop-a-preserved : goal.all_guarded-loop-a-preserved
 all_guarded-loop-a-preserved t c sites scene k d low = by (cases_eq k c.loop-a.a-index)
   where
-    here : IsGuardedOne c.args.scene.now sites c.a-item.result
+    here : IsGuardedOne c.args.scene.now sites c.get-a.result.now
     here = ((c.in_ok-made.ensures sites scene).0 c.if-not-made.false, (c.in_ok-inner.ensures sites scene).0 c.if-not-inner.false)
 
     by : (k ≡ c.loop-a.a-index) ⊎ (k ≡ c.loop-a.a-index → ⊥) → IsGuardedOne c.args.scene.now sites (get_or c.args.block.now k d)
     by (inl same) =
         let block = c.args.block.now in
-        let at : get_or block k d ≡ c.a-item.result = ap (λ n. get_or block n d) same ∙ get_or_default block c.loop-a.a-index d c.a-item.result c.loop-a-test.true ∙ sym c.a-item.is in
+        let at : get_or block k d ≡ c.get-a.result.now =
+        ap (λ n. get_or block n d) same ∙ get_or_default block c.loop-a.a-index d c.a-item.result c.loop-a-test.true ∙ sym c.a-item.is ∙ sym c.get-a.ensures in
         subst (IsGuardedOne c.args.scene.now sites) (sym at) here
     by (inr other) = c.loop-a.invariant sites scene k d (omega (arith, low, other))
 
@@ -55,7 +56,7 @@ inner_guarded-returns-then-not-first t c sites so =
     let a = c.args.a.now in
     let one = inside_of sites c.as_slice.result.now in
     let two = inside_of sites c.in-If.others in
-    let form : insides sites a ≡ one ∷ two ∷ [] = ap (insides sites) c.in-If.is ∙ inside_If sites c.in-If.field-0 c.in-If.all c.in-If.others ∙ ap (λ (b : List Stmt). inside_of sites b ∷ inside_of sites c.in-If.others ∷ []) (sym c.as_slice.ensures) in (
+    let form : insides sites a ≡ one ∷ two ∷ [] = ap (insides sites) c.in-If.is ∙ inside_If sites c.in-If.field-0 c.in-If.all c.in-If.others ∙ ap (λ (b : List Stmt). inside_of sites b ∷ inside_of sites c.in-If.others ∷ []) (sym c.get.ensures ∙ sym c.as_slice.ensures) in (
       λ q. absurd (cc q),
       λ inner. sym c.if-not-first.true ∙ (c.in_ok-first-in-If.ensures sites so).1 (first_guarded c.args.scene.now sites a one (two ∷ []) form inner),
     )
@@ -68,8 +69,8 @@ inner_guarded-returns-else-not-first t c =
     let one = inside_of sites c.as_slice.result.now in
     let two = inside_of sites c.as_slice-in-If.result.now in
     let form : insides sites a ≡ one ∷ two ∷ [] = ap (insides sites) c.in-If.is ∙ inside_If sites c.in-If.field-0 c.in-If.all c.in-If.others
-    ∙ ap (λ (b : List Stmt). inside_of sites b ∷ inside_of sites c.in-If.others ∷ []) (sym c.as_slice.ensures)
-    ∙ ap (λ (b : List Stmt). inside_of sites c.as_slice.result.now ∷ inside_of sites b ∷ []) (sym c.as_slice-in-If.ensures) in (
+    ∙ ap (λ (b : List Stmt). inside_of sites b ∷ inside_of sites c.in-If.others ∷ []) (sym c.get.ensures ∙ sym c.as_slice.ensures)
+    ∙ ap (λ (b : List Stmt). inside_of sites c.as_slice.result.now ∷ inside_of sites b ∷ []) (sym c.get-in-If.ensures ∙ sym c.as_slice-in-If.ensures) in (
       λ q. two_guarded scene sites a one two form ((c.in_ok-first-in-If.ensures sites so).0 c.if-not-first.false) ((is sites so).0 q),
       λ inner. (is sites so).1 (second_guarded scene sites a one two form inner),
     )) c.all_guarded-in-If.ensures
@@ -81,7 +82,7 @@ inner_guarded-returns-in-While t c =
     let all = c.as_slice-in-While.result.now in
     IfOk-weaker c.all_guarded-in-While.result _ _ (λ guarded is sites so.
     let inside = inside_of sites all in
-    let form : insides sites a ≡ inside ∷ [] = ap (insides sites) c.in-While.is ∙ inside_While sites c.in-While.field-0 c.in-While.all ∙ ap (λ (b : List Stmt). inside_of sites b ∷ []) (sym c.as_slice-in-While.ensures) in (
+    let form : insides sites a ≡ inside ∷ [] = ap (insides sites) c.in-While.is ∙ inside_While sites c.in-While.field-0 c.in-While.all ∙ ap (λ (b : List Stmt). inside_of sites b ∷ []) (sym c.get-in-While.ensures ∙ sym c.as_slice-in-While.ensures) in (
       λ q. one_guarded scene sites a inside form ((is sites so).0 q),
       λ inner. (is sites so).1 (first_guarded scene sites a inside [] form inner),
     )) c.all_guarded-in-While.ensures
@@ -94,12 +95,12 @@ inner_guarded-returns-in_ok-holds-in-Sync t c =
     let a = c.args.a.now in
     let all = c.as_slice-block.result.now in
     let grade = c.in-Sync.grade in
-    let site = site_of c.get.result.now grade all in
+    let site = site_of c.get-in-Sync-2.result.now grade all in
     IfOk-weaker c.all_guarded-in-Sync.result _ _ (λ guarded is sites so.
     let inside = inside_of (site ∷ sites) all in
     let form : insides sites a ≡ inside ∷ [] = ap (insides sites) c.in-Sync.is ∙ inside_Sync sites c.in-Sync.lock grade c.in-Sync.all
-    ∙ ap (λ (e : Expr). inside_of (site_of e grade c.in-Sync.all ∷ sites) c.in-Sync.all ∷ []) (sym c.get.ensures)
-    ∙ ap (λ (b : List Stmt). inside_of (site_of c.get.result.now grade b ∷ sites) b ∷ []) (sym c.as_slice-block.ensures) in
+    ∙ ap (λ (e : Expr). inside_of (site_of e grade c.in-Sync.all ∷ sites) c.in-Sync.all ∷ []) (sym c.get-in-Sync-2.ensures)
+    ∙ ap (λ (b : List Stmt). inside_of (site_of c.get-in-Sync-2.result.now grade b ∷ sites) b ∷ []) (sym c.get-in-Sync.ensures ∙ sym c.as_slice-block.ensures) in
     let more : AreHolds shape chosen (scene.holds.now ++ hold_at c.in_ok-held-in-Sync.held grade) (site ∷ sites) = more_holds shape chosen scene.holds.now sites site c.in_ok-held-in-Sync.held so (c.in_ok-held-in-Sync.ensures grade) in
     let inner : AreHolds shape chosen c.as_slice-in-Sync.result.now (site ∷ sites) = subst (λ (holds : List Hold). AreHolds shape chosen holds (site ∷ sites)) (sym (c.as_slice-in-Sync.ensures.value ∙ c.in_ok-holds-in-Sync.ensures)) more in (
       λ q. one_guarded scene sites a inside form ((is (site ∷ sites) inner).0 q),

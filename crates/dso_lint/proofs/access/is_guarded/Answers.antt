@@ -19,7 +19,7 @@ returns-then-not-is_guarded_at c sites scene = (
       let locked = IsTrue c.is_locked-locked.result in
       let places = c.as_slice-places.result.now in
       let place = get_or places c.loop-place.place-index (0, 0) in
-      let all : All (λ (p : ℕ × ℕ). ByGuard own named (slice_get (fields_at shape p.0) p.1)) places = subst (All (λ (p : ℕ × ℕ). ByGuard own named (slice_get (fields_at shape p.0) p.1))) (sym c.as_slice-places.ensures) g.1 in
+      let all : All (λ (p : ℕ × ℕ). ByGuard own named (slice_get (fields_at shape p.0) p.1)) places = subst (All (λ (p : ℕ × ℕ). ByGuard own named (slice_get (fields_at shape p.0) p.1))) (sym (c.as_slice-places.ensures ∙ c.get.ensures)) g.1 in
       let here = all c.loop-place.place-index (0, 0) c.loop-place-test.true in
       sym c.if-not-is_guarded_at.true ∙ c.is_guarded_at.ensures.1 (by_weaker own named locked (slice_get (fields_at shape place.0) place.1) (c.is_locked-locked.ensures sites scene).1 here),
 )
@@ -34,6 +34,6 @@ returns c sites scene = (
       let places = c.as_slice-places.result.now in
       let each : All (λ (p : ℕ × ℕ). ByGuard own named (slice_get (fields_at shape p.0) p.1)) places = λ k d low.
       by_weaker locked named own (slice_get (fields_at shape (get_or places k d).0) (get_or places k d).1) (c.is_locked-locked.ensures sites scene).0 (c.loop-place.invariant k d (omega (arith, low, c.loop-place-test.false))) in
-      (c.is_variable.ensures.0 c.if-not-is_variable.false, subst (All (λ (p : ℕ × ℕ). ByGuard own named (slice_get (fields_at shape p.0) p.1))) c.as_slice-places.ensures each),
+      (c.is_variable.ensures.0 c.if-not-is_variable.false, subst (All (λ (p : ℕ × ℕ). ByGuard own named (slice_get (fields_at shape p.0) p.1))) (c.as_slice-places.ensures ∙ c.get.ensures) each),
   λ g. refl,
 )

@@ -18,8 +18,8 @@ bounds-rows-number c = omega (arith, c.requires.there, ap length c.as_slice-rows
 pub never_upgrades-requires : goal.never_upgrades-requires
 never_upgrades-requires c = omega (arith, ap length c.as_slice-all.ensures.value, c.requires.bodies.methods, as_many c.args.code.now c.args.bodies.now c.requires.bodies)
 
-pub returns-then-not-access : goal.returns-then-not-access
-returns-then-not-access c = λ keeps.
+pub returns-then-not-access-clause-judged : goal.returns-then-not-access-clause-judged
+returns-then-not-access-clause-judged c = λ keeps.
     let code = c.args.code.now in
     let bodies = c.args.bodies.now in
     let number = c.args.number in
@@ -31,8 +31,8 @@ returns-then-not-access c = λ keeps.
     let access = c.in_ok-access.ensures one.routine one.listed in
     cc (sym (access.1 (access_back code (choice_by code bodies) (place_at (length code.methods) number) one.routine one.stands (chosen_by row) one.chosen keeps)) ∙ c.if-not-access.true)
 
-pub returns-then-not-never : goal.returns-then-not-never
-returns-then-not-never c =
+pub returns-then-not-never-clause-judged : goal.returns-then-not-never-clause-judged
+returns-then-not-never-clause-judged c =
     let code = c.args.code.now in
     let bodies = c.args.bodies.now in
     let number = c.args.number in
@@ -45,13 +45,13 @@ returns-then-not-never c =
     let one = found code bodies c.requires.bodies number body row c.requires.there here there in
     let access = c.in_ok-access.ensures one.routine one.listed in
     let listed : AreListed (routines code) c.as_slice-all.result.now = subst (AreListed (routines code)) (sym c.as_slice-all.ensures.value) c.requires.bodies.listed in
-    let never = c.in_ok-never.ensures code one.routine listed c.requires.bodies.methods one.listed in (
+    let never = c.in_ok-never.ensures.is code one.routine listed c.requires.bodies.methods c.requires.tables one.listed in (
       access_at code choice at one.routine one.stands (chosen_by row) one.chosen (access.0 c.if-not-access.false),
       λ kept. cc (sym (never.1 (upgrades_back code choice at one.routine one.stands kept)) ∙ c.if-not-never.true),
     )
 
-pub returns : goal.returns
-returns c =
+pub returns-clause-judged : goal.returns-clause-judged
+returns-clause-judged c =
     let code = c.args.code.now in
     let bodies = c.args.bodies.now in
     let number = c.args.number in
@@ -64,8 +64,20 @@ returns c =
     let one = found code bodies c.requires.bodies number body row c.requires.there here there in
     let access = c.in_ok-access.ensures one.routine one.listed in
     let listed : AreListed (routines code) c.as_slice-all.result.now = subst (AreListed (routines code)) (sym c.as_slice-all.ensures.value) c.requires.bodies.listed in
-    let never = c.in_ok-never.ensures code one.routine listed c.requires.bodies.methods one.listed in
+    let never = c.in_ok-never.ensures.is code one.routine listed c.requires.bodies.methods c.requires.tables one.listed in
     record {
       access = access_at code choice at one.routine one.stands (chosen_by row) one.chosen (access.0 c.if-not-access.false);
       upgrade = upgrades_at code choice at one.routine one.stands (never.0 c.if-not-never.false);
     }
+
+pub returns-then-not-never-clause-right : goal.returns-then-not-never-clause-right
+returns-then-not-never-clause-right c =
+    let code = c.args.code.now in
+    let listed : AreListed (routines code) c.as_slice-all.result.now = subst (AreListed (routines code)) (sym c.as_slice-all.ensures.value) c.requires.bodies.listed in
+    c.in_ok-never.ensures.right code listed c.requires.bodies.methods c.requires.tables
+
+pub returns-clause-right : goal.returns-clause-right
+returns-clause-right c =
+    let code = c.args.code.now in
+    let listed : AreListed (routines code) c.as_slice-all.result.now = subst (AreListed (routines code)) (sym c.as_slice-all.ensures.value) c.requires.bodies.listed in
+    c.in_ok-never.ensures.right code listed c.requires.bodies.methods c.requires.tables

@@ -45,7 +45,7 @@ pub add_parts-returns-in_ok-add_parts-in-Call : goal.add_parts-returns-in_ok-add
 add_parts-returns-in_ok-add_parts-in-Call t c =
     let first = c.get-in-Call.result.now in
     let rest = c.as_slice.result.now in
-    let is : operands c.args.whole.now ≡ first ∷ rest = ap operands c.in-Call.is ∙ out_Call c.in-Call.a c.in-Call.field-1 c.in-Call.args ∙ ap (λ a. a ∷ c.in-Call.args) (sym c.get-in-Call.ensures) ∙ ap (λ bs. first ∷ bs) (sym c.as_slice.ensures) in
+    let is : operands c.args.whole.now ≡ first ∷ rest = ap operands c.in-Call.is ∙ out_Call c.in-Call.a c.in-Call.field-1 c.in-Call.args ∙ ap (λ a. a ∷ c.in-Call.args) (sym c.get-in-Call.ensures) ∙ ap (λ bs. first ∷ bs) (sym c.get-in-Call-2.ensures ∙ sym c.as_slice.ensures) in
     on_ok_weaker c.add_all_parts.result (λ added. adds_parts c.args.whole.now (first ∷ rest) c.args.list.now.items c.push.new.self.items c.add_all_parts.new.list.items c.args.whole refl
     c.in_ok-push.ensures.items is (adds_of_cons IsPart first rest c.push.new.self.items c.add_parts-in-Call.new.list.items c.add_all_parts.new.list.items c.in_ok-add_parts-in-Call.ensures added)) c.add_all_parts.ensures
 
@@ -72,7 +72,7 @@ add_parts-returns-in-NewObject t c =
 pub add_all_parts-loop-whole-preserved : goal.add_all_parts-loop-whole-preserved
 add_all_parts-loop-whole-preserved t c =
     adds_of_more IsPart c.args.all.now c.loop-whole.whole-index c.whole-item.result c.loop-whole-test.true c.args.list.now.items c.loop-whole.list.items c.add_parts.new.list.items c.loop-whole.invariant
-    (subst (λ w. Adds (λ e. IsPart e w) c.loop-whole.list.items c.add_parts.new.list.items) c.whole-item.is c.in_ok-add_parts.ensures)
+    (subst (λ w. Adds (λ e. IsPart e w) c.loop-whole.list.items c.add_parts.new.list.items) (c.get.ensures ∙ c.whole-item.is) c.in_ok-add_parts.ensures)
 
 pub add_all_parts-returns : goal.add_all_parts-returns
 add_all_parts-returns t c =

@@ -1,34 +1,40 @@
-use Rattle.std.proofs.Common.{subst, ◌∙◌}
-use Rattle.dso_lint.specs.CleanRows.{AreFirst, Exposes}
-use Rattle.dso_lint.specs.Listed.{routines}
-use Rattle.dso_lint.proofs.cleanness.Choices.{RowsHold, hold_first, hold_settled, settled_keep, hold_exposed, exposed_keep, are_clean}
+use Rattle.std.proofs.Common.{◌≡◌, ◌<◌, [], arith, get_or, length, sym, subst}
+use Rattle.std.proofs.lemmas.Grind.{common_steps}
+use Rattle.dso_lint.specs.CleanRows.{AreBelow}
+use Rattle.dso_lint.specs.Listed.{IsListed}
+use Rattle.dso_lint.proofs.cleanness.Looks.{goes_last, looking_first, looking_less, looking_next, taken_low}
 use Rattle.dso_lint.proofs.rows.clean_rows.Goals as goal
 
-pub loop-changed-init : goal.loop-changed-init
-loop-changed-init c = (
-  c.in_ok-rows.ensures.number,
-  λ code listed same. (
-    hold_first code c.in_ok-rows.rows.items (subst (λ m. AreFirst (routines code) m c.in_ok-rows.rows.items) same (c.in_ok-rows.ensures.first (routines code) listed)),
-    λ never. absurd (cc never),
-  ),
-)
+pub loop-number-init : goal.loop-number-init
+loop-number-init c =
+    let below : AreBelow (length c.args.bodies.now) c.in_ok-waiting.waiting.items = grind (arith, common_steps) in
+    looking_first c.args.bodies.now c.args.methods c.in_ok-rows.rows.items c.in_ok-waiting.waiting.items c.in_ok-rows.ensures.number c.in_ok-rows.ensures.first below
 
-pub loop-changed-preserved : goal.loop-changed-preserved
-loop-changed-preserved c = (
-  c.expose.ensures.number ∙ c.settle_all.ensures.number ∙ c.loop-changed.invariant.0,
-  λ code listed same.
-      let old = c.loop-changed.rows.items in
-      let mid = c.settle_all.new.rows.items in
-      let new = c.expose.new.rows.items in
-      let so = (c.loop-changed.invariant.1 code listed same).0 in
-      let held : RowsHold code mid = hold_settled code c.args.bodies.now listed old mid so c.settle_all.ensures in
-      let exposes = subst (λ m. Exposes (routines code) m mid new c.in_ok-changed.changed) same (c.in_ok-changed.ensures.right (routines code) listed) in (
-        hold_exposed code mid new c.in_ok-changed.changed held exposes,
-        λ un. exposed_keep code mid new c.in_ok-changed.changed held exposes un (settled_keep code c.args.bodies.now listed old mid so c.settle_all.ensures),
-      ),
-)
+pub offset_bounds-bodies-number : goal.offset_bounds-bodies-number
+offset_bounds-bodies-number c =
+    let low = taken_low c.args.bodies.now c.args.methods c.loop-number.rows.items c.loop-number.waiting.items c.pop.new.self.items c.in-Some.number c.in-Some.ensures.items c.loop-number.invariant in
+    grind (arith, common_steps, low)
+
+pub bounds-bodies-number : goal.bounds-bodies-number
+bounds-bodies-number c = taken_low c.args.bodies.now c.args.methods c.loop-number.rows.items c.loop-number.waiting.items c.pop.new.self.items c.in-Some.number c.in-Some.ensures.items c.loop-number.invariant
+
+pub look-requires : goal.look-requires
+look-requires c =
+    let low = taken_low c.args.bodies.now c.args.methods c.loop-number.rows.items c.loop-number.waiting.items c.pop.new.self.items c.in-Some.number c.in-Some.ensures.items c.loop-number.invariant in
+    subst (λ n. c.in-Some.number < n) (sym c.loop-number.invariant.number) low
+
+pub loop-number-smaller : goal.loop-number-smaller
+loop-number-smaller c = looking_less c.args.bodies.now c.args.methods c.loop-number.rows.items c.look.new.rows.items c.loop-number.waiting.items c.pop.new.self.items c.look.new.waiting.items c.in-Some.number c.in-Some.ensures.items c.loop-number.invariant c.in_ok-look.ensures.wait
+
+pub loop-number-preserved : goal.loop-number-preserved
+loop-number-preserved c =
+    let k = c.in-Some.number in
+    let one = c.index-bodies-number.result in
+    let here : get_or c.args.bodies.now k one ≡ one = sym c.index-bodies-number.is in
+    looking_next c.args.bodies.now c.args.methods c.loop-number.rows.items c.look.new.rows.items c.loop-number.waiting.items c.pop.new.self.items c.look.new.waiting.items k c.in-Some.ensures.items c.loop-number.invariant one c.in_ok-look.ensures.wait
+    (λ body is. c.in_ok-look.ensures.looks body (subst (λ listed. IsListed listed body) here is))
 
 pub returns : goal.returns
 returns c code listed same =
-    let so = c.loop-changed.invariant.1 code listed same in
-    are_clean code c.loop-changed.rows.items so.0 (so.1 c.loop-changed-test.false)
+    let none : c.loop-number.waiting.items ≡ [] = grind (arith, common_steps) in
+    goes_last code c.loop-number.rows.items c.loop-number.waiting.items none (c.loop-number.invariant.goes code listed same)
