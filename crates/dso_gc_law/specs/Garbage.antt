@@ -32,14 +32,14 @@ Spares kept o e (Client c) = kept c ≡ true → (option_map_or (λ event. event
 -- Nothing swept is named again: what is garbage at some time is named by no later entry of a client that wasn't lost
 -- then, nor by one of the server.
 abbrev pub SweptAreUnnamed : Type 0
-SweptAreUnnamed = (p : Settings) (next : ThreadId → List Event → Option Request) (frames : ThreadId → List Event → List Value)
-    → KeepsFrames next frames → AsksSoundly p.shape next
-    → (e : Entry) (later es : List Entry) → AllFollow p next (e ∷ later ++ es) → (o : ℕ) → IsGarbageAfter p next frames es o
-    → Spares (is_kept p es) o e e.node
+SweptAreUnnamed = (p : Settings) (next : ThreadId → List Event → Option Request)
+    (frames : ThreadId → List Event → List Value) → KeepsFrames next frames → AsksSoundly p.shape next
+    → (e : Entry) (later es : List Entry) → AllFollow p next (e ∷ later ++ es)
+    → (o : ℕ) → IsGarbageAfter p next frames es o → Spares (is_kept p es) o e e.node
 
 -- Garbage stays: what is garbage at some time is garbage ever after.
 abbrev pub GarbageStays : Type 0
-GarbageStays = (p : Settings) (next : ThreadId → List Event → Option Request) (frames : ThreadId → List Event → List Value)
-    → KeepsFrames next frames → AsksSoundly p.shape next
+GarbageStays = (p : Settings) (next : ThreadId → List Event → Option Request)
+    (frames : ThreadId → List Event → List Value) → KeepsFrames next frames → AsksSoundly p.shape next
     → (later es : List Entry) → AllFollow p next (later ++ es) → (o : ℕ) → IsGarbageAfter p next frames es o
     → IsGarbageAfter p next frames (later ++ es) o

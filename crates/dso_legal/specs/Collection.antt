@@ -31,9 +31,10 @@ abbrev pub is_kept : Settings → List Entry → ℕ → Bool
 is_kept p es c = list_any (eqb c) (clients_of p) && not (is_lost c (entries_of Server es))
 
 -- A program tells the next request of a thread after its events, and the values that its frames hold then.
-module _ (p : Settings) (next : ThreadId → List Event → Option Request) (frames : ThreadId → List Event → List Value) where
-  -- whether a thread names the object, by its client's entries: its frames hold it, its next request names it, or it has
-  -- it in hand
+module _ (p : Settings) (next : ThreadId → List Event → Option Request)
+    (frames : ThreadId → List Event → List Value) where
+  -- whether a thread names the object, by its client's entries: its frames hold it, its next request names it, or it
+  -- has it in hand
   abbrev pub thread_holds : ThreadId → List Entry → ℕ → Bool
   thread_holds t its o = holds_then next frames t (events_in t its) o || work_names (work_of p.shape t its) o
 
@@ -66,8 +67,8 @@ module _ (p : Settings) (next : ThreadId → List Event → Option Request) (fra
   IsGarbageAfter es o = IsGarbage (λ x. stored p.shape x (counted (entries_of Server es)) ≢ None)
       (IsStart (is_kept p es) es) (IsEdge (is_kept p es) es) o
 
-  -- Swept by a run that collects after every n entries: garbage after so many first entries of the journal, a multiple of
-  -- n that isn't 0.
+  -- Swept by a run that collects after every n entries: garbage after so many first entries of the journal, a multiple
+  -- of n that isn't 0.
   pub record IsSwept (n : ℕ) (es : List Entry) (o : ℕ) : Type 0 where
     pub times : ℕ
     pub later : List Entry

@@ -227,6 +227,15 @@ pass_state_after Server input sent event kept = record {
 }
 pass_state_after (Client c) input sent event kept = pass_state_at_client c event kept
 
+-- what an entry gives to the history: one of a client nothing
+abbrev pub given_at : Node → Input → PassState → List Event
+given_at Server input kept = given_events input kept
+given_at (Client c) input kept = []
+
+-- all that is kept but for the history
+abbrev pub without_history : PassState → PassState
+without_history kept = record kept { history = [] }
+
 -- one more hold of any lock by any thread is counted in 64 bits
 abbrev pub CountsFit : ThreadState → Type 0
 CountsFit state = (l : LockName) → unwrap_or (state.counts l) 0 < 2 ^ 64 - 1

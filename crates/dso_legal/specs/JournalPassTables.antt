@@ -9,7 +9,7 @@ use Rattle.dso_lookup.specs.Maps.{look}
 use Rattle.dso_lookup.specs.Orders.{lock_order, thread_order}
 use Rattle.dso_legal.specs.Committed.{or_empty}
 use Rattle.dso_legal.specs.JournalPass.{ThreadState, ClientState, ServerState, PassState}
-use Rattle.dso_legal.specs.declared.committing.PassState as table_pass
+use Rattle.dso_legal.specs.declared.committing.Committing.{Committing}
 use Rattle.dso_legal.specs.declared.threads.ThreadState as table_thread
 use Rattle.dso_legal.specs.declared.threads.ClientState as table_client
 use Rattle.dso_legal.specs.declared.waiters.ServerState as table_server
@@ -27,10 +27,13 @@ abbrev pub thread_state_at : Option table_thread.ThreadState → ThreadState
 thread_state_at None = no_thread_state
 thread_state_at (Some state) = thread_state_in state
 
+-- what is kept of each thread of a table
+abbrev pub threads_in : BTreeMap ThreadId table_thread.ThreadState → ThreadId → ThreadState
+threads_in table t = thread_state_at (look thread_order table t)
+
 -- what is kept of a client
 abbrev pub client_state_in : table_client.ClientState → ClientState
-client_state_in threads = record
-    { threads = λ t. thread_state_at (look thread_order threads.threads t); ended = threads.ended }
+client_state_in threads = record { threads = threads_in threads.threads; ended = threads.ended }
 
 -- a client of which nothing is known yet
 abbrev pub no_client_state : ClientState
@@ -40,6 +43,10 @@ no_client_state = record { threads = λ t. no_thread_state; ended = [] }
 abbrev pub client_state_at : Option table_client.ClientState → ClientState
 client_state_at None = no_client_state
 client_state_at (Some threads) = client_state_in threads
+
+-- what is kept of each client of a table
+abbrev pub clients_in : BTreeMap ℕ table_client.ClientState → ℕ → ClientState
+clients_in table c = client_state_at (look nat_cmp table c)
 
 -- the lists of waiters of a table
 abbrev pub waiters_in : BTreeMap LockName (List ThreadId) → LockName → List ThreadId
@@ -58,13 +65,9 @@ server_state_in lists = record
 abbrev pub no_pass_state : PassState
 no_pass_state = record { clients = λ c. no_client_state; lists = no_server_state; history = [] }
 
--- all that is kept
-abbrev pub pass_state_in : table_pass.PassState → PassState
-pass_state_in kept = record {
-  clients = λ c. client_state_at (look nat_cmp kept.clients c);
-  lists = server_state_in kept.lists;
-  history = kept.history.items;
-}
+-- all that is kept, without the history
+abbrev pub kept_in : Committing → PassState
+kept_in kept = record { clients = clients_in kept.clients; lists = server_state_in kept.lists; history = [] }
 
 -- how many of a lock's list were woken already
 abbrev pub woken_count : BTreeMap LockName ℕ → LockName → ℕ

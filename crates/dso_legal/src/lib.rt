@@ -2,7 +2,7 @@
 //!
 //! The definitions stand in `specs/`; [`examples`] shows them at journals of finished runs, and [`laws`] has what
 //! holds of every lawful journal, [`run_laws`] of one client's entries. [`committed`] computes the history that a
-//! journal commits.
+//! journal commits, and [`Committing`] gives it entry by entry.
 #![tactic(auto)]
 
 mod committing;
@@ -13,4 +13,4 @@ pub mod run_laws;
 mod threads;
 mod waiters;
 
-pub use committing::committed;
+pub use committing::{Committing, committed};

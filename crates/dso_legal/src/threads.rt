@@ -2,14 +2,13 @@
 //! block, and the blocks that were ended (`specs/JournalPassTables.antt`).
 ghost use Rattle.std.specs.Prelude.{◌≡◌, ◌<◌, ◌-◌, ◌^◌, ◌++◌, Some, None, OnOk, IfOk};
 ghost use Rattle.std.specs.Option.{unwrap_or, option_to_list};
-ghost use Rattle.std.specs.BTreeMap.{is_at};
 ghost use Rattle.dso_base.specs.declared.lock.ThreadId.{ThreadId};
 ghost use Rattle.dso_base.specs.declared.request.Event.TheVariants.{Act};
-ghost use Rattle.dso_lookup.specs.Maps.{writes, written, look};
-ghost use Rattle.dso_lookup.specs.Orders.{thread_order};
+ghost use Rattle.dso_lookup.specs.Maps.{writes, written};
+ghost use Rattle.dso_plain.specs.History.{is_act_of};
 ghost use Rattle.dso_legal.specs.Committed.{block_numbered};
 ghost use Rattle.dso_legal.specs.JournalPass.{one_less, with_count, with_entry, counts_after, with_resume, ends_block, block_ended, thread_state_after, client_state_after, CountsFit};
-ghost use Rattle.dso_legal.specs.JournalPassTables.{no_thread_state, thread_state_in, no_client_state, client_state_in};
+ghost use Rattle.dso_legal.specs.JournalPassTables.{no_thread_state, thread_state_in, threads_in, no_client_state, client_state_in};
 
 use dso_base::{Event, Items, LockName, NoMemory, Reply, Request, ThreadId};
 use dso_lookup::{put, take};
@@ -157,6 +156,33 @@ struct ThreadAct {
     woken: Option<ThreadId>,
 }
 
+/// Takes in an act of a thread in the table, where it stands, and answers the block that it ends.
+fn act_in(
+    alloc: Global,
+    threads: &mut BTreeMap<ThreadId, ThreadState>,
+    act: ThreadAct,
+) -> Result<Option<Items<Event>>, NoMemory>
+    requires { CountsFit (threads_in threads.old act.thread) }
+    ensures threads { OnOk result (threads_in threads.new ≡ written (writes (λ t. is_act_of t (Act act.thread act.request act.reply act.woken)) (λ _. thread_state_after act.request act.reply (Act act.thread act.request act.reply act.woken) (threads_in threads.old act.thread))) (threads_in threads.old)) }
+    ensures ended { IfOk result (λ block. option_to_list block ≡ block_ended (ends_block act.request act.reply (threads_in threads.old act.thread)) (Act act.thread act.request act.reply act.woken) (threads_in threads.old act.thread).block) }
+{
+    let event = Event::Act {
+        thread: act.thread,
+        request: act.request,
+        reply: act.reply,
+        woken: act.woken,
+    };
+    match threads.get_mut(&act.thread) {
+        Some(state) => state.take(alloc, act.request, act.reply, event),
+        None => {
+            let mut state = ThreadState::new(alloc);
+            let ended = state.take(alloc, act.request, act.reply, event)?;
+            put(threads, act.thread, state)?;
+            Ok(ended)
+        }
+    }
+}
+
 /// What is kept of a client: its threads, and the blocks that they ended, in the order of their endings.
 #[derive(Drop)]
 pub(crate) struct ClientState {
@@ -198,32 +224,12 @@ impl ClientState {
         }
     }
 
-    /// Takes out what is kept of a thread.
-    fn take_thread(&mut self, alloc: Global, thread: ThreadId) -> ThreadState
-        ensures was { thread_state_in result ≡ (client_state_in self.old).threads thread }
-        ensures gone { look thread_order self.new.threads ≡ written (writes (is_at (thread_order thread)) (λ _. None)) (look thread_order self.old.threads) }
-        ensures ended { self.new.ended ≡ self.old.ended }
-    {
-        match take(&mut self.threads, &thread) {
-            Some(state) => state,
-            None => ThreadState::new(alloc),
-        }
-    }
-
     /// Takes in an act of a thread.
     fn act(&mut self, alloc: Global, act: ThreadAct) -> Result<(), NoMemory>
         requires { CountsFit ((client_state_in self.old).threads act.thread) }
         ensures { OnOk result (client_state_in self.new ≡ client_state_after (Act act.thread act.request act.reply act.woken) (client_state_in self.old)) }
     {
-        let event = Event::Act {
-            thread: act.thread,
-            request: act.request,
-            reply: act.reply,
-            woken: act.woken,
-        };
-        let mut state = self.take_thread(alloc, act.thread);
-        let ended = state.take(alloc, act.request, act.reply, event)?;
-        put(&mut self.threads, act.thread, state)?;
+        let ended = act_in(alloc, &mut self.threads, act)?;
         add_block(&mut self.ended, ended)?;
         Ok(())
     }

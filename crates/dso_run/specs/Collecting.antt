@@ -1,5 +1,6 @@
 -- How a run goes on by its collections. Entries stand with the newest first.
-use Rattle.std.specs.Prelude.{ℕ, ◌≡◌, ◌<◌, ◌*◌, ◌%◌, ◌↔◌, ◌++◌, Bool, true, false, eqb, Option, Some, None, List, length}
+use Rattle.std.specs.Prelude.{ℕ, ◌≡◌, ◌<◌, ◌*◌, ◌%◌, ◌↔◌, ◌++◌, Bool, true, false, eqb, Option, Some, None}
+use Rattle.std.specs.Prelude.{List, length}
 use Rattle.dso_base.specs.declared.journal.Entry.{Entry}
 use Rattle.dso_class.specs.declared.program.Program.{Program}
 use Rattle.dso_world.specs.declared.world.World.{World}
@@ -21,8 +22,8 @@ abbrev pub Collects : Program → Option ℕ → ℕ → World → World → Typ
 Collects p None count old new = (count ≡ 0) × (new ≡ old)
 Collects p (Some n) count old new = CollectsIf (is_due n (entries_in old)) p count old new
 
--- Swept so far, with a collection after n entries each: the last was after as many of the world's first entries as are the
--- greatest multiple of n, or there was none yet; what was swept is what is garbage after those; and there are so many.
+-- Swept so far, with a collection after n entries each: the last was after as many of the world's first entries as
+-- are the greatest multiple of n, or there was none yet; what was swept is what is garbage after those, and so many.
 pub record SweptSoFar (p : Program) (n count : ℕ) (world : World) : Type 0 where
   pub times : ℕ
   pub later : List Entry

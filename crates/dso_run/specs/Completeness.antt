@@ -62,8 +62,9 @@ TakenIsNotRefused = (config program : List ℕ) (p : Program) → AreTaken confi
     → ((fault : ConfigFault) → IsConfigRefusal config program fault → ⊥)
     × ((fault : ProgramFault) → IsProgramRefusal config program fault → ⊥)
 
--- The words ask for a run, for a store's graph, or for the lock checker's answer; what is given for the two texts is only what is taken; no store is in
--- use that a run is to have, and none is bad that is to be shown; and no count of faults rises.
+-- The words ask for a run, for a store's graph, or for the lock checker's answer; what is given for the two texts is
+-- only what is taken; no store is in use that a run is to have, and none is bad that is to be shown; and no count of
+-- faults rises.
 pub record MayRun (input : CallInput) (output : CallOutput) : Type 0 where
   pub command : Command
   pub words : AreLawful input.words command
@@ -86,7 +87,7 @@ IsOfRun (LintNo place why) = Unit {0}
 IsOfRun NoMemory = Unit {0}
 IsOfRun status = ⊥
 
--- So a call that may run has no other status than those of runs, of what was shown and of the lock checker, and NoMemory.
+-- So a call that may run has no other status than those of runs, of what was shown, of the lock checker, and NoMemory.
 abbrev pub MayRunRuns : Type 0
 MayRunRuns = (input : CallInput) (output : CallOutput) (status : Status) → MayRun input output
     → StatusMeans input output status → IsOfRun status

@@ -24,7 +24,7 @@ use Rattle.dso_kept.specs.Keeping.{applied}
 use Rattle.dso_run.specs.Stores.{KeepsRecords}
 
 -- Of a program and the entries of a run that finished, the newest first: what became of one of its threads, whose
--- client wasn't lost. It ended without a fault, and the history has all of its events, in order, as the server resolved them.
+-- client wasn't lost. It ended without a fault; the history has all its events, in order, as the server resolved them.
 pub record RanWhole (p : Program) (es : List Entry) (t : ThreadId) : Type 0 where
   pub faultless : has_failed t es ≡ false
   pub events : AreResolved (events_in t (entries_of (Client t.client) es)) (events_of t (committed es))

@@ -74,8 +74,8 @@ pub record CallOutput : Type 0 where
   pub journal : List Entry
 
 -- What files and a sink leave of a call, and what was read of them, by their own words (what is told of a file, how
--- many reads of each have failed; how many writes have; what the sink has taken, and how many of its calls have failed), as
--- the files and the sink were before the call and are after it.
+-- many reads of each have failed; how many writes have; what the sink has taken, and how many of its calls have
+-- failed), as the files and the sink were before the call and are after it.
 abbrev pub read_by : {F : Type 0} → (F → List ℕ → Told) → (F → List ℕ → ℕ) → F → F → List (List ℕ) → CallInput
 read_by content read_faults files_before files_after words = record {
   words = words;
@@ -173,8 +173,8 @@ making_of (Big number) = BySlots None
 making_of (Show call) = BySlots None
 making_of (Lint call) = BySlots None
 
--- THE RUN, for the settings of a program, what each of its threads asks next after its events, how its entries are made,
--- and a budget: how much its journal may weigh before it is cut off. Entries stand with the newest first.
+-- THE RUN, for the settings of a program, what each of its threads asks next after its events, how its entries are
+-- made, and a budget: how much its journal may weigh before it is cut off. Entries stand with the newest first.
 module _ (p : Settings) (next : ThreadId → List Event → Option Request) (how : Making) (budget : ℕ) where
   -- The entries are a lawful journal that was made so, and the run ended so: finished, without a fault of a kept thread
   -- or with one, or stuck, or out of its budget.
@@ -329,8 +329,8 @@ module _ (input : CallInput) (output : CallOutput) where
     pub taken : WasTaken call.store output.disk
     pub sound : output.disk.faults_after ≡ output.disk.faults_before
 
-  -- A program's locks are to be checked: this is the checker's answer, and the text is its line. Nothing was run, no file
-  -- was changed, and nothing was done to the disk.
+  -- A program's locks are to be checked: this is the checker's answer, and the text is its line. Nothing was run, no
+  -- file was changed, and nothing was done to the disk.
   pub record IsVerdictDue (answer : checker.Lint) (text : List ℕ) : Type 0 where
     pub call : LintCall
     pub program : Program

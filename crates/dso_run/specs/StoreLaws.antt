@@ -7,7 +7,8 @@ use Rattle.dso_io.specs.Environment.{Rose}
 use Rattle.dso_keep.specs.Crash.{CrashLeaves}
 use Rattle.dso_kept.specs.Keeping.{IsStoreOf, ReopensFirst, applied}
 use Rattle.dso_run.specs.declared.status.Status.{Status}
-use Rattle.dso_run.specs.declared.status.Status.TheVariants.{Finished, FinishedFault, Stuck, Budget, NoMemory, WriteFault}
+use Rattle.dso_run.specs.declared.status.Status.TheVariants.{Finished, FinishedFault, Stuck, Budget, NoMemory}
+use Rattle.dso_run.specs.declared.status.Status.TheVariants.{WriteFault}
 use Rattle.dso_run.specs.Headline.{CallInput, CallOutput, IsAccepted, StatusMeans}
 use Rattle.dso_run.specs.Stores.{CallDisk, file_taken}
 
@@ -26,8 +27,8 @@ module _ (input : CallInput) (output : CallOutput) (status : Status) where
     pub file : output.disk.after ≡ output.disk.before
     pub none : HasAll status output.disk → output.journal ≡ []
 
-  -- A program was accepted; since the store's file was taken a crash at any moment leaves some of the first records that
-  -- the journal's server applied, and after a run that ended all of them.
+  -- A program was accepted; since the store's file was taken a crash at any moment leaves some of the first records
+  -- that the journal's server applied, and after a run that ended all of them.
   pub record HasKept (command : Command) (name : List ℕ) : Type 0 where
     pub program : Program
     pub accepted : IsAccepted input command program

@@ -9,7 +9,8 @@ use Rattle.dso_run.specs.declared.status.Status.TheVariants.{Finished, FinishedF
 use Rattle.dso_run.specs.declared.status.Status.TheVariants.{NoMemory}
 use Rattle.dso_io.specs.Environment.{Told, Rose, taken_after, TookPrefix}
 use Rattle.dso_run.specs.Files.{AreAsBefore}
-use Rattle.dso_run.specs.Headline.{CallInput, CallOutput, IsAccepted, IsKept, IsRunOf, IsRunText, StatusMeans, making_of}
+use Rattle.dso_run.specs.Headline.{CallInput, CallOutput, IsAccepted, IsKept, IsRunOf, IsRunText, StatusMeans}
+use Rattle.dso_run.specs.Headline.{making_of}
 use Rattle.dso_run.specs.Swept.{CountsSwept}
 use Rattle.dso_command_line.specs.Words.{Command, collect_of, journal_of, steps_of}
 

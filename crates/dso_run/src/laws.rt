@@ -1,5 +1,5 @@
-//! Laws of the top call (`specs/Completeness.antt`, `specs/Finished.antt`). Each is the contract of a function that
-//! does nothing.
+//! Laws of the top call (`specs/Completeness.antt`, `specs/Finished.antt`, `specs/StoreLaws.antt`,
+//! `specs/LintLaw.antt`). Each is the contract of a function that does nothing.
 ghost use Rattle.dso_run.specs.Completeness.{Completeness, MayRunRuns, TakenIsNotRefused};
 ghost use Rattle.dso_run.specs.Finished.{FinishedMeans};
 ghost use Rattle.dso_run.specs.LintLaw.{YesMeansGuarded};

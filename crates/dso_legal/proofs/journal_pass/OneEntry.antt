@@ -149,20 +149,20 @@ clients_step c e es = fun_ext (λ d. by d (eqb d c) refl)
     by d true h = ap (λ x. client_state_of (e ∷ entries_of (Client x) es)) (same_number d c h) ∙ threads_step e (entries_of (Client c) es)
     by d false h = refl
 
--- what an entry of the server gives
-gives_is : (input : Input) (es : List Entry) → committed_by input es ≡ given_events input (pass_state_of es)
-gives_is (input.TookUp c (up.Commit txn)) es = refl
-gives_is (input.TookUp c up.IdAsk) es = refl
-gives_is (input.TookUp c (up.Fault o)) es = refl
-gives_is (input.TookUp c (up.Flushed o)) es = refl
-gives_is (input.TookUp c (up.Request l level)) es = refl
-gives_is (input.TookUp c (up.Return l threads)) es = refl
-gives_is (input.Lose c) es = refl
-gives_is (input.Act index) es = refl
-gives_is (input.TookDown m) es = refl
-gives_is (input.Flush o) es = refl
-gives_is (input.Break c) es = refl
-gives_is (input.Rejoin c) es = refl
+-- what an entry of the server gives, whatever the history so far is taken for
+pub gives_is : (input : Input) (es : List Entry) (so_far : List Event) → committed_by input es ≡ given_events input (record (pass_state_of es) { history = so_far })
+gives_is (input.TookUp c (up.Commit txn)) es so_far = refl
+gives_is (input.TookUp c up.IdAsk) es so_far = refl
+gives_is (input.TookUp c (up.Fault o)) es so_far = refl
+gives_is (input.TookUp c (up.Flushed o)) es so_far = refl
+gives_is (input.TookUp c (up.Request l level)) es so_far = refl
+gives_is (input.TookUp c (up.Return l threads)) es so_far = refl
+gives_is (input.Lose c) es so_far = refl
+gives_is (input.Act index) es so_far = refl
+gives_is (input.TookDown m) es so_far = refl
+gives_is (input.Flush o) es so_far = refl
+gives_is (input.Break c) es so_far = refl
+gives_is (input.Rejoin c) es so_far = refl
 
 -- the lists of the entries that count
 counted_lists : (b : Bool) (e : Entry) (own : List Entry) (l : LockName) → waiters_of l (cond b (counted own) (e ∷ counted own)) ≡ cond b (waiters_of l (counted own)) (list_after l e.input e.sent (waiters_of l (counted own)))
@@ -197,7 +197,7 @@ node_step : (node : Node) (e : Entry) (es : List Entry) → record {
   lists = server_state_of (cond (is_node Server node) (e ∷ entries_of Server es) (entries_of Server es));
   history = committed es ++ committed_at node e.input es;
 } ≡ pass_state_after node e.input e.sent e.event (pass_state_of es)
-node_step Server e es = λ i. record { clients = (pass_state_of es).clients; lists = lists_step e (entries_of Server es) i; history = committed es ++ gives_is e.input es i }
+node_step Server e es = λ i. record { clients = (pass_state_of es).clients; lists = lists_step e (entries_of Server es) i; history = committed es ++ gives_is e.input es (committed es) i }
 node_step (Client c) e es = λ i. record { clients = clients_step c e es i; lists = (pass_state_of es).lists; history = append-nil (committed es) i }
 
 -- what is kept after one more entry is what the entry makes of it

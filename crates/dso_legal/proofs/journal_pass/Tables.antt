@@ -1,5 +1,5 @@
 -- What is changed in the tables of the pass is changed in what they stand for.
-use Rattle.std.proofs.Common.{ℕ, ◌≡◌, inl, inr, refl, sym, ◌∙◌, ap, Bool, true, false, cond, eqb, ◌&&◌, Option, Some, None, List, ◌++◌}
+use Rattle.std.proofs.Common.{ℕ, ◌≡◌, inl, inr, refl, sym, ◌∙◌, ap, Bool, true, false, cond, eqb, ◌&&◌, Option, Some, None, OnOk, Result, Ok, Err, List, ◌++◌}
 use Rattle.std.proofs.lemmas.Bool.Decides.{eqb_tells}
 use Rattle.std.specs.declared.cmp.Ordering.{Ordering}
 use Rattle.std.proofs.Math.Path.{fun_ext}
@@ -17,9 +17,9 @@ use Rattle.dso_plain.specs.KeyTests.{is_lock}
 use Rattle.dso_lookup.specs.Maps.{writes, or_old, written, look}
 use Rattle.dso_lookup.specs.Orders.{lock_order, thread_order}
 use Rattle.dso_plain.proofs.keys.TableOrders.{lock_at, thread_at}
-use Rattle.dso_plain.proofs.keys.Writes.{renamed}
+use Rattle.dso_plain.proofs.keys.Writes.{through, renamed}
 use Rattle.dso_legal.specs.JournalPass.{ThreadState, ClientState, with_count, ends_block, block_ended, thread_state_after, client_state_after}
-use Rattle.dso_legal.specs.JournalPassTables.{thread_state_in, thread_state_at, client_state_in}
+use Rattle.dso_legal.specs.JournalPassTables.{no_thread_state, thread_state_in, thread_state_at, threads_in, client_state_in}
 use Rattle.dso_legal.specs.declared.threads.ThreadState as table_thread
 use Rattle.dso_legal.specs.declared.threads.ClientState as table_client
 
@@ -64,14 +64,39 @@ row_changed {K} R g key test old mid new value w same gone puts e = fun_ext (λ 
     by k true = e
     by k false = refl
 
--- an act of a thread, where its hand is put back and the block that it ended stands last
-pub act_taken : (t : ThreadId) (request : Request) (reply : Reply) (woken : Option ThreadId) (old : table_client.ClientState) (mid new : BTreeMap ThreadId table_thread.ThreadState) (state : table_thread.ThreadState) (ended more : List (List Event))
-    → look thread_order mid ≡ written (writes (is_at (thread_order t)) (λ _. None)) (look thread_order old.threads) → look thread_order new ≡ written (writes (is_at (thread_order t)) (λ _. Some state)) (look thread_order mid)
-    → thread_state_in state ≡ thread_state_after request reply (Act t request reply woken) ((client_state_in old).threads t)
-    → more ≡ block_ended (ends_block request reply ((client_state_in old).threads t)) (Act t request reply woken) ((client_state_in old).threads t).block → ended ≡ old.ended ++ more
-    → let after : ClientState = record { threads = λ u. thread_state_at (look thread_order new u); ended = ended } in
+-- what follows where a call succeeded
+pub on_ok : {T E A B : Type 0} (r : Result T E) → (A → B) → OnOk r A → OnOk r B
+on_ok (Ok x) f a = f a
+on_ok (Err e) f a = tt
+
+-- what is kept of a thread that is there
+pub hand_there : (t : ThreadId) (table : BTreeMap ThreadId table_thread.ThreadState) (state : table_thread.ThreadState) → Some state ≡ look thread_order table t → thread_state_in state ≡ threads_in table t
+hand_there t table state found = ap thread_state_at found
+
+-- and of one that isn't
+pub no_hand : (t : ThreadId) (table : BTreeMap ThreadId table_thread.ThreadState) (state : table_thread.ThreadState) → None ≡ look thread_order table t → thread_state_in state ≡ no_thread_state → thread_state_in state ≡ threads_in table t
+no_hand t table state absent is = is ∙ ap thread_state_at absent
+
+-- an act of a thread, where what it makes of what was kept of the thread is written in the table
+pub hand_taken : (t : ThreadId) (request : Request) (reply : Reply) (woken : Option ThreadId) (old new : BTreeMap ThreadId table_thread.ThreadState) (was state : table_thread.ThreadState)
+    → thread_state_in was ≡ threads_in old t → look thread_order new ≡ written (writes (is_at (thread_order t)) (λ _. Some state)) (look thread_order old)
+    → thread_state_in state ≡ thread_state_after request reply (Act t request reply woken) (thread_state_in was)
+    → threads_in new ≡ written (writes (λ u. is_act_of u (Act t request reply woken)) (λ _. thread_state_after request reply (Act t request reply woken) (threads_in old t))) (threads_in old)
+hand_taken t request reply woken old new was state is puts takes =
+    let held : thread_state_in state ≡ thread_state_after request reply (Act t request reply woken) (threads_in old t) = takes ∙ ap (λ hand. thread_state_after request reply (Act t request reply woken) hand) is in
+    through thread_state_at (is_at (thread_order t)) (λ u. is_thread u t) (Some state) (look thread_order old) (look thread_order new) (λ u. thread_at t u ∙ turned t u) puts ∙ ap (λ hand. written (writes (λ u. is_thread u t) (λ _. hand)) (threads_in old)) held
+
+-- and the block that it ends
+pub block_taken : (t : ThreadId) (request : Request) (reply : Reply) (event : Event) (old : BTreeMap ThreadId table_thread.ThreadState) (was : table_thread.ThreadState) (blocks : List (List Event)) → thread_state_in was ≡ threads_in old t
+    → blocks ≡ block_ended (ends_block request reply (thread_state_in was)) event (thread_state_in was).block → blocks ≡ block_ended (ends_block request reply (threads_in old t)) event (threads_in old t).block
+block_taken t request reply event old was blocks is ends = ends ∙ ap (λ hand. block_ended (ends_block request reply hand) event hand.block) is
+
+-- and what that makes of what is kept of the client
+pub client_taken : (t : ThreadId) (request : Request) (reply : Reply) (woken : Option ThreadId) (old : table_client.ClientState) (new : BTreeMap ThreadId table_thread.ThreadState) (ended more : List (List Event))
+    → threads_in new ≡ (client_state_after (Act t request reply woken) (client_state_in old)).threads
+    → more ≡ block_ended (ends_block request reply (threads_in old.threads t)) (Act t request reply woken) (threads_in old.threads t).block → ended ≡ old.ended ++ more
+    → let after : ClientState = record { threads = threads_in new; ended = ended } in
     after ≡ client_state_after (Act t request reply woken) (client_state_in old)
-act_taken t request reply woken old mid new state ended more gone puts held is stands =
-    let threads = row_changed thread_order thread_state_at t (λ u. is_act_of u (Act t request reply woken)) old.threads mid new state (thread_state_after request reply (Act t request reply woken) ((client_state_in old).threads t)) (λ u. thread_at t u ∙ turned t u) gone puts held in
+client_taken t request reply woken old new ended more threads is stands =
     let blocks = stands ∙ ap (λ x. old.ended ++ x) is in
     λ i. record { threads = threads i; ended = blocks i }

@@ -1,0 +1,12 @@
+use Rattle.std.proofs.Common.{sym, ◌∙◌, ap, subst}
+use Rattle.dso_plain.specs.After.{after}
+use Rattle.dso_plain.specs.Possible.{May}
+use Rattle.dso_plain.specs.HeapTables.{state_of}
+use Rattle.dso_run.proofs.Replaying.{possible, leads}
+use Rattle.dso_run.proofs.replay.play_all.Goals as goal
+
+pub play-requires : goal.play-requires
+play-requires c = subst (May c.args.shape.now _) (sym c.loop-event.invariant) (possible c.args.shape.now c.args.events.now (state_of c.args.plain.now) c.loop-event.event-index _ c.loop-event-test.true c.requires)
+
+pub loop-event-preserved : goal.loop-event-preserved
+loop-event-preserved c = c.in_ok-play.ensures ∙ (ap (after c.args.shape.now _) c.loop-event.invariant ∙ leads c.args.shape.now c.args.events.now (state_of c.args.plain.now) c.loop-event.event-index _ c.loop-event-test.true c.requires)
