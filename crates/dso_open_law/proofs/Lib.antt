@@ -1,0 +1,4 @@
+pub mod readings
+pub mod threads
+pub mod little
+pub mod sound
