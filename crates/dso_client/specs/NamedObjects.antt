@@ -11,12 +11,11 @@ use Rattle.dso_law.specs.HeldBody.{held_body}
 use Rattle.dso_law.specs.Settings.{Settings, threads_of}
 use Rattle.dso_law.specs.Threads.{work_of}
 use Rattle.dso_legal.specs.Collection.{thread_holds}
-use Rattle.dso_lookup.specs.Search.{is_listed}
+use Rattle.dso_lookup.specs.Search.{has_edge, is_listed}
 use Rattle.dso_machine.specs.declared.code.Code.{Code}
 use Rattle.dso_machine.specs.Frames.{frames_after, holds_then}
 use Rattle.dso_machine.specs.Next.{next_request}
 use Rattle.dso_machine.specs.Standing.{ThreadStands, asked}
-use Rattle.dso_table.specs.Edges.{has_edge}
 use Rattle.dso_txn.specs.NamedInHand.{AddsNamed}
 use Rattle.dso_client.specs.declared.client_state.ClientState.{ClientState}
 use Rattle.dso_client.specs.declared.thread_context.ThreadContext.{ThreadContext}
@@ -27,7 +26,7 @@ use Rattle.dso_client.specs.ContextStands.{ContextStands}
 abbrev pub HasNextOut : ThreadContext → Type 0
 HasNextOut context = (request : Request) → context.next ≡ Some request → asked context.thread ≡ Some request
 
--- A thread stands for its events in the entries, and what is kept of it stands for them; what it has in hand it has once.
+-- A thread stands for its events in the entries, what is kept of it stands for them; what it has in hand it has once.
 pub record IsStanding (code : Code) (p : Settings) (c : ℕ) (es : List Entry) (context : ThreadContext) : Type 0 where
   pub kept : ContextStands (point code p c es) context
   pub thread : ThreadStands code context.id context.thread (events_in context.id es)

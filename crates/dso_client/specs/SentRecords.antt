@@ -32,8 +32,8 @@ use Rattle.dso_client.specs.TableStands.{TableStands}
 abbrev pub HasWork : RunPoint → ThreadContext → Type 0
 HasWork at context = hand_in context.privates context.block ≡ hand_of (work_of at.settings.shape context.id at.entries)
 
--- The request of the context's thread is answered at this point: the program has this shape, the thread has in hand what
--- its entries tell, each object once, and the act is this ending, if it is one.
+-- The request of the context's thread is answered at this point: the program has this shape, the thread has in hand
+-- what its entries tell, each object once, and the act is this ending, if it is one.
 pub record IsActing (at : RunPoint) (shape : Shape) (act : Answered) (ending : Option Ending)
     (context : ThreadContext) : Type 0 where
   pub shape_is : at.settings.shape ≡ shape

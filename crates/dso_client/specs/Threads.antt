@@ -1,7 +1,8 @@
 -- What a client tells of its threads.
 use Rattle.std.specs.List.{list_any}
-use Rattle.std.specs.Prelude.{◌≡◌, ℕ, Bool, true, false, is_some, count_by, List}
+use Rattle.std.specs.Prelude.{◌≡◌, ℕ, Bool, true, false, is_some, count_by, Option, List}
 use Rattle.dso_base.specs.declared.journal.Entry.{Entry}
+use Rattle.dso_base.specs.declared.request.Request.{Request}
 use Rattle.dso_base.specs.Following.{is_thread}
 use Rattle.dso_law.specs.Settings.{Settings, threads_of}
 use Rattle.dso_law.specs.ClientRun.{next_in}
@@ -20,6 +21,13 @@ IsEnabled kept index answer = (code : Code) (p : Settings) (c : ℕ) (es : List 
     → SizesAreKept (point code p c es)
     → list_any (is_thread (thread_at c index)) (threads_of p c) ≡ true
     → answer ≡ may_act p c (next_in (next_request code) es) (thread_at c index) es
+
+-- The request is, whatever entries the client stands for, the next one of its thread of this index behind them; None where
+-- that has ended.
+abbrev pub IsNextRequest : ClientState → ℕ → Option Request → Type 0
+IsNextRequest kept index request = (code : Code) (p : Settings) (c : ℕ) (es : List Entry) → ClientStands code p c kept es
+    → list_any (is_thread (thread_at c index)) (threads_of p c) ≡ true
+    → request ≡ next_in (next_request code) es (thread_at c index)
 
 -- the number is that of the client's threads that have a next request
 abbrev pub TellsAlive : ClientState → ℕ → Type 0

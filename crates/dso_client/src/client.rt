@@ -1,5 +1,5 @@
 //! A client (`specs/ClientStands.antt`).
-ghost use Rattle.std.specs.Prelude.{ℕ, ◌≡◌, ◌≤◌, ◌<◌, ◌+◌, ◌-◌, ◌^◌, suc, true, false, List, [], IfNone, IfOk, IfSome, OnErr, OnOk};
+ghost use Rattle.std.specs.Prelude.{ℕ, ◌≡◌, ◌≤◌, ◌<◌, ◌+◌, ◌-◌, ◌^◌, suc, true, false, None, List, [], IfNone, IfOk, IfSome, OnErr, OnOk};
 ghost use Rattle.std.specs.Result.{is_err};
 ghost use Rattle.dso_law.specs.Settings.{Settings, threads_of};
 ghost use Rattle.dso_machine.specs.declared.code.Code.{Code};
@@ -12,7 +12,7 @@ ghost use Rattle.dso_client.specs.NamedObjects.{TellsEdges, TellsNamed};
 ghost use Rattle.dso_client.specs.ObjectFlushes.{Flushes, IsVictimOf, NoneDue, TellsFlush};
 ghost use Rattle.dso_client.specs.Spent.{WhileWhole, is_spent};
 ghost use Rattle.dso_client.specs.TakenMessages.{Takes};
-ghost use Rattle.dso_client.specs.Threads.{IsEnabled, TellsAlive, WhereAbsent};
+ghost use Rattle.dso_client.specs.Threads.{IsEnabled, IsNextRequest, TellsAlive, WhereAbsent};
 ghost use Rattle.dso_txn.specs.Numbers.{IsLeast};
 ghost use Rattle.dso_client.specs.declared.acted.Acted.TheVariants as acted;
 ghost use Rattle.dso_client.specs.Openings.{HasThreads, AreUnusedSequences, IsEmptyLockState, first_threads};
@@ -28,7 +28,7 @@ use crate::taken_message::take;
 use crate::thread_act::act;
 use crate::thread_context::{ThreadContext, alive, context_at};
 use crate::turn::may_act;
-use dso_base::{Down, NoMemory, Up};
+use dso_base::{Down, NoMemory, Request, Up};
 use dso_hold::Hold;
 use dso_ids::IdPool;
 use dso_lease::Leases;
@@ -245,6 +245,18 @@ impl Client {
         match context_at(&self.kept, index) {
             Some(context) => may_act(&self.kept, context),
             None => false,
+        }
+    }
+
+    /// The next request of the thread of this index, which the thread asks until it is answered. None where it has ended, or
+    /// there is no such thread. It takes no memory.
+    pub fn next_request(&self, index: u8) -> Option<Request>
+        ensures next { IsNextRequest self.now index result }
+        ensures absent { WhereAbsent self.now index (result ≡ None) }
+    {
+        match context_at(&self.kept, index) {
+            Some(context) => context.next,
+            None => None,
         }
     }
 

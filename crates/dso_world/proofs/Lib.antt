@@ -13,3 +13,4 @@ pub mod places
 pub mod programs
 pub mod worlds
 pub mod collecting
+pub mod touches

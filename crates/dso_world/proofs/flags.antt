@@ -1,3 +1,4 @@
 pub mod NthSet
+pub mod Blocks
 pub mod Named
 pub mod Chosen

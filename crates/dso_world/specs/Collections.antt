@@ -1,4 +1,4 @@
--- Collections: what messages in flight name, where paths begin, which edges they go along, and what a collection sweeps.
+-- Collections: what messages in flight name, where paths begin, which edges they go along, what a collection sweeps.
 use Rattle.std.specs.List.{list_any}
 use Rattle.std.specs.List.Sorted.{IsStrictlySortedBy}
 use Rattle.std.specs.Ordering.{nat_cmp}
@@ -12,12 +12,12 @@ use Rattle.dso_base.specs.Naming.{down_names, up_names}
 use Rattle.dso_class.specs.declared.program.Program.{Program}
 use Rattle.dso_class.specs.Sound.{IsSoundProgram}
 use Rattle.dso_gc_law.specs.Lacking.{IsLacked}
-use Rattle.dso_gc.specs.Garbage.{IsEdgeIn, IsIn, has_edge}
+use Rattle.dso_gc.specs.Garbage.{IsEdgeIn, IsIn}
 use Rattle.dso_law.specs.Entries.{entries_of}
 use Rattle.dso_law.specs.HeldBody.{held_body}
 use Rattle.dso_legal.specs.Collection.{IsGarbageAfter, client_names, is_kept}
 use Rattle.dso_legal.specs.Lawful.{IsLawful}
-use Rattle.dso_lookup.specs.Search.{is_listed}
+use Rattle.dso_lookup.specs.Search.{has_edge, is_listed}
 use Rattle.dso_machine.specs.Frames.{frames_after}
 use Rattle.dso_machine.specs.Next.{next_request}
 use Rattle.dso_store.specs.Graph.{body_in}
@@ -70,8 +70,8 @@ module _ (program : Program) where
     pub starts : (o : ℕ) → is_listed o new.starts.items ≡ (is_listed o old.starts.items || names_then c es o)
     pub edges : (a b : ℕ) → has_edge a b new.edges.items ≡ (has_edge a b old.edges.items || copy_names c es a b)
 
-  -- Paths begin at object 0 and at what the first clients name, so many of them, as far as they aren't lost; and they go
-  -- along the edges of these clients' copies.
+  -- Paths begin at object 0 and at what the first clients name, so many of them, as far as they aren't lost; and they
+  -- go along the edges of these clients' copies.
   pub record ArePathsOf (count : ℕ) (es : List Entry) (paths : Paths) : Type 0 where
     pub starts : (o : ℕ) → IsIn paths.starts.items o ↔ ((o ≡ 0) ⊎ ((c : ℕ) × (c ≤ count)
         × (is_kept (settings_of program) es c ≡ true) × (names_then c es o ≡ true)))

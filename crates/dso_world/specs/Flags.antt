@@ -1,5 +1,5 @@
 -- A row of flags, which of them are set, and which one is chosen.
-use Rattle.std.specs.Prelude.{ℕ, zero, suc, ◌+◌, Bool, true, false, Option, Some, None, List, [], ◌∷◌, count_by, drop}
+use Rattle.std.specs.Prelude.{ℕ, zero, suc, ◌+◌, ◌*◌, ◌≤◌, ◌≡◌, Bool, true, false, cond, Option, Some, None, List, [], ◌∷◌, count_by, drop, length, slice_get}
 use Rattle.std.specs.Prelude.{option_map, replicate, take}
 use Rattle.dso_world.specs.ChosenSlot.{seed_after, lot}
 
@@ -18,9 +18,21 @@ closed_row count = record { flags = replicate count false; begin = 0; entries = 
 abbrev pub is_set : Bool → Bool
 is_set flag = flag
 
+-- one where the flag is set, else none
+abbrev pub one_if : Bool → ℕ
+one_if flag = cond flag 1 0
+
 -- how many are set
 abbrev pub set_count : List Bool → ℕ
 set_count flags = count_by is_set flags
+
+-- Each block of 64 flags has its count: with it as many are set as up to the block's end. Each flag is in a block, and no
+-- block but the last is without one.
+pub record AreCounts (flags : List Bool) (counts : List ℕ) : Type 0 where
+  pub all : length flags ≤ 64 * length counts
+  pub few : 64 * length counts ≤ length flags + 64
+  pub each : (block count : ℕ) → slice_get counts block ≡ Some count
+      → set_count (take (64 * block) flags) + count ≡ set_count (take (64 * block + 64) flags)
 
 -- the place of the one set that has this number among those set, from 0 on
 abbrev pub nth_set : ℕ → List Bool → Option ℕ

@@ -1,7 +1,10 @@
+pub mod AskedAgain
 pub mod Busy
 pub mod ChosenSlot
+pub mod EntryTouches
 pub mod FinishedRuns
 pub mod Flags
+pub mod StepPlaces
 pub mod StepUpdates
 pub mod Breaks
 pub mod Laws

@@ -79,8 +79,8 @@ module _ (program : Program) where
   LacksAsBefore entry old new es = (o : ℕ) → IsLacked (settings_of program) (body_in new.store) (entry ∷ es) o
       ↔ IsLacked (settings_of program) (body_in old.store) es o
 
-  -- the journal stays lawful with the entry, which is made at the slot, and the nodes stand for the entries with it; what
-  -- the server lacks it lacked before
+  -- the journal stays lawful with the entry, which is made at the slot, and the nodes stand for the entries with it;
+  -- what the server lacks it lacked before
   pub record FollowsAll (slot : Slot) (entry : Entry) (server : Server) (nodes : Nodes) (es : List Entry) : Type 0 where
     pub lawful : IsLawful (settings_of program) (next_request program.code) (entry ∷ es)
     pub at : slot_at entry.node entry.input ≡ Some slot

@@ -46,8 +46,8 @@ module _ (program : Program) where
 
   -- the server lacks nothing but garbage
   abbrev pub LacksGarbage : Server → List Entry → Type 0
-  LacksGarbage server es =
-      LacksOnlyGarbage (settings_of program) (next_request program.code) (frames_after program.code) (body_in server.store) es
+  LacksGarbage server es = LacksOnlyGarbage (settings_of program) (next_request program.code)
+      (frames_after program.code) (body_in server.store) es
 
   -- The nodes after the entries: each client, by the course and the past of its connection; and the server's core
   -- stands for the server's entries and lacks nothing but garbage, its clock is that of its last entry, and it gave no

@@ -56,4 +56,6 @@ server_entry last made messages = record {
 
 -- client c once the server sent these
 abbrev pub after_hearing : ℕ → ℕ → List (ℕ × Down) → ClientNode → ClientNode
-after_hearing c clock messages client_node = record client_node { link = all_sent_down c clock messages client_node.link }
+after_hearing c clock messages client_node = record client_node {
+  link = all_sent_down c clock messages client_node.link;
+}

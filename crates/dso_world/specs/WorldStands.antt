@@ -32,10 +32,10 @@ abbrev pub is_spent : World → Bool
 is_spent world = is_some world.spent
 
 module _ (program : Program) where
-  -- The open steps after the entries: its steps are those of all slots, in their order; each flag tells whether its slot is
-  -- open; and it is noted whether the run is finished.
+  -- The open steps after the entries: its steps are those of all slots, in their order; each flag tells whether its
+  -- slot is open; and it is noted whether the run is finished.
   pub record OpenStepsStand (open_steps : OpenSteps) (es : List Entry) : Type 0 where
-    pub steps : map slot_of open_steps.steps.items ≡ slots (settings_of program)
+    pub steps : map slot_of open_steps.steps ≡ slots (settings_of program)
     pub row : RowStands (settings_of program) (next_request program.code) open_steps.chooser es
     pub finished : open_steps.is_finished ≡ is_finished (settings_of program) es
 

@@ -1,7 +1,7 @@
 //! Which step is taken next (`specs/ChosenSlot.antt`, `specs/Flags.antt`).
-ghost use Rattle.std.specs.Prelude.{◌≡◌, ◌+◌, ◌<◌, ◌≤◌, ◌^◌, IfOk, IfSome, false, length, set, slice_get};
+ghost use Rattle.std.specs.Prelude.{◌≡◌, ◌+◌, ◌*◌, ◌<◌, ◌≤◌, ◌^◌, IfOk, IfSome, drop, false, length, option_map, set, slice_get};
 ghost use Rattle.std.specs.Option.{option_map_or};
-ghost use Rattle.dso_world.specs.Flags.{closed_row, is_set, next_set, nth_set, chosen_place};
+ghost use Rattle.dso_world.specs.Flags.{AreCounts, closed_row, is_set, next_set, nth_set, one_if, chosen_place};
 
 use crate::seed::SeedState;
 use dso_base::NoMemory;
@@ -11,11 +11,12 @@ use std::marker::Model;
 /// Which steps are open, and which of them is taken next.
 ///
 /// It has a flag for each slot, at the slot's place. Contracts see the flags, the place at which the next round begins
-/// and how many steps made an entry (`Row`). To choose costs one pass over the flags; a seed that was used before goes
-/// on from where it was.
+/// and how many steps made an entry (`Row`). It keeps how many flags are set in each block of 64, so to choose costs a
+/// pass over these counts and over one block or two; a seed that was used before goes on from where it was.
 #[derive(Drop)]
 pub struct Chooser {
     flags: Vec<bool>,
+    counts: Vec<usize>,
     count: usize,
     begin: usize,
     entries: u64,
@@ -24,13 +25,13 @@ pub struct Chooser {
 
 impl Model for Chooser {
     ghost use Rattle.std.specs.Prelude.{◌≡◌, ◌≤◌, ◌<◌, ◌^◌, length};
-    ghost use Rattle.dso_world.specs.Flags.{Row, set_count};
+    ghost use Rattle.dso_world.specs.Flags.{AreCounts, Row, set_count};
 
     ghost Value = { Row };
 
     ghost view = { λ chooser. record { flags = chooser.flags.items; begin = chooser.begin; entries = chooser.entries } };
 
-    ghost invariant = { λ chooser. (chooser.count ≡ set_count chooser.flags.items) × (chooser.begin ≤ length chooser.flags.items) × (chooser.entries < 2 ^ 63) };
+    ghost invariant = { λ chooser. (chooser.count ≡ set_count chooser.flags.items) × (chooser.begin ≤ length chooser.flags.items) × (chooser.entries < 2 ^ 63) × AreCounts chooser.flags.items chooser.counts.items };
 }
 
 /// The place of the flag that has this number among those set, from 0 on.
@@ -50,15 +51,67 @@ fn nth_set(flags: &[bool], number: usize) -> Option<usize>
     None
 }
 
-/// The place of the first flag set, from this place on, going round.
-fn next_set(flags: &[bool], begin: usize) -> Option<usize>
+/// The place of the flag that has this number among those set from this place on.
+fn nth_behind(flags: &[bool], begin: usize, number: usize) -> Option<usize>
     requires { begin ≤ length flags.now }
+    ensures place { result ≡ option_map (λ i. begin + i) (nth_set number (drop begin flags.now)) }
+    ensures within { IfSome result (λ place. place < length flags.now) }
+{
+    match nth_set(&flags[begin..], number) {
+        Some(at) => Some(begin + at),
+        None => None,
+    }
+}
+
+/// The place of the flag that has this number among those set from this block on: blocks before its own are passed over
+/// by their counts.
+fn nth_from(flags: &[bool], counts: &[usize], from: usize, number: usize) -> Option<usize>
+    requires counts { AreCounts flags.now counts.now }
+    requires small { length flags.now < 2 ^ 63 }
+    ensures place { result ≡ option_map (λ i. 64 * from + i) (nth_set number (drop (64 * from) flags.now)) }
+    ensures within { IfSome result (λ place. place < length flags.now) }
+{
+    let mut left = number;
+    for block in from..counts.len() {
+        let count = counts[block];
+        if left < count {
+            return nth_behind(flags, 64 * block, left);
+        }
+        left -= count;
+    }
+    None
+}
+
+/// The place of the first flag set, from this place on, going round.
+fn next_set(flags: &[bool], counts: &[usize], begin: usize) -> Option<usize>
+    requires begin { begin ≤ length flags.now }
+    requires counts { AreCounts flags.now counts.now }
+    requires small { length flags.now < 2 ^ 63 }
     ensures place { result ≡ next_set begin flags.now }
     ensures within { IfSome result (λ place. place < length flags.now) }
 {
-    match nth_set(&flags[begin..], 0) {
-        Some(at) => Some(begin + at),
-        None => nth_set(&flags[..begin], 0),
+    let block = begin / 64 + 1;
+    let end = flags.len().min(64 * block);
+    if let Some(at) = nth_set(&flags[begin..end], 0) {
+        return Some(begin + at);
+    }
+    match nth_from(flags, counts, block, 0) {
+        Some(place) => Some(place),
+        None => nth_from(flags, counts, 0, 0),
+    }
+}
+
+/// How many flags are set once one of them is written, of so many.
+fn recounted(count: usize, was: bool, to: bool) -> usize
+    requires there { one_if was ≤ count }
+    requires fits { count < 2 ^ 63 }
+    ensures { result + one_if was ≡ count + one_if to }
+{
+    match (was, to) {
+        (true, false) => count - 1,
+        (false, true) => count + 1,
+        (true, true) => count,
+        (false, false) => count,
     }
 }
 
@@ -70,6 +123,7 @@ impl Chooser {
     {
         Ok(Chooser {
             flags: vec![in alloc; false; slots]?,
+            counts: vec![in alloc; 0; slots / 64 + 1]?,
             count: 0,
             begin: 0,
             entries: 0,
@@ -92,11 +146,10 @@ impl Chooser {
         requires { place < length self.old.flags }
         ensures { self.new ≡ record self.old { flags = set self.old.flags place to } }
     {
-        if self.flags[place] && !to {
-            self.count -= 1;
-        } else if !self.flags[place] && to {
-            self.count += 1;
-        }
+        let block = place / 64;
+        let was = self.flags[place];
+        self.count = recounted(self.count, was, to);
+        self.counts[block] = recounted(self.counts[block], was, to);
         self.flags[place] = to;
     }
 
@@ -121,9 +174,10 @@ impl Chooser {
             Some(_) if self.count == 0 => None,
             Some(seed) => {
                 self.seed = self.seed.moved_to(seed, self.entries + 1);
-                nth_set(self.flags.as_slice(), self.seed.lot(self.count))
+                let number = self.seed.lot(self.count);
+                nth_from(self.flags.as_slice(), self.counts.as_slice(), 0, number)
             }
-            None => next_set(self.flags.as_slice(), self.begin),
+            None => next_set(self.flags.as_slice(), self.counts.as_slice(), self.begin),
         }
     }
 }

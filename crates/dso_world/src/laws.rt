@@ -41,8 +41,8 @@ pub fn letters_are_left<M>()
 {}
 
 /// An entry of a client opens and closes no slot but those of that client, and none of a trigger. One of the server
-/// opens and closes no act and no flush; and only of the client whose message, loss, break or rejoin it is, what the
-/// server can do with that client.
+/// opens and closes no act and no flush; only of the client whose message, loss, break or rejoin it is, what the server
+/// can do with that client; and what a client can take only if it is that client, or a message is sent to it.
 pub fn others_stay()
     ensures { OthersStay }
 {}

@@ -29,6 +29,7 @@
 //! ```
 #![tactic(auto)]
 
+mod asked_again;
 mod chooser;
 mod client_entry;
 mod client_node;
@@ -50,7 +51,9 @@ mod server_entry;
 mod server_step;
 mod slot_test;
 mod step;
+mod step_table;
 mod step_update;
+mod touched_threads;
 mod world;
 
 pub use chooser::Chooser;

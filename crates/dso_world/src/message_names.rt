@@ -5,9 +5,10 @@ ghost use Rattle.dso_base.specs.Naming.{down_names, up_names};
 ghost use Rattle.dso_txn.specs.NamedInHand.{AddsNamed};
 ghost use Rattle.dso_world.specs.Collections.{message_names, posts_name};
 
-use crate::named_parts::{add_body, add_monitor, add_object, add_record, add_sets};
+use crate::named_parts::{add_body, add_object, add_record, add_sets};
 use dso_base::{Both, Down, NoMemory, Up};
 use dso_session::Posted;
+use dso_txn::add_monitor;
 
 /// Adds the objects that a message to the server names; one of a flush names none.
 fn add_up(message: &Up, into: &mut Vec<u64>) -> Result<(), NoMemory>

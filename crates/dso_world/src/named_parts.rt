@@ -1,48 +1,17 @@
-//! What the parts of messages name: locks, values, bodies, sets, notifications and records
-//! (`dso_base/specs/Naming.antt`).
+//! What the parts of messages name: bodies, sets and records (`dso_base/specs/Naming.antt`).
 ghost use Rattle.std.specs.List.{list_any};
-ghost use Rattle.std.specs.Prelude.{◌≡◌, ◌++◌, ◌∷◌, [], eqb, OnOk};
-ghost use Rattle.dso_base.specs.Naming.{body_with_names, ending_names, lock_names, note_names, record_names, set_names};
-ghost use Rattle.dso_change.specs.Hands.{with_references};
+ghost use Rattle.std.specs.Prelude.{eqb, OnOk};
+ghost use Rattle.dso_base.specs.Naming.{body_with_names, ending_names, record_names, set_names};
 ghost use Rattle.dso_txn.specs.NamedInHand.{AddsNamed};
 
-use dso_base::{Body, Ending, LockName, NoMemory, Note, Set, Txn, Value};
+use dso_base::{Body, Ending, NoMemory, Set, Txn};
+use dso_txn::{add_monitor, add_notes, add_values, add_with_values};
 
 /// Adds the object.
 pub(crate) fn add_object(object: u64, into: &mut Vec<u64>) -> Result<(), NoMemory>
     ensures { OnOk result (AddsNamed (λ o. eqb object o) into.old.items into.new.items) }
 {
     into.push(object)?;
-    Ok(())
-}
-
-/// Adds the objects that the values name.
-fn add_values(values: &[Value], into: &mut Vec<u64>) -> Result<(), NoMemory>
-    ensures { OnOk result (into.new.items ≡ with_references values.now into.old.items) }
-{
-    for value in values {
-        if let Value::Ref(object) = value {
-            into.push(*object)?;
-        }
-    }
-    Ok(())
-}
-
-/// Adds the object, and those that its values name.
-fn add_with_values(object: u64, values: &[Value], into: &mut Vec<u64>) -> Result<(), NoMemory>
-    ensures { OnOk result (into.new.items ≡ with_references values.now (into.old.items ++ object ∷ [])) }
-{
-    into.push(object)?;
-    add_values(values, into)
-}
-
-/// Adds the object whose monitor the lock is.
-pub(crate) fn add_monitor(lock: LockName, into: &mut Vec<u64>) -> Result<(), NoMemory>
-    ensures { OnOk result (AddsNamed (lock_names lock) into.old.items into.new.items) }
-{
-    if let LockName::Mon(object) = lock {
-        into.push(object)?;
-    }
     Ok(())
 }
 
@@ -78,16 +47,6 @@ pub(crate) fn add_sets(sets: &[Set], into: &mut Vec<u64>) -> Result<(), NoMemory
 {
     for set in sets {
         add_set(set, into)?;
-    }
-    Ok(())
-}
-
-/// Adds the objects of whose monitors there are notifications.
-fn add_notes(notes: &[Note], into: &mut Vec<u64>) -> Result<(), NoMemory>
-    ensures { OnOk result (AddsNamed (λ o. list_any (λ note. note_names note o) notes.now) into.old.items into.new.items) }
-{
-    for note in notes {
-        add_monitor(note.lock, into)?;
     }
     Ok(())
 }

@@ -1,8 +1,10 @@
 //! A cluster before its first step (`specs/NodesStand.antt`).
-ghost use Rattle.std.specs.Prelude.{◌≡◌, ◌++◌, [], IfOk, OnOk, eqb, filter, length, map};
+ghost use Rattle.std.specs.Prelude.{◌≡◌, ◌++◌, [], IfOk, OnOk, eqb, filter, flat_map, length, map};
 ghost use Rattle.dso_class.specs.Sound.{IsSoundProgram};
+ghost use Rattle.dso_law.specs.Settings.{up_to};
 ghost use Rattle.dso_legal.specs.Slots.{client_slots, slots};
 ghost use Rattle.dso_world.specs.NodesStand.{AreClientNodes, ClientNodeStands, NodesStand};
+ghost use Rattle.dso_world.specs.StepPlaces.{AreOwnOf};
 ghost use Rattle.dso_world.specs.WorldStands.{OpenStepsStand};
 ghost use Rattle.dso_world.specs.WorldSteps.{settings_of, slot_of};
 
@@ -10,6 +12,7 @@ use crate::client_node::ClientNode;
 use crate::nodes::Nodes;
 use crate::open_steps::OpenSteps;
 use crate::slot_test::{is_finished, is_open};
+use crate::step_table::{OwnSteps, StepTable};
 use crate::{Chooser, Link, Step};
 use dso_base::{NoMemory, ThreadId};
 use dso_class::Program;
@@ -88,14 +91,29 @@ fn add_own(steps: &mut Vec<Step>, program: &Program, number: u8) -> Result<(), N
     Ok(())
 }
 
-/// All steps of the cluster, in the order of their slots.
-fn steps(alloc: Global, program: &Program) -> Result<Vec<Step>, NoMemory>
-    ensures { IfOk result (λ steps. map slot_of steps.items ≡ slots (settings_of program.now)) }
+/// The own steps of all clients, in the order of their slots, and where those of each stand.
+fn own_steps(alloc: Global, program: &Program) -> Result<(Vec<Step>, Vec<OwnSteps>), NoMemory>
+    ensures listed { IfOk result (λ made. map slot_of made.0.items ≡ flat_map (client_slots (settings_of program.now)) (up_to program.now.clients)) }
+    ensures own { IfOk result (λ made. AreOwnOf (settings_of program.now) program.now.clients made.1.items) }
 {
     let mut steps = Vec::new(alloc);
+    let mut own = Vec::new(alloc);
     for number in 0..program.clients {
+        let begin = steps.len();
         add_own(&mut steps, program, number + 1)?;
+        let end = steps.len();
+        own.push(OwnSteps { begin, end })?;
     }
+    Ok((steps, own))
+}
+
+/// All steps of the cluster of a sound program, in the order of their slots.
+fn steps(alloc: Global, program: &Program) -> Result<StepTable, NoMemory>
+    requires { IsSoundProgram program.now }
+    ensures { IfOk result (λ steps. map slot_of steps ≡ slots (settings_of program.now)) }
+{
+    let (mut steps, own) = own_steps(alloc, program)?;
+    let behind = steps.len();
     for number in 0..program.clients {
         steps.push(Step::TakeUp(number + 1))?;
     }
@@ -103,7 +121,7 @@ fn steps(alloc: Global, program: &Program) -> Result<Vec<Step>, NoMemory>
         steps.push(Step::Lose(number + 1))?;
         steps.push(Step::Break(number + 1))?;
     }
-    Ok(steps)
+    Ok(StepTable::new(steps, own, behind))
 }
 
 /// The open steps of a sound program's cluster before its first step.
@@ -118,8 +136,9 @@ pub(crate) fn open_steps(
 {
     let steps = steps(alloc, program)?;
     let mut chooser = Chooser::new(alloc, steps.len())?;
-    for place in 0..steps.len() {
-        chooser.set(place, is_open(nodes, steps[place]));
+    let all = steps.as_slice();
+    for place in 0..all.len() {
+        chooser.set(place, is_open(nodes, all[place]));
     }
     Ok(OpenSteps {
         steps,

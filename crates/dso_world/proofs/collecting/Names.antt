@@ -13,7 +13,6 @@ use Rattle.dso_base.specs.declared.message.Up.{Up}
 use Rattle.dso_base.specs.Naming.{down_names, up_names}
 use Rattle.dso_class.specs.declared.program.Program.{Program}
 use Rattle.dso_client.specs.NamedObjects.{TellsEdges, TellsNamed}
-use Rattle.dso_gc.specs.Garbage.{has_edge}
 use Rattle.dso_law.specs.Channels.{Letter, down_in_flight, to_client, to_server, up_in_flight}
 use Rattle.dso_law.specs.Entries.{entries_of}
 use Rattle.dso_law.specs.Settings.{threads_of}
@@ -25,7 +24,7 @@ use Rattle.dso_session.specs.declared.session.Posted.{Posted}
 use Rattle.dso_session.specs.Ends.{left_behind}
 use Rattle.dso_session.proofs.Left.{left_was_sent}
 use Rattle.dso_txn.specs.NamedInHand.{AddsNamed}
-use Rattle.dso_lookup.specs.Search.{is_listed}
+use Rattle.dso_lookup.specs.Search.{has_edge, is_listed}
 use Rattle.dso_world.specs.declared.client_node.ClientNode.{ClientNode}
 use Rattle.dso_world.specs.Collections.{IsLawfulOf, copy_names, names_then, posts_name}
 use Rattle.dso_world.specs.Link.{Line}

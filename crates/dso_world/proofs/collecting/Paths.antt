@@ -3,9 +3,8 @@ use Rattle.std.proofs.Common.{ℕ, suc, ◌≤◌, ◌≡◌, ◌⊎◌, inl, in
 use Rattle.std.proofs.lemmas.Bool.{eqb-false, eqb-true, or_cases}
 use Rattle.dso_base.specs.declared.journal.Entry.{Entry}
 use Rattle.dso_class.specs.declared.program.Program.{Program}
-use Rattle.dso_gc.specs.Garbage.{has_edge}
 use Rattle.dso_legal.specs.Collection.{is_kept}
-use Rattle.dso_lookup.specs.Search.{is_listed}
+use Rattle.dso_lookup.specs.Search.{has_edge, is_listed}
 use Rattle.dso_lookup.proofs.Tests.{left_holds, right_holds}
 use Rattle.dso_world.specs.declared.collection.Paths.{Paths}
 use Rattle.dso_world.specs.Collections.{AddsClient, ArePathsOf, copy_names, names_then}

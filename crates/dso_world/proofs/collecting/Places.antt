@@ -6,12 +6,11 @@ use Rattle.std.proofs.lemmas.Option.{slice_get_within}
 use Rattle.dso_base.specs.declared.journal.Entry.{Entry}
 use Rattle.dso_base.specs.declared.journal.Node.TheVariants as node
 use Rattle.dso_class.specs.declared.program.Program.{Program}
-use Rattle.dso_gc.specs.Garbage.{has_edge}
 use Rattle.dso_law.specs.Entries.{entries_of}
 use Rattle.dso_law.specs.ServerReadings.{is_lost}
 use Rattle.dso_law.specs.Settings.{clients_of}
 use Rattle.dso_legal.specs.Collection.{is_kept}
-use Rattle.dso_lookup.specs.Search.{is_listed}
+use Rattle.dso_lookup.specs.Search.{has_edge, is_listed}
 use Rattle.dso_lookup.proofs.Tests.{both}
 use Rattle.dso_plain.proofs.keys.SameKeys.{number_self}
 use Rattle.dso_world.specs.declared.client_node.ClientNode.{ClientNode}

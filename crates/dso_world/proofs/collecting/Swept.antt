@@ -7,13 +7,12 @@ use Rattle.dso_base.specs.declared.journal.Entry.{Entry}
 use Rattle.dso_base.specs.declared.journal.Node.TheVariants as node
 use Rattle.dso_base.specs.declared.record.Body.{Body}
 use Rattle.dso_class.specs.declared.program.Program.{Program}
-use Rattle.dso_gc.specs.Garbage.{has_edge}
 use Rattle.dso_gc_law.specs.Lacking.{AreStartsAndEdges, IsGarbageBy, IsSweptClean}
 use Rattle.dso_gc_law.proofs.garbage.Sweeping.{garbage_is_found, swept_is_clean}
 use Rattle.dso_law.specs.Entries.{entries_of}
 use Rattle.dso_law.specs.Settings.{clients_of}
 use Rattle.dso_legal.specs.Collection.{is_kept}
-use Rattle.dso_lookup.specs.Search.{is_listed}
+use Rattle.dso_lookup.specs.Search.{has_edge, is_listed}
 use Rattle.dso_lookup.proofs.Tests.{both}
 use Rattle.dso_machine.specs.Frames.{frames_after}
 use Rattle.dso_machine.specs.Next.{next_request}

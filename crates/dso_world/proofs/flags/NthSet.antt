@@ -1,14 +1,14 @@
 -- The n-th flag set of a row, and how many are set.
 use Rattle.std.proofs.Common.{ℕ, zero, suc, ◌+◌, ◌≤◌, ◌≡◌, refl, ◌∙◌, ap, Bool, true, false, cond, Option, Some, None, List, [], ◌∷◌, ◌++◌, filter, length, map, option_and_then, option_map, slice_get, arith}
 use Rattle.std.proofs.lemmas.List.Sums.{sum_by-cons}
-use Rattle.dso_world.specs.Flags.{is_set, nth_set, set_count}
+use Rattle.dso_world.specs.Flags.{is_set, one_if, nth_set, set_count}
 
 -- one more flag
-one_more : (flag : Bool) (rest : List Bool) → set_count (flag ∷ rest) ≡ cond flag 1 0 + set_count rest
+pub one_more : (flag : Bool) (rest : List Bool) → set_count (flag ∷ rest) ≡ one_if flag + set_count rest
 one_more flag rest = sum_by-cons (λ x. cond (is_set x) 1 0) flag rest
 
 -- none is behind a place where none is
-no_further : (o : Option ℕ) → option_map (λ i. suc i) o ≡ None → o ≡ None
+pub no_further : (o : Option ℕ) → option_map (λ i. suc i) o ≡ None → o ≡ None
 no_further None is = refl
 no_further (Some i) is = absurd (cc is)
 

@@ -11,20 +11,10 @@ module _ {X Y : Type 0} (f g : X → Y) where
   marked_at zero (y ∷ ys) x is = let same : y ≡ x = cc is in ap (λ z. f z ∷ map g ys) (sym same)
   marked_at (suc i) (y ∷ ys) x is = ap (λ zs. f y ∷ zs) (marked_at i ys x is)
 
-  unmarked_at : (i : ℕ) (xs : List X) (x : X) → slice_get xs i ≡ Some x → f x ≡ g x → told_to i xs ≡ told_to (suc i) xs
-  unmarked_at i [] x is same = absurd (cc is)
-  unmarked_at zero (y ∷ ys) x is same = let here : y ≡ x = cc is in ap (λ z. z ∷ map g ys) (ap g here ∙ sym same ∙ ap f (sym here))
-  unmarked_at (suc i) (y ∷ ys) x is same = ap (λ zs. f y ∷ zs) (unmarked_at i ys x is same)
-
   next_place : (i : ℕ) → suc i ≡ i + 1
   next_place i = omega arith
 
-  -- Marked: the flag at a place is told anew,
+  -- Marked: the flag at a place is told anew.
   pub marked : (i : ℕ) (xs : List X) (flags : List Y) (x : X) → flags ≡ map f (take i xs) ++ map g (drop i xs) → slice_get xs i ≡ Some x
       → slice_set flags i (f x) ≡ map f (take (i + 1) xs) ++ map g (drop (i + 1) xs)
   marked i xs flags x are is = ap (λ list. slice_set list i (f x)) are ∙ marked_at i xs x is ∙ ap (λ k. told_to k xs) (next_place i)
-
-  -- or it stays where both tests tell the same.
-  pub unmarked : (i : ℕ) (xs : List X) (flags : List Y) (x : X) → flags ≡ map f (take i xs) ++ map g (drop i xs) → slice_get xs i ≡ Some x → f x ≡ g x
-      → flags ≡ map f (take (i + 1) xs) ++ map g (drop (i + 1) xs)
-  unmarked i xs flags x are is same = are ∙ unmarked_at i xs x is same ∙ ap (λ k. told_to k xs) (next_place i)

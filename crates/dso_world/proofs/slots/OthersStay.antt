@@ -1,23 +1,26 @@
 -- A slot that an entry doesn't touch is open with it exactly where it was open before.
 use Rattle.std.specs.List.{list_any}
-use Rattle.std.proofs.Common.{ℕ, suc, ◌≡◌, refl, sym, ◌∙◌, ap, Bool, true, false, cond, eqb, ltb, not, ◌&&◌, ◌||◌, Option, List, ◌∷◌, drop, filter, length}
+use Rattle.std.proofs.Common.{ℕ, suc, ◌≡◌, refl, sym, ◌∙◌, ap, Bool, true, false, cond, eqb, ltb, not, ◌&&◌, ◌||◌, Option, List, [], ◌∷◌, drop, filter, length}
 use Rattle.dso_base.specs.declared.journal.Entry.{Entry}
 use Rattle.dso_base.specs.declared.journal.Input.{Input}
 use Rattle.dso_base.specs.declared.journal.Input.TheVariants as input
 use Rattle.dso_base.specs.declared.journal.Node.{Node}
 use Rattle.dso_base.specs.declared.journal.Node.TheVariants.{Server, Client}
+use Rattle.dso_base.specs.declared.journal.Sent.{Sent}
+use Rattle.dso_base.specs.declared.journal.Sent.TheVariants.{ToServer, ToClient}
 use Rattle.dso_base.specs.declared.lock.ThreadId.{ThreadId}
+use Rattle.dso_base.specs.declared.message.Down.{Down}
 use Rattle.dso_base.specs.declared.request.Event.{Event}
 use Rattle.dso_base.specs.declared.request.Request.{Request}
 use Rattle.dso_plain.proofs.keys.SameKeys.{number_self, same_number}
 use Rattle.dso_law.specs.Settings.{Settings}
-use Rattle.dso_law.specs.Channels.{breaks, count_inputs, down_in_flight, is_broken, posted, rejoins, takes_down, takes_up, up_in_flight}
+use Rattle.dso_law.specs.Channels.{Letter, breaks, count_inputs, down_in_flight, is_broken, posted, rejoins, takes_down, takes_up, up_in_flight}
 use Rattle.dso_law.specs.ClientStep.{may_act, may_flush}
-use Rattle.dso_law.specs.Entries.{by_sent_up, entries_of, events_in}
+use Rattle.dso_law.specs.Entries.{by_sent_down, by_sent_up, entries_of, events_in, if_to}
 use Rattle.dso_law.specs.ServerReadings.{is_lost, is_reached, loses, taken_count}
 use Rattle.dso_legal.specs.Lawful.{next_after}
 use Rattle.dso_legal.specs.Slots.{Slot, Acts, TakesDown, Flushes, TakesUp, Loses, Breaks, is_any, is_loss_or_break_due, is_open}
-use Rattle.dso_world.specs.Touched.{OthersStay, is_input_of, is_touched}
+use Rattle.dso_world.specs.Touched.{OthersStay, goes_to, is_input_of, is_touched}
 use Rattle.dso_world.proofs.premises.OwnRun.{same_may_act}
 
 -- two numbers are the same either way round
@@ -27,6 +30,18 @@ apart_too c d other = by (eqb d c) refl
     by : (b : Bool) → eqb d c ≡ b → b ≡ false
     by false is = refl
     by true is = absurd (cc (sym (number_self c) ∙ (ap (eqb c) (sym (same_number d c is)) ∙ other)))
+
+neither : (a b : Bool) → (a || b) ≡ false → (a ≡ false) × (b ≡ false)
+neither true b is = absurd (cc is)
+neither false b is = (refl, is)
+
+-- a reading of what is sent to a client stays where nothing is
+none_sent : {S : Type 0} (c : ℕ) (step : Down → S → S) (sent : List Sent) (s : S) → list_any (goes_to c) sent ≡ false → by_sent_down (if_to c step) sent s ≡ s
+none_sent c step [] s none = refl
+none_sent c step (ToServer m ∷ rest) s none = none_sent c step rest s none
+none_sent c step (ToClient d m ∷ rest) s none =
+    let both = neither (eqb c d) (list_any (goes_to c) rest) none in
+    ap (λ b. by_sent_down (if_to c step) rest (cond b (step m s) s)) both.0 ∙ none_sent c step rest s both.1
 
 module _ (p : Settings) (next : ThreadId → List Event → Option Request) (e : Entry) (es : List Entry) where
   -- with the entry at this node
@@ -101,10 +116,22 @@ module _ (p : Settings) (next : ThreadId → List Event → Option Request) (e :
         ∙ ap (λ taken. takes_by false taken (breaks c e.input) (rejoins c e.input)) none.taken
         ∙ ap (λ broke. takes_by false false broke (rejoins c e.input)) none.broke ∙ ap (takes_by false false false) none.rejoined
 
-  server_leaves : (slot : Slot) → is_touched Server e.input slot ≡ false → is_open p next (at Server) slot ≡ is_open p next es slot
+    -- what the client can take
+    abbrev takes_down_by : Bool → Bool → List (Letter Down) → Bool
+    takes_down_by broke rejoined letters = cond (cond broke true (cond rejoined false (is_broken c server)))
+        (not (not (ltb (count_inputs (rejoins c) (entries_of (Client c) es)) (broke_by broke)))) (is_any letters)
+
+    downs_stay : LeavesOut c e.input → list_any (goes_to c) e.sent ≡ false → is_open p next (at Server) (TakesDown c) ≡ is_open p next es (TakesDown c)
+    downs_stay none unsent = ap (λ broke. takes_down_by broke (rejoins c e.input) (by_sent_down (if_to c (posted e.clock)) e.sent (down_in_flight c es))) none.broke
+        ∙ ap (λ rejoined. takes_down_by false rejoined (by_sent_down (if_to c (posted e.clock)) e.sent (down_in_flight c es))) none.rejoined
+        ∙ ap (takes_down_by false false) (none_sent c (posted e.clock) e.sent (down_in_flight c es) unsent)
+
+  server_leaves : (slot : Slot) → is_touched Server e.input e.sent slot ≡ false → is_open p next (at Server) slot ≡ is_open p next es slot
   server_leaves (Acts t) none = acts_stay Server t.client refl t refl
   server_leaves (Flushes c) none = flushes_stay Server c refl
-  server_leaves (TakesDown c) none = absurd (cc none)
+  server_leaves (TakesDown c) none =
+      let both = neither (is_input_of c e.input) (list_any (goes_to c) e.sent) none in
+      downs_stay c (left_out c e.input both.0) both.1
   server_leaves (TakesUp c) none = takes_stay c (left_out c e.input none)
   server_leaves (Loses c) none = losses_stay c (left_out c e.input none)
   server_leaves (Breaks c) none = breaks_stay c (left_out c e.input none)
@@ -125,7 +152,7 @@ module _ (p : Settings) (next : ThreadId → List Event → Option Request) (e :
         (not (ltb (count_inputs (rejoins c) (cond b (record e { node = Client d } ∷ entries_of (Client c) es) (entries_of (Client c) es))) (count_inputs (breaks c) (entries_of Server es))))
         (is_any (cond b (by_sent_up (posted e.clock) e.sent (up_in_flight c es)) (up_in_flight c es)))) (apart_too d c other)
 
-  client_leaves : (d : ℕ) (slot : Slot) → is_touched (Client d) e.input slot ≡ false → is_open p next (at (Client d)) slot ≡ is_open p next es slot
+  client_leaves : (d : ℕ) (slot : Slot) → is_touched (Client d) e.input e.sent slot ≡ false → is_open p next (at (Client d)) slot ≡ is_open p next es slot
   client_leaves d (Acts t) none = acts_stay (Client d) t.client (own_stay d t.client none) t refl
   client_leaves d (Flushes c) none = flushes_stay (Client d) c (own_stay d c none)
   client_leaves d (TakesDown c) none = takes_down_stay d c none
@@ -137,6 +164,6 @@ module _ (p : Settings) (next : ThreadId → List Event → Option Request) (e :
 pub others_stay : OthersStay
 others_stay p next e es slot none = by e.node none
   where
-    by : (node : Node) → is_touched node e.input slot ≡ false → is_open p next (record e { node = node } ∷ es) slot ≡ is_open p next es slot
+    by : (node : Node) → is_touched node e.input e.sent slot ≡ false → is_open p next (record e { node = node } ∷ es) slot ≡ is_open p next es slot
     by Server none = server_leaves p next e es slot none
     by (Client d) none = client_leaves p next e es d slot none

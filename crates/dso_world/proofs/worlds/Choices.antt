@@ -33,21 +33,21 @@ module _ (program : Program) (seed : Option ℕ) (world : World) (stands : OpenS
   law = places_are_chosen (settings_of program) (next_request program.code) world.open_steps.chooser (entries_in world) stands.row seed
 
   -- there are as many flags as steps
-  many : length world.open_steps.chooser.flags ≡ length world.open_steps.steps.items
+  many : length world.open_steps.chooser.flags ≡ length world.open_steps.steps
   many = ap length stands.row.flags ∙ length-map (slots (settings_of program)) (is_open (settings_of program) (next_request program.code) (entries_in world))
-      ∙ ap length (sym stands.steps) ∙ length-map world.open_steps.steps.items slot_of
+      ∙ ap length (sym stands.steps) ∙ length-map world.open_steps.steps slot_of
 
   -- no step is chosen where no place is
-  no_place : (place : Option ℕ) → IfSome place (λ place. place < length world.open_steps.chooser.flags) → option_and_then (slice_get world.open_steps.steps.items) place ≡ None → place ≡ None
+  no_place : (place : Option ℕ) → IfSome place (λ place. place < length world.open_steps.chooser.flags) → option_and_then (slice_get world.open_steps.steps) place ≡ None → place ≡ None
   no_place None there none = refl
-  no_place (Some place) there none = absurd (is_there world.open_steps.steps.items place (omega (arith, there, many)) none)
+  no_place (Some place) there none = absurd (is_there world.open_steps.steps place (omega (arith, there, many)) none)
 
-  pub chosen_step : IsChosenStep program seed (option_and_then (slice_get world.open_steps.steps.items) (chosen_place seed world.open_steps.chooser)) world
+  pub chosen_step : IsChosenStep program seed (option_and_then (slice_get world.open_steps.steps) (chosen_place seed world.open_steps.chooser)) world
   chosen_step = record {
-    slot = told_where slot_of world.open_steps.steps.items (chosen_place seed world.open_steps.chooser)
+    slot = told_where slot_of world.open_steps.steps (chosen_place seed world.open_steps.chooser)
         ∙ ap (λ list. option_and_then (slice_get list) (chosen_place seed world.open_steps.chooser)) stands.steps ∙ law.slot;
     none = (
       λ none. law.none.0 (no_place (chosen_place seed world.open_steps.chooser) within none),
-      λ none. ap (option_and_then (slice_get world.open_steps.steps.items)) (law.none.1 none),
+      λ none. ap (option_and_then (slice_get world.open_steps.steps)) (law.none.1 none),
     );
   }

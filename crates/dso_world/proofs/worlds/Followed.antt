@@ -30,7 +30,7 @@ threads_once : (threads : List ThreadId) → AllPairs IsThreadBefore threads →
 threads_once threads rise = λ i j d less within. before_differs _ _ (rise i j d less within)
 
 module _ (program : Program) (nodes : Nodes) (entry : Entry) (place : ℕ) (old : OpenSteps) (marked : Row) (finished : Bool)
-    (within : place < length old.chooser.flags) (marks : Marks program nodes entry old.steps.items old.chooser marked) (round : KeepsRound old.chooser marked) where
+    (within : place < length old.chooser.flags) (marks : Marks program nodes entry old.steps old.chooser marked) (round : KeepsRound old.chooser marked) where
   -- the place of the round goes on behind the place of the entry's slot
   goes_on : (es : List Entry) → IsSoundProgram program → OpenStepsStand program old es → slice_get (slots (settings_of program)) place ≡ slot_at entry.node entry.input
       → place + 1 ≡ place_behind (slot_at entry.node entry.input) (slots (settings_of program))
@@ -46,7 +46,7 @@ module _ (program : Program) (nodes : Nodes) (entry : Entry) (place : ℕ) (old 
   pub followed : TellsFinished program nodes finished
       → Follows program nodes entry place old (record old { chooser = record marked { begin = place + 1; entries = marked.entries + 1 }; is_finished = finished })
   followed ends = λ es journal nodes_stand stands at.
-      let now : AreFlags program old.steps.items marked (entry ∷ es) = marks es journal nodes_stand (record { listed = stands.steps; flags = stands.row.flags }) in
+      let now : AreFlags program old.steps marked (entry ∷ es) = marks es journal nodes_stand (record { listed = stands.steps; flags = stands.row.flags }) in
       record {
         steps = stands.steps;
         row = record {

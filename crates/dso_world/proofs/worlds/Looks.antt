@@ -67,7 +67,7 @@ own_act p t (c ∷ cs) is = elim (in_either (Acts t) (client_slots p c) (flat_ma
   | inr later ↦ own_act p t cs later
 ]
 
-acts_there : (p : Settings) (t : ThreadId) → list_any (is_slot (Acts t)) (slots p) ≡ true → list_any (is_thread t) (threads_of p t.client) ≡ true
+pub acts_there : (p : Settings) (t : ThreadId) → list_any (is_slot (Acts t)) (slots p) ≡ true → list_any (is_thread t) (threads_of p t.client) ≡ true
 acts_there p t is = elim (in_either (Acts t) (flat_map (client_slots p) (clients_of p) ++ map TakesUp (clients_of p)) (flat_map (λ c. Loses c ∷ Breaks c ∷ []) (clients_of p)) is) [
   | inl first ↦ elim (in_either (Acts t) (flat_map (client_slots p) (clients_of p)) (map TakesUp (clients_of p)) first) [
     | inl own ↦ own_act p t (clients_of p) own

@@ -18,7 +18,7 @@ use Rattle.dso_world.proofs.places.Marking.{told_place}
 
 -- the place of the step among the open steps's
 abbrev pub place_in : Step → OpenSteps → Option ℕ
-place_in step open_steps = position (λ other. is_slot (slot_of step) (slot_of other)) open_steps.steps.items
+place_in step open_steps = position (λ other. is_slot (slot_of step) (slot_of other)) open_steps.steps
 
 -- whether its flag is set
 abbrev pub flag_in : Step → OpenSteps → Bool
@@ -27,7 +27,7 @@ flag_in step open_steps = option_map_or is_set (option_and_then (slice_get open_
 module _ (program : Program) (step : Step) (open_steps : OpenSteps) (es : List Entry) (stands : OpenStepsStand program open_steps es) where
   -- its place is that of its slot
   place_told : place_in step open_steps ≡ position (is_slot (slot_of step)) (slots (settings_of program))
-  place_told = place_of_told slot_of (is_slot (slot_of step)) open_steps.steps.items ∙ ap (position (is_slot (slot_of step))) stands.steps
+  place_told = place_of_told slot_of (is_slot (slot_of step)) open_steps.steps ∙ ap (position (is_slot (slot_of step))) stands.steps
 
   -- a step is open exactly where its flag is set
   pub open_told : list_any (is_slot (slot_of step)) (filter (is_open (settings_of program) (next_request program.code) es) (slots (settings_of program))) ≡ flag_in step open_steps

@@ -6,7 +6,7 @@ use Rattle.dso_world.proofs.opening.open_steps.Given as goal
 
 abbrev pub invariant-loop-place : goal.invariant-loop-place
 invariant-loop-place l = l.chooser ≡ record {
-  flags = map (λ step. is_open (settings_of l.program) (next_request l.program.code) [] (slot_of step)) (take l.place l.steps.items) ++ map (λ step. false) (drop l.place l.steps.items);
+  flags = map (λ step. is_open (settings_of l.program) (next_request l.program.code) [] (slot_of step)) (take l.place l.all) ++ map (λ step. false) (drop l.place l.all);
   begin = 0;
   entries = 0;
 }

@@ -1,5 +1,5 @@
 use Rattle.std.proofs.Common.{sym, subst, arith}
-use Rattle.dso_world.specs.StepUpdates.{Follows, Marks}
+use Rattle.dso_world.specs.StepUpdates.{Follows}
 use Rattle.dso_world.proofs.worlds.Followed.{followed}
 use Rattle.dso_world.proofs.step_update.follow.Goals as goal
 
@@ -13,5 +13,5 @@ pub returns : goal.returns
 returns c = subst (λ chooser. Follows c.args.program.now c.args.nodes.now c.args.entry.now c.args.place c.args.open_steps.now (record { steps = c.args.open_steps.now.steps; chooser = chooser; is_finished = c.is_finished-open_steps.result }))
     (sym c.taken.ensures)
     (followed c.args.program.now c.args.nodes.now c.args.entry.now c.args.place c.args.open_steps.now c.mark.new.chooser c.is_finished-open_steps.result c.requires.place
-    (subst (λ steps. Marks c.args.program.now c.args.nodes.now c.args.entry.now steps c.args.open_steps.now.chooser c.mark.new.chooser) c.as_slice.ensures.value (c.mark.ensures.flags c.args.program.now)) c.mark.ensures.round
+    (c.mark.ensures.flags c.args.program.now) c.mark.ensures.round
     c.is_finished-open_steps.ensures)

@@ -1,29 +1,29 @@
-use Rattle.std.proofs.Common.{◌+◌, sym, ◌∙◌, subst}
-use Rattle.std.proofs.lemmas.List.{length-set}
-use Rattle.std.proofs.lemmas.Option.{slice_get-get_or}
-use Rattle.dso_world.specs.StepUpdates.{KeepsRound}
-use Rattle.dso_world.proofs.places.Marking.{MarkedTo, all_marked, touched_on, untouched_on}
-use Rattle.dso_world.proofs.step_update.mark.Goals.{then-is_touched, else-is_touched}
+use Rattle.std.proofs.Common.{sym, ◌∙◌, ap, subst}
+use Rattle.dso_world.specs.StepUpdates.{IsSentTo, Tells}
+use Rattle.dso_world.specs.Touched.{is_touched}
+use Rattle.dso_world.specs.WorldSteps.{slot_of}
+use Rattle.dso_world.proofs.places.Marking.{all_marked, by_client, by_server}
+use Rattle.dso_world.proofs.places.Telling.{tells_both, tells_fewer}
+use Rattle.dso_world.proofs.touches.Settling.{settles_both, settles_fewer, told_settles}
 use Rattle.dso_world.proofs.step_update.mark.Goals as goal
 
-pub loop-place-preserved : goal.loop-place-preserved
-loop-place-preserved c = elim c.if-is_touched.branch [
-  | then-is_touched w ↦
-      let long = length-set c.loop-place.chooser.flags c.loop-place.place w.is_open.result in
-      record {
-        marked = λ program. subst (MarkedTo program c.args.nodes.now c.args.entry.now c.args.steps.now c.args.chooser.now (c.loop-place.place + 1)) (sym (w.chooser-is ∙ w.set.ensures))
-            (touched_on program c.args.nodes.now c.args.entry.now c.args.steps.now c.args.chooser.now c.loop-place.place c.loop-place.chooser _ w.is_open.result
-            (slice_get-get_or c.args.steps.now c.loop-place.place _ c.loop-place-test.true) (c.loop-place.invariant.marked program) (w.is_open.ensures program) long);
-        round = subst (KeepsRound c.args.chooser.now) (sym (w.chooser-is ∙ w.set.ensures))
-            (record { many = long ∙ c.loop-place.invariant.round.many; begin = c.loop-place.invariant.round.begin; entries = c.loop-place.invariant.round.entries });
-      }
-  | else-is_touched w ↦ record {
-    marked = λ program. subst (MarkedTo program c.args.nodes.now c.args.entry.now c.args.steps.now c.args.chooser.now (c.loop-place.place + 1)) (sym w.chooser-is)
-        (untouched_on program c.args.nodes.now c.args.entry.now c.args.steps.now c.args.chooser.now c.loop-place.place c.loop-place.chooser _
-        (slice_get-get_or c.args.steps.now c.loop-place.place _ c.loop-place-test.true) (c.loop-place.invariant.marked program) (sym c.is_touched.ensures ∙ w.if-is_touched.false));
-    round = subst (KeepsRound c.args.chooser.now) (sym w.chooser-is) c.loop-place.invariant.round;
-  }
-]
+pub returns-in-Server-clause-flags : goal.returns-in-Server-clause-flags
+returns-in-Server-clause-flags c = λ program.
+    let nodes = c.args.nodes.now in
+    let entry = c.args.entry.now in
+    let steps = c.args.steps.now in
+    let old = c.args.chooser.now in
+    let sent = subst (λ sent. Tells nodes steps (IsSentTo sent steps) c.mark_input.new.chooser c.mark_sent.new.chooser) c.as_slice.ensures c.mark_sent.ensures in
+    all_marked program nodes entry steps old c.mark_sent.new.chooser (told_settles nodes entry steps old c.mark_sent.new.chooser (tells_fewer nodes steps old c.mark_sent.new.chooser
+    (λ place touched. by_server steps place entry.input entry.sent touched.0 touched.1 (sym (ap (λ node. is_touched node entry.input entry.sent (slot_of touched.0)) c.in-Server.is) ∙ touched.2))
+    (tells_both nodes steps old c.mark_input.new.chooser c.mark_sent.new.chooser c.mark_input.ensures sent))) c.requires
 
-pub returns-clause-flags : goal.returns-clause-flags
-returns-clause-flags c = λ program. all_marked program c.args.nodes.now c.args.entry.now c.args.steps.now c.args.chooser.now c.loop-place.place c.loop-place.chooser c.loop-place-test.false (c.loop-place.invariant.marked program)
+pub returns-in-Client-clause-flags : goal.returns-in-Client-clause-flags
+returns-in-Client-clause-flags c = λ program.
+    let nodes = c.args.nodes.now in
+    let entry = c.args.entry.now in
+    let steps = c.args.steps.now in
+    let old = c.args.chooser.now in
+    all_marked program nodes entry steps old c.mark_step.new.chooser (settles_fewer nodes entry steps old c.mark_step.new.chooser
+    (λ place touched. by_client steps place c.in-Client.number entry.input entry.sent touched.0 touched.1 (sym (ap (λ node. is_touched node entry.input entry.sent (slot_of touched.0)) c.in-Client.is) ∙ touched.2))
+    (settles_both nodes entry steps old c.mark_own.new.chooser c.mark_step.new.chooser c.mark_own.ensures (told_settles nodes entry steps c.mark_own.new.chooser c.mark_step.new.chooser c.mark_step.ensures))) c.requires
