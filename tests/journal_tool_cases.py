@@ -175,6 +175,12 @@ class Why(Cases):
     def check(self, name, *wanted):
         self.assertEqual(answer('why', name).split('\n'), list(wanted))
 
+    def monitor(self, thing, line, place):
+        """What is told of a monitor: its object was made in this line, and the report lists it at this place."""
+        thread, number = thing.split(' ')
+        return 'm%s: the monitor of object %s, of class 0, made by %s at line %d, #%d of the report' % (
+            number, number, thread, line, place)
+
     def test_circle_of_two_clients(self):
         self.check(
             'crossed_locks',
@@ -182,7 +188,8 @@ class Why(Cases):
             '2.1 is inside since line 100',
             'thread 2.1 waits for m1 at write (asked for it at line 110): c1 has it at write since line 95, '
             '1.1 is inside since line 99',
-            'the circle: 1.1 waits for 2.1, 2.1 waits for 1.1')
+            'the circle: 1.1 waits for 2.1, 2.1 waits for 1.1',
+            self.monitor('1.1 1', 7, 1), self.monitor('2.1 257', 8, 2))
 
     def test_circle_of_three_with_one_behind(self):
         self.check(
@@ -195,7 +202,8 @@ class Why(Cases):
             '1.1 is inside since line 180',
             'thread 4.1 waits for m1 at write (asked for it at line 344): c1 has it at write since line 174, '
             '1.1 is inside since line 180; c3 asked for it before',
-            'the circle: 1.1 waits for 2.1, 2.1 waits for 3.1, 3.1 waits for 1.1')
+            'the circle: 1.1 waits for 2.1, 2.1 waits for 3.1, 3.1 waits for 1.1',
+            self.monitor('1.1 1', 13, 1), self.monitor('2.1 257', 14, 2), self.monitor('3.1 513', 15, 3))
 
     def test_circle_in_one_client_without_a_request(self):
         told = "did its last act at line %d, and the journal doesn't tell what it asks next; " \
@@ -203,30 +211,35 @@ class Why(Cases):
         self.check('own_circle',
                    'thread 1.1 ' + told % (75, 'm3', '1.2', 70),
                    'thread 1.2 ' + told % (78, 'm1', '1.1', 63),
-                   'the circle, where the run stalled: 1.1 waits for 1.2, 1.2 waits for 1.1')
+                   'the circle, where the run stalled: 1.1 waits for 1.2, 1.2 waits for 1.1',
+                   self.monitor('1.1 1', 4, 1), self.monitor('1.1 3', 18, 2))
 
     def test_notification_that_came_before(self):
         self.check('missed_notification',
                    'thread 1.1 waits for a notification of m1 since line 105; '
                    'none came since, the last one before was of 2.1 at line 72',
-                   'thread 2.1 ended at line 78')
+                   'thread 2.1 ended at line 78',
+                   self.monitor('1.1 1', 7, 1))
 
     def test_woken_but_the_monitor_is_held(self):
         self.check('nested_wait',
                    'thread 1.1 waits for m1 at write (asked for it at line 145): c2 has it at write since line 124, '
                    '2.1 is inside since line 126',
-                   'thread 2.1 waits for a notification of m2 since line 140; none came in the whole run')
+                   'thread 2.1 waits for a notification of m2 since line 140; none came in the whole run',
+                   self.monitor('1.1 1', 7, 1), self.monitor('1.1 2', 23, 2))
 
     def test_notification_of_a_lost_client(self):
         self.check('lost_notifier',
                    'thread 1.1 waits for a notification of m1 since line 65; the last one since, of 2.1 at line 111, '
                    'woke nobody: its client was lost at line 104, before its record was taken',
-                   'thread 2.1 ended at line 114, was lost with its client at line 104')
+                   'thread 2.1 ended at line 114, was lost with its client at line 104',
+                   self.monitor('1.1 1', 7, 1))
 
     def test_woken_but_a_thread_beside_is_inside(self):
         self.check('own_wake',
                    'thread 1.1 waits for m1 at write (was woken at line 74), 1.2 is inside since line 71',
-                   'thread 1.2 waits for a notification of m3 since line 82; none came in the whole run')
+                   'thread 1.2 waits for a notification of m3 since line 82; none came in the whole run',
+                   self.monitor('1.1 1', 4, 1), self.monitor('1.1 3', 18, 2))
 
     def test_lease_that_moved_on(self):
         """Client 3 had the lock and gave it back, 1.1 entered it twice and left it once, and 2.1 wants it."""
@@ -247,7 +260,8 @@ class Why(Cases):
             untold % ('1.1', 15),
             'thread 2.1 waits for m5 at write (asked for it at line 16): c1 has it at write since line 11, '
             '1.1 is inside since line 13',
-            untold % ('3.1', 5), 'not held up: 1.1, 3.1; the run was cut off', ''])
+            untold % ('3.1', 5), 'not held up: 1.1, 3.1; the run was cut off',
+            'm5: the monitor of object 5', ''])
 
     def test_resume_gives_back_all_entries(self):
         """1.1 entered the lock twice before its wait, and left it once since."""
@@ -275,6 +289,34 @@ class Why(Cases):
         told = run('why', self.part('nested_wait', 144)).stdout.split('\n')
         self.assertEqual(told[0], 'thread 1.1 wants m1 at write (was woken at line 144), '
                                   'and its client has to ask for it')
+
+    def test_names_of_locks(self):
+        """A thread that waits for the lock of the only root is told of it, and one that waits for a named lock, too."""
+        start = ['1 c1 act 1.1 ; to s fault 0', '1 s took c1 fault 0 ; to c1 object 0 roots 1 null',
+                 '2 c1 took s object 0 roots 1 null']
+        for lock, text in (('n0', 'the lock of root 0, from 0'), ('n3', 'named lock 2, from 0')):
+            told = run('why', self.written(start + ['3 c1 act 1.1 ; to s request %s read' % lock])).stdout.split('\n')
+            self.assertEqual(told[-2], '%s: %s' % (lock, text))
+        told = run('why', self.written(['1 c1 act 1.1 ; to s request n0 read'])).stdout.split('\n')
+        self.assertEqual(told[-2], 'n0: a lock with a name')
+
+    def test_objects_by_a_map(self):
+        """The report numbers what a map has by rising key; an array is told, and a map."""
+        fields = ['false 0 null'] * 256
+        fields[0], fields[1] = 'true 9 r3', 'true -4 r4'
+        record = ('commit 1 1.1 new 3 2 k5 769 %s 2 3 along 1 0 4 k1 1 null set 1 0 0 r2 out 0 note 0 exit n0' %
+                  ' '.join(fields))
+        start = ['1 c1 act 1.1 ; event new k5 769 made 2', '2 c1 act 1.1 ; event new along 1 made 3',
+                 '3 c1 act 1.1 ; to s %s ; event exit n0 done' % record, '4 s took c1 %s ; to c1 ack 1' % record,
+                 '5 c1 took s ack 1']
+        for lock, text in (('m2', 'the monitor of object 2, a map, made by 1.1 at line 1, #1 of the report'),
+                           ('m3', 'the monitor of object 3, an array of long, made by 1.1 at line 2, #3 of the report'),
+                           ('m4', 'the monitor of object 4, #2 of the report')):
+            # all of it was answered: it has the lease, and 1.2 is inside
+            end = ['6 c1 act 1.1 ; to s request %s write' % lock, '6 s took c1 request %s write ; to c1 grant %s write' %
+                   (lock, lock), '7 c1 took s grant %s write' % lock, '8 c1 act 1.2 ; event enter %s write done' % lock]
+            told = run('why', self.written(start + end)).stdout.split('\n')
+            self.assertEqual(told[-2], '%s: %s' % (lock, text))
 
     def test_finished(self):
         self.check('handover', 'thread 1.1 ended at line 94', 'thread 2.1 ended at line 71', 'nobody waits')

@@ -8,6 +8,13 @@ FAULTS = ('', 'NullPointer', 'NoSuchField', 'BadValue', 'BadIndex', 'BadSize', '
           'UnlockedSharedObject', 'WrongLock', 'ReadOnly', 'LockUpgrade', 'IllegalMonitor')
 
 
+class Body(NamedTuple):
+    """An object as it was made, with its class and the words of its values."""
+    object: int
+    kind: str
+    values: Tuple[str, ...]
+
+
 class Message(NamedTuple):
     """A message: its kind, its text, and what it names where its kind names one."""
     kind: str
@@ -20,6 +27,9 @@ class Message(NamedTuple):
     changed: Tuple[int, ...] = ()
     # how the block of a record ended
     ending: str = ''
+    # what a record made, and what it set: object, field and value
+    news: Tuple[Body, ...] = ()
+    sets: Tuple[Tuple[int, int, str], ...] = ()
 
 
 class Event(NamedTuple):
@@ -72,17 +82,15 @@ def nothing(_):
 
 
 def body(words):
-    number = words.object()
-    words.class_word()
-    words.items(words.value)
-    return number
+    return Body(words.object(), words.class_word(), tuple(words.items(words.value)))
+
+
+def set_field(words):
+    return words.object(), words.number('a field'), words.value()
 
 
 def set_object(words):
-    number = words.object()
-    words.number('a field')
-    words.value()
-    return number
+    return set_field(words)[0]
 
 
 def note(words):
@@ -96,9 +104,9 @@ def record(words):
     words.number()
     thread = words.thread()
     words.one_of(('new',))
-    words.items(lambda: body(words))
+    news = words.items(lambda: body(words))
     words.one_of(('set',))
-    changed = words.items(lambda: set_object(words))
+    sets = words.items(lambda: set_field(words))
     words.one_of(('out',))
     words.items(words.value)
     words.one_of(('note',))
@@ -108,7 +116,8 @@ def record(words):
         words.number()
     else:
         lock = words.lock()
-    return {'thread': thread, 'changed': tuple(changed), 'lock': lock, 'ending': ending}
+    return {'thread': thread, 'changed': tuple(number for number, _, _ in sets), 'lock': lock, 'ending': ending,
+            'news': tuple(news), 'sets': tuple(sets)}
 
 
 def returned(words):
@@ -127,7 +136,7 @@ UP = {
 }
 DOWN = {
     'ids': lambda words: nothing(words.number()),
-    'object': lambda words: {'object': body(words)},
+    'object': lambda words: {'object': body(words).object},
     'grant': lambda words: {'lock': words.lock(), 'level': words.level()},
     'recall': lambda words: {'lock': words.lock()},
     'ack': lambda words: nothing(words.number()),

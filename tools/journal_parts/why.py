@@ -1,6 +1,7 @@
 """Why a run stalled, and what a thread did before it faulted."""
 from entries import fault_name
 from history import History
+from legend import legend_lines
 from stall import Stall
 
 # how many of its last events are told of a thread that faulted
@@ -52,12 +53,13 @@ def cut_line(stall):
 
 
 def stall_lines(history):
-    """A line for each thread, the circle, and whether something can still go on."""
+    """A line for each thread, the circle, whether something can still go on, and what the locks are."""
     stall = Stall(history)
     lines = ['thread %s %s' % (thread, thread_text(history, stall, thread)) for thread in history.threads()]
     if not stall.needs:
         return lines + ['nobody waits']
-    return lines + circle_line(stall) + cut_line(stall)
+    lines += circle_line(stall) + cut_line(stall)
+    return lines + legend_lines(history.entries, lines, not stall.under_way)
 
 
 def why(entries):
