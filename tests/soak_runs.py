@@ -32,6 +32,7 @@ def arguments():
     parser.add_argument('--jobs', type=int, default=os.cpu_count() or 1, help='how many side by side')
     parser.add_argument('--program', default=os.path.join(TOP, 'dsorun'), help='the program in place of ./dsorun')
     parser.add_argument('--oracle', default=ORACLE, help='the folder of the other reading')
+    parser.add_argument('--reading', help='a program of the same words that is asked before the other reading')
     parser.add_argument('--no-journal', action='store_true', help='compare no journals')
     parser.add_argument('--keep', help='where programs that differ are kept (a new folder, where left out)')
     return parser.parse_args()
@@ -86,6 +87,24 @@ def by_program(program_file, folder, config, program, options, has_journal, comm
     return ran.returncode, ran.stdout, text
 
 
+def readings(said):
+    """What gives (status, report, journal) by the other reading: a program and, where that differs, the one in Python."""
+    sys.path.insert(0, said.oracle)
+    sys.setrecursionlimit(20000)
+    import main as oracle
+    last = [lambda folder, *given: by_oracle(oracle, *given)]
+    return [lambda *given: by_program(said.reading, *given)] + last if said.reading else last
+
+
+def first_equal(all_readings, ours, given):
+    """What differs from each of the readings, in words, or None where one of them is equal."""
+    for read in all_readings:
+        differs = difference(ours, read(*given))
+        if differs is None:
+            return None
+    return differs
+
+
 def difference(ours, theirs):
     """What differs, in words, or None."""
     parts = [what for what, a, b in zip(('status', 'report', 'journal'), ours, theirs) if a != b]
@@ -95,16 +114,14 @@ def difference(ours, theirs):
 def worker(given):
     """Runs every `jobs`-th program; gives (number, status, what differs, lines of the journal)."""
     said, place, has_journal, results = given
-    sys.path.insert(0, said.oracle)
-    sys.setrecursionlimit(20000)
-    import main as oracle
+    all_readings = readings(said)
     with tempfile.TemporaryDirectory(prefix='soak-') as folder:
         for number in range(said.first + place, said.first + said.count, said.jobs):
             config, program, options = soak_programs.made(said.seed, number)
             try:
-                theirs = by_oracle(oracle, config, program, options, has_journal)
-                ours = by_program(said.program, folder, config, program, options, has_journal)
-                results.put((number, ours[0], difference(ours, theirs), ours[2].count(b'\n')))
+                made = folder, config, program, options, has_journal
+                ours = by_program(said.program, *made)
+                results.put((number, ours[0], first_equal(all_readings, ours, made), ours[2].count(b'\n')))
             except Exception as error:      # one that goes wrong is told like one that differs
                 results.put((number, None, '%s: %s' % (type(error).__name__, error), 0))
     results.put(None)
@@ -172,6 +189,7 @@ def main():
         print('there is no program %s' % said.program)
         return 2
     said.program = os.path.abspath(said.program)
+    said.reading = said.reading and os.path.abspath(said.reading)
     has_journal = not said.no_journal and writes_journals(said.program)
     began, tally, results = time.time(), Tally(), multiprocessing.Queue()
     workers = [multiprocessing.Process(target=worker, args=((said, place, has_journal, results),))
