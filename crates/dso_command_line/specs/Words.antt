@@ -132,8 +132,8 @@ pub record SimCall : Type 0 where
   pub store : Option (List ℕ)
   pub collect : Option ℕ
 
--- what `run` is asked for: the files of a configuration and of a program, how much the journal may weigh, and a file for
--- the journal
+-- what `run` is asked for: the files of a configuration and of a program, how much the journal may weigh, and a file
+-- for the journal
 pub record RunCall : Type 0 where
   pub config : List ℕ
   pub program : List ℕ

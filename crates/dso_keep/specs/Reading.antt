@@ -9,7 +9,8 @@ use Rattle.dso_store.specs.Graph.{body_in, last_in}
 use Rattle.dso_store.specs.declared.store.Store.{Store}
 use Rattle.dso_keep.specs.Disk.{File, bytes_in}
 use Rattle.dso_keep.specs.Packets.{gated, sized}
-use Rattle.dso_keep.specs.Records.{AllFit, FitsGraph, HasPacket, KeptGraph, applied_to, graph_after, opening, packet_of, packets_of}
+use Rattle.dso_keep.specs.Records.{AllFit, FitsGraph, HasPacket, KeptGraph, applied_to, graph_after, opening}
+use Rattle.dso_keep.specs.Records.{packet_of, packets_of}
 use Rattle.dso_keep.specs.declared.kept.Kept.{Kept}
 
 -- the graph that a store of objects has

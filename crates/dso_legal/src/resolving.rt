@@ -95,6 +95,7 @@ pub(crate) fn add_resolved(
 ) -> Result<(), NoMemory>
     ensures { OnOk result (history.new.items ≡ history.old.items ++ resolved block.now (server_state_in lists.now).waiters) }
 {
+    history.reserve(block.len())?;
     let mut gone = BTreeMap::new(alloc);
     for event in block {
         history.push(resolve_event(lists, &mut gone, event)?)?;

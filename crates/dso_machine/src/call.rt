@@ -15,6 +15,7 @@ use crate::on_reply::{enter_monitor, unwanted};
 use crate::operators::{level_of, lookup};
 use crate::{Code, Places};
 use dso_base::{ClassId, Fault, Grade, Items, LockName, NoMemory, Reply, Request, Value};
+use std::alloc::Global;
 use std::mem;
 
 /// So many variables: these values, and then nulls.
@@ -62,6 +63,7 @@ fn enter_named(named: Option<(u32, Grade)>, call: Call) -> Now
 
 /// A method of this number is called. The numbers behind those of the code are those of the map's methods.
 fn call_method(
+    alloc: Global,
     code: &Code,
     frame: &mut Frame,
     object: u64,
@@ -73,7 +75,7 @@ fn call_method(
 {
     let Some(method) = code.methods.get(number as usize) else {
         let place = number as usize - code.methods.len();
-        return Ok(call_map(object, place, args.as_slice()));
+        return call_map(alloc, object, place, args.as_slice());
     };
     if frame.room == 0 {
         return Ok(Step::fail(Fault::StackOverflow));
@@ -81,8 +83,8 @@ fn call_method(
     let vars = variables(method.vars, args)?;
     let below = frame.enter(object, vars);
     let call = Call {
-        method: number,
         object,
+        method: number,
         synced: method.synced,
     };
     Ok(Step::above(enter_named(method.named, call), below))
@@ -90,6 +92,7 @@ fn call_method(
 
 /// An object was seen of which a method is called.
 pub(crate) fn call_seen(
+    alloc: Global,
     code: &Code,
     frame: &mut Frame,
     reply: Reply,
@@ -101,7 +104,7 @@ pub(crate) fn call_seen(
 {
     match reply {
         Reply::Seen(ClassId::Plain(class), _) => match lookup(callees.get().as_slice(), class) {
-            Some(number) => call_method(code, frame, object, number, args),
+            Some(number) => call_method(alloc, code, frame, object, number, args),
             None => Ok(Step::fail(Fault::NoSuchField)),
         },
         Reply::Seen(_, _) => Ok(Step::fail(Fault::NoSuchField)),

@@ -4,7 +4,7 @@ ghost use Rattle.dso_machine.specs.Continuation.{alone, used};
 
 use crate::rest::Rest;
 use crate::{Block, Branch, Expr, FieldRef, Places, Stmt};
-use dso_base::{Fault, Grade, Items, Kind, LockName, NoMemory, Op, Request, Value};
+use dso_base::{Fault, Grade, Items, Kind, LockName, NoMemory, Op, Request, Shared, Value};
 use dso_map::MapCall;
 
 /// The frame of a method, or of the thread's body: the object, the variables, and how many more frames may stand on it.
@@ -26,8 +26,8 @@ pub(crate) enum End {
 /// A method whose frame is the thread's: on which object it is called, and at which grade it takes the object's monitor.
 #[derive(Clone, Copy, Debug)]
 pub(crate) struct Call {
-    pub(crate) method: u32,
     pub(crate) object: u64,
+    pub(crate) method: u32,
     pub(crate) synced: Option<Grade>,
 }
 
@@ -52,7 +52,7 @@ pub(crate) enum Locked {
     /// The body of a method that has its locks.
     Body(u32),
     /// A call of a map.
-    Map(MapCall),
+    Map(Shared<MapCall>),
 }
 
 /// What is written, and into what.
@@ -160,7 +160,7 @@ pub(crate) enum OnReply {
     /// The thread paused before the move.
     Paused(Move),
     /// A call of a map asked something of the map's fields.
-    Map(MapCall),
+    Map(Shared<MapCall>),
 }
 
 /// A task of the continuation: what is still to be done after a part.
@@ -175,7 +175,7 @@ pub(crate) enum Task {
     /// The block of a private object ends: nothing is left.
     Close(LockName),
     /// A call of a map ends: the map and the arguments are held no longer.
-    Mapped(MapCall),
+    Mapped(Shared<MapCall>),
 }
 
 /// What the thread is about to do.

@@ -129,7 +129,7 @@ fn add_task(held: &mut Vec<Value>, task: &Task) -> Result<(), NoMemory>
         Task::Back(frame) => add_with(held, frame.this, frame.vars.as_slice()),
         Task::Leave(lock, _) => add_monitor(held, *lock),
         Task::Close(lock) => add_monitor(held, *lock),
-        Task::Mapped(call) => add_map(held, *call),
+        Task::Mapped(call) => add_map(held, *call.get()),
     }
 }
 

@@ -1,9 +1,10 @@
 //! The machine of a thread: its frame, what it is about to do, and what it has still to do.
-ghost use Rattle.std.specs.Prelude.{◌≡◌, ◌+◌, ◌++◌, ◌<◌, ◌≤◌, ◌↔◌, IfOk, IsTrue, Some, slice_get};
+ghost use Rattle.std.specs.Prelude.{◌≡◌, ◌+◌, ◌++◌, ◌<◌, ◌≤◌, ◌↔◌, IfOk, IsTrue, OnOk, Some, slice_get};
 ghost use Rattle.std.specs.Option.{option_to_list};
 ghost use Rattle.dso_machine.specs.declared.continuation.End.{End};
 ghost use Rattle.dso_machine.specs.declared.continuation.Move.{Move};
 ghost use Rattle.dso_machine.specs.declared.continuation.Now.{Now};
+ghost use Rattle.dso_machine.specs.declared.continuation.OnValue.{OnValue};
 ghost use Rattle.dso_machine.specs.declared.continuation.Task.{Task};
 ghost use Rattle.dso_machine.specs.declared.code.Code.{Code};
 ghost use Rattle.dso_machine.specs.Continuation.{IsAsk, IsSuspended, Keeps, Leads, MakesMove, with_then};
@@ -16,8 +17,8 @@ use crate::continuation::{End, Frame, Move, Now, OnReply, OnValue, Step, Task};
 use crate::evaluate::evaluate;
 use crate::execute::execute;
 use crate::known::known;
-use crate::next_part::{next_argument, next_statement};
-use crate::on_value::use_value;
+use crate::next_part::next_argument;
+use crate::on_value::{turn, use_value};
 use crate::rest::Rest;
 use crate::stack::Stack;
 use crate::{Block, Branch, Code, Expr, Places, Stmt};
@@ -43,7 +44,8 @@ impl Core {
         ensures tasks { IfOk result (λ now. self.new ≡ with_then step.then self.old) }
     {
         let Step { now, then } = step;
-        put_before(&mut self.tasks, then, now)
+        put_before(&mut self.tasks, then)?;
+        Ok(now)
     }
 
     /// A frame ends: the one below is the thread's again. A body that did not return gives null.
@@ -82,9 +84,9 @@ impl Core {
 
     /// An expression begins whose value is used so: where the value is known it is used at once.
     #[tactic(auto, using(crate::proofs::steps::Goes::begins))]
-    fn begin(&mut self, alloc: Global, expr: Branch<Expr>, then: OnValue) -> Result<Now, NoMemory>
-        ensures keeps { IfOk result (λ now. (code : Code) → Keeps code (Now.Evaluate expr) (with_then (Some (Task.Then then)) self.old) now self.new) }
-        ensures lighter { IfOk result (λ now. weigh now self.new ≤ weigh (Now.Evaluate expr) self.old + use_weight then) }
+    fn begin(&mut self, alloc: Global, expr: &Branch<Expr>, then: OnValue) -> Result<Now, NoMemory>
+        ensures keeps { IfOk result (λ now. (code : Code) → Keeps code (Now.Evaluate expr.now) (with_then (Some (Task.Then then)) self.old) now self.new) }
+        ensures lighter { IfOk result (λ now. weigh now self.new ≤ weigh (Now.Evaluate expr.now) self.old + use_weight then) }
         ensures calm { IfOk result (λ now. self.new.moves ≡ self.old.moves) }
     {
         match known(&self.frame, expr.get()) {
@@ -93,7 +95,10 @@ impl Core {
                 discard(then);
                 Ok(Now::Have(End::Fails(fault)))
             }
-            None => self.follow(Step::evaluate(expr, then)),
+            None => {
+                self.tasks.push(Task::Then(then))?;
+                Ok(Now::Evaluate(expr.again()?))
+            }
         }
     }
 
@@ -109,8 +114,11 @@ impl Core {
         ensures calm { IfOk result (λ now. self.new.moves ≡ self.old.moves) }
     {
         match then {
-            Task::Then(then) => self.begin(alloc, expr, then),
-            then => put_before(&mut self.tasks, Some(then), Now::Evaluate(expr)),
+            Task::Then(then) => self.begin(alloc, &expr, then),
+            then => {
+                self.tasks.push(then)?;
+                Ok(Now::Evaluate(expr))
+            }
         }
     }
 
@@ -141,22 +149,38 @@ impl Core {
         let Step { now, then } = step;
         match now {
             Now::Evaluate(expr) => self.evaluate_first(alloc, expr, then),
-            now => put_before(&mut self.tasks, then, now),
+            now => {
+                put_before(&mut self.tasks, then)?;
+                Ok(now)
+            }
+        }
+    }
+
+    /// The value of a part is used, as `use_value` has it; but where statements come next the first of them begins at once, and so does
+    /// an expression whose value is known.
+    fn use_given(&mut self, alloc: Global, value: Value, then: OnValue) -> Result<Now, NoMemory>
+        ensures keeps { IfOk result (λ now. (code : Code) → Keeps code (Now.Have (End.Gives value)) (with_then (Some (Task.Then then)) self.old) now self.new) }
+        ensures lighter { IfOk result (λ now. weigh now self.new < weigh (Now.Have (End.Gives value)) self.old + use_weight then) }
+        ensures calm { IfOk result (λ now. self.new.moves ≡ self.old.moves) }
+    {
+        match then {
+            OnValue::Next(rest) => self.begin_next(alloc, rest),
+            then => {
+                let step = use_value(alloc, &mut self.frame, value, then)?;
+                self.advance(alloc, step)
+            }
         }
     }
 
     /// A part ends whose value is used: a return and a fault pass by.
-    #[tactic(auto, using(crate::proofs::steps::Steps::steps, crate::proofs::steps::Goes::goes))]
+    #[tactic(auto, using(crate::proofs::steps::Steps::steps))]
     fn hand_on(&mut self, alloc: Global, then: OnValue, end: End) -> Result<Now, NoMemory>
         ensures keeps { IfOk result (λ now. (code : Code) → Keeps code (Now.Have end) (with_then (Some (Task.Then then)) self.old) now self.new) }
         ensures lighter { IfOk result (λ now. weigh now self.new < weigh (Now.Have end) self.old + use_weight then) }
         ensures calm { IfOk result (λ now. self.new.moves ≡ self.old.moves) }
     {
         match end {
-            End::Gives(value) => {
-                let step = use_value(alloc, &mut self.frame, value, then)?;
-                self.advance(alloc, step)
-            }
+            End::Gives(value) => self.use_given(alloc, value, then),
             End::Leaves(value) => {
                 discard(then);
                 Ok(Now::Have(End::Leaves(value)))
@@ -230,26 +254,41 @@ impl Core {
         self.advance(alloc, step)
     }
 
-    /// The execution of a statement begins.
-    #[tactic(auto, using(crate::proofs::steps::Goes::goes))]
-    fn begin_statement(&mut self, alloc: Global, statement: Branch<Stmt>) -> Result<Now, NoMemory>
-        ensures keeps { IfOk result (λ then. (code : Code) → Keeps code (Now.Execute statement) self.old then self.new) }
-        ensures lighter { IfOk result (λ then. weigh then self.new < weigh (Now.Execute statement) self.old) }
+    /// The execution of a statement begins. An expression of it whose value is known isn't begun, its value is used at once.
+    #[tactic(auto, using(crate::proofs::forms::Weights::weights))]
+    fn begin_statement(&mut self, alloc: Global, statement: &Stmt) -> Result<Now, NoMemory>
+        ensures keeps { IfOk result (λ then. (code : Code) → Keeps code (Now.Execute statement.now) self.old then self.new) }
+        ensures lighter { IfOk result (λ then. weigh then self.new < weigh (Now.Execute statement.now) self.old) }
         ensures calm { IfOk result (λ then. self.new.moves ≡ self.old.moves) }
     {
-        let step = execute(statement.get())?;
-        self.advance(alloc, step)
+        match statement {
+            Stmt::Assign(variable, value) => self.begin(alloc, value, OnValue::Assign(*variable)),
+            Stmt::Eval(expr) => Ok(Now::Evaluate(expr.again()?)),
+            Stmt::If(test, all, others) => {
+                self.begin(alloc, test, OnValue::If(all.again()?, others.again()?))
+            }
+            Stmt::While(test, body) => Ok(Now::Pace(Move::Turn(test.again()?, body.again()?))),
+            Stmt::Print(value) => self.begin(alloc, value, OnValue::Print),
+            _ => {
+                let step = execute(statement)?;
+                self.advance(alloc, step)
+            }
+        }
     }
 
-    /// The next statement comes, or the end where none is left.
-    #[tactic(auto, using(crate::proofs::steps::Steps::steps))]
-    fn begin_next(&mut self, rest: Rest<Stmt>) -> Result<Now, NoMemory>
+    /// The next statement begins, or the block ends where none is left.
+    fn begin_next(&mut self, alloc: Global, mut rest: Rest<Stmt>) -> Result<Now, NoMemory>
         ensures keeps { IfOk result (λ then. (code : Code) → Keeps code (Now.Run rest) self.old then self.new) }
         ensures lighter { IfOk result (λ then. weigh then self.new < weigh (Now.Run rest) self.old) }
         ensures calm { IfOk result (λ then. self.new.moves ≡ self.old.moves) }
     {
-        let step = next_statement(rest)?;
-        self.follow(step)
+        match rest.pop()? {
+            Some(statement) => {
+                self.tasks.push(Task::Then(OnValue::Next(rest)))?;
+                self.begin_statement(alloc, statement.get())
+            }
+            None => Ok(Now::Have(End::Gives(Value::Null))),
+        }
     }
 
     /// One step, which makes no move.
@@ -265,8 +304,8 @@ impl Core {
             Now::Arguments(callees, object, before, rest) => {
                 self.begin_argument(alloc, callees, object, before, rest)
             }
-            Now::Execute(statement) => self.begin_statement(alloc, statement),
-            Now::Run(rest) => self.begin_next(rest),
+            Now::Execute(statement) => self.begin_statement(alloc, statement.get()),
+            Now::Run(rest) => self.begin_next(alloc, rest),
             Now::Have(end) => self.close(alloc, end),
             Now::Pace(_) | Now::Ask(_, _) | Now::End(_) => unreachable!(),
         }
@@ -286,6 +325,15 @@ impl Core {
         Ok(now)
     }
 
+    /// The condition of a loop has a value: a turn, or the end of the loop.
+    fn turn(&mut self, value: Value, test: Branch<Expr>, body: Block) -> Result<Now, NoMemory>
+        ensures keeps { IfOk result (λ now. (code : Code) → Keeps code (Now.Have (End.Gives value)) (with_then (Some (Task.Then (OnValue.While test body))) self.old) now self.new) }
+        ensures calm { IfOk result (λ now. self.new.moves ≡ self.old.moves) }
+    {
+        let step = turn(value, test, body)?;
+        self.follow(step)
+    }
+
     /// A turn of a loop is made: its condition is evaluated, which stays for the next turn. Where its value is known nothing of it is begun.
     #[tactic(auto, using(crate::proofs::standing::AfterReplies::turned))]
     fn make_turn(&mut self, alloc: Global, test: Branch<Expr>, body: Block) -> Result<Now, NoMemory>
@@ -295,7 +343,7 @@ impl Core {
     {
         self.moves += 1;
         match known(&self.frame, test.get()) {
-            Some(Ok(value)) => self.use_value(alloc, value, OnValue::While(test, body)),
+            Some(Ok(value)) => self.turn(value, test, body),
             Some(Err(fault)) => {
                 discard((test, body));
                 Ok(Now::Have(End::Fails(fault)))
@@ -355,19 +403,14 @@ impl Core {
     }
 }
 
-/// The task, if there is one, is put on top of the others; and then the rest is there.
-fn put_before<N: Drop, T: Drop>(
-    tasks: &mut Stack<T>,
-    then: Option<T>,
-    now: N,
-) -> Result<N, NoMemory>
-    ensures now { IfOk result (λ rest. rest ≡ now) }
-    ensures tasks { IfOk result (λ rest. tasks.new ≡ option_to_list then ++ tasks.old) }
+/// The task, if there is one, is put on top of the others.
+fn put_before<T: Drop>(tasks: &mut Stack<T>, then: Option<T>) -> Result<(), NoMemory>
+    ensures { OnOk result (tasks.new ≡ option_to_list then ++ tasks.old) }
 {
     if let Some(task) = then {
         tasks.push(task)?;
     }
-    Ok(now)
+    Ok(())
 }
 
 /// What is no longer needed.

@@ -4,12 +4,12 @@ ghost use Rattle.dso_machine.specs.declared.code.Code.{Code};
 ghost use Rattle.dso_machine.specs.declared.continuation.Frame.{Frame};
 ghost use Rattle.dso_machine.specs.declared.continuation.Now.{Now};
 ghost use Rattle.dso_machine.specs.Continuation.{Opens};
-ghost use Rattle.dso_machine.specs.Weight.{arguments_weight, block_weight, step_weight};
+ghost use Rattle.dso_machine.specs.Weight.{arguments_weight, step_weight};
 
-use crate::continuation::{Now, OnReply, OnValue, Step, Task};
+use crate::continuation::{OnReply, OnValue, Step};
 use crate::on_value::object_of;
 use crate::rest::Rest;
-use crate::{Expr, Places, Stmt};
+use crate::{Expr, Places};
 use dso_base::{Items, NoMemory, Request, Value};
 
 /// The next argument, or the call where none is left.
@@ -32,19 +32,5 @@ pub(crate) fn next_argument(
             Ok(Step::ask(Request::Look(object), call))
         }
         Err(fault) => Ok(Step::fail(fault)),
-    }
-}
-
-/// The next statement, or the end where none is left.
-pub(crate) fn next_statement(mut rest: Rest<Stmt>) -> Result<Step, NoMemory>
-    ensures opens { IfOk result (λ step. (code : Code) (frame : Frame) → Opens code (Now.Run rest) frame step) }
-    ensures lighter { IfOk result (λ step. step_weight step < block_weight rest) }
-{
-    match rest.pop()? {
-        Some(statement) => Ok(Step {
-            now: Now::Execute(statement),
-            then: Some(Task::Then(OnValue::Next(rest))),
-        }),
-        None => Ok(Step::give(Value::Null)),
     }
 }

@@ -17,6 +17,7 @@ use crate::rest::Rest;
 use crate::{Code, FieldRef};
 use dso_base::{ClassId, Fault, Grade, Kind, LockName, NoMemory, Reply, Request, Value};
 use dso_reply::{AfterExit, AfterWait, Binding, after_exit, after_tick, after_wait, binding_of};
+use std::alloc::Global;
 
 /// A reply that isn't the one that is wanted: a refusal is its fault.
 pub(crate) fn unwanted(reply: Reply) -> Step
@@ -294,6 +295,7 @@ fn put_element_seen(reply: Reply, object: u64, index: i64, value: Value) -> Step
 
 /// A reply is there.
 pub(crate) fn hear(
+    alloc: Global,
     code: &Code,
     frame: &mut Frame,
     reply: Reply,
@@ -308,7 +310,7 @@ pub(crate) fn hear(
         OnReply::Field(object, field) => Ok(field_seen(reply, object, field)),
         OnReply::Element(object, index) => Ok(element_seen(reply, object, index)),
         OnReply::Call(object, callees, args) => {
-            call_seen(code, frame, reply, object, callees, args)
+            call_seen(alloc, code, frame, reply, object, callees, args)
         }
         OnReply::PutField(object, field, value) => {
             Ok(put_field_seen(code, reply, object, field, value))
@@ -324,6 +326,6 @@ pub(crate) fn hear(
         OnReply::Ticked(lock, ticks) => Ok(ticked(reply, lock, ticks)),
         OnReply::TimedOut(lock) => Ok(timed_out(reply, lock)),
         OnReply::Paused(then) => Ok(paused(reply, then)),
-        OnReply::Map(call) => Ok(map_heard(reply, call)),
+        OnReply::Map(call) => map_heard(alloc, reply, call),
     }
 }

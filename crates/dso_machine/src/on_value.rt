@@ -18,7 +18,9 @@ use crate::continuation::{
 use crate::operators::{binary, level_of, takes, unary};
 use crate::rest::Rest;
 use crate::{Block, Branch, Expr, FieldRef};
-use dso_base::{ClassId, Fault, Grade, Items, Kind, Level, LockName, NoMemory, Op, Request, Value};
+use dso_base::{
+    ClassId, Fault, Grade, Items, Kind, Level, LockName, NoMemory, Op, Request, Value,
+};
 use std::alloc::Global;
 use std::mem;
 
@@ -194,7 +196,7 @@ fn choose(test: Value, all: Block, others: Block) -> Step
 }
 
 /// A turn of a loop, or its end.
-fn turn(test: Value, again: Branch<Expr>, body: Block) -> Result<Step, NoMemory>
+pub(crate) fn turn(test: Value, again: Branch<Expr>, body: Block) -> Result<Step, NoMemory>
     ensures uses { IfOk result (λ step. (code : Code) (frame : Frame) → Uses code (OnValue.While again body) test frame step frame) }
     ensures lighter { IfOk result (λ step. step_weight step < block_weight body + 3) }
 {

@@ -89,7 +89,7 @@ impl Thread {
         ensures out { IfOk result (λ request. asked self.new ≡ Some request) }
     {
         let due = mem::replace(&mut self.due, Due::Over);
-        let begun = resume(&mut self.core, code, due)?;
+        let begun = resume(&mut self.core, alloc, code, due)?;
         let now = self.core.go(alloc, code, begun)?;
         let request = request_of(&now);
         put_in(&mut self.due, Due::Going(now));
@@ -151,22 +151,28 @@ fn find_body(bodies: &[ThreadBody], thread: ThreadId) -> Option<&ThreadBody>
 }
 
 /// What the thread is about to do, after the reply that is there was taken.
-fn resume(core: &mut Core, code: &Code, due: Due) -> Result<Now, NoMemory>
+fn resume(core: &mut Core, alloc: Global, code: &Code, due: Due) -> Result<Now, NoMemory>
     requires goes { is_over due → ⊥ }
     ensures { IfOk result (λ now. Resumes code.now due core.old now core.new) }
 {
     match due {
         Due::Going(now) => Ok(now),
-        Due::Heard(reply, on) => hear_reply(core, code, reply, on),
+        Due::Heard(reply, on) => hear_reply(core, alloc, code, reply, on),
         Due::Over => unreachable!(),
     }
 }
 
 /// The reply that is there is taken.
-fn hear_reply(core: &mut Core, code: &Code, reply: Reply, on: OnReply) -> Result<Now, NoMemory>
+fn hear_reply(
+    core: &mut Core,
+    alloc: Global,
+    code: &Code,
+    reply: Reply,
+    on: OnReply,
+) -> Result<Now, NoMemory>
     ensures { IfOk result (λ now. Resumes code.now (Due.Heard reply on) core.old now core.new) }
 {
-    let step = hear(code, &mut core.frame, reply, on)?;
+    let step = hear(alloc, code, &mut core.frame, reply, on)?;
     core.follow(step)
 }
 

@@ -9,3 +9,4 @@ pub mod Notifications
 pub mod NewAndPut
 pub mod PastPlaces
 pub mod Unchanged
+pub mod Printed

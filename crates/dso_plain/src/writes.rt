@@ -27,7 +27,10 @@ pub(crate) fn print(
     ensures state { OnOk result (state_of tables.new ≡ record (state_of tables.old) { output = written (writes (is_thread thread) (λ _. value ∷ (state_of tables.old).output thread)) (state_of tables.old).output }) }
     ensures agrees { OnOk result (IndexesAgree tables.new) }
 {
-    push_at(alloc, &mut tables.output, thread, value)?;
+    match tables.output.get_mut(&thread) {
+        Some(printed) => printed.push(value)?,
+        None => push_at(alloc, &mut tables.output, thread, value)?,
+    }
     Ok(())
 }
 

@@ -1,4 +1,4 @@
--- That what the calls make are entries of the server rule, which entries change nothing, and which servers lack nothing.
+-- That what the calls make are entries of the server rule, which entries change nothing, which servers lack nothing.
 use Rattle.std.specs.Prelude.{ℕ, ◌≡◌, true, false, List, ◌∷◌}
 use Rattle.dso_base.specs.declared.journal.Entry.{Entry}
 use Rattle.dso_base.specs.declared.journal.Sent.{Sent}

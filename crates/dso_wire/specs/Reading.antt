@@ -1,5 +1,6 @@
 -- Reading from the front, with the first fault that is met.
-use Rattle.std.specs.Prelude.{◌≡◌, ◌==◌, ℕ, ℤ, zero, suc, List, [], ◌∷◌, length, take, drop, Result, Ok, Err, nat_lt, Bool, true, false, Option, Some, None, leb, ◌&&◌, if◌then◌else◌}
+use Rattle.std.specs.Prelude.{◌≡◌, ◌==◌, ℕ, ℤ, zero, suc, List, [], ◌∷◌, length, take, drop, Result, Ok, Err, nat_lt}
+use Rattle.std.specs.Prelude.{Bool, true, false, Option, Some, None, leb, ◌&&◌, if◌then◌else◌}
 use Rattle.std.specs.Int.{Width, w32, w64, byte_len, from_be_bytes, cast_signed}
 use Rattle.dso_base.specs.declared.lock.Level.{Level}
 use Rattle.dso_base.specs.declared.lock.Level.TheVariants.{Read, Write}

@@ -10,6 +10,7 @@ use Rattle.dso_base.proofs.op.Op.TheSendSync as op
 use Rattle.dso_base.proofs.request.Fault.TheSendSync as fault
 use Rattle.dso_base.proofs.request.Reply.TheSendSync as reply
 use Rattle.dso_base.proofs.request.Request.TheSendSync as request
+use Rattle.dso_base.proofs.shared.Shared.TheSendSync as shared
 use Rattle.dso_base.proofs.value.Kind.TheSendSync as kind
 use Rattle.dso_base.proofs.value.Value.TheSendSync as value
 use Rattle.dso_map.proofs.map_call.MapCall.TheSendSync as map_call
@@ -38,7 +39,7 @@ move_send : IsSend move.the_row
 move_send = variants_send move.enum (search (as_row_send, as_row_sync, sendable, expr_send, expr_sync, stmt_send, stmt_sync, branch.the_send, branch.the_sync, items.the_send, items.the_sync) depth 20)
 
 locked_send : IsSend locked.the_row
-locked_send = variants_send locked.enum (search (as_row_send, as_row_sync, sendable, stmt_send, stmt_sync, branch.the_send, branch.the_sync, items.the_send, items.the_sync, value.the_field_send, call.the_field_send, map_call.the_field_send) depth 20)
+locked_send = variants_send locked.enum (search (as_row_send, as_row_sync, sendable, stmt_send, stmt_sync, branch.the_send, branch.the_sync, items.the_send, items.the_sync, value.the_field_send, call.the_field_send, map_call.the_field_send, map_call.the_field_sync, shared.the_send) depth 20)
 
 writing_send : IsSend writing.the_row
 writing_send = variants_send writing.enum (search (as_row_send, as_row_sync, sendable, expr_send, expr_sync, branch.the_send, value.the_field_send, field_ref.the_field_send) depth 20)
@@ -52,11 +53,11 @@ on_value_send = variants_send on_value.enum
 
 on_reply_send : IsSend on_reply.the_row
 on_reply_send = variants_send on_reply.enum
-    (search (as_row_send, as_row_sync, sendable, locked_send, move_send, places_send, items.the_send, value.the_field_send, field_ref.the_field_send, lock_name.the_field_send, grade.the_field_send, end.the_field_send, map_call.the_field_send) depth 20)
+    (search (as_row_send, as_row_sync, sendable, locked_send, move_send, places_send, items.the_send, value.the_field_send, field_ref.the_field_send, lock_name.the_field_send, grade.the_field_send, end.the_field_send, map_call.the_field_send, map_call.the_field_sync, shared.the_send) depth 20)
 
 task_send : IsSend task.the_row
 task_send = variants_send task.enum
-    (search (as_row_send, as_row_sync, sendable, on_value_send, frame.the_field_send, lock_name.the_field_send, grade.the_field_send, map_call.the_field_send) depth 20)
+    (search (as_row_send, as_row_sync, sendable, on_value_send, frame.the_field_send, lock_name.the_field_send, grade.the_field_send, map_call.the_field_send, map_call.the_field_sync, shared.the_send) depth 20)
 
 now_send : IsSend now.the_row
 now_send = variants_send now.enum

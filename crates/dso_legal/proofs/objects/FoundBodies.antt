@@ -7,7 +7,6 @@ use Rattle.std.proofs.lemmas.Bool.Decides.{nat_tests}
 use Rattle.dso_base.specs.declared.record.Body.{Body}
 use Rattle.dso_base.specs.declared.shape.Shape.{Shape}
 use Rattle.dso_base.specs.declared.value.ClassId.{ClassId}
-use Rattle.dso_base.specs.declared.value.Kind.{Kind}
 use Rattle.dso_base.specs.declared.value.Value.{Value}
 use Rattle.dso_base.specs.Shape.{kind_of}
 use Rattle.dso_base.specs.Block as block

@@ -1,5 +1,5 @@
 -- A step, and what it goes on to at once.
-use Rattle.std.proofs.Common.{◌≡◌, ◌∷◌, ◌++◌, List, Option, Some, None, ◌+◌, ◌<◌, ◌≤◌, ap, sym, subst, arith}
+use Rattle.std.proofs.Common.{◌≡◌, ◌∷◌, ◌++◌, List, Option, Some, None, ◌+◌, ◌<◌, ◌≤◌, refl, ap, sym, subst, arith}
 use Rattle.std.specs.Option.{option_to_list}
 use Rattle.std.specs.Prelude.{Result, Ok, Err, IfOk}
 use Rattle.dso_base.specs.declared.no_memory.NoMemory.{NoMemory}
@@ -19,7 +19,7 @@ use Rattle.dso_machine.specs.declared.continuation.Task.{Task}
 use Rattle.dso_machine.specs.declared.continuation.Task.TheVariants as task
 use Rattle.dso_machine.specs.declared.tree.Expr.{Expr}
 use Rattle.dso_machine.specs.declared.tree.Stmt.{Stmt}
-use Rattle.dso_machine.specs.Continuation.{Opens, Executes, Uses, Keeps, MakesMove, with_then}
+use Rattle.dso_machine.specs.Continuation.{Opens, Executes, Uses, Keeps, MakesMove, alone, used, with_then}
 use Rattle.dso_machine.specs.KnownValues.{Knows}
 use Rattle.dso_machine.specs.Limits.{most_moves}
 use Rattle.dso_machine.specs.Weight.{weigh, now_weight, task_weight, tasks_weight, step_weight}
@@ -96,28 +96,50 @@ turned_to_fault code a x fault core few h =
     moves_on code _ _ _ _ _ _ (turned_on code core a x few) (fault_passes code a fault (then.While a x) (record core { moves = core.moves + 1 }) (record { knows = h.knows }))
 
 -- a task that may be there is put on top, and what comes before it stays
-pub put_on : (a : Now) (t : Option Task) (core : Core) (result : Result Now NoMemory) (tasks : List Task) → IfOk result (λ b. b ≡ a)
-    → IfOk result (λ b. tasks ≡ option_to_list t ++ core.tasks) → IfOk result (λ b. (code : Code) → Keeps code a (with_then t core) b (record core { tasks = tasks }))
-put_on a None core (Ok b) tasks is at = λ code.
-    subst (λ x. Keeps code a core x (record core { tasks = tasks })) (sym is) (subst (λ ts. Keeps code a core a (record core { tasks = ts })) (sym at) (keeps_same code a core))
-put_on a (Some t) core (Ok b) tasks is at = λ code.
+pub put_on : (a : Now) (t : Option Task) (core : Core) (tasks : List Task) → tasks ≡ option_to_list t ++ core.tasks
+    → (code : Code) → Keeps code a (with_then t core) a (record core { tasks = tasks })
+put_on a None core tasks at = λ code. subst (λ ts. Keeps code a core a (record core { tasks = ts })) (sym at) (keeps_same code a core)
+put_on a (Some t) core tasks at = λ code.
     let on : Core = record core { tasks = t ∷ core.tasks } in
-    subst (λ x. Keeps code a on x (record core { tasks = tasks })) (sym is) (subst (λ ts. Keeps code a on a (record core { tasks = ts })) (sym at) (keeps_same code a on))
-put_on a t core (Err e) tasks is at = tt
+    subst (λ ts. Keeps code a on a (record core { tasks = ts })) (sym at) (keeps_same code a on)
 
 -- what was put on top weighs what the step weighs
-pub put_weighs : (a : Now) (t : Option Task) (core : Core) (result : Result Now NoMemory) (tasks : List Task) → IfOk result (λ b. b ≡ a)
-    → IfOk result (λ b. tasks ≡ option_to_list t ++ core.tasks)
-    → IfOk result (λ b. weigh b (record core { tasks = tasks }) ≤ step_weight (record { now = a; then = t }) + tasks_weight core.tasks)
-put_weighs a None core (Ok b) tasks is at =
-    let x : now_weight b ≡ now_weight a = ap now_weight is in
+pub put_weighs : (a : Now) (t : Option Task) (core : Core) (tasks : List Task) → tasks ≡ option_to_list t ++ core.tasks
+    → weigh a (record core { tasks = tasks }) ≤ step_weight (record { now = a; then = t }) + tasks_weight core.tasks
+put_weighs a None core tasks at =
     let y : tasks_weight tasks ≡ tasks_weight core.tasks = ap tasks_weight at in
     omega arith
-put_weighs a (Some t) core (Ok b) tasks is at =
-    let x : now_weight b ≡ now_weight a = ap now_weight is in
+put_weighs a (Some t) core tasks at =
     let y : tasks_weight tasks ≡ task_weight t + tasks_weight core.tasks = ap tasks_weight at in
     omega arith
-put_weighs a t core (Err e) tasks is at = tt
+
+-- a value is used in whatever frame, and what comes of the step is followed
+pub uses_followed : (t : OnValue) (v : Value) (core : Core) (step : Step) (result : Result Now NoMemory) (next : Core)
+    → ((code : Code) (frame : Frame) → Uses code t v frame step frame) → IfOk result (λ b. b ≡ step.now)
+    → IfOk result (λ b. next ≡ with_then step.then core)
+    → IfOk result (λ b. (code : Code) → Keeps code (now.Have (end.Gives v)) (with_then (Some (task.Then t)) core) b next)
+uses_followed t v core step (Ok b) next uses is at = λ code.
+    let on : Core = record core { tasks = task.Then t ∷ core.tasks } in
+    subst (λ x. Keeps code (now.Have (end.Gives v)) on x next) (sym is)
+    (subst (λ x. Keeps code (now.Have (end.Gives v)) on step.now x) (sym at) (uses_keep code t v core step core.frame (uses code core.frame)))
+uses_followed t v core step (Err e) next uses is at = tt
+
+-- statements that come next begin, if there is memory
+pub next_goes : (v : Value) (ss : List Stmt) (core : Core) (result : Result Now NoMemory) (next : Core)
+    → IfOk result (λ b. (code : Code) → Keeps code (now.Run ss) core b next)
+    → IfOk result (λ b. (code : Code) → Keeps code (now.Have (end.Gives v)) (with_then (Some (task.Then (then.Next ss))) core) b next)
+next_goes v ss core (Ok b) next k = λ code.
+    uses_on code (then.Next ss) v core (alone (now.Run ss)) core.frame b next (record { uses = λ n k m u rs. refl }) (k code)
+next_goes v ss core (Err e) next k = tt
+
+-- the first of some statements begins, and the others come after it
+pub first_goes : (ss : List Stmt) (s : Stmt) (rest : List Stmt) (core : Core) (tasks : List Task) (result : Result Now NoMemory) (next : Core) → ss ≡ s ∷ rest
+    → tasks ≡ task.Then (then.Next rest) ∷ core.tasks
+    → IfOk result (λ b. (code : Code) → Keeps code (now.Execute s) (record core { tasks = tasks }) b next)
+    → IfOk result (λ b. (code : Code) → Keeps code (now.Run ss) core b next)
+first_goes ss s rest core tasks (Ok b) next is at k = λ code.
+    rw is (opens_on code (now.Run (s ∷ rest)) core (used (now.Execute s) (then.Next rest)) b next (record { opens = λ n k m u rs. refl }) (rw at at (k code)))
+first_goes ss s rest core tasks (Err e) next is at k = tt
 
 -- a part is begun, and goes on if there is memory
 pub opens_goes : (a : Now) (core : Core) (step : Step) (result : Result Now NoMemory) (next : Core) → ((code : Code) → Opens code a core.frame step)

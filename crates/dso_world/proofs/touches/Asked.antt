@@ -12,27 +12,24 @@ use Rattle.dso_plain.proofs.keys.SameKeys.{number_self, same_number, same_thread
 use Rattle.dso_class.specs.declared.program.Program.{Program}
 use Rattle.dso_client.specs.Threads.{IsNextRequest}
 use Rattle.dso_law.specs.Entries.{entries_of}
-use Rattle.dso_law.specs.Settings.{Settings, clients_of, threads_of}
+use Rattle.dso_law.specs.Settings.{Settings, clients_of}
 use Rattle.dso_legal.specs.Lawful.{ClientFollows, NodeFollows}
-use Rattle.dso_legal.specs.Slots.{Acts, is_open, slots}
+use Rattle.dso_legal.specs.Slots.{Acts, is_open}
 use Rattle.dso_legal.proofs.blocks.OwnActs.{next_act}
 use Rattle.dso_machine.specs.Next.{next_request}
 use Rattle.dso_open_law.specs.FewTouched.{few_topics}
-use Rattle.dso_open_law.specs.TouchedThreads.{Topic, is_topic, topic, acts}
+use Rattle.dso_open_law.specs.TouchedThreads.{is_topic, topic, acts}
 use Rattle.dso_open_law.proofs.sound.FewTouched.{few_are_touched}
 use Rattle.dso_open_law.proofs.threads.Journals.{only_actors}
 use Rattle.dso_world.specs.declared.client_node.ClientNode.{ClientNode}
 use Rattle.dso_world.specs.declared.nodes.Nodes.{Nodes}
-use Rattle.dso_world.specs.declared.step.Step.{Step}
 use Rattle.dso_world.specs.declared.step.Step.TheVariants as step
 use Rattle.dso_world.specs.declared.touched_threads.Touches.{Touches}
-use Rattle.dso_world.specs.AskedAgain.{HasTouched, IsOfCluster, Stays, TellsActor, TellsNext, next_of}
-use Rattle.dso_world.specs.ChosenSlot.{is_slot}
-use Rattle.dso_world.specs.ClientSteps.{IsJournal}
+use Rattle.dso_world.specs.AskedAgain.{HasTouched, Stays, TellsActor, TellsNext, next_of}
 use Rattle.dso_world.specs.EntryTouches.{AreAsked, Covers, has}
-use Rattle.dso_world.specs.NodesStand.{ClientNodeStands, NodesStand}
+use Rattle.dso_world.specs.NodesStand.{ClientNodeStands}
 use Rattle.dso_world.specs.Touched.{is_touched}
-use Rattle.dso_world.specs.WorldSteps.{settings_of, slot_of}
+use Rattle.dso_world.specs.WorldSteps.{settings_of}
 use Rattle.dso_world.proofs.places.Clients.{numbered_so, of_a_client}
 use Rattle.dso_world.proofs.premises.SoundPrograms.{IsOfSoundProgram, sound_code}
 use Rattle.dso_world.proofs.slots.OthersStay.{others_stay}

@@ -1,4 +1,4 @@
-use Rattle.std.proofs.Common.{◌≡◌, Some, sym, ◌∙◌, subst}
+use Rattle.std.proofs.Common.{◌≡◌, Some, sym, subst}
 use Rattle.std.specs.BTreeMap.{is_at}
 use Rattle.dso_lookup.specs.Maps.{look, writes, written}
 use Rattle.dso_lookup.specs.Orders.{thread_order}

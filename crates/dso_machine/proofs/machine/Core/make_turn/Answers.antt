@@ -3,8 +3,8 @@ use Rattle.dso_machine.proofs.machine.Core.make_turn.Goals as goal
 
 pub returns-in-Some-Ok-clause-makes : goal.returns-in-Some-Ok-clause-makes
 returns-in-Some-Ok-clause-makes c =
-    turned_at_once c.args.test c.args.body c.in-Some-Ok.value c.args.self.now c.use_value.result c.use_value.new.self c.requires
-    (rw c.get.ensures at (rw c.in-Some-Ok.field-0-is at c.in-Some-Ok.ensures.knows)) c.use_value.ensures.keeps
+    turned_at_once c.args.test c.args.body c.in-Some-Ok.value c.args.self.now c.turn.result c.turn.new.self c.requires
+    (rw c.get.ensures at (rw c.in-Some-Ok.field-0-is at c.in-Some-Ok.ensures.knows)) c.turn.ensures.keeps
 
 pub returns-in-Some-Err-clause-makes : goal.returns-in-Some-Err-clause-makes
 returns-in-Some-Err-clause-makes c =
