@@ -22,10 +22,11 @@ IsEnabled kept index answer = (code : Code) (p : Settings) (c : ℕ) (es : List 
     → list_any (is_thread (thread_at c index)) (threads_of p c) ≡ true
     → answer ≡ may_act p c (next_in (next_request code) es) (thread_at c index) es
 
--- The request is, whatever entries the client stands for, the next one of its thread of this index behind them; None where
--- that has ended.
+-- The request is, whatever entries the client stands for, the next one of its thread of this index behind them; None
+-- where that has ended.
 abbrev pub IsNextRequest : ClientState → ℕ → Option Request → Type 0
-IsNextRequest kept index request = (code : Code) (p : Settings) (c : ℕ) (es : List Entry) → ClientStands code p c kept es
+IsNextRequest kept index request =
+    (code : Code) (p : Settings) (c : ℕ) (es : List Entry) → ClientStands code p c kept es
     → list_any (is_thread (thread_at c index)) (threads_of p c) ≡ true
     → request ≡ next_in (next_request code) es (thread_at c index)
 

@@ -1,3 +1,4 @@
+//! A program as the machine runs it: its methods, the bodies of its threads, and the shape of its classes.
 use crate::Block;
 use dso_base::{Grade, Items, Shape, ThreadId};
 

@@ -1,6 +1,7 @@
--- Fewer topics are touched in a lawful journal of a sound program: a thread that is marked awaits at most the lock of its
--- notification, and a field that is set had a value before. So what an entry touches goes by the entry, by which lease
--- the acting thread closes before and after it, and by whose record is acknowledged. Entries stand with the newest first.
+-- Fewer topics are touched in a lawful journal of a sound program: a thread that is marked awaits at most the lock of
+-- its notification, and a field that is set had a value before. So what an entry touches goes by the entry, by which
+-- lease the acting thread closes before and after it, and by whose record is acknowledged. Entries stand with the
+-- newest first.
 use Rattle.std.specs.List.{list_any}
 use Rattle.std.specs.Prelude.{ℕ, ◌≡◌, Bool, true, false, eqb, ltb, ◌&&◌, ◌||◌, is_some, Option, Some, None, List, []}
 use Rattle.std.specs.Prelude.{◌∷◌, ◌++◌, flat_map}
@@ -66,8 +67,8 @@ abbrev pub is_field_of : ℕ → Option (ClassId × ℕ) → Bool
 is_field_of f None = false
 is_field_of f (Some class) = ltb f class.1
 
--- what a client's entries tell of its waiters: who is in its list of a lock is one of its threads and waits on the lock;
--- and who waits asks only what waiters ask, of that lock. The next request of each thread is an argument.
+-- what a client's entries tell of its waiters: who is in its list of a lock is one of its threads and waits on the
+-- lock; and who waits asks only what waiters ask, of that lock. The next request of each thread is an argument.
 pub record WaitersAreKnown (c : ℕ) (next : ThreadId → Option Request) (es : List Entry) : Type 0 where
   pub listed : (t : ThreadId) (l : LockName) → is_listed t l es ≡ true
       → (t.client ≡ c) × IsWaitingOn l (locks_of t es).waiting
@@ -79,8 +80,8 @@ pub record WaitersAreKnown (c : ℕ) (next : ThreadId → Option Request) (es : 
 abbrev pub CopiesAreWhole : List Entry → Type 0
 CopiesAreWhole es = (o f : ℕ) → is_some (copy_of o f es) ≡ (is_resident o es && is_field_of f (class_held o es))
 
--- Few may act otherwise: where the client rule allows the entry, the waiters are known and copies are whole, a thread of
--- the client that isn't one of these may act after it exactly where it might before.
+-- Few may act otherwise: where the client rule allows the entry, the waiters are known and copies are whole, a thread
+-- of the client that isn't one of these may act after it exactly where it might before.
 abbrev pub FewActOtherwise : Type 0
 FewActOtherwise = (p : Settings) (c : ℕ) (before after : ThreadId → Option Request) (e : Entry) (es : List Entry)
     (t : ThreadId)

@@ -1,5 +1,5 @@
--- The law of journals: whether a thread's slot is open, an entry of its client changes only where it touches the thread.
--- Entries stand with the newest first.
+-- The law of journals: whether a thread's slot is open, an entry of its client changes only where it touches the
+-- thread. Entries stand with the newest first.
 use Rattle.std.specs.Prelude.{◌≡◌, false, Option, List, ◌∷◌}
 use Rattle.dso_base.specs.declared.journal.Entry.{Entry}
 use Rattle.dso_base.specs.declared.journal.Node.TheVariants.{Client}
@@ -12,8 +12,8 @@ use Rattle.dso_legal.specs.Lawful.{next_after}
 use Rattle.dso_legal.specs.Slots.{Acts, is_open}
 use Rattle.dso_open_law.specs.TouchedThreads.{touches_thread}
 
--- Other threads stay: whatever the journal and the program are, the slot of a thread that an entry of its client doesn't
--- touch is open with the entry exactly where it was open before.
+-- Other threads stay: whatever the journal and the program are, the slot of a thread that an entry of its client
+-- doesn't touch is open with the entry exactly where it was open before.
 abbrev pub OtherThreadsStay : Type 0
 OtherThreadsStay = (p : Settings) (next : ThreadId → List Event → Option Request) (e : Entry) (es : List Entry)
     (t : ThreadId) → e.node ≡ Client t.client

@@ -1,5 +1,5 @@
--- The law of one client: an entry changes for no thread that it doesn't touch whether it may act. Entries stand with the
--- newest first.
+-- The law of one client: an entry changes for no thread that it doesn't touch whether it may act. Entries stand with
+-- the newest first.
 use Rattle.std.specs.Prelude.{ℕ, ◌≡◌, true, false, eqb, Option, List, ◌∷◌}
 use Rattle.dso_base.specs.declared.journal.Entry.{Entry}
 use Rattle.dso_base.specs.declared.lock.ThreadId.{ThreadId}

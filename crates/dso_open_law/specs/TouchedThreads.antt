@@ -141,8 +141,8 @@ module _ (before after : ThreadId → Option Request) (es : List Entry) where
   is_of_read (OfLock l) = is_read (leased l es)
   is_of_read about = false
 
-  -- the lease that a thread closes by what it awaits: while a lease of level Read is awaited at Write, it is closing, and
-  -- lets no other thread in
+  -- the lease that a thread closes by what it awaits: while a lease of level Read is awaited at Write, it is closing,
+  -- and lets no other thread in
   abbrev pub closed_topics : Option Request → List Topic
   closed_topics request = filter is_of_read (awaited request)
 

@@ -1,5 +1,5 @@
--- Not too much is touched: in a run an act that ends no block touches no more than it does itself, a look at an object no
--- other thread, an entry only threads that ask about its lock. Entries stand with the newest first.
+-- Not too much is touched: in a run an act that ends no block touches no more than it does itself, a look at an object
+-- no other thread, an entry only threads that ask about its lock. Entries stand with the newest first.
 use Rattle.std.specs.List.{list_any}
 use Rattle.std.specs.Prelude.{ℕ, ◌≡◌, Bool, true, false, Option, Some, None, List, [], ◌∷◌, ◌++◌}
 use Rattle.dso_base.specs.declared.journal.Entry.{Entry}
@@ -15,11 +15,12 @@ use Rattle.dso_base.specs.declared.request.Request.TheVariants.{Resume, Notify, 
 use Rattle.dso_law.specs.Settings.{Settings}
 use Rattle.dso_law.specs.Threads.{locks_of, ending_of}
 use Rattle.dso_law.specs.ClientRun.{ClientRun, next_in}
-use Rattle.dso_open_law.specs.TouchedThreads.{Topic, OfLock, topic, is_topic, acts, set_objects, closed_topics, event_topics}
+use Rattle.dso_open_law.specs.TouchedThreads.{Topic, OfLock, topic, is_topic, acts, set_objects, closed_topics}
+use Rattle.dso_open_law.specs.TouchedThreads.{event_topics}
 use Rattle.dso_open_law.specs.TouchedThreads.{touched_topics, touches_thread}
 
--- the request looks, reads, writes, prints, ticks or passes a turn: it takes no id, leaves locks as they are and ends no
--- block
+-- the request looks, reads, writes, prints, ticks or passes a turn: it takes no id, leaves locks as they are and ends
+-- no block
 abbrev pub is_light : Request → Bool
 is_light (New class n) = false
 is_light (Look o) = true

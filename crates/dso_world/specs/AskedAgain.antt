@@ -70,7 +70,8 @@ StaysAt nodes entry steps place = (step : Step) → slice_get steps place ≡ So
 
 -- The flags at these places are what the nodes tell, but for those of slots that stay; and so is each other that isn't
 -- what it was.
-pub record Settles (nodes : Nodes) (entry : Entry) (steps : List Step) (places : ℕ → Type 0) (old new : Row) : Type 0 where
+pub record Settles (nodes : Nodes) (entry : Entry) (steps : List Step)
+    (places : ℕ → Type 0) (old new : Row) : Type 0 where
   pub round : KeepsRound old new
   pub others : (place : ℕ) → (slice_get new.flags place ≡ slice_get old.flags place) ⊎ IsTold nodes steps new place
   pub settled : (place : ℕ) → places place → IsTold nodes steps new place ⊎ StaysAt nodes entry steps place

@@ -12,7 +12,8 @@ use Rattle.dso_base.specs.declared.request.Reply.{Reply}
 use Rattle.dso_base.specs.declared.request.Request.{Request}
 use Rattle.dso_plain.specs.KeyTests.{is_lock}
 use Rattle.dso_open_law.specs.FewTouched.{few_taken, few_done, few_acted, few_topics}
-use Rattle.dso_open_law.specs.TouchedThreads.{Topic, OfIds, OfObject, OfLock, OfRecords, OfNothing, is_topic, made_topics}
+use Rattle.dso_open_law.specs.TouchedThreads.{Topic, OfIds, OfObject, OfLock, OfRecords, OfNothing, is_topic}
+use Rattle.dso_open_law.specs.TouchedThreads.{made_topics}
 use Rattle.dso_world.specs.declared.touched_threads.TouchedLocks.{TouchedLocks}
 use Rattle.dso_world.specs.declared.touched_threads.TouchedLocks.TheVariants as locks
 use Rattle.dso_world.specs.declared.touched_threads.TouchedObjects.{TouchedObjects}

@@ -1,5 +1,6 @@
 -- A row of flags, which of them are set, and which one is chosen.
-use Rattle.std.specs.Prelude.{ℕ, zero, suc, ◌+◌, ◌*◌, ◌≤◌, ◌≡◌, Bool, true, false, cond, Option, Some, None, List, [], ◌∷◌, count_by, drop, length, slice_get}
+use Rattle.std.specs.Prelude.{ℕ, zero, suc, ◌+◌, ◌*◌, ◌≤◌, ◌≡◌, Bool, true, false, cond, Option, Some, None, List, []}
+use Rattle.std.specs.Prelude.{◌∷◌, count_by, drop, length, slice_get}
 use Rattle.std.specs.Prelude.{option_map, replicate, take}
 use Rattle.dso_world.specs.ChosenSlot.{seed_after, lot}
 
@@ -26,8 +27,8 @@ one_if flag = cond flag 1 0
 abbrev pub set_count : List Bool → ℕ
 set_count flags = count_by is_set flags
 
--- Each block of 64 flags has its count: with it as many are set as up to the block's end. Each flag is in a block, and no
--- block but the last is without one.
+-- Each block of 64 flags has its count: with it as many are set as up to the block's end. Each flag is in a block, and
+-- no block but the last is without one.
 pub record AreCounts (flags : List Bool) (counts : List ℕ) : Type 0 where
   pub all : length flags ≤ 64 * length counts
   pub few : 64 * length counts ≤ length flags + 64

@@ -1,5 +1,6 @@
 -- Where each step of a cluster stands, by where those of its client begin.
-use Rattle.std.specs.Prelude.{ℕ, suc, ◌+◌, ◌*◌, ◌-◌, ◌<◌, ◌≤◌, ◌^◌, ◌≡◌, cond, true, Option, Some, None, List, flat_map, length, slice_get}
+use Rattle.std.specs.Prelude.{ℕ, suc, ◌+◌, ◌*◌, ◌-◌, ◌<◌, ◌≤◌, ◌^◌, ◌≡◌, cond, true, Option, Some, None, List}
+use Rattle.std.specs.Prelude.{flat_map, length, slice_get}
 use Rattle.dso_law.specs.Settings.{Settings, up_to}
 use Rattle.dso_legal.specs.Slots.{Slot, Acts, TakesDown, Flushes, TakesUp, Loses, Breaks, client_slots}
 use Rattle.dso_world.specs.declared.step.Step.{Step}
@@ -8,9 +9,9 @@ use Rattle.dso_world.specs.ChosenSlot.{is_slot}
 use Rattle.dso_world.specs.Touched.{client_of}
 use Rattle.dso_world.specs.WorldSteps.{is_own, slot_of}
 
--- A slot stands at the place: the acts of its client's threads by their indices, from where the client's own steps begin;
--- the client's taking of messages and its flushes as the last two of them; behind the own steps of all the taking of each
--- client's messages; and behind that the loss and the break of each.
+-- A slot stands at the place: the acts of its client's threads by their indices, from where the client's own steps
+-- begin; the client's taking of messages and its flushes as the last two of them; behind the own steps of all the
+-- taking of each client's messages; and behind that the loss and the break of each.
 abbrev pub IsAt : OwnSteps → ℕ → ℕ → ℕ → Slot → Type 0
 IsAt its behind many place (Acts t) = (place ≡ its.begin + (t.index - 1)) × (place < its.end)
 IsAt its behind many place (TakesDown c) = (place + 2 ≡ its.end) × (its.begin ≤ place)
