@@ -10,7 +10,7 @@ ghost use Rattle.dso_legal.specs.JournalPassTables.{clients_in, kept_in, no_pass
 use crate::resolving::add_resolved;
 use crate::threads::ClientState;
 use crate::waiters::ServerState;
-use dso_base::{Entry, Event, Input, Journal, NoMemory, Node, Sent, Up};
+use dso_base::{Entry, Event, Input, Journal, NoMemory, Node, Sent, Shared, Up};
 use dso_lookup::put;
 use std::alloc::Global;
 use std::collections::BTreeMap;
@@ -30,7 +30,7 @@ fn act_in(
     alloc: Global,
     clients: &mut BTreeMap<u8, ClientState>,
     client: u8,
-    event: &Event,
+    event: &Shared<Event>,
 ) -> Result<(), NoMemory>
     requires { (t : ThreadId) → CountsFit ((clients_in clients.old client).threads t) }
     ensures { OnOk result (clients_in clients.new ≡ written (writes (λ c. eqb c client) (λ _. client_state_after event.now (clients_in clients.old client))) (clients_in clients.old)) }
@@ -58,7 +58,7 @@ impl Committing {
     }
 
     /// Takes in the event of an entry of the client.
-    fn act(&mut self, alloc: Global, client: u8, event: &Event) -> Result<(), NoMemory>
+    fn act(&mut self, alloc: Global, client: u8, event: &Shared<Event>) -> Result<(), NoMemory>
         requires { (t : ThreadId) → CountsFit (((kept_in self.old).clients client).threads t) }
         ensures { OnOk result (kept_in self.new ≡ pass_state_at_client client (Some event.now) (kept_in self.old)) }
     {
@@ -138,7 +138,7 @@ impl Committing {
         match entry.node {
             Node::Server => self.serve(alloc, &entry.input, entry.sent.as_slice(), given),
             Node::Client(client) => match &entry.event {
-                Some(event) => self.act(alloc, client, event.get()),
+                Some(event) => self.act(alloc, client, event),
                 None => Ok(()),
             },
         }

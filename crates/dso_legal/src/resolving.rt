@@ -7,7 +7,7 @@ ghost use Rattle.dso_legal.specs.Committed.{resolved, resolved_event, lists_afte
 ghost use Rattle.dso_legal.specs.JournalPassTables.{server_state_in, woken_count, lists_left};
 
 use crate::waiters::ServerState;
-use dso_base::{Event, LockName, NoMemory, Reply, Request, ThreadId};
+use dso_base::{Event, LockName, NoMemory, Reply, Request, Shared, ThreadId};
 use dso_lookup::put;
 use std::alloc::Global;
 use std::collections::BTreeMap;
@@ -90,7 +90,7 @@ fn resolve_event(
 pub(crate) fn add_resolved(
     alloc: Global,
     lists: &ServerState,
-    block: &[Event],
+    block: &[Shared<Event>],
     history: &mut Vec<Event>,
 ) -> Result<(), NoMemory>
     ensures { OnOk result (history.new.items ≡ history.old.items ++ resolved block.now (server_state_in lists.now).waiters) }
@@ -98,7 +98,7 @@ pub(crate) fn add_resolved(
     history.reserve(block.len())?;
     let mut gone = BTreeMap::new(alloc);
     for event in block {
-        history.push(resolve_event(lists, &mut gone, event)?)?;
+        history.push(resolve_event(lists, &mut gone, event.get())?)?;
     }
     Ok(())
 }

@@ -3,26 +3,25 @@
 ghost use Rattle.std.specs.Prelude.{◌≡◌, ◌<◌, ◌-◌, ◌^◌, ◌++◌, Some, None, OnOk, IfOk};
 ghost use Rattle.std.specs.Option.{unwrap_or, option_to_list};
 ghost use Rattle.dso_base.specs.declared.lock.ThreadId.{ThreadId};
-ghost use Rattle.dso_base.specs.declared.request.Event.TheVariants.{Act};
+ghost use Rattle.dso_base.specs.Following.{is_thread};
 ghost use Rattle.dso_lookup.specs.Maps.{writes, written};
-ghost use Rattle.dso_plain.specs.History.{is_act_of};
 ghost use Rattle.dso_legal.specs.Committed.{block_numbered};
 ghost use Rattle.dso_legal.specs.JournalPass.{one_less, with_count, with_entry, counts_after, with_resume, ends_block, block_ended, thread_state_after, client_state_after, CountsFit};
 ghost use Rattle.dso_legal.specs.JournalPassTables.{no_thread_state, thread_state_in, threads_in, no_client_state, client_state_in};
 
-use dso_base::{Event, Items, LockName, NoMemory, Reply, Request, ThreadId};
+use dso_base::{Event, Items, LockName, NoMemory, Reply, Request, Shared, ThreadId};
 use dso_lookup::{put, take};
 use std::alloc::Global;
 use std::collections::BTreeMap;
 use std::mem::replace;
 
 /// What is kept of a thread: how often it holds each lock, the count that it is to have again after a wait, and its
-/// open block.
+/// open block, whose events their entries hold too.
 #[derive(Drop)]
 pub(crate) struct ThreadState {
     counts: BTreeMap<LockName, u64>,
     waiting: Option<u64>,
-    block: Items<Event>,
+    block: Items<Shared<Event>>,
 }
 
 /// How often a lock is held after one exit, None where it no longer is.
@@ -130,15 +129,15 @@ impl ThreadState {
         alloc: Global,
         request: Request,
         reply: Reply,
-        event: Event,
-    ) -> Result<Option<Items<Event>>, NoMemory>
+        event: &Shared<Event>,
+    ) -> Result<Option<Items<Shared<Event>>>, NoMemory>
         requires { CountsFit (thread_state_in self.old) }
-        ensures state { OnOk result (thread_state_in self.new ≡ thread_state_after request reply event (thread_state_in self.old)) }
-        ensures ended { IfOk result (λ block. option_to_list block ≡ block_ended (ends_block request reply (thread_state_in self.old)) event (thread_state_in self.old).block) }
+        ensures state { OnOk result (thread_state_in self.new ≡ thread_state_after request reply event.now (thread_state_in self.old)) }
+        ensures ended { IfOk result (λ block. option_to_list block ≡ block_ended (ends_block request reply (thread_state_in self.old)) event.now (thread_state_in self.old).block) }
     {
         let ends = self.ends_block(request, reply);
         self.act(request, reply)?;
-        self.block.push(event)?;
+        self.block.push(event.clone()?)?;
         if ends {
             Ok(Some(replace(&mut self.block, Items::new(alloc))))
         } else {
@@ -147,31 +146,25 @@ impl ThreadState {
     }
 }
 
-/// An act, as an event tells it: whose it is, what was asked, what the answer was, and who was woken.
+/// An act, as an event tells it: whose it is, what was asked, and what the answer was.
 #[derive(Clone, Copy)]
 struct ThreadAct {
     thread: ThreadId,
     request: Request,
     reply: Reply,
-    woken: Option<ThreadId>,
 }
 
-/// Takes in an act of a thread in the table, where it stands, and answers the block that it ends.
+/// Takes in an act of a thread in the table, where it stands, and its event, and answers the block that it ends.
 fn act_in(
     alloc: Global,
     threads: &mut BTreeMap<ThreadId, ThreadState>,
     act: ThreadAct,
-) -> Result<Option<Items<Event>>, NoMemory>
+    event: &Shared<Event>,
+) -> Result<Option<Items<Shared<Event>>>, NoMemory>
     requires { CountsFit (threads_in threads.old act.thread) }
-    ensures threads { OnOk result (threads_in threads.new ≡ written (writes (λ t. is_act_of t (Act act.thread act.request act.reply act.woken)) (λ _. thread_state_after act.request act.reply (Act act.thread act.request act.reply act.woken) (threads_in threads.old act.thread))) (threads_in threads.old)) }
-    ensures ended { IfOk result (λ block. option_to_list block ≡ block_ended (ends_block act.request act.reply (threads_in threads.old act.thread)) (Act act.thread act.request act.reply act.woken) (threads_in threads.old act.thread).block) }
+    ensures threads { OnOk result (threads_in threads.new ≡ written (writes (λ t. is_thread t act.thread) (λ _. thread_state_after act.request act.reply event.now (threads_in threads.old act.thread))) (threads_in threads.old)) }
+    ensures ended { IfOk result (λ block. option_to_list block ≡ block_ended (ends_block act.request act.reply (threads_in threads.old act.thread)) event.now (threads_in threads.old act.thread).block) }
 {
-    let event = Event::Act {
-        thread: act.thread,
-        request: act.request,
-        reply: act.reply,
-        woken: act.woken,
-    };
     match threads.get_mut(&act.thread) {
         Some(state) => state.take(alloc, act.request, act.reply, event),
         None => {
@@ -187,11 +180,14 @@ fn act_in(
 #[derive(Drop)]
 pub(crate) struct ClientState {
     threads: BTreeMap<ThreadId, ThreadState>,
-    ended: Items<Items<Event>>,
+    ended: Items<Items<Shared<Event>>>,
 }
 
 /// Puts the block at the end, if there is one.
-fn add_block(blocks: &mut Items<Items<Event>>, block: Option<Items<Event>>) -> Result<(), NoMemory>
+fn add_block(
+    blocks: &mut Items<Items<Shared<Event>>>,
+    block: Option<Items<Shared<Event>>>,
+) -> Result<(), NoMemory>
     ensures { OnOk result (blocks.new ≡ blocks.old ++ option_to_list block) }
 {
     if let Some(block) = block {
@@ -212,7 +208,7 @@ impl ClientState {
     }
 
     /// The block of this number, counted from 1; empty where there is none. It takes no memory.
-    pub(crate) fn block(&self, number: u64) -> &[Event]
+    pub(crate) fn block(&self, number: u64) -> &[Shared<Event>]
         ensures { result.now ≡ block_numbered number self.now.ended }
     {
         if number == 0 {
@@ -224,36 +220,27 @@ impl ClientState {
         }
     }
 
-    /// Takes in an act of a thread.
-    fn act(&mut self, alloc: Global, act: ThreadAct) -> Result<(), NoMemory>
-        requires { CountsFit ((client_state_in self.old).threads act.thread) }
-        ensures { OnOk result (client_state_in self.new ≡ client_state_after (Act act.thread act.request act.reply act.woken) (client_state_in self.old)) }
-    {
-        let ended = act_in(alloc, &mut self.threads, act)?;
-        add_block(&mut self.ended, ended)?;
-        Ok(())
-    }
-
     /// Takes in the event of an entry of the client. Where an allocation was refused, nothing is known of what stands
     /// here afterwards.
-    pub(crate) fn take(&mut self, alloc: Global, event: &Event) -> Result<(), NoMemory>
+    pub(crate) fn take(&mut self, alloc: Global, event: &Shared<Event>) -> Result<(), NoMemory>
         requires { (t : ThreadId) → CountsFit ((client_state_in self.old).threads t) }
         ensures { OnOk result (client_state_in self.new ≡ client_state_after event.now (client_state_in self.old)) }
     {
-        match *event {
+        match *event.get() {
             Event::Act {
                 thread,
                 request,
                 reply,
-                woken,
+                ..
             } => {
                 let act = ThreadAct {
                     thread,
                     request,
                     reply,
-                    woken,
                 };
-                self.act(alloc, act)
+                let ended = act_in(alloc, &mut self.threads, act, event)?;
+                add_block(&mut self.ended, ended)?;
+                Ok(())
             }
             Event::Lost(_) => Ok(()),
         }

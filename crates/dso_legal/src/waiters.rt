@@ -53,6 +53,9 @@ fn append(
 ) -> Result<(), NoMemory>
     ensures { OnOk result (waiters_in waiters.new ≡ (λ l. cond (is_lock l lock) (waiters_in waiters.old l ++ threads.now) (waiters_in waiters.old l))) }
 {
+    if threads.is_empty() {
+        return Ok(());
+    }
     let mut list = take_list(alloc, waiters, lock);
     list.extend_from_slice(threads)?;
     put(waiters, lock, Items::from_vec(list))?;

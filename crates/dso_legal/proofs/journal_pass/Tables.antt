@@ -12,7 +12,6 @@ use Rattle.dso_base.specs.declared.request.Event.TheVariants.{Act}
 use Rattle.dso_base.specs.declared.request.Reply.{Reply}
 use Rattle.dso_base.specs.declared.request.Request.{Request}
 use Rattle.dso_base.specs.Following.{is_thread}
-use Rattle.dso_plain.specs.History.{is_act_of}
 use Rattle.dso_plain.specs.KeyTests.{is_lock}
 use Rattle.dso_lookup.specs.Maps.{writes, or_old, written, look}
 use Rattle.dso_lookup.specs.Orders.{lock_order, thread_order}
@@ -78,12 +77,12 @@ pub no_hand : (t : ThreadId) (table : BTreeMap ThreadId table_thread.ThreadState
 no_hand t table state absent is = is ∙ ap thread_state_at absent
 
 -- an act of a thread, where what it makes of what was kept of the thread is written in the table
-pub hand_taken : (t : ThreadId) (request : Request) (reply : Reply) (woken : Option ThreadId) (old new : BTreeMap ThreadId table_thread.ThreadState) (was state : table_thread.ThreadState)
+pub hand_taken : (t : ThreadId) (request : Request) (reply : Reply) (event : Event) (old new : BTreeMap ThreadId table_thread.ThreadState) (was state : table_thread.ThreadState)
     → thread_state_in was ≡ threads_in old t → look thread_order new ≡ written (writes (is_at (thread_order t)) (λ _. Some state)) (look thread_order old)
-    → thread_state_in state ≡ thread_state_after request reply (Act t request reply woken) (thread_state_in was)
-    → threads_in new ≡ written (writes (λ u. is_act_of u (Act t request reply woken)) (λ _. thread_state_after request reply (Act t request reply woken) (threads_in old t))) (threads_in old)
-hand_taken t request reply woken old new was state is puts takes =
-    let held : thread_state_in state ≡ thread_state_after request reply (Act t request reply woken) (threads_in old t) = takes ∙ ap (λ hand. thread_state_after request reply (Act t request reply woken) hand) is in
+    → thread_state_in state ≡ thread_state_after request reply event (thread_state_in was)
+    → threads_in new ≡ written (writes (λ u. is_thread u t) (λ _. thread_state_after request reply event (threads_in old t))) (threads_in old)
+hand_taken t request reply event old new was state is puts takes =
+    let held : thread_state_in state ≡ thread_state_after request reply event (threads_in old t) = takes ∙ ap (λ hand. thread_state_after request reply event hand) is in
     through thread_state_at (is_at (thread_order t)) (λ u. is_thread u t) (Some state) (look thread_order old) (look thread_order new) (λ u. thread_at t u ∙ turned t u) puts ∙ ap (λ hand. written (writes (λ u. is_thread u t) (λ _. hand)) (threads_in old)) held
 
 -- and the block that it ends
@@ -91,12 +90,17 @@ pub block_taken : (t : ThreadId) (request : Request) (reply : Reply) (event : Ev
     → blocks ≡ block_ended (ends_block request reply (thread_state_in was)) event (thread_state_in was).block → blocks ≡ block_ended (ends_block request reply (threads_in old t)) event (threads_in old t).block
 block_taken t request reply event old was blocks is ends = ends ∙ ap (λ hand. block_ended (ends_block request reply hand) event hand.block) is
 
--- and what that makes of what is kept of the client
-pub client_taken : (t : ThreadId) (request : Request) (reply : Reply) (woken : Option ThreadId) (old : table_client.ClientState) (new : BTreeMap ThreadId table_thread.ThreadState) (ended more : List (List Event))
-    → threads_in new ≡ (client_state_after (Act t request reply woken) (client_state_in old)).threads
-    → more ≡ block_ended (ends_block request reply (threads_in old.threads t)) (Act t request reply woken) (threads_in old.threads t).block → ended ≡ old.ended ++ more
+-- and what that makes of what is kept of the client, where the event is the act
+pub client_taken : (t : ThreadId) (request : Request) (reply : Reply) (woken : Option ThreadId) (event : Event) (old : table_client.ClientState) (new : BTreeMap ThreadId table_thread.ThreadState) (ended more : List (List Event))
+    → Act t request reply woken ≡ event
+    → threads_in new ≡ written (writes (λ u. is_thread u t) (λ _. thread_state_after request reply event (threads_in old.threads t))) (threads_in old.threads)
+    → more ≡ block_ended (ends_block request reply (threads_in old.threads t)) event (threads_in old.threads t).block → ended ≡ old.ended ++ more
     → let after : ClientState = record { threads = threads_in new; ended = ended } in
-    after ≡ client_state_after (Act t request reply woken) (client_state_in old)
-client_taken t request reply woken old new ended more threads is stands =
-    let blocks = stands ∙ ap (λ x. old.ended ++ x) is in
-    λ i. record { threads = threads i; ended = blocks i }
+    after ≡ client_state_after event (client_state_in old)
+client_taken t request reply woken event old new ended more is threads ends stands =
+    let hand : ThreadState = threads_in old.threads t in
+    let with_event : Event → ClientState = λ e. record { threads = written (writes (λ u. is_thread u t) (λ _. thread_state_after request reply e hand)) (threads_in old.threads); ended = old.ended ++ block_ended (ends_block request reply hand) e hand.block } in
+    let after : ClientState = record { threads = threads_in new; ended = ended } in
+    let blocks = stands ∙ ap (λ x. old.ended ++ x) ends in
+    let taken : after ≡ with_event event = λ i. record { threads = threads i; ended = blocks i } in
+    taken ∙ (ap with_event (sym is) ∙ ap (λ e. client_state_after e (client_state_in old)) is)

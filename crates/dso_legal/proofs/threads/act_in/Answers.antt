@@ -21,7 +21,7 @@ returns-in-Some-clause-threads c =
     let is = c.take.new.self in
     let new = c.get_mut.follows.lender is in
     let puts = written_through thread_order old new t was is (c.get_mut.follows.holds is) c.in-Some.ensures.value in
-    on_ok c.take.result (hand_taken t c.args.act.request c.args.act.reply c.args.act.woken old new was is (hand_there t old was c.in-Some.ensures.value) puts) c.take.ensures.state
+    on_ok c.take.result (hand_taken t c.args.act.request c.args.act.reply c.args.event.now old new was is (hand_there t old was c.in-Some.ensures.value) puts) c.take.ensures.state
 
 pub returns-in_ok-put-in-None-clause-threads : goal.returns-in_ok-put-in-None-clause-threads
 returns-in_ok-put-in-None-clause-threads c =
@@ -29,4 +29,4 @@ returns-in_ok-put-in-None-clause-threads c =
     let t = c.args.act.thread in
     let is = c.take-in-None.new.self in
     let puts = subst (λ table. look thread_order c.put.new.map ≡ written (writes (is_at (thread_order t)) (λ _. Some is)) (look thread_order table)) c.get_mut.follows.holds-at-none c.in_ok-put-in-None.ensures in
-    hand_taken t c.args.act.request c.args.act.reply c.args.act.woken old c.put.new.map c.new-state.result is (no_hand t old c.new-state.result c.in-None.ensures.value c.new-state.ensures) puts c.in_ok-ended-in-None.ensures.state
+    hand_taken t c.args.act.request c.args.act.reply c.args.event.now old c.put.new.map c.new-state.result is (no_hand t old c.new-state.result c.in-None.ensures.value c.new-state.ensures) puts c.in_ok-ended-in-None.ensures.state
