@@ -150,19 +150,38 @@ impl Committing {
     }
 }
 
+/// What the entries of a journal commit, one after the other.
+fn all_given(alloc: Global, journal: &Journal) -> Result<Vec<Shared<Event>>, NoMemory>
+    ensures { IfOk result (λ given. given.items ≡ committed_of journal.now) }
+{
+    let mut kept = Committing::new(alloc);
+    let mut given = Vec::new(alloc);
+    for entry in journal.entries.as_slice() {
+        kept.take(alloc, entry, &mut given)?;
+    }
+    Ok(given)
+}
+
+/// The events themselves.
+fn copied(alloc: Global, events: &[Shared<Event>]) -> Result<Vec<Event>, NoMemory>
+    ensures { IfOk result (λ copies. copies.items ≡ events.now) }
+{
+    let mut copies = Vec::new(alloc);
+    for event in events {
+        copies.push(*event.get())?;
+    }
+    Ok(copies)
+}
+
 /// The committed history of a journal, lawful or not: the blocks of its clients' threads in the order in which the
 /// server took their records, each notification with the thread that was woken, and the losses. `NoMemory` is answered
 /// only where an allocation was refused.
 ///
 /// It goes over the journal once: an entry costs the logarithm of what is kept, beside the blocks and lists that it
 /// gives or changes.
-pub fn committed(alloc: Global, journal: &Journal) -> Result<Vec<Shared<Event>>, NoMemory>
+pub fn committed(alloc: Global, journal: &Journal) -> Result<Vec<Event>, NoMemory>
     ensures { IfOk result (λ history. history.items ≡ committed_of journal.now) }
 {
-    let mut kept = Committing::new(alloc);
-    let mut history = Vec::new(alloc);
-    for entry in journal.entries.as_slice() {
-        kept.take(alloc, entry, &mut history)?;
-    }
-    Ok(history)
+    let given = all_given(alloc, journal)?;
+    copied(alloc, given.as_slice())
 }

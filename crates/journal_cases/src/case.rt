@@ -3,7 +3,7 @@
 use crate::words::entry_of;
 use case_words::{class_shape, field_shape, single};
 use dso_base::{
-    Entry, Event, Guard, Items, Journal, Kind, NoMemory, Reply, Request, Shape, Shared, ThreadId,
+    Entry, Event, Guard, Items, Journal, Kind, NoMemory, Reply, Request, Shape, ThreadId,
 };
 use dso_legal::committed;
 use dso_plain::Plain;
@@ -64,7 +64,7 @@ fn told(alloc: Global, journal: &Journal) -> Result<String, NoMemory> {
     let history = committed(alloc, journal)?;
     let mut text = String::new(alloc);
     for event in &history {
-        add_line(&mut text, event.get())?;
+        add_line(&mut text, event)?;
     }
     let taken = taken_by_plain(alloc, history.as_slice())?;
     write!(text, "one heap takes {taken} of them\n\n")?;
@@ -102,11 +102,11 @@ fn add_outcome(text: &mut String, reply: Reply, woken: Option<ThreadId>) -> Resu
 }
 
 /// How many events of the history one heap with plain monitors takes, up to the first that it refuses.
-fn taken_by_plain(alloc: Global, history: &[Shared<Event>]) -> Result<usize, NoMemory> {
+fn taken_by_plain(alloc: Global, history: &[Event]) -> Result<usize, NoMemory> {
     let shape = shape(alloc)?;
     let mut plain = Plain::new(alloc, &shape)?;
     for (at, event) in history.iter().enumerate() {
-        if !plain.apply(alloc, &shape, event.get())? {
+        if !plain.apply(alloc, &shape, event)? {
             return Ok(at);
         }
     }
