@@ -72,7 +72,7 @@ impl Committing {
         alloc: Global,
         client: u8,
         number: u64,
-        given: &mut Vec<Event>,
+        given: &mut Vec<Shared<Event>>,
     ) -> Result<(), NoMemory>
         ensures { OnOk result (given.new.items ≡ given.old.items ++ given_block number ((kept_in self.now).clients client).ended ((kept_in self.now).lists.lost client) (kept_in self.now).lists.waiters) }
     {
@@ -86,7 +86,12 @@ impl Committing {
     }
 
     /// Puts what an entry of the server commits at the end of the given events.
-    fn give(&self, alloc: Global, input: &Input, given: &mut Vec<Event>) -> Result<(), NoMemory>
+    fn give(
+        &self,
+        alloc: Global,
+        input: &Input,
+        given: &mut Vec<Shared<Event>>,
+    ) -> Result<(), NoMemory>
         ensures { OnOk result (given.new.items ≡ given.old.items ++ given_events input.now (kept_in self.now)) }
     {
         match input {
@@ -97,7 +102,7 @@ impl Committing {
                 given,
             ),
             Input::Lose(client) => {
-                given.push(Event::Lost(*client))?;
+                given.push(Shared::new(alloc, Event::Lost(*client))?)?;
                 Ok(())
             }
             _ => Ok(()),
@@ -110,7 +115,7 @@ impl Committing {
         alloc: Global,
         input: &Input,
         sent: &[Sent],
-        given: &mut Vec<Event>,
+        given: &mut Vec<Shared<Event>>,
     ) -> Result<(), NoMemory>
         ensures kept { OnOk result (kept_in self.new ≡ without_history (pass_state_after Server input.now sent.now None (kept_in self.old))) }
         ensures given { OnOk result (given.new.items ≡ given.old.items ++ given_events input.now (kept_in self.old)) }
@@ -129,7 +134,7 @@ impl Committing {
         &mut self,
         alloc: Global,
         entry: &Entry,
-        given: &mut Vec<Event>,
+        given: &mut Vec<Shared<Event>>,
     ) -> Result<(), NoMemory>
         requires { AllCountsFit (kept_in self.old) }
         ensures kept { OnOk result (kept_in self.new ≡ without_history (pass_state_after entry.now.node entry.now.input entry.now.sent entry.now.event (kept_in self.old))) }
@@ -145,6 +150,29 @@ impl Committing {
     }
 }
 
+/// What the entries of a journal commit, one after the other.
+fn all_given(alloc: Global, journal: &Journal) -> Result<Vec<Shared<Event>>, NoMemory>
+    ensures { IfOk result (λ given. given.items ≡ committed_of journal.now) }
+{
+    let mut kept = Committing::new(alloc);
+    let mut given = Vec::new(alloc);
+    for entry in journal.entries.as_slice() {
+        kept.take(alloc, entry, &mut given)?;
+    }
+    Ok(given)
+}
+
+/// The events themselves.
+fn copied(alloc: Global, events: &[Shared<Event>]) -> Result<Vec<Event>, NoMemory>
+    ensures { IfOk result (λ copies. copies.items ≡ events.now) }
+{
+    let mut copies = Vec::new(alloc);
+    for event in events {
+        copies.push(*event.get())?;
+    }
+    Ok(copies)
+}
+
 /// The committed history of a journal, lawful or not: the blocks of its clients' threads in the order in which the
 /// server took their records, each notification with the thread that was woken, and the losses. `NoMemory` is answered
 /// only where an allocation was refused.
@@ -154,10 +182,6 @@ impl Committing {
 pub fn committed(alloc: Global, journal: &Journal) -> Result<Vec<Event>, NoMemory>
     ensures { IfOk result (λ history. history.items ≡ committed_of journal.now) }
 {
-    let mut kept = Committing::new(alloc);
-    let mut history = Vec::new(alloc);
-    for entry in journal.entries.as_slice() {
-        kept.take(alloc, entry, &mut history)?;
-    }
-    Ok(history)
+    let given = all_given(alloc, journal)?;
+    copied(alloc, given.as_slice())
 }

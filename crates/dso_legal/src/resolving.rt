@@ -50,16 +50,18 @@ fn wake_all(
     Ok(())
 }
 
-/// The event with whom the server woke for it.
+/// The event with whom the server woke for it. It stays the one that its entry holds, unless a notification tells now
+/// who was woken.
 fn resolve_event(
+    alloc: Global,
     lists: &ServerState,
     gone: &mut BTreeMap<LockName, usize>,
-    event: &Event,
-) -> Result<Event, NoMemory>
+    event: &Shared<Event>,
+) -> Result<Shared<Event>, NoMemory>
     ensures event { IfOk result (λ with_woken. with_woken ≡ resolved_event event.now (lists_left (server_state_in lists.now).waiters gone.old)) }
     ensures left { OnOk result (lists_left (server_state_in lists.now).waiters gone.new ≡ lists_after_event event.now (lists_left (server_state_in lists.now).waiters gone.old)) }
 {
-    match *event {
+    match *event.get() {
         Event::Act {
             thread,
             request: Request::Notify(lock),
@@ -67,12 +69,13 @@ fn resolve_event(
             woken: None,
         } => {
             let woken = wake_first(lists, gone, lock)?;
-            Ok(Event::Act {
+            let told = Event::Act {
                 thread,
                 request: Request::Notify(lock),
                 reply: Reply::Done,
                 woken,
-            })
+            };
+            Ok(Shared::new(alloc, told)?)
         }
         Event::Act {
             request: Request::NotifyAll(lock),
@@ -80,9 +83,9 @@ fn resolve_event(
             ..
         } => {
             wake_all(lists, gone, lock)?;
-            Ok(*event)
+            Ok(event.clone()?)
         }
-        _ => Ok(*event),
+        _ => Ok(event.clone()?),
     }
 }
 
@@ -91,14 +94,14 @@ pub(crate) fn add_resolved(
     alloc: Global,
     lists: &ServerState,
     block: &[Shared<Event>],
-    history: &mut Vec<Event>,
+    history: &mut Vec<Shared<Event>>,
 ) -> Result<(), NoMemory>
     ensures { OnOk result (history.new.items ≡ history.old.items ++ resolved block.now (server_state_in lists.now).waiters) }
 {
     history.reserve(block.len())?;
     let mut gone = BTreeMap::new(alloc);
     for event in block {
-        history.push(resolve_event(lists, &mut gone, event.get())?)?;
+        history.push(resolve_event(alloc, lists, &mut gone, event)?)?;
     }
     Ok(())
 }

@@ -7,7 +7,7 @@ ghost use Rattle.dso_plain.specs.State.{opening};
 ghost use Rattle.dso_plain.specs.HeapTables.{state_of};
 ghost use Rattle.dso_legal.specs.Committed.{committed_of};
 
-use dso_base::{Event, Journal, NoMemory, Shape};
+use dso_base::{Event, Journal, NoMemory, Shape, Shared};
 use dso_legal::Committing;
 use dso_plain::Plain;
 use std::alloc::Global;
@@ -33,14 +33,14 @@ pub(crate) fn heap_after(alloc: Global, shape: &Shape, journal: &Journal) -> Res
 fn play_all(
     alloc: Global,
     shape: &Shape,
-    events: &[Event],
+    events: &[Shared<Event>],
     plain: &mut Plain,
 ) -> Result<(), NoMemory>
     requires { Runs shape.now events.now (state_of plain.old) }
     ensures { OnOk result (state_of plain.new ≡ end_of shape.now events.now (state_of plain.old)) }
 {
     for event in events {
-        play(alloc, shape, event, plain)?;
+        play(alloc, shape, event.get(), plain)?;
     }
     Ok(())
 }

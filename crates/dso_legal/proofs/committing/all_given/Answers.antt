@@ -2,7 +2,7 @@ use Rattle.std.proofs.Common.{arith, ◌<◌, ◌^◌, ◌++◌, sym, ◌∙◌,
 use Rattle.dso_legal.specs.JournalPass.{AllCountsFit, given_at}
 use Rattle.dso_legal.specs.JournalPassTables.{kept_in}
 use Rattle.dso_legal.proofs.journal_pass.EachEntry.{kept_fits, entry_taken, entry_given}
-use Rattle.dso_legal.proofs.committing.committed.Goals as goal
+use Rattle.dso_legal.proofs.committing.all_given.Goals as goal
 
 pub take-requires : goal.take-requires
 take-requires c =
