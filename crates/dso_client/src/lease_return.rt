@@ -19,13 +19,13 @@ ghost use Rattle.dso_client.specs.StateStands.{ClientPartsStand};
 ghost use Rattle.dso_client.specs.ActEffects.{acting, applied};
 ghost use Rattle.dso_client.specs.LockStateStands.{list_at};
 ghost use Rattle.dso_client.specs.RunPoints.{RunPoint};
-ghost use Rattle.dso_client.specs.LeaseReturns.{ActSettles, AddsDue, AddsMarked, AreGivenBack, AreNextOfOthers, AsksAgain, Distinct, OnlyThese, asked_again, given_back, is_of, is_wanted_by, left_lock, marks_all, record_sent, returns_lock, wanted_lock};
+ghost use Rattle.dso_client.specs.LeaseReturns.{ActSettles, AddsDue, AddsMarked, AreGivenBack, AreNextOfOthers, AsksAgain, Distinct, OnlyThese, asked_again, given_back, is_of, is_wanted_by, left_lock, record_sent, returns_lock, wanted_lock};
 ghost use Rattle.dso_client.specs.RunFacts.{AreOwnHolds, RunFacts};
 ghost use Rattle.dso_client.specs.ContextStands.{ContextStands};
 ghost use Rattle.dso_client.specs.ThreadProgress.{next_at, wanted_by};
 ghost use Rattle.dso_client.specs.TakenMessages.{IsQuiet};
 
-use crate::answered::Answered;
+use crate::answered::{Answered, marks_all};
 use crate::asked_act::ask_lock;
 use crate::client_state::ClientState;
 use crate::due_lease::give_back;
@@ -52,16 +52,6 @@ fn wanted_lock(next: Option<Request>) -> Option<LockName>
     match next {
         Some(Request::Enter(lock, Level::Write)) | Some(Request::Resume(lock)) => Some(lock),
         _ => None,
-    }
-}
-
-/// Whether the request may mark any thread of its client.
-fn marks_all(request: Request) -> bool
-    ensures { result ≡ marks_all request }
-{
-    match request {
-        Request::NotifyAll(_) => true,
-        _ => false,
     }
 }
 

@@ -7,20 +7,19 @@ use Rattle.std.proofs.Math.Path.{fun_ext}
 use Rattle.dso_base.specs.declared.lock.Level.{Level}
 use Rattle.dso_base.specs.declared.lock.Level.TheVariants.{Read, Write}
 use Rattle.dso_base.specs.declared.lock.LockName.{LockName}
-use Rattle.dso_base.specs.declared.journal.Entry.{Entry}
 use Rattle.dso_base.specs.declared.lock.ThreadId.{ThreadId}
 use Rattle.dso_base.specs.declared.record.Txn.{Txn}
 use Rattle.dso_base.specs.declared.request.Reply.{Reply}
 use Rattle.dso_base.specs.declared.request.Reply.TheVariants.{Done}
 use Rattle.dso_base.specs.declared.request.Request.{Request}
-use Rattle.dso_base.specs.declared.request.Request.TheVariants.{Enter, Exit, Wait, Timeout, Resume, Notify, NotifyAll}
+use Rattle.dso_base.specs.declared.request.Request.TheVariants.{Enter, Exit, Wait, Resume}
 use Rattle.dso_base.specs.Following.{is_thread}
 use Rattle.dso_plain.specs.After.{entered, exited}
 use Rattle.dso_plain.specs.KeyTests.{is_lock}
 use Rattle.dso_plain.specs.State.{Hold}
 use Rattle.dso_plain.proofs.keys.SameKeys.{same_thread, thread_self}
 use Rattle.dso_law.proofs.client.ClientLaws.{lock_either_way, holds_after}
-use Rattle.dso_law.specs.ClientWaiters.{is_listed, is_marked, is_woken, marked_by_act}
+use Rattle.dso_law.specs.ClientWaiters.{is_marked}
 use Rattle.dso_law.specs.Closing.{wants_write, is_read, awaits_write, is_free}
 use Rattle.dso_law.specs.Leases.{enters, leased, is_entered, is_recalled}
 use Rattle.dso_law.specs.Settings.{threads_of}
@@ -30,7 +29,8 @@ use Rattle.dso_client.specs.ActEffects.{acting}
 use Rattle.dso_client.specs.RunPoints.{RunPoint}
 use Rattle.dso_client.specs.RunFacts.{AreOwnHolds}
 use Rattle.dso_client.specs.LeaseReturns.{AreNextOfOthers, OnlyThese, is_due_at, is_of, is_wanted_by, is_wanted_by_marked}
-use Rattle.dso_client.specs.LeaseReturns.{left_lock, marks_all, may_mark, record_sent, wanted_lock}
+use Rattle.dso_client.specs.LeaseReturns.{left_lock, may_mark, record_sent, wanted_lock}
+use Rattle.dso_client.proofs.acts.SameMarks.{marked_same}
 use Rattle.dso_client.proofs.due.AmongThreads.{any_at, any_less, any_neither}
 
 -- who wants a lock at Write, names it
@@ -73,16 +73,6 @@ held_entered k (Enter l level) Done locks left e = ap is_none (holds_after l k (
     ∙ ap (λ b. cond b (entered level (hold_in l locks.holds)) (hold_in k locks.holds)) (lock_either_way l k ∙ e)) ∙ there_entered level (hold_in l locks.holds)
 held_entered k (Resume l) Done locks left e = absurd (cc (sym left ∙ e))
 held_entered k request reply locks left e = absurd (cc e)
-
--- who is marked is as before, but for the acting thread and those that the act may have marked
-marked_same : (t u : ThreadId) (es : List Entry) (request : Request) (reply : Reply) (woken : Option ThreadId)
-    (before : Bool) → is_thread t u ≡ false → (marks_all request || is_woken t woken) ≡ false
-    → marked_by_act t es u request reply woken before ≡ before
-marked_same t u es (Wait l) Done woken before other unmarked = ap (λ b. cond b false before) other
-marked_same t u es (Timeout l) Done woken before other unmarked = ap (λ b. (b && is_listed t l es) || before) other
-marked_same t u es (Notify l) Done woken before other unmarked = ap (λ b. b || before) unmarked
-marked_same t u es (NotifyAll l) Done woken before other unmarked = absurd (cc unmarked)
-marked_same t u es request reply woken before other unmarked = refl
 
 -- what wasn't due isn't where nothing of it changed but that fewer await it
 not_due : (lease recalled read awaits was_awaited was_entered free : Bool) → (was_awaited ≡ false → awaits ≡ false)
