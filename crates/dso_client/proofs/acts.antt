@@ -7,6 +7,8 @@ pub mod Step
 pub mod Next
 pub mod Bounds
 pub mod UpTo
+pub mod SameMarks
+pub mod Concerned
 pub mod Parts
 pub mod Going
 pub mod Whole

@@ -9,10 +9,12 @@ use Rattle.dso_base.specs.declared.message.Up.{Up}
 use Rattle.dso_base.specs.declared.message.Up.TheVariants as up
 use Rattle.dso_base.specs.declared.record.Txn.{Txn}
 use Rattle.dso_base.specs.declared.request.Request.{Request}
-use Rattle.dso_base.specs.declared.request.Request.TheVariants.{Enter, Exit, Wait, Resume}
+use Rattle.dso_base.specs.declared.request.Request.TheVariants.{Enter, Exit, Wait, Resume, NotifyAll}
+use Rattle.dso_base.specs.Following.{is_thread}
 use Rattle.dso_lease.specs.Leases.{standing_in}
 use Rattle.dso_plain.specs.KeyTests.{is_lock}
 use Rattle.dso_law.specs.ClientStep.{returns, asks_again}
+use Rattle.dso_law.specs.ClientWaiters.{is_woken}
 use Rattle.dso_law.specs.Closing.{is_lease_due}
 use Rattle.dso_law.specs.Leases.{leased, is_lock_before}
 use Rattle.dso_law.specs.Settings.{threads_of}
@@ -66,14 +68,41 @@ pub record AddsDue (at : RunPoint) (among : LockName → Bool) (old new : List L
   pub rises : Rising old → Rising new
   pub has : (k : LockName) → list_any (is_lock k) new ≡ (list_any (is_lock k) old || (among k && is_due_at at k))
 
+-- each other thread has the next request that it had
+abbrev pub AreNextOfOthers : ThreadId → (ThreadId → Option Request) → (ThreadId → Option Request) → Type 0
+AreNextOfOthers t next later = (u : ThreadId) → is_thread u t ≡ false → later u ≡ next u
+
 -- a thread next wants the lock at Write
 abbrev pub is_wanted_by : RunPoint → LockName → ThreadId → Bool
 is_wanted_by at k t = is_of k (wanted_lock (at.next t))
 
--- only the lease of this lock, and of those that threads of the client next want at Write, may be to be given back
-abbrev pub OnlyThese : RunPoint → Option LockName → Type 0
-OnlyThese at left = (k : LockName) → is_due_at at k ≡ true
-    → (is_of k left || list_any (is_wanted_by at k) (threads_of at.settings at.client)) ≡ true
+-- whether the request may mark any thread of its client
+abbrev pub marks_all : Request → Bool
+marks_all (NotifyAll l) = true
+marks_all request = false
+
+-- whether the act may have marked the thread, besides its own
+abbrev pub may_mark : Answered → ThreadId → Bool
+may_mark act t = marks_all act.request || is_woken t act.woken
+
+-- the act may have marked the thread, and it next wants the lock at Write
+abbrev pub is_wanted_by_marked : RunPoint → Answered → LockName → ThreadId → Bool
+is_wanted_by_marked at act k t = may_mark act t && is_wanted_by at k t
+
+-- Only the lease of the lock that the act left, of the one that its thread next wants at Write, and of those that
+-- threads want so that it may have marked, may be to be given back.
+abbrev pub OnlyThese : RunPoint → Answered → Type 0
+OnlyThese at act = (k : LockName) → is_due_at at k ≡ true → (is_of k (left_lock act.request)
+    || (is_wanted_by at k act.thread || list_any (is_wanted_by_marked at act k) (threads_of at.settings at.client)))
+    ≡ true
+
+-- the list has besides what it had those of some locks whose leases are to be given back, among them all that threads
+-- next want at Write that the act may have marked
+pub record AddsMarked (at : RunPoint) (act : Answered) (old new : List LockName) : Type 0 where
+  pub among : LockName → Bool
+  pub adds : AddsDue at among old new
+  pub all : (k : LockName) → list_any (is_wanted_by_marked at act k) (threads_of at.settings at.client) ≡ true
+      → among k ≡ true
 
 -- the messages that give the leases of the locks back, each with its list
 abbrev pub given_back : LockState → List LockName → List Up

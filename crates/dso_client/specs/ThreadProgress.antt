@@ -1,6 +1,7 @@
 -- A thread hears the reply to its request and goes on to its next one.
-use Rattle.std.specs.Prelude.{◌≡◌, ◌++◌, ℕ, zero, suc, Option, Some, List, [], ◌∷◌, slice_set}
+use Rattle.std.specs.Prelude.{◌≡◌, ◌++◌, ℕ, zero, suc, Option, Some, None, List, [], ◌∷◌, slice_set}
 use Rattle.std.specs.Option.{option_and_then}
+use Rattle.dso_base.specs.declared.lock.LockName.{LockName}
 use Rattle.dso_base.specs.declared.lock.ThreadId.{ThreadId}
 use Rattle.dso_base.specs.declared.request.Event.{Event}
 use Rattle.dso_base.specs.declared.request.Event.TheVariants.{Act}
@@ -12,6 +13,7 @@ use Rattle.dso_machine.specs.Next.{next_request}
 use Rattle.dso_machine.specs.Standing.{ThreadStands}
 use Rattle.dso_client.specs.declared.thread_context.ThreadContext.{ThreadContext}
 use Rattle.dso_client.specs.CodeRuns.{Runs}
+use Rattle.dso_client.specs.LeaseReturns.{wanted_lock}
 use Rattle.dso_client.specs.SentRecords.{changed_context}
 use Rattle.dso_client.specs.ContextPlaces.{context_in}
 
@@ -28,6 +30,11 @@ pub record GoesOn (code : Code) (t : ThreadId) (reply : Reply) (old new : Thread
 -- the next request that is kept of the thread of an index, None where it has none and where there is no such thread
 abbrev pub next_at : List ThreadContext → ℕ → Option Request
 next_at contexts index = option_and_then (λ context. context.next) (context_in contexts index)
+
+-- the lock that a thread next wants at Write that was woken, if one was
+abbrev pub wanted_by : List ThreadContext → Option ThreadId → Option LockName
+wanted_by contexts None = None
+wanted_by contexts (Some t) = wanted_lock (next_at contexts t.index)
 
 -- the contexts with this one in place of that of the thread of an index
 abbrev pub with_context : ℕ → ThreadContext → List ThreadContext → List ThreadContext

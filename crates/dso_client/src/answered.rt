@@ -4,6 +4,7 @@ ghost use Rattle.dso_law.specs.Threads.{ending_by, exit_ending, hold_of, locks_o
 ghost use Rattle.dso_plain.specs.After.{exited};
 ghost use Rattle.dso_client.specs.SentRecords.{ending_in};
 ghost use Rattle.dso_client.specs.ActEffects.{entered_lock, put_to};
+ghost use Rattle.dso_client.specs.LeaseReturns.{marks_all};
 ghost use Rattle.dso_client.specs.LockStateStands.{LockStateStands};
 ghost use Rattle.dso_client.specs.RunPoints.{RunPoint};
 
@@ -17,6 +18,16 @@ pub struct Answered {
     pub request: Request,
     pub reply: Reply,
     pub woken: Option<ThreadId>,
+}
+
+/// Whether the request may mark any thread of its client.
+pub(crate) fn marks_all(request: Request) -> bool
+    ensures { result ≡ marks_all request }
+{
+    match request {
+        Request::NotifyAll(_) => true,
+        _ => false,
+    }
 }
 
 /// The object that a done put is to.

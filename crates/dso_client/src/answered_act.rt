@@ -20,7 +20,7 @@ ghost use Rattle.dso_client.specs.ActEffects.{CountsAtMost, acting, event_of, ap
 ghost use Rattle.dso_client.specs.ContextEffects.{ApplyTo};
 ghost use Rattle.dso_client.specs.LockStateStands.{LockStateStands};
 ghost use Rattle.dso_client.specs.RunPoints.{RunPoint};
-ghost use Rattle.dso_client.specs.LeaseReturns.{record_sent};
+ghost use Rattle.dso_client.specs.LeaseReturns.{AreNextOfOthers, record_sent};
 ghost use Rattle.dso_client.specs.RunFacts.{RunFacts};
 ghost use Rattle.dso_client.specs.ContextPlaces.{running, context_in};
 ghost use Rattle.dso_client.specs.TakenMessages.{IsQuiet};
@@ -31,7 +31,7 @@ ghost use Rattle.dso_base.specs.declared.request.Request as request;
 use crate::answered::{Answered, ending_of};
 use crate::client_state::ClientState;
 use crate::context_effect::apply_to_contexts;
-use crate::lease_return::{Onward, ask_again, left_lock, settle_act};
+use crate::lease_return::{Onward, ask_again, settle_act};
 use crate::lock_state_effect::apply_to_lock_state;
 use crate::locks::is_closing;
 use crate::object_effect::apply_to_objects;
@@ -203,12 +203,13 @@ fn send_rest(
 ) -> Result<Vec<Up>, NoMemory>
     ensures stands { IfOk result (λ all. (clock : ℕ) (txn : Option txn.Txn) (later : thread.ThreadId → Option request.Request) (at : RunPoint)
         → ClientPartsStand (acting clock act (record_sent txn) later at) kept.old → IsQuiet at → RunFacts at
-        → list_any (is_thread act.thread) (threads_of at.settings at.client) ≡ true → onward.next ≡ later act.thread → TellsClosing at onward.next onward.was_closing
+        → list_any (is_thread act.thread) (threads_of at.settings at.client) ≡ true → onward.next ≡ later act.thread → AreNextOfOthers act.thread at.next later
+        → TellsClosing at onward.next onward.was_closing
         → sent.items ≡ record_sent txn → StandsSent clock at act txn later all.items kept.new) }
     ensures others { kept.new ≡ record kept.old { lock_state = kept.new.lock_state } }
     ensures holds { kept.new.lock_state.holds ≡ kept.old.lock_state.holds }
 {
-    let mut returned = settle_act(alloc, kept, left_lock(act.request))?;
+    let mut returned = settle_act(alloc, kept, act, onward.next)?;
     let again = ask_again(kept, onward, returned.as_slice())?;
     let mut all = sent;
     all.append(&mut returned)?;

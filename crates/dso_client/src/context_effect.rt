@@ -6,9 +6,9 @@ ghost use Rattle.dso_client.specs.LockEntries.{count_owed};
 ghost use Rattle.dso_client.specs.ActEffects.{CountsAtMost, applied};
 ghost use Rattle.dso_client.specs.LockStateStands.{LockStateStands};
 ghost use Rattle.dso_client.specs.RunPoints.{RunPoint};
-ghost use Rattle.dso_client.specs.ContextEffects.{ApplyTo, AppliesTo, RestStands};
+ghost use Rattle.dso_client.specs.ContextEffects.{ApplyTo, ApplyToAll, AppliesToAny, AppliesToOne, RestStands, woken_index};
 
-use crate::answered::Answered;
+use crate::answered::{Answered, marks_all};
 use crate::lock_state::LockState;
 use crate::message_fit::is_listed;
 use crate::thread_context::{ThreadContext, Waiting};
@@ -80,7 +80,7 @@ fn apply_to_own(lock_state: &LockState, context: &mut ThreadContext, act: Answer
 
 /// What is kept of a thread but its work, once the request was answered. It takes no memory.
 fn apply_to_context(lock_state: &LockState, context: &mut ThreadContext, act: Answered)
-    ensures { AppliesTo lock_state.now act context.old context.new }
+    ensures { AppliesToAny lock_state.now act context.old context.new }
 {
     let is_marked = marked_after(lock_state, context, act);
     apply_to_own(lock_state, context, act);
@@ -88,6 +88,39 @@ fn apply_to_context(lock_state: &LockState, context: &mut ThreadContext, act: An
 }
 
 /// So of each thread of the client. It takes no memory.
+fn apply_to_all(lock_state: &LockState, contexts: &mut [ThreadContext], act: Answered)
+    ensures { ApplyToAll lock_state.now act contexts.old contexts.new }
+{
+    for at in 0..contexts.len() {
+        apply_to_context(lock_state, &mut contexts[at], act);
+    }
+}
+
+/// So of the thread of this index, where there is one. It takes no memory.
+fn apply_to_one(lock_state: &LockState, contexts: &mut [ThreadContext], index: u8, act: Answered)
+    ensures { AppliesToOne lock_state.now act index contexts.old contexts.new }
+{
+    if index == 0 {
+        return;
+    }
+    let at = index as usize - 1;
+    if at < contexts.len() {
+        apply_to_context(lock_state, &mut contexts[at], act);
+    }
+}
+
+/// The index of the thread that the act woke, where that is another than its own; else 0, which no thread has.
+fn woken_index(act: Answered) -> u8
+    ensures { result ≡ woken_index act }
+{
+    match act.woken {
+        Some(woken) if woken.index != act.thread.index => woken.index,
+        _ => 0,
+    }
+}
+
+/// So of the client's threads: the acting one, and the one that it woke, or all where it may have marked any. No other
+/// is asked. It takes no memory.
 pub(crate) fn apply_to_contexts(
     lock_state: &LockState,
     contexts: &mut [ThreadContext],
@@ -95,7 +128,10 @@ pub(crate) fn apply_to_contexts(
 )
     ensures { ApplyTo lock_state.now act contexts.old contexts.new }
 {
-    for at in 0..contexts.len() {
-        apply_to_context(lock_state, &mut contexts[at], act);
+    if marks_all(act.request) {
+        apply_to_all(lock_state, contexts, act);
+    } else {
+        apply_to_one(lock_state, contexts, act.thread.index, act);
+        apply_to_one(lock_state, contexts, woken_index(act), act);
     }
 }

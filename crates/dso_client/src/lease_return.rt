@@ -19,23 +19,24 @@ ghost use Rattle.dso_client.specs.StateStands.{ClientPartsStand};
 ghost use Rattle.dso_client.specs.ActEffects.{acting, applied};
 ghost use Rattle.dso_client.specs.LockStateStands.{list_at};
 ghost use Rattle.dso_client.specs.RunPoints.{RunPoint};
-ghost use Rattle.dso_client.specs.LeaseReturns.{ActSettles, AddsDue, AreGivenBack, AsksAgain, Distinct, OnlyThese, asked_again, given_back, is_of, is_wanted_by, left_lock, record_sent, returns_lock, wanted_lock};
+ghost use Rattle.dso_client.specs.LeaseReturns.{ActSettles, AddsDue, AddsMarked, AreGivenBack, AreNextOfOthers, AsksAgain, Distinct, OnlyThese, asked_again, given_back, is_of, is_wanted_by, left_lock, record_sent, returns_lock, wanted_lock};
 ghost use Rattle.dso_client.specs.RunFacts.{AreOwnHolds, RunFacts};
 ghost use Rattle.dso_client.specs.ContextStands.{ContextStands};
+ghost use Rattle.dso_client.specs.ThreadProgress.{next_at, wanted_by};
 ghost use Rattle.dso_client.specs.TakenMessages.{IsQuiet};
 
-use crate::answered::Answered;
+use crate::answered::{Answered, marks_all};
 use crate::asked_act::ask_lock;
 use crate::client_state::ClientState;
 use crate::due_lease::give_back;
 use crate::lock_state::LockState;
 use crate::locks::is_lease_due;
-use crate::thread_context::ThreadContext;
-use dso_base::{Items, Level, LockName, NoMemory, Request, Up};
+use crate::thread_context::{ThreadContext, context_at};
+use dso_base::{Items, Level, LockName, NoMemory, Request, ThreadId, Up};
 use std::alloc::Global;
 
 /// The lock that a request leaves, or goes on with after a wait: its lease may be to be given back once it is answered.
-pub(crate) fn left_lock(request: Request) -> Option<LockName>
+fn left_lock(request: Request) -> Option<LockName>
     ensures { result ≡ left_lock request }
 {
     match request {
@@ -51,6 +52,26 @@ fn wanted_lock(next: Option<Request>) -> Option<LockName>
     match next {
         Some(Request::Enter(lock, Level::Write)) | Some(Request::Resume(lock)) => Some(lock),
         _ => None,
+    }
+}
+
+/// The lock that the thread of this index next wants at `Write`, None where there is no such thread.
+fn wanted_at(kept: &ClientState, index: u8) -> Option<LockName>
+    ensures { result ≡ wanted_lock (next_at kept.now.contexts.items index) }
+{
+    match context_at(kept, index) {
+        Some(context) => wanted_lock(context.next),
+        None => None,
+    }
+}
+
+/// So for the thread that an act woke, if it woke one.
+fn wanted_by(kept: &ClientState, woken: Option<ThreadId>) -> Option<LockName>
+    ensures { result ≡ wanted_by kept.now.contexts.items woken }
+{
+    match woken {
+        Some(thread) => wanted_at(kept, thread.index),
+        None => None,
     }
 }
 
@@ -133,18 +154,34 @@ fn add_wanted(
     }
 }
 
-/// The locks whose leases are to be given back, rising: of these only the lock that was left, and those that threads
-/// next want at `Write`, can be.
+/// So for each lock that one of the threads next wants at `Write` that the act may have marked, besides its own: the
+/// thread that it woke, or any.
+fn add_marked(kept: &ClientState, due: &mut Vec<LockName>, act: Answered) -> Result<(), NoMemory>
+    ensures { OnOk result ((at : RunPoint) → ClientPartsStand at kept.now → AreOwnHolds at → AddsMarked at act due.old.items due.new.items) }
+{
+    if marks_all(act.request) {
+        add_wanted(kept, kept.contexts.as_slice(), due)
+    } else {
+        add_if_due(kept, due, wanted_by(kept, act.woken))
+    }
+}
+
+/// The locks whose leases are to be given back once the act was made, rising. Only these can be: the lock that it left,
+/// the one that its thread next wants at `Write`, and those that threads want so that it may have marked. No other
+/// thread is asked.
 fn due_locks(
     alloc: Global,
     kept: &ClientState,
-    left: Option<LockName>,
+    act: Answered,
+    next: Option<Request>,
 ) -> Result<Vec<LockName>, NoMemory>
-    ensures { IfOk result (λ locks. (at : RunPoint) → ClientPartsStand at kept.now → AreOwnHolds at → OnlyThese at left → locks.items ≡ due at.settings at.client at.next at.entries) }
+    ensures { IfOk result (λ locks. (at : RunPoint) → ClientPartsStand at kept.now → AreOwnHolds at → next ≡ at.next act.thread → OnlyThese at act
+        → locks.items ≡ due at.settings at.client at.next at.entries) }
 {
     let mut locks = Vec::new(alloc);
-    add_if_due(kept, &mut locks, left)?;
-    add_wanted(kept, kept.contexts.as_slice(), &mut locks)?;
+    add_if_due(kept, &mut locks, left_lock(act.request))?;
+    add_if_due(kept, &mut locks, wanted_lock(next))?;
+    add_marked(kept, &mut locks, act)?;
     Ok(locks)
 }
 
@@ -168,23 +205,25 @@ fn return_all(
     }
 }
 
-/// Gives back the leases that an act made due, rising: those of the lock that it left, and of locks that threads next
-/// want at `Write`. The next requests of the contexts are those after the act.
+/// Gives back the leases that an act made due, rising: those of the lock that it left, of the one that its thread next
+/// wants at `Write`, and of those that threads want so that it marked. The next requests of the contexts are those after
+/// the act, of which the acting thread's is this one; those of the others are as they were.
 ///
 /// It answers `NoMemory` where an allocation was refused.
 pub(crate) fn settle_act(
     alloc: Global,
     kept: &mut ClientState,
-    left: Option<LockName>,
+    act: Answered,
+    next: Option<Request>,
 ) -> Result<Vec<Up>, NoMemory>
-    ensures settles { IfOk result (λ sent. (clock : ℕ) (act : Answered) (txn : Option Txn) (next : ThreadId → Option Request) (at : RunPoint)
-        → ClientPartsStand (acting clock act (record_sent txn) next at) kept.old → IsQuiet at → RunFacts at
-        → list_any (is_thread act.thread) (threads_of at.settings at.client) ≡ true → left ≡ left_lock act.request
-        → ActSettles clock act txn next at sent.items kept.new) }
+    ensures settles { IfOk result (λ sent. (clock : ℕ) (txn : Option Txn) (later : ThreadId → Option Request) (at : RunPoint)
+        → ClientPartsStand (acting clock act (record_sent txn) later at) kept.old → IsQuiet at → RunFacts at
+        → list_any (is_thread act.thread) (threads_of at.settings at.client) ≡ true → next ≡ later act.thread → AreNextOfOthers act.thread at.next later
+        → ActSettles clock act txn later at sent.items kept.new) }
     ensures others { kept.new ≡ record kept.old { lock_state = kept.new.lock_state } }
     ensures holds { kept.new.lock_state.holds ≡ kept.old.lock_state.holds }
 {
-    let locks = due_locks(alloc, kept, left)?;
+    let locks = due_locks(alloc, kept, act, next)?;
     let mut sent = Vec::new(alloc);
     return_all(alloc, &mut kept.lock_state, locks.as_slice(), &mut sent)?;
     Ok(sent)

@@ -1,8 +1,9 @@
 //! Which of a client's leases let a thread in, and which are to be given back (`dso_law/specs/Closing.antt`).
-ghost use Rattle.std.specs.Prelude.{◌≡◌, ◌&&◌, is_some, map};
+ghost use Rattle.std.specs.Prelude.{◌≡◌, ◌&&◌, ◌||◌, Some, is_some, map};
 ghost use Rattle.std.specs.List.{AllByRecursion, list_any};
+ghost use Rattle.dso_lease.specs.Leases.{lease_of, standing_in};
 ghost use Rattle.dso_law.specs.Closing.{admits, awaits_write, is_closing, is_lease_due, is_free, is_read, wants_write};
-ghost use Rattle.dso_law.specs.Leases.{is_entered, leased};
+ghost use Rattle.dso_law.specs.Leases.{leased};
 ghost use Rattle.dso_law.specs.RequestNeeds.{is_enough, hold_level};
 ghost use Rattle.dso_law.specs.Settings.{threads_of};
 ghost use Rattle.dso_law.specs.Threads.{hold_of};
@@ -16,6 +17,7 @@ use crate::client_state::ClientState;
 use crate::lock_state::LockState;
 use crate::thread_context::ThreadContext;
 use dso_base::{Level, LockName, Request, ThreadId};
+use dso_lease::{Lease, LeaseStanding};
 
 /// A thread that wants to enter a lock at a level.
 #[derive(Clone, Copy, Debug, PartialEq, Eq)]
@@ -74,13 +76,30 @@ fn is_read(lease: Option<Level>) -> bool
     }
 }
 
-/// Whether the lease of the lock is of level `Read`, and a thread that doesn't hold the lock wants it at `Write`.
-fn is_outgrown(kept: &ClientState, lock: LockName) -> bool
-    ensures { (at : RunPoint) → ClientPartsStand at kept.now
-        → result ≡ (is_read (leased lock at.entries) && list_any (awaits_write at.settings at.client at.next lock at.entries) (threads_of at.settings at.client)) }
+/// The lease of the lock, None where there is none.
+fn lease_of(lock_state: &LockState, lock: LockName) -> Option<Lease>
+    ensures { result ≡ lease_of (standing_in lock_state.now.leases lock) }
 {
-    let lock_state = &kept.lock_state;
-    is_read(lock_state.leases.lease(lock)) && is_awaited(lock_state, kept.contexts.as_slice(), lock)
+    match lock_state.leases.standing(lock) {
+        Some(LeaseStanding::Leased(lease)) => Some(lease),
+        _ => None,
+    }
+}
+
+/// Whether the level is `Read`, and a thread that doesn't hold the lock wants it at `Write`.
+fn is_outgrown(kept: &ClientState, lock: LockName, level: Level) -> bool
+    ensures { (at : RunPoint) → ClientPartsStand at kept.now
+        → result ≡ (is_read (Some level) && list_any (awaits_write at.settings at.client at.next lock at.entries) (threads_of at.settings at.client)) }
+{
+    is_read(Some(level)) && is_awaited(&kept.lock_state, kept.contexts.as_slice(), lock)
+}
+
+/// Whether the lease of the lock, which is this one, is closing: it was recalled, or a thread wants more than it gives.
+fn closes(kept: &ClientState, lock: LockName, lease: Lease) -> bool
+    ensures { (at : RunPoint) → ClientPartsStand at kept.now → lease_of (standing_in kept.now.lock_state.leases lock) ≡ Some lease
+        → result ≡ is_closing at.settings at.client at.next lock at.entries }
+{
+    lease.is_closing || is_outgrown(kept, lock, lease.level)
 }
 
 /// Whether there is a lease of the lock that is closing: it was recalled, or a thread wants more than it gives. It takes
@@ -89,7 +108,20 @@ pub(crate) fn is_closing(kept: &ClientState, lock: LockName) -> bool
     ensures { (at : RunPoint) → ClientPartsStand at kept.now
         → result ≡ (is_some (leased lock at.entries) && is_closing at.settings at.client at.next lock at.entries) }
 {
-    kept.lock_state.leases.is_closing(lock) || is_outgrown(kept, lock)
+    match lease_of(&kept.lock_state, lock) {
+        Some(lease) => closes(kept, lock, lease),
+        None => false,
+    }
+}
+
+/// Whether a lease of the level is of at least the one that is wanted.
+fn is_enough(wanted: Level, level: Level) -> bool
+    ensures { result ≡ is_enough wanted (Some level) }
+{
+    match (wanted, level) {
+        (Level::Write, Level::Read) => false,
+        _ => true,
+    }
 }
 
 /// Whether there is a lease of at least the level that admits an outer entry. It takes no memory.
@@ -97,23 +129,38 @@ pub(crate) fn admits(kept: &ClientState, lock: LockName, level: Level) -> bool
     ensures { (at : RunPoint) → ClientPartsStand at kept.now
         → result ≡ (is_enough level (leased lock at.entries) && admits at.settings at.client at.next lock at.entries) }
 {
-    let leases = &kept.lock_state.leases;
-    leases.admits(lock, level, true) && (!leases.is_entered(lock) || !is_closing(kept, lock))
+    match lease_of(&kept.lock_state, lock) {
+        Some(lease) => {
+            is_enough(level, lease.level) && (!lease.is_entered || !closes(kept, lock, lease))
+        }
+        None => false,
+    }
 }
 
-/// Whether there is a lease of the lock that was entered, and no thread of the client holds the lock.
-fn is_left(lock_state: &LockState, lock: LockName) -> bool
-    ensures { (at : RunPoint) → LockStateStands at lock_state.now → AreOwnHolds at
-        → result ≡ ((is_some (leased lock at.entries) && is_entered lock at.entries) && is_free at.settings at.client at.next lock at.entries) }
+/// Whether no thread of the client holds the lock.
+fn is_free(lock_state: &LockState, lock: LockName) -> bool
+    ensures { (at : RunPoint) → LockStateStands at lock_state.now → AreOwnHolds at → result ≡ is_free at.settings at.client at.next lock at.entries }
 {
-    lock_state.leases.is_entered(lock) && lock_state.holds.free(lock)
+    lock_state.holds.free(lock)
+}
+
+/// Whether the lease was entered, and is such as may be closing: it was recalled, or its level is `Read`.
+fn may_be_due(lease: Lease) -> bool
+    ensures { result ≡ (lease.is_entered && (lease.is_closing || is_read (Some lease.level))) }
+{
+    lease.is_entered && (lease.is_closing || is_read(Some(lease.level)))
 }
 
 /// Whether there is a lease of the lock that is to be given back: it is closing and was entered, and no thread of the
-/// client holds the lock. It takes no memory.
+/// client holds the lock. It takes no memory. What the threads want is asked last, and only of a lease of level `Read`.
 pub(crate) fn is_lease_due(kept: &ClientState, lock: LockName) -> bool
     ensures { (at : RunPoint) → ClientPartsStand at kept.now → AreOwnHolds at
         → result ≡ (is_some (leased lock at.entries) && is_lease_due at.settings at.client at.next lock at.entries) }
 {
-    is_left(&kept.lock_state, lock) && is_closing(kept, lock)
+    match lease_of(&kept.lock_state, lock) {
+        Some(lease) => {
+            may_be_due(lease) && is_free(&kept.lock_state, lock) && closes(kept, lock, lease)
+        }
+        None => false,
+    }
 }

@@ -1,6 +1,6 @@
 -- What is kept of the threads once a request was answered.
-use Rattle.std.specs.List.{AllByRecursion, AllZip}
-use Rattle.std.proofs.Common.{◌≡◌, ◌≢◌, ℕ, refl, sym, ◌∙◌, ap, false, cond, Option, Some, List, [], ◌∷◌, map, length}
+use Rattle.std.specs.List.{AllByRecursion}
+use Rattle.std.proofs.Common.{◌≡◌, ◌≢◌, ℕ, suc, refl, sym, ◌∙◌, ap, false, cond, Option, Some, List, [], ◌∷◌, map, length}
 use Rattle.dso_base.specs.declared.lock.ThreadId.{ThreadId}
 use Rattle.dso_base.specs.declared.request.Request.{Request}
 use Rattle.dso_base.specs.Following.{is_thread}
@@ -21,8 +21,9 @@ use Rattle.dso_client.specs.RunPoints.{RunPoint}
 use Rattle.dso_client.specs.ContextPlaces.{context_in, running}
 use Rattle.dso_client.specs.ContextStands.{ContextStands}
 use Rattle.dso_client.specs.ThreadProgress.{with_context}
-use Rattle.dso_client.proofs.contexts.ContextsFound.{context_is}
+use Rattle.dso_client.proofs.contexts.ContextsFound.{all_at, context_is}
 use Rattle.dso_client.proofs.acts.Places.{context_set}
+use Rattle.dso_client.proofs.heard.Wakes.{all_from}
 use Rattle.dso_client.proofs.sent.Parts.{other_thread}
 
 pub rest_of : (at : RunPoint) (context : ThreadContext) → ContextStands at context → RestStands at context
@@ -37,22 +38,15 @@ work_goes_on clock at act context other work = work ∙ ap (λ b. hand_of (worke
     (start (cond b (privates_after at.settings.shape (event_of act) (locks_of context.id at.entries) (open_block context.id at.entries) (privates_before at.settings.shape context.id at.entries))
     (privates_before at.settings.shape context.id at.entries))))) (sym other)
 
--- where two lists go together, what holds of each of one holds of each of the other
-pub all_together : {X : Type 0} (R : X → X → Type 0) (P Q : X → Type 0) → ((x y : X) → R x y → P x → Q y) → (xs ys : List X) → AllZip R xs ys → AllByRecursion P xs → AllByRecursion Q ys
-all_together R P Q turns [] [] z h = tt
-all_together R P Q turns [] (y ∷ ys) z h = absurd z
-all_together R P Q turns (x ∷ xs) [] z h = absurd z
-all_together R P Q turns (x ∷ xs) (y ∷ ys) z h = (turns x y z.0 h.0, all_together R P Q turns xs ys z.1 h.1)
+-- what is told of threads is told by what runs of them
+ids_run : (contexts : List ThreadContext)
+    → map (λ (r : ThreadId × Thread × Option Request). r.0) (map running contexts) ≡ map (λ context. context.id) contexts
+ids_run [] = refl
+ids_run (context ∷ contexts) = ap (λ ids. context.id ∷ ids) (ids_run contexts)
 
--- and what is told alike of each
-pub told_together : {X Y : Type 0} (R : X → X → Type 0) (tell : X → Y) → ((x y : X) → R x y → tell y ≡ tell x) → (xs ys : List X) → AllZip R xs ys → map tell ys ≡ map tell xs
-told_together R tell same [] [] z = refl
-told_together R tell same [] (y ∷ ys) z = absurd z
-told_together R tell same (x ∷ xs) [] z = absurd z
-told_together R tell same (x ∷ xs) (y ∷ ys) z = (λ i. same x y z.0 i ∷ told_together R tell same xs ys z.1 i)
-
-pub runs_together : (lock_state : LockState) (act : Answered) (old new : List ThreadContext) → ApplyTo lock_state act old new → map running new ≡ map running old
-runs_together lock_state act old new h = told_together (AppliesTo lock_state act) running (λ x y z. z.runs) old new h
+pub same_ids : (old new : List ThreadContext) → map running new ≡ map running old
+    → map (λ context. context.id) new ≡ map (λ context. context.id) old
+same_ids old new runs = sym (ids_run new) ∙ (ap (map (λ (r : ThreadId × Thread × Option Request). r.0)) runs ∙ ids_run old)
 
 -- all is kept as it stood, and the work stands with the act
 pub record WorkLives (clock : ℕ) (act : Answered) (at : RunPoint) (context : ThreadContext) : Type 0 where
@@ -71,14 +65,22 @@ module _ (clock : ℕ) (at : RunPoint) (act : Answered) (its : act.thread.client
           ∙ (ap (λ c. is_thread (thread_at at.client k) (thread_at c act.thread.index)) its ∙ other_thread at.client k act.thread.index differ)
 
   -- and then all goes on
-  pub contexts_live : (lock_state : LockState) (old new : List ThreadContext) → LockStateStands at lock_state → ApplyTo lock_state act old new → AllByRecursion (WorkLives clock act at) old → AllByRecursion (ContextStands (applied clock act at)) new
-  contexts_live lock_state old new stands applies h = all_together (AppliesTo lock_state act) (WorkLives clock act at) (ContextStands (applied clock act at)) one old new applies h
+  pub contexts_live : (lock_state : LockState) (old new : List ThreadContext) → LockStateStands at lock_state
+      → map (λ context. context.id) old ≡ first_threads at.client (length old) → ApplyTo lock_state act old new
+      → AllByRecursion (WorkLives clock act at) old → AllByRecursion (ContextStands (applied clock act at)) new
+  contexts_live lock_state old new stands numbered applies h = all_from (ContextStands (applied clock act at)) new (λ k y e.
+      let before = applies.each (suc k) y e in
+      one (suc k) before.0 y before.2 (context_is at.client old (suc k) before.0 numbered before.1)
+      (all_at (WorkLives clock act at) old k before.0 h before.1))
     where
-      same_id : (x y : ThreadContext) → AppliesTo lock_state act x y → y.id ≡ x.id
-      same_id x y l = ap (λ (r : ThreadId × Thread × Option Request). r.0) l.runs
+      same_id : (k : ℕ) (x y : ThreadContext) → AppliesTo lock_state act k x y → y.id ≡ x.id
+      same_id k x y l = ap (λ (r : ThreadId × Thread × Option Request). r.0) l.runs
 
-      same_work : (x y : ThreadContext) → AppliesTo lock_state act x y → hand_in y.privates y.block ≡ hand_in x.privates x.block
-      same_work x y l = (λ i. hand_in (l.privates i) (l.block i))
+      same_work : (k : ℕ) (x y : ThreadContext) → AppliesTo lock_state act k x y
+          → hand_in y.privates y.block ≡ hand_in x.privates x.block
+      same_work k x y l = (λ i. hand_in (l.privates i) (l.block i))
 
-      one : (x y : ThreadContext) → AppliesTo lock_state act x y → WorkLives clock act at x → ContextStands (applied clock act at) y
-      one x y l w = whole_of (applied clock act at) y (l.rest clock at stands w.rest) (same_work x y l ∙ w.work ∙ ap (λ t. hand_of (work_of at.settings.shape t (applied clock act at).entries)) (sym (same_id x y l)))
+      one : (k : ℕ) (x y : ThreadContext) → AppliesTo lock_state act k x y → x.id ≡ thread_at at.client k
+          → WorkLives clock act at x → ContextStands (applied clock act at) y
+      one k x y l id w = whole_of (applied clock act at) y (l.rest clock at id stands w.rest) (same_work k x y l
+          ∙ w.work ∙ ap (λ t. hand_of (work_of at.settings.shape t (applied clock act at).entries)) (sym (same_id k x y l)))

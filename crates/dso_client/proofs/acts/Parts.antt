@@ -1,17 +1,14 @@
 -- All parts once a request was answered, before anything is sent.
 use Rattle.std.specs.List.{AllByRecursion, list_any}
 use Rattle.std.specs.Option.{option_and_then}
-use Rattle.std.proofs.Common.{◌≡◌, ℕ, refl, sym, ◌∙◌, ap, subst, Option, Some, map, length}
+use Rattle.std.proofs.Common.{◌≡◌, ℕ, refl, sym, ◌∙◌, ap, subst, Option, Some, List, map, length}
 use Rattle.std.proofs.lemmas.List.{length-map}
-use Rattle.dso_base.specs.declared.lock.ThreadId.{ThreadId}
 use Rattle.dso_base.specs.declared.record.Ending.{Ending}
 use Rattle.dso_base.specs.declared.record.Txn.{Txn}
-use Rattle.dso_base.specs.declared.request.Request.{Request}
 use Rattle.dso_base.specs.declared.shape.Shape.{Shape}
 use Rattle.dso_base.specs.Following.{is_thread}
 use Rattle.dso_law.specs.Settings.{threads_of}
 use Rattle.dso_law.specs.Threads.{ending_by, locks_of}
-use Rattle.dso_machine.specs.declared.thread.Thread.{Thread}
 use Rattle.dso_client.specs.declared.answered.Answered.{Answered}
 use Rattle.dso_client.specs.declared.client_state.ClientState.{ClientState}
 use Rattle.dso_client.specs.declared.thread_context.ThreadContext.{ThreadContext}
@@ -20,7 +17,7 @@ use Rattle.dso_client.specs.SentRecords.{IsApplied, Applies, WorksAlone, with_wo
 use Rattle.dso_client.specs.ThreadProgress.{with_context}
 use Rattle.dso_client.specs.SequencesStand.{SequencesStand}
 use Rattle.dso_client.specs.ActEffects.{applied}
-use Rattle.dso_client.specs.ContextEffects.{RestStands, AppliesTo, ApplyTo}
+use Rattle.dso_client.specs.ContextEffects.{RestStands, ApplyTo}
 use Rattle.dso_client.specs.LockStateStands.{LockStateStands}
 use Rattle.dso_client.specs.Openings.{thread_at, first_threads}
 use Rattle.dso_client.specs.RunPoints.{RunPoint}
@@ -30,7 +27,7 @@ use Rattle.dso_client.specs.TableStands.{TableStands}
 use Rattle.dso_client.proofs.contexts.ContextsFound.{context_is, context_there}
 use Rattle.dso_client.proofs.acts.Places.{changed_is, context_of_all, set_there}
 use Rattle.dso_client.proofs.contexts.ChangedContexts.{told_unchanged}
-use Rattle.dso_client.proofs.acts.Contexts.{WorkLives, told_together, work_lives, contexts_live}
+use Rattle.dso_client.proofs.acts.Contexts.{WorkLives, same_ids, work_lives, contexts_live}
 
 module _ (at : RunPoint) (shape : Shape) (act : Answered) (old : ClientState) (h : IsAnswering at shape act old) where
   -- the acting thread, by the client's number
@@ -90,22 +87,33 @@ module _ (at : RunPoint) (shape : Shape) (act : Answered) (old : ClientState) (h
     all_work = subst (AllByRecursion (WorkLives clock act at)) (sym set)
         (work_lives clock at act h.mine old.contexts.items acting_context.0 worked h.stands.numbered acting_context.1 h.stands.contexts rest (applied_so.work worked worked_there))
 
+    ids_worked : map (λ (context : ThreadContext). context.id) mid.contexts.items ≡ map (λ (context : ThreadContext). context.id) old.contexts.items
+    ids_worked = ap (map (λ (context : ThreadContext). context.id)) alone.contexts
+        ∙ told_unchanged (with_work alone.privates alone.block) (λ (context : ThreadContext). context.id) (λ context. refl) old.contexts.items act.thread.index
+
+    -- contexts of the same threads are numbered as those were
+    numbered_as : (contexts : List ThreadContext)
+        → map (λ (context : ThreadContext). context.id) contexts ≡ map (λ (context : ThreadContext). context.id) old.contexts.items
+        → map (λ (context : ThreadContext). context.id) contexts ≡ first_threads at.client (length contexts)
+    numbered_as contexts same =
+        let many : length old.contexts.items ≡ length contexts
+        = sym (length-map old.contexts.items (λ (context : ThreadContext). context.id))
+        ∙ (ap length (sym same) ∙ length-map contexts (λ (context : ThreadContext). context.id)) in
+        same ∙ (h.stands.numbered ∙ ap (first_threads at.client) many)
+
     all_contexts : AllByRecursion (ContextStands (applied clock act at)) new.contexts.items
-    all_contexts = contexts_live clock at act h.mine mid.lock_state mid.contexts.items new.contexts.items (subst (LockStateStands at) (sym lock_state) h.stands.lock_state) contexts all_work
+    all_contexts = contexts_live clock at act h.mine mid.lock_state mid.contexts.items new.contexts.items
+        (subst (LockStateStands at) (sym lock_state) h.stands.lock_state) (numbered_as mid.contexts.items ids_worked) contexts all_work
 
     ids : map (λ (context : ThreadContext). context.id) new.contexts.items ≡ map (λ (context : ThreadContext). context.id) old.contexts.items
-    ids = told_together (AppliesTo mid.lock_state act) (λ (context : ThreadContext). context.id) (λ x y l. ap (λ (r : ThreadId × Thread × Option Request). r.0) l.runs) mid.contexts.items new.contexts.items contexts
-        ∙ (ap (map (λ (context : ThreadContext). context.id)) alone.contexts ∙ told_unchanged (with_work alone.privates alone.block) (λ (context : ThreadContext). context.id) (λ context. refl) old.contexts.items act.thread.index)
-
-    many : length old.contexts.items ≡ length new.contexts.items
-    many = sym (length-map old.contexts.items (λ (context : ThreadContext). context.id)) ∙ (ap length (sym ids) ∙ length-map new.contexts.items (λ (context : ThreadContext). context.id))
+    ids = same_ids mid.contexts.items new.contexts.items contexts.runs ∙ ids_worked
 
     pub stands_applied : StandsApplied clock at act txn new
     stands_applied = record {
       parts = record {
         number = ap (λ (kept : ClientState). kept.number) others ∙ (number ∙ h.stands.number);
         places = ids ∙ h.stands.places;
-        numbered = ids ∙ (h.stands.numbered ∙ ap (first_threads at.client) many);
+        numbered = numbered_as new.contexts.items ids;
         contexts = all_contexts;
         table = subst (TableStands (applied clock act at)) (sym (ap (λ (kept : ClientState). kept.table) others)) applied_so.table;
         lock_state = locks;

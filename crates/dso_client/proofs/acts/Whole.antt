@@ -27,7 +27,7 @@ use Rattle.dso_client.specs.StateStands.{StateStands, ClientPartsStand}
 use Rattle.dso_client.specs.ActEffects.{acting, acting_entry, event_of, applied, applied_entry}
 use Rattle.dso_client.specs.Openings.{thread_at}
 use Rattle.dso_client.specs.RunPoints.{RunPoint}
-use Rattle.dso_client.specs.LeaseReturns.{record_sent}
+use Rattle.dso_client.specs.LeaseReturns.{AreNextOfOthers, record_sent}
 use Rattle.dso_client.specs.RunFacts.{RunFacts}
 use Rattle.dso_client.specs.ContextPlaces.{running, context_in}
 use Rattle.dso_client.specs.TakenMessages.{IsQuiet}
@@ -90,7 +90,7 @@ module _ (code : Code) (p : Settings) (clock : ℕ) (act : Answered) (es : List 
       (runs_mid : map running sent_by.contexts.items ≡ map running gone.contexts.items)
       (set : then.contexts.items ≡ with_next act.thread.index next sent_by.contexts.items) (set_alone : then ≡ record sent_by { contexts = then.contexts })
       (rests : (clock : ℕ) (txn : Option Txn) (later : ThreadId → Option Request) (at : RunPoint) → ClientPartsStand (acting clock act (record_sent txn) later at) then → IsQuiet at → RunFacts at
-      → list_any (is_thread act.thread) (threads_of at.settings at.client) ≡ true → next ≡ later act.thread → TellsClosing at next was_closing
+      → list_any (is_thread act.thread) (threads_of at.settings at.client) ≡ true → next ≡ later act.thread → AreNextOfOthers act.thread at.next later → TellsClosing at next was_closing
       → sent ≡ record_sent txn → StandsSent clock at act txn later all new)
       (rest_alone : new.contexts.items ≡ then.contexts.items) where
     kept_now : StateStands at gone
@@ -117,16 +117,20 @@ module _ (code : Code) (p : Settings) (clock : ℕ) (act : Answered) (es : List 
     here : next ≡ behind context_now.0.id
     here = next_is ∙ ap behind (sym (context_is act.thread.client sent_by.contexts.items act.thread.index context_now.0 handed_now.parts.numbered context_now.1))
 
+    -- the others go on to the same
+    others_next : AreNextOfOthers act.thread at.next behind
+    others_next t other = ap (next_request code t) (events_there clock act.thread.client act es t other)
+
     others : (k : ℕ) (other : ThreadContext) → k ≢ act.thread.index → context_in sent_by.contexts.items k ≡ Some other → next_in (next_request code) es other.id ≡ behind other.id
-    others k other differ there = sym (ap (next_request code other.id) (events_there clock act.thread.client act es other.id
-        (ap (λ t. is_thread t act.thread) (context_is act.thread.client sent_by.contexts.items k other handed_now.parts.numbered there) ∙ other_thread act.thread.client k act.thread.index differ)))
+    others k other differ there = sym (others_next other.id
+        (ap (λ t. is_thread t act.thread) (context_is act.thread.client sent_by.contexts.items k other handed_now.parts.numbered there) ∙ other_thread act.thread.client k act.thread.index differ))
 
     parts_set : ClientPartsStand (acting clock act (record_sent txn) behind at) then
     parts_set = parts_then (acting clock act (record_sent txn) at.next at) behind sent_by then act.thread.index context_now.0 next context_now.1 here others
         (ap (λ (kept : ClientState). kept.number) set_alone) (ap (λ (kept : ClientState). kept.table) set_alone) (ap (λ (kept : ClientState). kept.lock_state) set_alone) (ap (λ (kept : ClientState). kept.sequences) set_alone) set handed_now.parts
 
     sent_now : StandsSent clock at act txn behind all new
-    sent_now = rests clock txn behind at parts_set (λ l. quiet_lease p act.thread.client (next_request code) es h.run l) h.parts.facts its next_is (closing at (parts_of at gone kept_now)) handed_now.sends
+    sent_now = rests clock txn behind at parts_set (λ l. quiet_lease p act.thread.client (next_request code) es h.run l) h.parts.facts its next_is others_next (closing at (parts_of at gone kept_now)) handed_now.sends
 
     machines : map machine new.contexts.items ≡ map machine gone.contexts.items
     machines = ap (map machine) (rest_alone ∙ set) ∙ (told_unchanged (λ (context : ThreadContext). record context { next = next }) machine (λ context. refl) sent_by.contexts.items act.thread.index

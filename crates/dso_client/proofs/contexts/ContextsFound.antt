@@ -95,14 +95,24 @@ mapped f None y e = absurd (cc e)
 mapped f (Some a) y e = (a, refl, cc e)
 
 -- a thread of the client has a context
+pub context_of : (c : ℕ) (contexts : List ThreadContext) (t : ThreadId)
+    → map (λ context. context.id) contexts ≡ first_threads c (length contexts)
+    → list_any (is_thread t) (map (λ context. context.id) contexts) ≡ true
+    → (context : ThreadContext) × (context_in contexts t.index ≡ Some context) × (context.id ≡ t)
+context_of c contexts t numbered its =
+    let place = place_of t (map (λ context. context.id) contexts) its in
+    let one = mapped (λ (context : ThreadContext). context.id) (slice_get contexts place.0) t
+    (sym (slice_get-map (λ (context : ThreadContext). context.id) contexts place.0) ∙ place.1) in
+    let id = context_is c contexts (suc place.0) one.0 numbered one.1 in
+    let same : t.index ≡ suc place.0 = ap (λ (t : ThreadId). t.index) (sym one.2 ∙ id) in
+    (one.0, ap (context_in contexts) same ∙ one.1, one.2)
+
+-- so the one with an index
 pub context_there : (c : ℕ) (contexts : List ThreadContext) (index : ℕ) → map (λ context. context.id) contexts ≡ first_threads c (length contexts)
     → list_any (is_thread (thread_at c index)) (map (λ context. context.id) contexts) ≡ true → (context : ThreadContext) × (context_in contexts index ≡ Some context)
 context_there c contexts index numbered its =
-    let place = place_of (thread_at c index) (map (λ context. context.id) contexts) its in
-    let one = mapped (λ (context : ThreadContext). context.id) (slice_get contexts place.0) (thread_at c index) (sym (slice_get-map (λ (context : ThreadContext). context.id) contexts place.0) ∙ place.1) in
-    let id = context_is c contexts (suc place.0) one.0 numbered one.1 in
-    let same : index ≡ suc place.0 = ap (λ (t : ThreadId). t.index) (sym one.2 ∙ id) in
-    (one.0, ap (context_in contexts) same ∙ one.1)
+    let one = context_of c contexts (thread_at c index) numbered its in
+    (one.0, one.1)
 
 module _ (at : RunPoint) (kept : ClientState) (stands : StateStands at kept) (index : ℕ) where
   -- a context that is found stands, and is that of the thread

@@ -1,7 +1,7 @@
--- Once an act was answered, no lease is to be given back but of the lock that it left, or of one that a thread next wants at
--- Write.
+-- Once an act was answered, no lease is to be given back but of the lock that it left, of the one that its thread next
+-- wants at Write, or of one that a thread wants so that it may have marked.
 use Rattle.std.specs.List.{list_any}
-use Rattle.std.proofs.Common.{◌≡◌, ℕ, refl, sym, ◌∙◌, ap, Bool, true, false, cond, not, ◌&&◌, ◌||◌, is_some, Option, Some, None, List, [], ◌∷◌}
+use Rattle.std.proofs.Common.{◌≡◌, ℕ, refl, sym, ◌∙◌, ap, Bool, true, false, cond, not, ◌&&◌, ◌||◌, is_some, Option, Some, None, List, []}
 use Rattle.std.specs.Prelude.{is_none}
 use Rattle.std.proofs.Math.Path.{fun_ext}
 use Rattle.dso_base.specs.declared.lock.Level.{Level}
@@ -28,30 +28,10 @@ use Rattle.dso_client.specs.declared.answered.Answered.{Answered}
 use Rattle.dso_client.specs.ActEffects.{acting}
 use Rattle.dso_client.specs.RunPoints.{RunPoint}
 use Rattle.dso_client.specs.RunFacts.{AreOwnHolds}
-use Rattle.dso_client.specs.LeaseReturns.{OnlyThese, is_due_at, is_of, is_wanted_by, left_lock, record_sent, wanted_lock}
-
--- a test that fails where a wider one does
-any_less : {A : Type 0} (test wider : A → Bool) → ((x : A) → test x ≡ true → wider x ≡ true) → (xs : List A) → list_any wider xs ≡ false → list_any test xs ≡ false
-any_less test wider less [] none = refl
-any_less test wider less (x ∷ xs) none = by (test x) refl (wider x) refl none (any_less test wider less xs)
-  where
-    by : (a : Bool) → test x ≡ a → (b : Bool) → wider x ≡ b → (b || list_any wider xs) ≡ false → (list_any wider xs ≡ false → list_any test xs ≡ false) → (a || list_any test xs) ≡ false
-    by a e true f none later = absurd (cc none)
-    by true e false f none later = absurd (cc (sym (less x e) ∙ f))
-    by false e false f none later = later none
-
--- one that passes, of a list that it is in
-any_at : (t : ThreadId) (test : ThreadId → Bool) (xs : List ThreadId) → list_any (is_thread t) xs ≡ true → test t ≡ true → list_any test xs ≡ true
-any_at t test [] its passes = absurd (cc its)
-any_at t test (x ∷ xs) its passes = by (is_thread t x) refl its (any_at t test xs)
-  where
-    behind : (a b : Bool) → b ≡ true → (a || b) ≡ true
-    behind true b h = refl
-    behind false b h = h
-
-    by : (b : Bool) → is_thread t x ≡ b → (b || list_any (is_thread t) xs) ≡ true → (list_any (is_thread t) xs ≡ true → test t ≡ true → list_any test xs ≡ true) → (test x || list_any test xs) ≡ true
-    by true same its later = ap (λ b. b || list_any test xs) (ap test (same_thread t x same) ∙ passes)
-    by false differ its later = behind (test x) (list_any test xs) (later its passes)
+use Rattle.dso_client.specs.LeaseReturns.{AreNextOfOthers, OnlyThese, is_due_at, is_of, is_wanted_by, is_wanted_by_marked}
+use Rattle.dso_client.specs.LeaseReturns.{left_lock, may_mark, record_sent, wanted_lock}
+use Rattle.dso_client.proofs.acts.SameMarks.{marked_same}
+use Rattle.dso_client.proofs.due.AmongThreads.{any_at, any_less, any_neither}
 
 -- who wants a lock at Write, names it
 wants_named : (k : LockName) (marked : Bool) (request : Option Request) → wants_write k marked request ≡ true → is_of k (wanted_lock request) ≡ true
@@ -94,14 +74,16 @@ held_entered k (Enter l level) Done locks left e = ap is_none (holds_after l k (
 held_entered k (Resume l) Done locks left e = absurd (cc (sym left ∙ e))
 held_entered k request reply locks left e = absurd (cc e)
 
--- what wasn't due isn't where nothing of it changed but that nobody awaits it
-not_due : (lease recalled read awaits was_awaited was_entered free : Bool) → awaits ≡ false → (lease && ((recalled || (read && was_awaited)) && (was_entered && free))) ≡ false
+-- what wasn't due isn't where nothing of it changed but that fewer await it
+not_due : (lease recalled read awaits was_awaited was_entered free : Bool) → (was_awaited ≡ false → awaits ≡ false)
+    → (lease && ((recalled || (read && was_awaited)) && (was_entered && free))) ≡ false
     → (lease && ((recalled || (read && awaits)) && (was_entered && free))) ≡ false
-not_due false recalled read awaits was_awaited was_entered free none quiet = refl
-not_due true true read awaits was_awaited was_entered free none quiet = quiet
-not_due true false false awaits was_awaited was_entered free none quiet = refl
-not_due true false true true was_awaited was_entered free none quiet = absurd (cc none)
-not_due true false true false was_awaited was_entered free none quiet = refl
+not_due false recalled read awaits was_awaited was_entered free fewer quiet = refl
+not_due true true read awaits was_awaited was_entered free fewer quiet = quiet
+not_due true false false awaits was_awaited was_entered free fewer quiet = refl
+not_due true false true true true was_entered free fewer quiet = quiet
+not_due true false true true false was_entered free fewer quiet = absurd (cc (fewer refl))
+not_due true false true false was_awaited was_entered free fewer quiet = refl
 
 -- what isn't free isn't due
 held_not_due : (lease closing entered free : Bool) → free ≡ false → (lease && (closing && (entered && free))) ≡ false
@@ -114,35 +96,78 @@ module _ (clock : ℕ) (act : Answered) (next : ThreadId → Option Request) (at
   abbrev pub then : RunPoint
   then = acting clock act [] next at
 
-  module _ (its : list_any (is_thread act.thread) (threads_of at.settings at.client) ≡ true) (quiet : (l : LockName) → is_due_at at l ≡ false) (k : LockName) (left : is_of k (left_lock act.request) ≡ false)
-      (unwanted : list_any (is_wanted_by then k) (threads_of at.settings at.client) ≡ false) where
-    unawaited : list_any (awaits_write at.settings at.client next k then.entries) (threads_of at.settings at.client) ≡ false
-    unawaited = any_less (awaits_write at.settings at.client next k then.entries) (is_wanted_by then k)
-        (λ t awaits. wants_named k (is_marked t then.entries) (next t) (second (is_none (hold_of t k then.entries)) (wants_write k (is_marked t then.entries) (next t)) awaits))
-        (threads_of at.settings at.client) unwanted
+  module _ (its : list_any (is_thread act.thread) (threads_of at.settings at.client) ≡ true)
+      (quiet : (l : LockName) → is_due_at at l ≡ false) (others : AreNextOfOthers act.thread at.next next) (k : LockName)
+      (left : is_of k (left_lock act.request) ≡ false) (unwanted : is_wanted_by then k act.thread ≡ false)
+      (unmarked : list_any (is_wanted_by_marked then act k) (threads_of at.settings at.client) ≡ false) where
+    -- a thread awaits the lock then
+    abbrev awaits : ThreadId → Bool
+    awaits = awaits_write at.settings at.client next k then.entries
+
+    -- or did so before
+    abbrev awaited : ThreadId → Bool
+    awaited = awaits_write at.settings at.client at.next k at.entries
+
+    abbrev threads : List ThreadId
+    threads = threads_of at.settings at.client
+
+    second : (a b : Bool) → (a && b) ≡ true → b ≡ true
+    second true b h = h
+    second false b h = absurd (cc h)
+
+    -- who awaits it then, next wants it
+    wants : (t : ThreadId) → awaits t ≡ true → is_wanted_by then k t ≡ true
+    wants t h = wants_named k (is_marked t then.entries) (next t)
+        (second (is_none (hold_of t k then.entries)) (wants_write k (is_marked t then.entries) (next t)) h)
+
+    behind : (a b : Bool) → b ≡ true → (a || b) ≡ true
+    behind true b h = refl
+    behind false b h = h
+
+    hold_same : enters k act.request act.reply ≡ false → (t : ThreadId) → hold_of t k then.entries ≡ hold_of t k at.entries
+    hold_same enters_not t = by (is_thread t act.thread)
       where
-        second : (a b : Bool) → (a && b) ≡ true → b ≡ true
-        second true b h = h
-        second false b h = absurd (cc h)
+        by : (b : Bool) → hold_in k (cond b (locks_by act.request act.reply (locks_of t at.entries)) (locks_of t at.entries)).holds ≡ hold_of t k at.entries
+        by true = held_same k act.request act.reply (locks_of t at.entries) left enters_not
+        by false = refl
+
+    -- who awaits it then awaited it before, or the act may have marked it
+    awaited_or : enters k act.request act.reply ≡ false → (t : ThreadId) → awaits t ≡ true
+        → (awaited t || is_wanted_by_marked then act k t) ≡ true
+    awaited_or enters_not t h = by (is_thread t act.thread) refl (may_mark act t) refl
+      where
+        as_before : is_thread t act.thread ≡ false → may_mark act t ≡ false → awaits t ≡ awaited t
+        as_before other unmarked =
+            let hold = hold_same enters_not t in
+            let mark = marked_same t act.thread at.entries act.request act.reply act.woken (is_marked t at.entries) other unmarked in
+            λ i. is_none (hold i) && wants_write k (mark i) (others t other i)
+
+        by : (a : Bool) → is_thread t act.thread ≡ a → (b : Bool) → may_mark act t ≡ b
+            → (awaited t || (b && is_wanted_by then k t)) ≡ true
+        by true e b f = absurd (cc (sym unwanted ∙ (ap (is_wanted_by then k) (same_thread t act.thread e) ∙ wants t h)))
+        by false e true f = behind (awaited t) (is_wanted_by then k t) (wants t h)
+        by false e false f = ap (λ b. b || false) (sym (as_before e f) ∙ h)
+
+    fewer : enters k act.request act.reply ≡ false → list_any awaited threads ≡ false → list_any awaits threads ≡ false
+    fewer enters_not none = any_less awaits (λ t. awaited t || is_wanted_by_marked then act k t) (awaited_or enters_not) threads
+        (any_neither awaited (is_wanted_by_marked then act k) threads none unmarked)
 
     -- the act doesn't enter the lock
     apart : enters k act.request act.reply ≡ false → is_due_at then k ≡ false
-    apart enters_not = ap (λ free. is_some (leased k at.entries) && ((is_recalled k at.entries || (is_read (leased k at.entries) && list_any (awaits_write at.settings at.client next k then.entries) (threads_of at.settings at.client)))
-        && ((enters k act.request act.reply || is_entered k at.entries) && free))) free_same
-        ∙ (ap (λ entered. is_some (leased k at.entries) && ((is_recalled k at.entries || (is_read (leased k at.entries) && list_any (awaits_write at.settings at.client next k then.entries) (threads_of at.settings at.client)))
-        && ((entered || is_entered k at.entries) && is_free at.settings at.client at.next k at.entries))) enters_not
-        ∙ not_due (is_some (leased k at.entries)) (is_recalled k at.entries) (is_read (leased k at.entries)) (list_any (awaits_write at.settings at.client next k then.entries) (threads_of at.settings at.client))
-        (list_any (awaits_write at.settings at.client at.next k at.entries) (threads_of at.settings at.client)) (is_entered k at.entries) (is_free at.settings at.client at.next k at.entries) unawaited (quiet k))
+    apart enters_not =
+        let lease = is_some (leased k at.entries) in
+        let recalled = is_recalled k at.entries in
+        let read = is_read (leased k at.entries) in
+        let entered = is_entered k at.entries in
+        let free = is_free at.settings at.client at.next k at.entries in
+        let closes = recalled || (read && list_any awaits threads) in
+        ap (λ free. lease && (closes && ((enters k act.request act.reply || entered) && free))) free_same
+        ∙ (ap (λ now. lease && (closes && ((now || entered) && free))) enters_not
+        ∙ not_due lease recalled read (list_any awaits threads) (list_any awaited threads) entered free (fewer enters_not) (quiet k))
       where
-        hold_same : (t : ThreadId) → hold_of t k then.entries ≡ hold_of t k at.entries
-        hold_same t = by (is_thread t act.thread)
-          where
-            by : (b : Bool) → hold_in k (cond b (locks_by act.request act.reply (locks_of t at.entries)) (locks_of t at.entries)).holds ≡ hold_of t k at.entries
-            by true = held_same k act.request act.reply (locks_of t at.entries) left enters_not
-            by false = refl
-
         free_same : is_free at.settings at.client next k then.entries ≡ is_free at.settings at.client at.next k at.entries
-        free_same = ap (λ test. not (list_any test (threads_of at.settings at.client))) (fun_ext (λ t. ap (λ hold. not (is_none hold)) (hold_same t)))
+        free_same = ap (λ test. not (list_any test (threads_of at.settings at.client)))
+            (fun_ext (λ t. ap (λ hold. not (is_none hold)) (hold_same enters_not t)))
 
     -- or it does: then its thread holds it
     entered_now : enters k act.request act.reply ≡ true → is_due_at then k ≡ false
@@ -163,15 +188,19 @@ module _ (clock : ℕ) (act : Answered) (next : ThreadId → Option Request) (at
   due_same None k = refl
   due_same (Some txn) k = refl
 
-  pub only_these : list_any (is_thread act.thread) (threads_of at.settings at.client) ≡ true → ((l : LockName) → is_due_at at l ≡ false) → (txn : Option Txn)
-      → OnlyThese (acting clock act (record_sent txn) next at) (left_lock act.request)
-  only_these its quiet txn k is = by (is_of k (left_lock act.request)) refl (list_any (is_wanted_by then k) (threads_of at.settings at.client)) refl
+  pub only_these : list_any (is_thread act.thread) (threads_of at.settings at.client) ≡ true
+      → ((l : LockName) → is_due_at at l ≡ false) → AreNextOfOthers act.thread at.next next → (txn : Option Txn)
+      → OnlyThese (acting clock act (record_sent txn) next at) act
+  only_these its quiet others txn k is = by (is_of k (left_lock act.request)) refl (is_wanted_by then k act.thread) refl
+      (list_any (is_wanted_by_marked then act k) (threads_of at.settings at.client)) refl
     where
-      by : (a : Bool) → is_of k (left_lock act.request) ≡ a → (b : Bool) → list_any (is_wanted_by then k) (threads_of at.settings at.client) ≡ b
-          → (is_of k (left_lock act.request) || list_any (is_wanted_by then k) (threads_of at.settings at.client)) ≡ true
-      by true e b f = ap (λ a. a || list_any (is_wanted_by then k) (threads_of at.settings at.client)) e
-      by false e true f = ap (λ a. a || list_any (is_wanted_by then k) (threads_of at.settings at.client)) e ∙ f
-      by false e false f = absurd (cc (sym is ∙ (due_same txn k ∙ elsewhere its quiet k e f)))
+      by : (a : Bool) → is_of k (left_lock act.request) ≡ a → (b : Bool) → is_wanted_by then k act.thread ≡ b
+          → (c : Bool) → list_any (is_wanted_by_marked then act k) (threads_of at.settings at.client) ≡ c
+          → (a || (b || c)) ≡ true
+      by true e b f c g = refl
+      by false e true f c g = refl
+      by false e false f true g = refl
+      by false e false f false g = absurd (cc (sym is ∙ (due_same txn k ∙ elsewhere its quiet others k e f g)))
 
 -- a thread that isn't one of the client's holds nothing still
 pub own_acted : (clock : ℕ) (act : Answered) (next : ThreadId → Option Request) (at : RunPoint) (txn : Option Txn) → list_any (is_thread act.thread) (threads_of at.settings at.client) ≡ true

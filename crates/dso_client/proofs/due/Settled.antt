@@ -29,7 +29,7 @@ use Rattle.dso_client.specs.StateStands.{ClientPartsStand}
 use Rattle.dso_client.specs.ActEffects.{acting, applied}
 use Rattle.dso_client.specs.LockStateStands.{LockStateStands, as_hold, standing_as}
 use Rattle.dso_client.specs.RunPoints.{RunPoint}
-use Rattle.dso_client.specs.LeaseReturns.{ActSettles, AddsDue, AreGivenBack, Distinct, OnlyThese, Rising, given_back, is_due_at, is_of, is_wanted_by, record_sent}
+use Rattle.dso_client.specs.LeaseReturns.{ActSettles, AddsDue, AddsMarked, AreGivenBack, Distinct, OnlyThese, Rising, given_back, is_due_at, is_of, is_wanted_by, is_wanted_by_marked, left_lock, record_sent}
 use Rattle.dso_client.specs.RunFacts.{RunFacts}
 use Rattle.dso_client.proofs.lock_standing.LockStands.{entered_told}
 use Rattle.dso_client.proofs.due.Leased.{among_insert, leased_granted}
@@ -56,22 +56,32 @@ module _ (at : RunPoint) where
       ∙ (ap (λ b. b && is_lease_due at.settings at.client at.next k at.entries) (among_left k (λ l. is_some (leased l at.entries)) (granted at.entries))
       ∙ both_or_none (list_any (is_lock k) (granted at.entries)) (is_some (leased k at.entries)) (is_lease_due at.settings at.client at.next k at.entries) (leased_granted k at.entries))
 
-  only : (a b d : Bool) → (d ≡ true → (a || b) ≡ true) → ((false || (a && d)) || (b && d)) ≡ d
-  only true true true h = refl
-  only true false true h = refl
-  only false true true h = refl
-  only false false true h = absurd (cc (h refl))
-  only true true false h = refl
-  only true false false h = refl
-  only false true false h = refl
-  only false false false h = refl
+  none_of : (b : Bool) → (b && false) ≡ false
+  none_of true = refl
+  none_of false = refl
 
-  -- those that were left or are wanted, and are due, are all that are
-  pub all_found : (left : Option LockName) (locks more : List LockName) → OnlyThese at left → AddsDue at (λ k. is_of k left) [] locks
-      → AddsDue at (λ k. list_any (is_wanted_by at k) (threads_of at.settings at.client)) locks more → more ≡ all_due
-  all_found left locks more these first second = same_rising more all_due (second.rises (first.rises tt)) due_rises (λ k.
-      second.has k ∙ (ap (λ b. b || (list_any (is_wanted_by at k) (threads_of at.settings at.client) && is_due_at at k)) (first.has k)
-      ∙ (only (is_of k left) (list_any (is_wanted_by at k) (threads_of at.settings at.client)) (is_due_at at k) (these k) ∙ sym (due_has k))))
+  -- what is due is one of three, and of each what is due is there
+  only : (a b x m d : Bool) → (d ≡ true → (a || (b || x)) ≡ true) → (x ≡ true → m ≡ true)
+      → (((false || (a && d)) || (b && d)) || (m && d)) ≡ d
+  only true b x m true h f = refl
+  only false true x m true h f = refl
+  only false false x true true h f = refl
+  only false false x false true h f = absurd (cc (f (h refl)))
+  only a b x m false h f = ap (λ c. (c || (b && false)) || (m && false)) (none_of a)
+      ∙ (ap (λ c. c || (m && false)) (none_of b) ∙ none_of m)
+
+  -- those that were left, are wanted by the acting thread or by one that was marked, and are due, are all that are
+  pub all_found : (act : Answered) (locks more all : List LockName) → OnlyThese at act
+      → AddsDue at (λ k. is_of k (left_lock act.request)) [] locks
+      → AddsDue at (λ k. is_wanted_by at k act.thread) locks more → AddsMarked at act more all → all ≡ all_due
+  all_found act locks more all these first second third = same_rising all all_due
+      (third.adds.rises (second.rises (first.rises tt))) due_rises (λ k.
+      let left = is_of k (left_lock act.request) in
+      let wanted = is_wanted_by at k act.thread in
+      let due = is_due_at at k in
+      third.adds.has k ∙ (ap (λ b. b || (third.among k && due)) (second.has k ∙ ap (λ b. b || (wanted && due)) (first.has k))
+      ∙ (only left wanted (list_any (is_wanted_by_marked at act k) (threads_of at.settings at.client)) (third.among k) due
+      (these k) (third.all k) ∙ sym (due_has k))))
 
 -- a lock that wasn't there is added, where its lease is to be given back
 pub adds_one : (at : RunPoint) (lock : LockName) (old new : List LockName) → list_any (is_lock lock) old ≡ false → is_due_at at lock ≡ true → new ≡ insert_lock lock old → AddsDue at (λ k. is_lock k lock) old new

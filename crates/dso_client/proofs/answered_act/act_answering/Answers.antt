@@ -14,7 +14,7 @@ use Rattle.dso_client.specs.CodeRuns.{RunsCode}
 use Rattle.dso_client.specs.StateStands.{ClientPartsStand}
 use Rattle.dso_client.specs.ActEffects.{acting}
 use Rattle.dso_client.specs.RunPoints.{RunPoint}
-use Rattle.dso_client.specs.LeaseReturns.{record_sent}
+use Rattle.dso_client.specs.LeaseReturns.{AreNextOfOthers, record_sent}
 use Rattle.dso_client.specs.RunFacts.{RunFacts}
 use Rattle.dso_client.specs.TakenMessages.{IsQuiet}
 use Rattle.dso_client.proofs.replies.Outcomes.{if_ok, on_any}
@@ -38,7 +38,7 @@ returns-clause-stands c =
     let was_closing = c.closes-was_closing.result in
     if_ok c.send_rest.result
     (λ all. (clock : ℕ) (txn : Option Txn) (later : ThreadId → Option Request) (at : RunPoint) → ClientPartsStand (acting clock act (record_sent txn) later at) then → IsQuiet at → RunFacts at
-    → list_any (is_thread act.thread) (threads_of at.settings at.client) ≡ true → next ≡ later act.thread → TellsClosing at next was_closing
+    → list_any (is_thread act.thread) (threads_of at.settings at.client) ≡ true → next ≡ later act.thread → AreNextOfOthers act.thread at.next later → TellsClosing at next was_closing
     → c.in_ok-sent.sent.items ≡ record_sent txn → StandsSent clock at act txn later all.items new)
     (λ all. HasAnswered c.args.code.now act old new all.items)
     (λ all rests. λ p clock es h its is answers.

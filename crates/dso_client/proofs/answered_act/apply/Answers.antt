@@ -8,7 +8,6 @@ use Rattle.dso_client.specs.ContextPlaces.{running, context_in}
 use Rattle.dso_client.proofs.contexts.ChangedContexts.{alone_tells}
 use Rattle.dso_client.proofs.acts.Bounds.{most_kept, waits_live}
 use Rattle.dso_client.proofs.acts.Parts.{stands_applied, applies, waits_so}
-use Rattle.dso_client.proofs.acts.Contexts.{runs_together}
 use Rattle.dso_client.proofs.answered_act.apply.Goals as goal
 
 pub returns-clause-stands : goal.returns-clause-stands
@@ -28,7 +27,7 @@ returns-clause-stands c = λ clock at h.
 pub returns-clause-runs : goal.returns-clause-runs
 returns-clause-runs c =
     let mid = c.apply_to_objects.new.kept in
-    runs_together mid.lock_state c.args.act mid.contexts.items c.apply_to_threads.new.kept.contexts.items c.apply_to_threads.ensures.contexts
+    c.apply_to_threads.ensures.contexts.runs
     ∙ alone_tells running (λ privates block context. refl) c.args.act.thread.index c.args.kept.now.contexts.items mid.contexts.items c.in_ok-txn.ensures.alone
 
 owed_here : (context : Option ThreadContext) → count_owed (option_and_then (λ (context : ThreadContext). context.waiting) context) ≡ count_again context

@@ -1,14 +1,17 @@
-use Rattle.std.proofs.Common.{◌≡◌, arith, slice_set, length, subst}
-use Rattle.std.proofs.lemmas.Option.{slice_get-get_or}
-use Rattle.dso_client.proofs.acts.UpTo.{AppliedUpTo, one_more, counted, all_applied}
+use Rattle.std.proofs.Common.{sym, ◌∙◌, subst}
+use Rattle.dso_client.specs.ContextEffects.{AppliesToOne}
+use Rattle.dso_client.proofs.acts.Concerned.{all_are, both_are}
 use Rattle.dso_client.proofs.context_effect.apply_to_contexts.Goals as goal
 
-pub loop-at-preserved : goal.loop-at-preserved
-loop-at-preserved c = counted c.args.lock_state.now c.args.act c.loop-at.at c.args.contexts.now (slice_set c.loop-at.contexts c.loop-at.at c.apply_to_context.new.context)
-    (one_more c.args.lock_state.now c.args.act c.loop-at.at c.args.contexts.now c.loop-at.contexts _ c.apply_to_context.new.context c.loop-at.invariant
-    (slice_get-get_or c.loop-at.contexts c.loop-at.at _ (omega arith)) c.apply_to_context.ensures)
+pub returns-then-marks_all : goal.returns-then-marks_all
+returns-then-marks_all c =
+    all_are c.args.lock_state.now c.args.act c.args.contexts.now c.apply_to_all.new.contexts c.apply_to_all.ensures
 
-pub returns : goal.returns
-returns c =
-    let all : c.loop-at.at ≡ length c.args.contexts.now = omega arith in
-    all_applied c.args.lock_state.now c.args.act c.args.contexts.now c.loop-at.contexts (subst (λ n. AppliedUpTo c.args.lock_state.now c.args.act n c.args.contexts.now c.loop-at.contexts) all c.loop-at.invariant)
+pub returns-else-marks_all : goal.returns-else-marks_all
+returns-else-marks_all c =
+    let ls = c.args.lock_state.now in
+    let act = c.args.act in
+    let mid = c.apply_to_one.new.contexts in
+    let new = c.apply_to_one-else-marks_all.new.contexts in
+    both_are ls act (sym c.marks_all.ensures ∙ c.if-marks_all.false) c.args.contexts.now mid new c.apply_to_one.ensures
+    (subst (λ n. AppliesToOne ls act n mid new) c.woken_index.ensures c.apply_to_one-else-marks_all.ensures)

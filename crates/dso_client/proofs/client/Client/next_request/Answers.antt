@@ -1,9 +1,8 @@
-use Rattle.std.proofs.Common.{◌≡◌, ap, sym, subst, ◌∙◌, None}
+use Rattle.std.proofs.Common.{◌≡◌, ap, subst, ◌∙◌, None}
 use Rattle.dso_law.specs.ClientRun.{next_in}
 use Rattle.dso_machine.specs.Next.{next_request}
 use Rattle.dso_client.specs.Threads.{IsNextRequest, WhereAbsent}
 use Rattle.dso_client.specs.ClientStands.{point}
-use Rattle.dso_client.specs.ContextStands.{ContextStands}
 use Rattle.dso_client.proofs.contexts.ContextsFound.{found_stands, found_is, is_missing, never_missing}
 use Rattle.dso_client.proofs.client.Client.next_request.Goals as goal
 
