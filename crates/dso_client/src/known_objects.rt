@@ -1,6 +1,6 @@
 //! What a thread knows of objects: of its own what it did, of others what its client's copies hold
 //! (`specs/KnownObjects.antt`).
-ghost use Rattle.std.specs.Prelude.{◌≡◌, ◌||◌, is_some, true};
+ghost use Rattle.std.specs.Prelude.{◌≡◌, ◌||◌, IfSome, Some, is_some, true};
 ghost use Rattle.dso_law.specs.Threads.{own};
 ghost use Rattle.dso_law.specs.Copies.{is_resident, class_held, copy_of};
 ghost use Rattle.dso_law.specs.RequestNeeds.{is_kind, is_class, is_seen_class};
@@ -55,6 +55,17 @@ pub(crate) fn is_resident(table: &Table, object: u64) -> bool
     ensures { (at : RunPoint) → TableStands at table.now → result ≡ is_resident object at.entries }
 {
     table.get(object).is_some()
+}
+
+/// The class and size of the copy, None where the object isn't resident.
+pub(crate) fn copy_class(table: &Table, object: u64) -> Option<(ClassId, usize)>
+    ensures there { (at : RunPoint) → TableStands at table.now → is_some result ≡ is_resident object at.entries }
+    ensures class { IfSome result (λ class. (at : RunPoint) → TableStands at table.now → class_held object at.entries ≡ Some class) }
+{
+    match table.get(object) {
+        Some(body) => Some((body.class, body.values.len())),
+        None => None,
+    }
 }
 
 /// The class and size of the thread's own object, else of the copy.

@@ -1,13 +1,11 @@
 //! What a thread's next request lacks (`dso_law/specs/RequestNeeds.antt`).
-ghost use Rattle.std.specs.Prelude.{◌≡◌, ◌||◌, eqb, is_some};
+ghost use Rattle.std.specs.Prelude.{◌≡◌, ◌||◌, Some, eqb, is_some};
 ghost use Rattle.dso_base.specs.declared.lock.ThreadId.{ThreadId};
 ghost use Rattle.dso_base.specs.declared.request.Request.TheVariants as request;
-ghost use Rattle.dso_law.specs.Copies.{class_held};
 ghost use Rattle.dso_law.specs.Records.{next_id, is_settled};
 ghost use Rattle.dso_law.specs.RequestNeeds.{look_need, access_need, entry_need, unmet, unless, is_seen_class, NeedsId, NeedsAck};
-ghost use Rattle.dso_law.specs.Threads.{own, last_seen};
 ghost use Rattle.dso_client.specs.StateStands.{StateStands};
-ghost use Rattle.dso_client.specs.KnownObjects.{KnowsObject, KnowsObjects};
+ghost use Rattle.dso_client.specs.KnownObjects.{KnowsObjects};
 ghost use Rattle.dso_client.specs.UnmetNeeds.{TellsNeed};
 ghost use Rattle.dso_client.specs.SequencesStand.{SequencesStand};
 ghost use Rattle.dso_client.specs.RunPoints.{RunPoint};
@@ -15,11 +13,11 @@ ghost use Rattle.dso_client.specs.RunFacts.{RunFacts};
 ghost use Rattle.dso_client.specs.ContextStands.{ContextStands};
 
 use crate::client_state::ClientState;
-use crate::known_objects::{class_known, is_resident, is_seen_class};
+use crate::known_objects::{copy_class, is_resident, is_seen_class};
 use crate::locks::{WantedEntry, admits, level_held};
 use crate::sequences::Sequences;
 use crate::thread_context::ThreadContext;
-use dso_base::{Level, LockName, Request, ThreadId};
+use dso_base::{ClassId, Level, LockName, Request, ThreadId};
 use dso_table::Table;
 
 /// What a request can lack: an id; that the object is resident; that it has the class and size that the thread saw; the
@@ -47,17 +45,15 @@ fn look_unmet_need(table: &Table, context: &ThreadContext, object: u64) -> Optio
     }
 }
 
-/// Whether an object that is there is such as the thread's latest look saw it. The thread's own objects are, and so is
-/// the object of the roots.
-fn is_as_seen(table: &Table, context: &ThreadContext, object: u64) -> bool
-    ensures { (at : RunPoint) → KnowsObject at table.now context.now object → result ≡ (is_some (own at.settings.shape context.now.id object at.entries)
-        || (eqb object 0 || is_seen_class (class_held object at.entries) (last_seen context.now.id at.entries))) }
+/// Whether an object of this class and size is such as the thread's latest look saw it. The object of the roots is.
+fn is_as_seen(object: u64, class: (ClassId, usize), seen: Option<(ClassId, u32)>) -> bool
+    ensures { result ≡ (eqb object 0 || is_seen_class (Some class) seen) }
 {
-    context.owns(object)
-        || (object == 0 || is_seen_class(class_known(table, context, object), context.seen))
+    object == 0 || is_seen_class(Some(class), seen)
 }
 
-/// An object that is read or written is also to be of the class and size that the thread saw.
+/// An object that is read or written, and isn't the thread's own, is also to be of the class and size that the thread
+/// saw. It is looked up once.
 pub(crate) fn access_unmet_need(
     table: &Table,
     context: &ThreadContext,
@@ -65,13 +61,13 @@ pub(crate) fn access_unmet_need(
 ) -> Option<UnmetNeed>
     ensures { (at : RunPoint) → KnowsObjects at table.now context.now → TellsNeed at context.now.id (access_need at.settings at.client at.next context.now.id object at.entries) result }
 {
-    if let Some(unmet_need) = look_unmet_need(table, context, object) {
-        return Some(unmet_need);
+    if context.owns(object) {
+        return None;
     }
-    if is_as_seen(table, context, object) {
-        None
-    } else {
-        Some(UnmetNeed::Class(object))
+    match copy_class(table, object) {
+        Some(class) if is_as_seen(object, class, context.seen) => None,
+        Some(_) => Some(UnmetNeed::Class(object)),
+        None => Some(UnmetNeed::Object(object)),
     }
 }
 
