@@ -14,3 +14,4 @@ pub mod programs
 pub mod worlds
 pub mod collecting
 pub mod touches
+pub mod asking

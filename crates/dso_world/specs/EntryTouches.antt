@@ -1,45 +1,33 @@
--- What is kept of the topics that an entry of a client touches (crate dso_world), in one word for each kind of topic:
--- it may have more than the entry touches, never less.
+-- What is kept of the topics that an entry of a client touches (crate dso_world): their buckets, a bit for each. It may
+-- have more than the entry touches, never less.
+use Rattle.std.specs.Int.{bit_at}
 use Rattle.std.specs.List.{list_any}
+use Rattle.std.specs.Option.{option_map_or}
 use Rattle.std.specs.Prelude.{ℕ, ◌≡◌, Bool, true, false, eqb, ◌||◌, Option, Some, None, List}
 use Rattle.dso_base.specs.declared.journal.Entry.{Entry}
 use Rattle.dso_base.specs.declared.journal.Input.{Input}
-use Rattle.dso_base.specs.declared.lock.LockName.{LockName}
 use Rattle.dso_base.specs.declared.lock.ThreadId.{ThreadId}
 use Rattle.dso_base.specs.declared.request.Event.{Event}
 use Rattle.dso_base.specs.declared.request.Event.TheVariants.{Act, Lost}
 use Rattle.dso_base.specs.declared.request.Reply.{Reply}
 use Rattle.dso_base.specs.declared.request.Request.{Request}
-use Rattle.dso_plain.specs.KeyTests.{is_lock}
 use Rattle.dso_open_law.specs.FewTouched.{few_taken, few_done, few_acted, few_topics}
-use Rattle.dso_open_law.specs.TouchedThreads.{Topic, OfIds, OfObject, OfLock, OfRecords, OfNothing, is_topic}
-use Rattle.dso_open_law.specs.TouchedThreads.{made_topics}
-use Rattle.dso_world.specs.declared.touched_threads.TouchedLocks.{TouchedLocks}
-use Rattle.dso_world.specs.declared.touched_threads.TouchedLocks.TheVariants as locks
-use Rattle.dso_world.specs.declared.touched_threads.TouchedObjects.{TouchedObjects}
-use Rattle.dso_world.specs.declared.touched_threads.TouchedObjects.TheVariants as objects
+use Rattle.dso_open_law.specs.TouchedThreads.{Topic, is_topic, made_topics}
 use Rattle.dso_world.specs.declared.touched_threads.Touches.{Touches}
+use Rattle.dso_world.specs.AskingThreads.{bucket_of}
 
--- whether the object is one of these
-abbrev pub has_object : TouchedObjects → ℕ → Bool
-has_object objects.None o = false
-has_object (objects.One key) o = eqb key o
-has_object objects.All o = true
+-- whether the bucket is one of these
+abbrev pub has_bucket : Touches → ℕ → Bool
+has_bucket touches b = eqb (bit_at touches.buckets b) 1
 
--- whether the lock is one of these
-abbrev pub has_lock : TouchedLocks → LockName → Bool
-has_lock locks.None l = false
-has_lock (locks.One key) l = is_lock l key
-has_lock (locks.Two first second) l = is_lock l first || is_lock l second
-has_lock locks.All l = true
-
--- whether the topic is one of these; the records of one thread are touched where those of any are
+-- whether the bucket of the topic is one of these
 abbrev pub has : Touches → Topic → Bool
-has touches OfIds = touches.ids
-has touches (OfObject o) = has_object touches.objects o
-has touches (OfLock l) = has_lock touches.locks l
-has touches (OfRecords t) = touches.records
-has touches OfNothing = false
+has touches about = option_map_or (has_bucket touches) (bucket_of about) false
+
+-- the second has the buckets of the first, and this one
+pub record AddsBucket (b : ℕ) (old new : Touches) : Type 0 where
+  pub here : bit_at new.buckets b ≡ 1
+  pub others : (i : ℕ) → bit_at old.buckets i ≡ 1 → bit_at new.buckets i ≡ 1
 
 -- the second has what the first has, and these topics
 abbrev pub Adds : List Topic → Touches → Touches → Type 0

@@ -1,4 +1,5 @@
 pub mod AskedAgain
+pub mod AskingThreads
 pub mod Busy
 pub mod ChosenSlot
 pub mod EntryTouches

@@ -11,6 +11,7 @@ use Rattle.dso_world.specs.declared.open_steps.OpenSteps.{OpenSteps}
 use Rattle.dso_world.specs.declared.nodes.Nodes.{Nodes}
 use Rattle.dso_world.specs.declared.step.Step.{Step}
 use Rattle.dso_world.specs.declared.step.Step.TheVariants as step
+use Rattle.dso_world.specs.AskingThreads.{AreListed}
 use Rattle.dso_world.specs.ChosenSlot.{slot_at}
 use Rattle.dso_world.specs.Flags.{Row}
 use Rattle.dso_world.specs.ClientSteps.{IsJournal}
@@ -79,10 +80,12 @@ module _ (program : Program) where
     pub flags : row.flags
         ≡ map (is_open (settings_of program) (next_request program.code) es) (slots (settings_of program))
 
-  -- whatever entries the flags told of: where the nodes stand for them with this one, they tell of these
-  abbrev pub Marks : Nodes → Entry → List Step → Row → Row → Type 0
-  Marks nodes entry steps old new = (es : List Entry) → IsJournal program (entry ∷ es)
-      → NodesStand program nodes (entry ∷ es) → AreFlags steps old es → AreFlags steps new (entry ∷ es)
+  -- whatever entries the flags told of, after which each thread was listed so: where the nodes stand for them with this
+  -- one, they tell of these
+  abbrev pub Marks : List ℕ → Nodes → Entry → List Step → Row → Row → Type 0
+  Marks words nodes entry steps old new = (es : List Entry) → IsJournal program (entry ∷ es)
+      → NodesStand program nodes (entry ∷ es) → AreListed program words es
+      → AreFlags steps old es → AreFlags steps new (entry ∷ es)
 
   -- whatever entries the open steps stood for, it stands for them with this one, made at the slot of this place
   abbrev pub Follows : Nodes → Entry → ℕ → OpenSteps → OpenSteps → Type 0

@@ -13,6 +13,7 @@ use Rattle.dso_store.specs.Graph.{body_in}
 use Rattle.dso_world.specs.declared.open_steps.OpenSteps.{OpenSteps}
 use Rattle.dso_world.specs.declared.step.Step.{Step}
 use Rattle.dso_world.specs.declared.world.World.{World}
+use Rattle.dso_world.specs.AskingThreads.{AreListed}
 use Rattle.dso_world.specs.ChosenSlot.{chosen_slot, is_slot, slot_at}
 use Rattle.dso_world.specs.Laws.{RowStands}
 use Rattle.dso_world.specs.ClientSteps.{IsJournal, IsOpenAfter}
@@ -33,10 +34,11 @@ is_spent world = is_some world.spent
 
 module _ (program : Program) where
   -- The open steps after the entries: its steps are those of all slots, in their order; each flag tells whether its
-  -- slot is open; and it is noted whether the run is finished.
+  -- slot is open; each thread is listed by what it asks next; and it is noted whether the run is finished.
   pub record OpenStepsStand (open_steps : OpenSteps) (es : List Entry) : Type 0 where
     pub steps : map slot_of open_steps.steps ≡ slots (settings_of program)
     pub row : RowStands (settings_of program) (next_request program.code) open_steps.chooser es
+    pub asking : AreListed program open_steps.asking es
     pub finished : open_steps.is_finished ≡ is_finished (settings_of program) es
 
   -- All that a world keeps beside its journal, after these entries

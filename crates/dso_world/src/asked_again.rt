@@ -1,17 +1,19 @@
 //! Which steps are asked again after an entry whether they are open (`specs/AskedAgain.antt`).
-ghost use Rattle.std.specs.Prelude.{◌≡◌, false};
+ghost use Rattle.std.specs.Int.{bit_at};
+ghost use Rattle.std.specs.Prelude.{◌≡◌, ◌<◌, ℕ, true};
+ghost use Rattle.dso_base.specs.declared.lock.ThreadId.{ThreadId};
 ghost use Rattle.dso_class.specs.declared.program.Program.{Program};
 ghost use Rattle.dso_open_law.specs.TouchedThreads.{acts};
-ghost use Rattle.dso_world.specs.AskedAgain.{HasTouched, Stays, TellsActor, TellsNext};
-ghost use Rattle.dso_world.specs.declared.step.Step.TheVariants as step;
+ghost use Rattle.dso_world.specs.AskedAgain.{OthersAreSpared, TellsActor, TellsNext};
 
-use crate::Step;
+use crate::asking_threads::AskingThreads;
+use crate::bits::with_bit;
 use crate::nodes::Nodes;
 use crate::touched_threads::Touches;
 use dso_base::{Entry, Event, Request, ThreadId};
 
 /// What the thread asks next; None where it has ended, or there is no such thread.
-fn next_request(nodes: &Nodes, thread: ThreadId) -> Option<Request>
+pub(crate) fn next_request(nodes: &Nodes, thread: ThreadId) -> Option<Request>
     ensures { (program : Program) → TellsNext program nodes.now thread result }
 {
     if thread.client == 0 {
@@ -24,7 +26,7 @@ fn next_request(nodes: &Nodes, thread: ThreadId) -> Option<Request>
 }
 
 /// What the thread asks next that acts by the entry; None where none does.
-fn next_of_actor(nodes: &Nodes, entry: &Entry) -> Option<Request>
+pub(crate) fn next_of_actor(nodes: &Nodes, entry: &Entry) -> Option<Request>
     ensures { (program : Program) → TellsActor program nodes.now entry.now.event result }
 {
     match &entry.event {
@@ -36,43 +38,32 @@ fn next_of_actor(nodes: &Nodes, entry: &Entry) -> Option<Request>
     }
 }
 
-/// What the entry touches.
-pub(crate) fn touches_of(nodes: &Nodes, entry: &Entry) -> Touches
-    ensures { (program : Program) → HasTouched program nodes.now entry.now result }
-{
-    Touches::of(entry, next_of_actor(nodes, entry))
-}
-
-/// Whether the thread acts by the entry.
-fn acts(thread: ThreadId, entry: &Entry) -> bool
-    ensures { result ≡ acts thread entry.now.event }
+/// These threads, and the one that acts by the entry.
+fn with_actor(threads: u64, entry: &Entry) -> u64
+    ensures others { (i : ℕ) → bit_at threads i ≡ 1 → bit_at result i ≡ 1 }
+    ensures actor { (t : ThreadId) → acts t entry.now.event ≡ true → t.index < 64 → bit_at result t.index ≡ 1 }
 {
     match &entry.event {
         Some(event) => match event.get() {
-            Event::Act { thread: actor, .. } => {
-                thread.client == actor.client && thread.index == actor.index
-            }
-            Event::Lost(_) => false,
+            Event::Act { thread, .. } => with_bit(threads, thread.index as u32),
+            Event::Lost(_) => threads,
         },
-        None => false,
+        None => threads,
     }
 }
 
-/// Whether the entry, which touches this, may let the thread act, or keep it from acting.
-fn may_touch(nodes: &Nodes, entry: &Entry, touches: &Touches, thread: ThreadId) -> bool
-    requires { (program : Program) → HasTouched program nodes.now entry.now touches.now }
-    ensures { result ≡ false → (program : Program) → Stays program nodes.now entry.now (step.Act thread) }
+/// The threads of the client that are asked again after an entry of it whether they may act, a bit for each: the one that
+/// acts, which asks this next, and those that ask for a topic of a bucket that the entry touches.
+pub(crate) fn threads_asked_again(
+    nodes: &Nodes,
+    entry: &Entry,
+    asking: &AskingThreads,
+    number: u8,
+    next: Option<Request>,
+) -> u64
+    requires { (program : Program) → TellsActor program nodes.now entry.now.event next }
+    ensures { OthersAreSpared asking.now nodes.now entry.now number result }
 {
-    acts(thread, entry) || touches.has(next_request(nodes, thread))
-}
-
-/// Whether a step is asked again after an entry of its client, which touches this: the entry may open or close its slot.
-pub(crate) fn is_asked_again(nodes: &Nodes, entry: &Entry, touches: &Touches, step: Step) -> bool
-    requires { (program : Program) → HasTouched program nodes.now entry.now touches.now }
-    ensures { result ≡ false → (program : Program) → Stays program nodes.now entry.now step }
-{
-    match step {
-        Step::Act(thread) => may_touch(nodes, entry, touches, thread),
-        _ => true,
-    }
+    let touches = Touches::of(entry, next);
+    with_actor(asking.asking(number, touches.buckets()), entry)
 }

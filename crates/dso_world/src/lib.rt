@@ -30,6 +30,8 @@
 #![tactic(auto)]
 
 mod asked_again;
+mod asking_threads;
+mod bits;
 mod chooser;
 mod client_entry;
 mod client_node;

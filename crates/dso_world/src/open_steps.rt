@@ -5,14 +5,17 @@ ghost use Rattle.dso_world.specs.ChosenSlot.{is_slot};
 ghost use Rattle.dso_world.specs.Flags.{chosen_place, is_set};
 ghost use Rattle.dso_world.specs.WorldSteps.{slot_of};
 
+use crate::asking_threads::AskingThreads;
 use crate::step_table::StepTable;
 use crate::{Chooser, Step};
 
-/// The steps of the cluster in the order of their slots, which of them are open, and whether the run is finished.
+/// The steps of the cluster in the order of their slots, which of them are open, the threads by what they ask next, and
+/// whether the run is finished.
 #[derive(Drop)]
 pub struct OpenSteps {
     pub(crate) steps: StepTable,
     pub(crate) chooser: Chooser,
+    pub(crate) asking: AskingThreads,
     pub(crate) is_finished: bool,
 }
 

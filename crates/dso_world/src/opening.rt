@@ -3,11 +3,14 @@ ghost use Rattle.std.specs.Prelude.{◌≡◌, ◌++◌, [], IfOk, OnOk, eqb, fi
 ghost use Rattle.dso_class.specs.Sound.{IsSoundProgram};
 ghost use Rattle.dso_law.specs.Settings.{up_to};
 ghost use Rattle.dso_legal.specs.Slots.{client_slots, slots};
+ghost use Rattle.dso_world.specs.AskedAgain.{AskFirst};
 ghost use Rattle.dso_world.specs.NodesStand.{AreClientNodes, ClientNodeStands, NodesStand};
 ghost use Rattle.dso_world.specs.StepPlaces.{AreOwnOf};
 ghost use Rattle.dso_world.specs.WorldStands.{OpenStepsStand};
 ghost use Rattle.dso_world.specs.WorldSteps.{settings_of, slot_of};
 
+use crate::asked_again::next_request;
+use crate::asking_threads::AskingThreads;
 use crate::client_node::ClientNode;
 use crate::nodes::Nodes;
 use crate::open_steps::OpenSteps;
@@ -124,6 +127,17 @@ fn steps(alloc: Global, program: &Program) -> Result<StepTable, NoMemory>
     Ok(StepTable::new(steps, own, behind))
 }
 
+/// The threads by what they ask first.
+fn asking(alloc: Global, program: &Program, nodes: &Nodes) -> Result<AskingThreads, NoMemory>
+    ensures { IfOk result (AskFirst nodes.now program.now.threads) }
+{
+    let mut asking = AskingThreads::new(alloc, program.clients)?;
+    for thread in program.threads.as_slice() {
+        asking.put_in(*thread, next_request(nodes, *thread));
+    }
+    Ok(asking)
+}
+
 /// The open steps of a sound program's cluster before its first step.
 pub(crate) fn open_steps(
     alloc: Global,
@@ -134,6 +148,7 @@ pub(crate) fn open_steps(
     requires stands { NodesStand program.now nodes.now [] }
     ensures { IfOk result (λ open_steps. OpenStepsStand program.now open_steps []) }
 {
+    let asking = asking(alloc, program, nodes)?;
     let steps = steps(alloc, program)?;
     let mut chooser = Chooser::new(alloc, steps.len())?;
     let all = steps.as_slice();
@@ -143,6 +158,7 @@ pub(crate) fn open_steps(
     Ok(OpenSteps {
         steps,
         chooser,
+        asking,
         is_finished: is_finished(program, nodes),
     })
 }

@@ -1,19 +1,20 @@
 //! What an entry makes of the open steps (`specs/StepUpdates.antt`).
 ghost use Rattle.std.specs.Prelude.{◌≡◌, ◌+◌, ◌<◌, ◌^◌, Some, length, slice_get};
 ghost use Rattle.dso_class.specs.declared.program.Program.{Program};
-ghost use Rattle.dso_world.specs.AskedAgain.{HasTouched, Settles};
+ghost use Rattle.dso_world.specs.AskedAgain.{IsAmong, Settles, TellsActor};
 ghost use Rattle.dso_world.specs.StepPlaces.{IsOwnOf};
 ghost use Rattle.dso_world.specs.StepUpdates.{Follows, IsGoing, IsSentTo, IsServedBy, IsServedOf, KeepsRound, Marks, Tells};
 ghost use Rattle.dso_world.specs.Touched.{client_in};
 
-use crate::asked_again::{is_asked_again, touches_of};
+use crate::asked_again::{next_of_actor, threads_asked_again};
+use crate::asking_threads::AskingThreads;
+use crate::bits::{first_bit, without_bit};
 use crate::nodes::Nodes;
 use crate::open_steps::OpenSteps;
 use crate::slot_test::{is_finished, is_open};
 use crate::step_table::StepTable;
-use crate::touched_threads::Touches;
 use crate::{Chooser, Step};
-use dso_base::{Entry, Input, Node, Sent};
+use dso_base::{Entry, Input, Node, Request, Sent, ThreadId};
 use dso_class::Program;
 
 /// The client that what the server takes in is of.
@@ -51,41 +52,42 @@ fn mark_step(nodes: &Nodes, steps: &StepTable, step: Step, chooser: &mut Chooser
     }
 }
 
-/// Tells anew whether the slot of the step at this place is open, where the entry of its client, which touches this,
-/// may have changed that.
-fn mark_again(
-    nodes: &Nodes,
-    entry: &Entry,
-    touches: &Touches,
-    steps: &StepTable,
-    place: usize,
-    chooser: &mut Chooser,
-)
-    requires same { length steps.now ≡ length chooser.old.flags }
-    requires touched { (program : Program) → HasTouched program nodes.now entry.now touches.now }
-    ensures { Settles nodes.now entry.now steps.now (λ at. at ≡ place) chooser.old chooser.new }
+/// Tells anew whether these threads of the client may act.
+fn mark_threads(nodes: &Nodes, steps: &StepTable, number: u8, threads: u64, chooser: &mut Chooser)
+    requires { length steps.now ≡ length chooser.old.flags }
+    ensures { Tells nodes.now steps.now (IsAmong number threads steps.now) chooser.old chooser.new }
 {
-    match steps.get(place) {
-        Some(step) => {
-            if is_asked_again(nodes, entry, touches, step) {
-                chooser.set(place, is_open(nodes, step));
-            }
-        }
-        None => {}
+    let mut left = threads;
+    while left != 0 {
+        let index = first_bit(left);
+        let thread = ThreadId {
+            client: number,
+            index: index as u8,
+        };
+        mark_step(nodes, steps, Step::Act(thread), chooser);
+        left = without_bit(left, index);
     }
 }
 
-/// Tells anew which of the client's own slots are open, after an entry of it: of what its threads ask only what the entry
-/// touches.
-fn mark_own(nodes: &Nodes, entry: &Entry, steps: &StepTable, number: u8, chooser: &mut Chooser)
-    requires { length steps.now ≡ length chooser.old.flags }
-    ensures { Settles nodes.now entry.now steps.now (IsOwnOf number steps.now) chooser.old chooser.new }
+/// Tells anew which of the client's own slots are open, after an entry of it: of its threads only those are asked that the
+/// entry touches, by what they ask next.
+fn mark_own(
+    nodes: &Nodes,
+    entry: &Entry,
+    steps: &StepTable,
+    asking: &AskingThreads,
+    number: u8,
+    next: Option<Request>,
+    chooser: &mut Chooser,
+)
+    requires same { length steps.now ≡ length chooser.old.flags }
+    requires next { (program : Program) → TellsActor program nodes.now entry.now.event next }
+    ensures { Settles asking.now nodes.now entry.now steps.now (IsOwnOf number steps.now) chooser.old chooser.new }
 {
-    let touches = touches_of(nodes, entry);
-    let own = steps.own(number);
-    for place in own.begin..own.end {
-        mark_again(nodes, entry, &touches, steps, place, chooser);
-    }
+    mark_step(nodes, steps, Step::TakeDown(number), chooser);
+    mark_step(nodes, steps, Step::Flush(number), chooser);
+    let threads = threads_asked_again(nodes, entry, asking, number, next);
+    mark_threads(nodes, steps, number, threads, chooser);
 }
 
 /// Tells anew what the client can take, and what the server can do with it.
@@ -132,9 +134,17 @@ fn mark_sent(nodes: &Nodes, steps: &StepTable, sent: &[Sent], chooser: &mut Choo
 }
 
 /// The flags of the slots that the entry may open or close are those that the nodes tell. No other slot is looked at.
-pub(crate) fn mark(nodes: &Nodes, entry: &Entry, steps: &StepTable, chooser: &mut Chooser)
-    requires { length steps.now ≡ length chooser.old.flags }
-    ensures flags { (program : Program) → Marks program nodes.now entry.now steps.now chooser.old chooser.new }
+fn mark(
+    nodes: &Nodes,
+    entry: &Entry,
+    steps: &StepTable,
+    asking: &AskingThreads,
+    next: Option<Request>,
+    chooser: &mut Chooser,
+)
+    requires same { length steps.now ≡ length chooser.old.flags }
+    requires next { (program : Program) → TellsActor program nodes.now entry.now.event next }
+    ensures flags { (program : Program) → Marks program asking.now nodes.now entry.now steps.now chooser.old chooser.new }
     ensures round { KeepsRound chooser.old chooser.new }
 {
     match entry.node {
@@ -143,7 +153,7 @@ pub(crate) fn mark(nodes: &Nodes, entry: &Entry, steps: &StepTable, chooser: &mu
             mark_sent(nodes, steps, entry.sent.as_slice(), chooser);
         }
         Node::Client(number) => {
-            mark_own(nodes, entry, steps, number, chooser);
+            mark_own(nodes, entry, steps, asking, number, next, chooser);
             mark_step(nodes, steps, Step::TakeUp(number), chooser);
         }
     }
@@ -162,7 +172,16 @@ pub(crate) fn follow(
     requires few { open_steps.old.chooser.entries + 1 < 2 ^ 63 }
     ensures { Follows program.now nodes.now entry.now place open_steps.old open_steps.new }
 {
-    mark(nodes, entry, &open_steps.steps, &mut open_steps.chooser);
+    let next = next_of_actor(nodes, entry);
+    mark(
+        nodes,
+        entry,
+        &open_steps.steps,
+        &open_steps.asking,
+        next,
+        &mut open_steps.chooser,
+    );
+    open_steps.asking.turn(entry, next);
     open_steps.chooser.taken(place);
     open_steps.is_finished = is_finished(program, nodes);
 }

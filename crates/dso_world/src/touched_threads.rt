@@ -1,118 +1,66 @@
 //! What an entry of a client touches, and so which of the client's threads it may let act, or keep from acting
 //! (`specs/EntryTouches.antt`).
 ghost use Rattle.std.specs.List.{flat_map};
-ghost use Rattle.std.specs.Prelude.{◌≡◌, ◌∷◌, [], Some};
+ghost use Rattle.std.specs.Prelude.{◌≡◌, ◌∷◌, ◌<◌, [], Some, map};
 ghost use Rattle.dso_base.specs.declared.lock.ThreadId.{ThreadId};
-ghost use Rattle.dso_plain.specs.KeyTests.{is_lock};
-ghost use Rattle.dso_open_law.specs.TouchedThreads.{OfIds, OfLock, OfObject, awaited, sent_topics, topic, up_topics};
-ghost use Rattle.dso_world.specs.EntryTouches.{Adds, AddsActed, AddsDone, AddsMade, AddsTaken, Covers, has, has_lock, has_object};
+ghost use Rattle.dso_open_law.specs.TouchedThreads.{OfIds, OfLock, OfObject, OfRecords, awaited, sent_topics, up_topics};
+ghost use Rattle.dso_world.specs.EntryTouches.{Adds, AddsActed, AddsBucket, AddsDone, AddsMade, AddsTaken, Covers};
 
-use dso_base::{Down, Entry, Event, Input, Level, LockName, Reply, Request, Sent, ThreadId, Up};
+use crate::asking_threads::{lock_bucket, object_bucket};
+use crate::bits::with_bit;
+use dso_base::{
+    Body, Down, Entry, Event, Input, Level, LockName, Reply, Request, Sent, ThreadId, Up,
+};
 
-/// Objects that an entry touches.
-#[derive(Clone, Copy)]
-pub enum TouchedObjects {
-    None,
-    One(u64),
-    All,
-}
-
-/// Locks that an entry touches.
-#[derive(Clone, Copy)]
-pub enum TouchedLocks {
-    None,
-    One(LockName),
-    Two(LockName, LockName),
-    All,
-}
-
-/// What an entry of a client touches: the ids that are left, objects, locks, and records that aren't acknowledged.
+/// What an entry of a client touches: the ids that are left, objects, locks, and records that aren't acknowledged; by
+/// the buckets of these topics, a bit for each (`specs/AskingThreads.antt`).
 ///
-/// It is of one size, whatever the entry takes in and sends. So it may have more than the entry touches: a record
-/// touches all objects, and a third lock all locks.
+/// It is one word, whatever the entry takes in and sends. So it may have more than the entry touches: with a topic all
+/// of its bucket.
 #[derive(Clone, Copy)]
 pub struct Touches {
-    ids: bool,
-    objects: TouchedObjects,
-    locks: TouchedLocks,
-    records: bool,
-}
-
-/// Whether the two locks are one.
-fn is_lock(lock: LockName, other: LockName) -> bool
-    ensures { result ≡ is_lock lock other }
-{
-    match (lock, other) {
-        (LockName::Mon(object), LockName::Mon(that)) => that == object,
-        (LockName::Name(number), LockName::Name(that)) => that == number,
-        _ => false,
-    }
-}
-
-impl TouchedObjects {
-    /// Whether the object is one of these.
-    fn has(self, object: u64) -> bool
-        ensures { result ≡ has_object self object }
-    {
-        match self {
-            TouchedObjects::None => false,
-            TouchedObjects::One(only) => only == object,
-            TouchedObjects::All => true,
-        }
-    }
-}
-
-impl TouchedLocks {
-    /// Whether the lock is one of these.
-    fn has(self, lock: LockName) -> bool
-        ensures { result ≡ has_lock self lock }
-    {
-        match self {
-            TouchedLocks::None => false,
-            TouchedLocks::One(only) => is_lock(lock, only),
-            TouchedLocks::Two(first, second) => is_lock(lock, first) || is_lock(lock, second),
-            TouchedLocks::All => true,
-        }
-    }
+    buckets: u64,
 }
 
 impl Touches {
+    /// With the bucket.
+    fn with_bucket(self, bucket: u32) -> Touches
+        requires { bucket < 64 }
+        ensures { AddsBucket bucket self result }
+    {
+        Touches {
+            buckets: with_bit(self.buckets, bucket),
+        }
+    }
+
     /// With the ids that are left.
     fn with_ids(self) -> Touches
         ensures { Adds (OfIds ∷ []) self result }
     {
-        Touches { ids: true, ..self }
+        self.with_bucket(0)
+    }
+
+    /// With records that aren't acknowledged.
+    fn with_records(self) -> Touches
+        ensures { (t : ThreadId) → Adds (OfRecords t ∷ []) self result }
+    {
+        self.with_bucket(1)
     }
 
     /// With the object.
+    #[tactic(auto, using(crate::proofs::touches::Added::bucket_added))]
     fn with_object(self, object: u64) -> Touches
         ensures { Adds (OfObject object ∷ []) self result }
     {
-        if self.objects.has(object) {
-            return self;
-        }
-        let objects = match self.objects {
-            TouchedObjects::None => TouchedObjects::One(object),
-            TouchedObjects::One(_) => TouchedObjects::All,
-            TouchedObjects::All => TouchedObjects::All,
-        };
-        Touches { objects, ..self }
+        self.with_bucket(object_bucket(object))
     }
 
     /// With the lock.
+    #[tactic(auto, using(crate::proofs::touches::Added::bucket_added))]
     fn with_lock(self, lock: LockName) -> Touches
         ensures { Adds (OfLock lock ∷ []) self result }
     {
-        if self.locks.has(lock) {
-            return self;
-        }
-        let locks = match self.locks {
-            TouchedLocks::None => TouchedLocks::One(lock),
-            TouchedLocks::One(other) => TouchedLocks::Two(other, lock),
-            TouchedLocks::Two(_, _) => TouchedLocks::All,
-            TouchedLocks::All => TouchedLocks::All,
-        };
-        Touches { locks, ..self }
+        self.with_bucket(lock_bucket(lock))
     }
 
     /// With the lock that a thread awaits at `Write` whose next request this is.
@@ -127,6 +75,7 @@ impl Touches {
     }
 
     /// With what the entry takes in.
+    #[tactic(auto, using(crate::proofs::touches::Added::acked_added))]
     fn with_taken(self, input: &Input) -> Touches
         ensures { AddsTaken input.now self result }
     {
@@ -137,10 +86,7 @@ impl Touches {
             Input::TookDown(Down::Grant(lock, _)) => self.with_lock(*lock),
             Input::TookDown(Down::Recall(lock)) => self.with_lock(*lock),
             Input::TookDown(Down::Wake(lock, _)) => self.with_lock(*lock),
-            Input::TookDown(Down::Ack(_)) => Touches {
-                records: true,
-                ..self
-            },
+            Input::TookDown(Down::Ack(_)) => self.with_records(),
             _ => self,
         }
     }
@@ -203,6 +149,16 @@ impl Touches {
         }
     }
 
+    /// With the objects that a record publishes.
+    fn with_news(self, news: &[Body]) -> Touches
+        ensures { Adds (map (λ body. OfObject body.object) news.now) self result }
+    {
+        match news {
+            [] => self,
+            [body, rest @ ..] => self.with_object(body.object).with_news(rest),
+        }
+    }
+
     /// With what a message to the server touches.
     fn with_message(self, message: &Up) -> Touches
         ensures { Adds (up_topics message.now) self result }
@@ -213,11 +169,7 @@ impl Touches {
             Up::Flushed(_) => self,
             Up::Request(lock, _) => self.with_lock(*lock),
             Up::Return(lock, _) => self.with_lock(*lock),
-            Up::Commit(_) => Touches {
-                objects: TouchedObjects::All,
-                records: true,
-                ..self
-            },
+            Up::Commit(txn) => self.with_records().with_news(txn.get().news.as_slice()),
         }
     }
 
@@ -241,35 +193,21 @@ impl Touches {
         }
     }
 
-    /// What the entry touches, whose thread, where one acts, asks this next. It costs a step for each message sent.
+    /// What the entry touches, whose thread, where one acts, asks this next. It costs a step for each message sent
+    /// and each object published.
     pub(crate) fn of(entry: &Entry, next: Option<Request>) -> Touches
         ensures { Covers entry.now next result }
     {
-        let none = Touches {
-            ids: false,
-            objects: TouchedObjects::None,
-            locks: TouchedLocks::None,
-            records: false,
-        };
+        let none = Touches { buckets: 0 };
         none.with_taken(&entry.input)
             .with_acted(entry, next)
             .with_sent(entry.sent.as_slice())
     }
 
-    /// Whether what a thread asks next is touched: then the entry may let it act, or keep it from acting.
-    pub(crate) fn has(&self, request: Option<Request>) -> bool
-        ensures { (t : ThreadId) → result ≡ has self.now (topic t request) }
+    /// The buckets, a bit for each.
+    pub(crate) fn buckets(self) -> u64
+        ensures { result ≡ self.buckets }
     {
-        match request {
-            None => false,
-            Some(Request::New(_, _)) => self.ids,
-            Some(Request::Look(object)) => self.objects.has(object),
-            Some(Request::Get(object, _)) => self.objects.has(object),
-            Some(Request::Put(object, _, _)) => self.objects.has(object),
-            Some(Request::Enter(lock, _)) => self.locks.has(lock),
-            Some(Request::Resume(lock)) => self.locks.has(lock),
-            Some(Request::Settle) => self.records,
-            _ => false,
-        }
+        self.buckets
     }
 }

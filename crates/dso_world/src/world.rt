@@ -25,7 +25,8 @@ use std::alloc::Global;
 ///
 /// Contracts say of which program it is (`WorldStands`): its journal is lawful for that program, also once the world is
 /// spent, which it is after `NoMemory`: it keeps that refusal, and answers it to every step. A step costs the logarithm
-/// of what the nodes hold, times the number of a client's threads; no step walks the slots, and no call the journal.
+/// of what the nodes hold, times the number of its client's threads that ask for what it touches; no step walks the
+/// slots, and no call the journal.
 #[derive(Drop)]
 pub struct World {
     pub(crate) spent: Option<NoMemory>,

@@ -16,6 +16,7 @@ use Rattle.dso_world.specs.declared.nodes.Nodes.{Nodes}
 use Rattle.dso_world.specs.declared.step.Step.{Step}
 use Rattle.dso_world.specs.declared.step.Step.TheVariants as step
 use Rattle.dso_world.specs.AskedAgain.{Settles, StaysAt}
+use Rattle.dso_world.specs.AskingThreads.{AreListed}
 use Rattle.dso_world.specs.ChosenSlot.{is_slot}
 use Rattle.dso_world.specs.Flags.{Row}
 use Rattle.dso_world.specs.StepPlaces.{IsOwnOf}
@@ -52,8 +53,9 @@ same_items (x ∷ xs) (y ∷ ys) each =
     let first : x ≡ y = cc (each 0) in
     ap (λ z. z ∷ xs) first ∙ ap (λ zs. y ∷ zs) (same_items xs ys (λ place. each (suc place)))
 
-module _ (program : Program) (nodes : Nodes) (entry : Entry) (steps : List Step) (old new : Row) (settles : Settles nodes entry steps (IsTouchedAt entry steps) old new)
-    (long : length steps ≡ length old.flags) (es : List Entry) (journal : IsJournal program (entry ∷ es)) (stands : NodesStand program nodes (entry ∷ es)) (are : AreFlags program steps old es) where
+module _ (program : Program) (words : List ℕ) (nodes : Nodes) (entry : Entry) (steps : List Step) (old new : Row) (settles : Settles words nodes entry steps (IsTouchedAt entry steps) old new)
+    (long : length steps ≡ length old.flags) (es : List Entry) (journal : IsJournal program (entry ∷ es)) (stands : NodesStand program nodes (entry ∷ es))
+    (listed : AreListed program words es) (are : AreFlags program steps old es) where
   -- whether a slot is open after the entries
   abbrev opens : List Entry → Slot → Bool
   opens es slot = is_open (settings_of program) (next_request program.code) es slot
@@ -77,9 +79,9 @@ module _ (program : Program) (nodes : Nodes) (entry : Entry) (steps : List Step)
     unchanged stays (inr told) = flag_told told
     unchanged stays (inl same) = same ∙ ap (λ flags. slice_get flags place) are.flags ∙ told_place (opens es) all place (slot_of step) at ∙ ap (λ b. Some b) (sym stays)
 
-    of_touched : IsTold nodes steps new place ⊎ StaysAt nodes entry steps place → slice_get new.flags place ≡ Some (opens (entry ∷ es) (slot_of step))
+    of_touched : IsTold nodes steps new place ⊎ StaysAt words nodes entry steps place → slice_get new.flags place ≡ Some (opens (entry ∷ es) (slot_of step))
     of_touched (inl told) = flag_told told
-    of_touched (inr stays) = unchanged (stays step there program es journal stands (among_slots (slot_of step) all place at)) (settles.others place)
+    of_touched (inr stays) = unchanged (stays step there program es journal stands listed (among_slots (slot_of step) all place at)) (settles.others place)
 
     flag_is : slice_get new.flags place ≡ slice_get (map (opens (entry ∷ es)) all) place
     flag_is = by (is_touched entry.node entry.input entry.sent (slot_of step)) refl ∙ sym (told_place (opens (entry ∷ es)) all place (slot_of step) at)
@@ -102,8 +104,9 @@ module _ (program : Program) (nodes : Nodes) (entry : Entry) (steps : List Step)
   ])
 
 -- Where all is told that the entry touches, or stays, the flags tell of the entries with it.
-pub all_marked : (program : Program) (nodes : Nodes) (entry : Entry) (steps : List Step) (old new : Row) → Settles nodes entry steps (IsTouchedAt entry steps) old new → length steps ≡ length old.flags → Marks program nodes entry steps old new
-all_marked program nodes entry steps old new settles long = λ es journal stands are. record { listed = are.listed; flags = flags_are program nodes entry steps old new settles long es journal stands are }
+pub all_marked : (program : Program) (words : List ℕ) (nodes : Nodes) (entry : Entry) (steps : List Step) (old new : Row) → Settles words nodes entry steps (IsTouchedAt entry steps) old new → length steps ≡ length old.flags
+    → Marks program words nodes entry steps old new
+all_marked program words nodes entry steps old new settles long = λ es journal stands listed are. record { listed = are.listed; flags = flags_are program words nodes entry steps old new settles long es journal stands listed are }
 
 -- ---- what is touched
 
@@ -149,7 +152,7 @@ module _ (steps : List Step) (place : ℕ) where
   by_client d input sent (step.Break c) there is = absurd (cc is)
 
 -- what holds of one of a front that is longer by one holds of one of the front, or of that one
-any_next : {X : Type 0} (test : X → Bool) (i : ℕ) (xs : List X) (x : X) → slice_get xs i ≡ Some x → list_any test (take (suc i) xs) ≡ true → (list_any test (take i xs) ≡ true) ⊎ (test x ≡ true)
+pub any_next : {X : Type 0} (test : X → Bool) (i : ℕ) (xs : List X) (x : X) → slice_get xs i ≡ Some x → list_any test (take (suc i) xs) ≡ true → (list_any test (take i xs) ≡ true) ⊎ (test x ≡ true)
 any_next test i [] x there is = absurd (cc there)
 any_next test zero (y ∷ ys) x there is = elim (either_is (test y) false is) [
   | inl here ↦ inr (ap test (sym (cc there)) ∙ here)

@@ -18,7 +18,7 @@ use Rattle.dso_machine.specs.declared.code.ThreadBody.{ThreadBody}
 use Rattle.dso_machine.specs.Limits.{most_threads}
 use Rattle.dso_machine.specs.Next.{body_of}
 use Rattle.dso_machine.specs.Sound.{IsSoundCode, IsSoundBody, threads_of}
-use Rattle.dso_plain.proofs.keys.SameKeys.{thread_self}
+use Rattle.dso_plain.proofs.keys.SameKeys.{same_thread, thread_self}
 use Rattle.dso_world.proofs.programs.Numbered.{are_first, has_index, its_index}
 
 -- a thread among those of the bodies has one of them
@@ -53,6 +53,15 @@ last_has P (y ∷ xs) x all = last_has P xs x all.1
 few_first : (c most n : ℕ) → AllByRecursion (λ t. t.index ≤ most) (first_threads c n) → n ≤ most
 few_first c most zero all = omega arith
 few_first c most (suc n) all = last_has (λ t. t.index ≤ most) (map (thread_at c) (up_to n)) (thread_at c (suc n)) (subst (AllByRecursion (λ t. t.index ≤ most)) (map-append (thread_at c) (up_to n) (suc n ∷ [])) all)
+
+-- what holds of all of some threads holds of each
+of_each : (P : ThreadId → Type 0) (t : ThreadId) (threads : List ThreadId) → AllByRecursion P threads → list_any (is_thread t) threads ≡ true → P t
+of_each P t [] all is = absurd (cc is)
+of_each P t (u ∷ threads) all is = by (is_thread t u) refl is (of_each P t threads all.1)
+  where
+    by : (here : Bool) → is_thread t u ≡ here → (here || list_any (is_thread t) threads) ≡ true → (list_any (is_thread t) threads ≡ true → P t) → P t
+    by true same is later = subst P (same_thread t u same) all.0
+    by false other is later = later is
 
 module _ (code : Code) (sound : IsSoundCode code) (threads : List ThreadId) (moved : IsPermutation (threads_of code) threads) where
   -- A thread of the cluster has a body in the code,
@@ -94,10 +103,16 @@ module _ (code : Code) (sound : IsSoundCode code) (threads : List ThreadId) (mov
     pub own_first : own ≡ first_threads c (length own)
     own_first = are_first (threads_of code) threads moved sound.threads_gapless c rise (of_bodies (λ t. 0 < t.index) (λ body fine. fine.index_from_one))
 
+    -- with indices up to what a client may have,
+    own_low : AllByRecursion (λ t. t.index ≤ most_threads) own
+    own_low = recursion_from_All (λ t. t.index ≤ most_threads) own (All-filter (λ t. eqb t.client c) (λ t. t.index ≤ most_threads) threads (of_bodies (λ t. t.index ≤ most_threads) (λ body fine. fine.index_to_last)))
+
+    pub own_index : (t : ThreadId) → list_any (is_thread t) own ≡ true → t.index ≤ most_threads
+    own_index t is = of_each (λ t. t.index ≤ most_threads) t own own_low is
+
     -- no more than a client may have,
     pub own_few : length own ≤ most_threads
-    own_few = few_first c most_threads (length own) (subst (AllByRecursion (λ t. t.index ≤ most_threads)) own_first
-        (recursion_from_All (λ t. t.index ≤ most_threads) own (All-filter (λ t. eqb t.client c) (λ t. t.index ≤ most_threads) threads (of_bodies (λ t. t.index ≤ most_threads) (λ body fine. fine.index_to_last)))))
+    own_few = few_first c most_threads (length own) (subst (AllByRecursion (λ t. t.index ≤ most_threads)) own_first own_low)
 
     -- and each of these has a body.
     pub own_there : HasThreads code c (length own)

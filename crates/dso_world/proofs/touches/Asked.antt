@@ -1,6 +1,7 @@
 -- What is told of threads after an entry: what each asks next, what the entry touches, and which slots stay.
+use Rattle.std.specs.Int.{bit_at}
 use Rattle.std.specs.List.{list_any}
-use Rattle.std.proofs.Common.{ℕ, suc, ◌-◌, ◌≤◌, ◌≡◌, inl, inr, refl, sym, ◌∙◌, ap, subst, Bool, true, false, cond, eqb, ◌||◌, Option, Some, None, List, [], ◌∷◌, filter, length, slice_get, arith}
+use Rattle.std.proofs.Common.{ℕ, suc, ◌-◌, ◌<◌, ◌≤◌, ◌≡◌, inl, inr, refl, sym, ◌∙◌, ap, subst, Bool, true, false, cond, eqb, ◌||◌, Option, Some, None, List, [], ◌∷◌, filter, length, slice_get, arith}
 use Rattle.dso_base.specs.declared.journal.Entry.{Entry}
 use Rattle.dso_base.specs.declared.journal.Node.{Node}
 use Rattle.dso_base.specs.declared.journal.Node.TheVariants.{Server, Client}
@@ -18,21 +19,24 @@ use Rattle.dso_legal.specs.Slots.{Acts, is_open}
 use Rattle.dso_legal.proofs.blocks.OwnActs.{next_act}
 use Rattle.dso_machine.specs.Next.{next_request}
 use Rattle.dso_open_law.specs.FewTouched.{few_topics}
-use Rattle.dso_open_law.specs.TouchedThreads.{is_topic, topic, acts}
+use Rattle.dso_open_law.specs.TouchedThreads.{Topic, is_topic, topic, acts}
 use Rattle.dso_open_law.proofs.sound.FewTouched.{few_are_touched}
-use Rattle.dso_open_law.proofs.threads.Journals.{only_actors}
 use Rattle.dso_world.specs.declared.client_node.ClientNode.{ClientNode}
 use Rattle.dso_world.specs.declared.nodes.Nodes.{Nodes}
 use Rattle.dso_world.specs.declared.step.Step.TheVariants as step
 use Rattle.dso_world.specs.declared.touched_threads.Touches.{Touches}
-use Rattle.dso_world.specs.AskedAgain.{HasTouched, Stays, TellsActor, TellsNext, next_of}
+use Rattle.dso_world.specs.AskedAgain.{HasTouched, Stays, TellsActor, TellsNext}
+use Rattle.dso_world.specs.AskingThreads.{IsListed, IsOfCluster, bucket_of, next_of, row_of, word_at}
+use Rattle.dso_world.specs.ClientSteps.{IsJournal}
 use Rattle.dso_world.specs.EntryTouches.{AreAsked, Covers, has}
-use Rattle.dso_world.specs.NodesStand.{ClientNodeStands}
+use Rattle.dso_world.specs.NodesStand.{ClientNodeStands, NodesStand}
 use Rattle.dso_world.specs.Touched.{is_touched}
 use Rattle.dso_world.specs.WorldSteps.{settings_of}
 use Rattle.dso_world.proofs.places.Clients.{numbered_so, of_a_client}
 use Rattle.dso_world.proofs.premises.SoundPrograms.{IsOfSoundProgram, sound_code}
+use Rattle.dso_world.proofs.programs.Threads.{own_index}
 use Rattle.dso_world.proofs.slots.OthersStay.{others_stay}
+use Rattle.dso_world.proofs.touches.Added.{bucket_within, has_its_bucket}
 use Rattle.dso_world.proofs.worlds.Looks.{acts_there}
 
 -- a thread of the client that is among some is among those of the client
@@ -105,33 +109,55 @@ module _ (program : Program) (nodes : Nodes) where
 
   -- ---- which slots stay
 
-  -- That of a thread that doesn't act, and asks for nothing that the entry touches.
-  pub act_stays : (entry : Entry) (touches : Touches) (t : ThreadId) (request : Option Request) → HasTouched program nodes entry touches → TellsNext program nodes t request
-      → acts t entry.event ≡ false → has touches (topic t request) ≡ false → Stays program nodes entry (step.Act t)
-  act_stays entry touches t request covers tells idle spared es journal stands there = by (is_touched entry.node entry.input entry.sent (Acts t)) refl
-    where
-      p : Settings
-      p = settings_of program
+  -- That of a thread that doesn't act, and asks for nothing that the entry touches,
+  module _ (entry : Entry) (touches : Touches) (t : ThreadId) (covers : HasTouched program nodes entry touches) (idle : acts t entry.event ≡ false)
+      (es : List Entry) (journal : IsJournal program (entry ∷ es)) (stands : NodesStand program nodes (entry ∷ es)) (spared : has touches (topic t (next_of program es t)) ≡ false) where
+    abbrev p : Settings
+    p = settings_of program
 
-      node_is : (node : Node) → is_touched node entry.input entry.sent (Acts t) ≡ true → node ≡ Client t.client
-      node_is Server is = absurd (cc is)
-      node_is (Client c) is = ap Client (same_number c t.client is)
+    abbrev touched_by : List Topic
+    touched_by = few_topics (next_of program es) (next_of program (entry ∷ es)) (entries_of (Client t.client) es) entry
 
-      still : entry.node ≡ Client t.client → request ≡ next_of program es t
-      still is = tells (entry ∷ es) journal stands (record { client = of_a_client (Acts t) p there; among = acts_there p t there })
-          ∙ only_actors (next_request program.code) t.client entry es is t (number_self t.client) idle
+    node_is : (node : Node) → is_touched node entry.input entry.sent (Acts t) ≡ true → node ≡ Client t.client
+    node_is Server is = absurd (cc is)
+    node_is (Client c) is = ap Client (same_number c t.client is)
 
-      spares : entry.node ≡ Client t.client → (b : Bool) → list_any (is_topic (topic t request)) (few_topics (next_of program es) (next_of program (entry ∷ es)) (entries_of (Client t.client) es) entry) ≡ b → b ≡ false
-      spares is false found = refl
-      spares is true found = absurd (cc (sym (covers es journal stands t.client is (topic t request) found) ∙ spared))
+    spares : entry.node ≡ Client t.client → (b : Bool) → list_any (is_topic (topic t (next_of program es t))) touched_by ≡ b → b ≡ false
+    spares is false found = refl
+    spares is true found = absurd (cc (sym (covers es journal stands t.client is (topic t (next_of program es t)) found) ∙ spared))
 
-      by : (b : Bool) → is_touched entry.node entry.input entry.sent (Acts t) ≡ b
-          → is_open p (next_request program.code) (entry ∷ es) (Acts t) ≡ is_open p (next_request program.code) es (Acts t)
-      by false untouched = others_stay p (next_request program.code) entry es (Acts t) untouched
-      by true touched =
-          let is = node_is entry.node touched in
-          let sound : IsOfSoundProgram p.shape (next_request program.code) = sound_code program.code p.shape journal.sound.code refl in
-          let none = spares is (list_any (is_topic (topic t request)) (few_topics (next_of program es) (next_of program (entry ∷ es)) (entries_of (Client t.client) es) entry)) refl in
-          few_are_touched p (next_request program.code) sound.sound sound.texts sound.within entry es journal.lawful.follow t is
-          (ap (λ b. b || list_any (is_topic (topic t (next_of program es t))) (few_topics (next_of program es) (next_of program (entry ∷ es)) (entries_of (Client t.client) es) entry)) idle
-          ∙ subst (λ asks. list_any (is_topic (topic t asks)) (few_topics (next_of program es) (next_of program (entry ∷ es)) (entries_of (Client t.client) es) entry) ≡ false) (still is) none)
+    act_stays : (b : Bool) → is_touched entry.node entry.input entry.sent (Acts t) ≡ b → is_open p (next_request program.code) (entry ∷ es) (Acts t) ≡ is_open p (next_request program.code) es (Acts t)
+    act_stays false untouched = others_stay p (next_request program.code) entry es (Acts t) untouched
+    act_stays true touched =
+        let is = node_is entry.node touched in
+        let sound : IsOfSoundProgram p.shape (next_request program.code) = sound_code program.code p.shape journal.sound.code refl in
+        let found = list_any (is_topic (topic t (next_of program es t))) touched_by in
+        few_are_touched p (next_request program.code) sound.sound sound.texts sound.within entry es journal.lawful.follow t is
+        (ap (λ b. b || found) idle ∙ spares is found refl)
+
+  -- so of one whose number is not among those of the client that ask for a topic of a bucket that the entry touches, or act.
+  module _ (words : List ℕ) (entry : Entry) (touches : Touches) (number asked threads : ℕ) (covers : HasTouched program nodes entry touches)
+      (asking : (b i : ℕ) → b < 64 → bit_at touches.buckets b ≡ 1 → bit_at (word_at words (row_of number b)) i ≡ 1 → bit_at asked i ≡ 1)
+      (others : (i : ℕ) → bit_at asked i ≡ 1 → bit_at threads i ≡ 1)
+      (actor : (t : ThreadId) → acts t entry.event ≡ true → t.index < 64 → bit_at threads t.index ≡ 1) where
+    module _ (t : ThreadId) (its : t.client ≡ number) (spared : bit_at threads t.index ≡ 0) where
+      idle : t.index < 64 → (b : Bool) → acts t entry.event ≡ b → b ≡ false
+      idle low false is = refl
+      idle low true is = let here = actor t is low in absurd (omega (arith, here, spared))
+
+      quiet : (about : Topic) → ((b : ℕ) → bucket_of about ≡ Some b → IsListed words t b) → (b : Bool) → has touches about ≡ b → b ≡ false
+      quiet about listed false is = refl
+      quiet about listed true is =
+          let found = has_its_bucket about touches is in
+          let there : bit_at (word_at words (row_of number found.0)) t.index ≡ 1 = subst (λ c. bit_at (word_at words (row_of c found.0)) t.index ≡ 1) its (listed found.0 found.1) in
+          let here = others t.index (asking found.0 t.index (bucket_within about found.0 found.1) found.2 there) in
+          absurd (omega (arith, here, spared))
+
+      pub thread_stays : Stays program words nodes entry (step.Act t)
+      thread_stays es journal stands listed there =
+          let cluster : IsOfCluster program t = record { client = of_a_client (Acts t) (settings_of program) there; among = acts_there (settings_of program) t there } in
+          let sound = journal.sound in
+          let low : t.index ≤ 16 = own_index program.code sound.code program.threads sound.threads sound.threads_rise t.client t cluster.among in
+          act_stays entry touches t covers (idle (omega (arith, low)) (acts t entry.event) refl) es journal stands
+          (quiet (topic t (next_of program es t)) (listed t cluster) (has touches (topic t (next_of program es t))) refl)
+          (is_touched entry.node entry.input entry.sent (Acts t)) refl

@@ -11,8 +11,11 @@ use Rattle.dso_legal.specs.Slots.{Slot, TakesDown, is_open, slots}
 use Rattle.dso_machine.specs.Next.{next_request}
 use Rattle.dso_world.specs.declared.open_steps.OpenSteps.{OpenSteps}
 use Rattle.dso_world.specs.declared.nodes.Nodes.{Nodes}
+use Rattle.dso_world.specs.AskingThreads.{AreListed}
 use Rattle.dso_world.specs.ChosenSlot.{slot_at}
+use Rattle.dso_world.specs.ClientSteps.{IsJournal}
 use Rattle.dso_world.specs.Flags.{Row}
+use Rattle.dso_world.specs.NodesStand.{NodesStand}
 use Rattle.dso_world.specs.StepUpdates.{AreFlags, Follows, KeepsRound, Marks}
 use Rattle.dso_world.specs.Laws.{place_behind}
 use Rattle.dso_world.specs.SlotTests.{TellsFinished}
@@ -29,8 +32,9 @@ before_differs t u (inr after) = λ same. let its : t.index ≡ u.index = ap (λ
 threads_once : (threads : List ThreadId) → AllPairs IsThreadBefore threads → AllPairs (λ thread other. thread ≢ other) threads
 threads_once threads rise = λ i j d less within. before_differs _ _ (rise i j d less within)
 
-module _ (program : Program) (nodes : Nodes) (entry : Entry) (place : ℕ) (old : OpenSteps) (marked : Row) (finished : Bool)
-    (within : place < length old.chooser.flags) (marks : Marks program nodes entry old.steps old.chooser marked) (round : KeepsRound old.chooser marked) where
+module _ (program : Program) (nodes : Nodes) (entry : Entry) (place : ℕ) (old : OpenSteps) (marked : Row) (asking : List ℕ) (finished : Bool)
+    (within : place < length old.chooser.flags) (marks : Marks program old.asking nodes entry old.steps old.chooser marked) (round : KeepsRound old.chooser marked)
+    (lists : (es : List Entry) → IsJournal program (entry ∷ es) → NodesStand program nodes (entry ∷ es) → AreListed program old.asking es → AreListed program asking (entry ∷ es)) where
   -- the place of the round goes on behind the place of the entry's slot
   goes_on : (es : List Entry) → IsSoundProgram program → OpenStepsStand program old es → slice_get (slots (settings_of program)) place ≡ slot_at entry.node entry.input
       → place + 1 ≡ place_behind (slot_at entry.node entry.input) (slots (settings_of program))
@@ -44,9 +48,9 @@ module _ (program : Program) (nodes : Nodes) (entry : Entry) (place : ℕ) (old 
       by (Some slot) is = sym (rounds_go_on (settings_of program) (threads_once program.threads sound.threads_rise) slot place is)
 
   pub followed : TellsFinished program nodes finished
-      → Follows program nodes entry place old (record old { chooser = record marked { begin = place + 1; entries = marked.entries + 1 }; is_finished = finished })
+      → Follows program nodes entry place old (record old { chooser = record marked { begin = place + 1; entries = marked.entries + 1 }; asking = asking; is_finished = finished })
   followed ends = λ es journal nodes_stand stands at.
-      let now : AreFlags program old.steps marked (entry ∷ es) = marks es journal nodes_stand (record { listed = stands.steps; flags = stands.row.flags }) in
+      let now : AreFlags program old.steps marked (entry ∷ es) = marks es journal nodes_stand stands.asking (record { listed = stands.steps; flags = stands.row.flags }) in
       record {
         steps = stands.steps;
         row = record {
@@ -54,5 +58,6 @@ module _ (program : Program) (nodes : Nodes) (entry : Entry) (place : ℕ) (old 
           begin = goes_on es journal.sound stands at;
           entries = let same : marked.entries ≡ length es = round.entries ∙ stands.row.entries in omega (arith, same);
         };
+        asking = lists es journal nodes_stand stands.asking;
         finished = ends (entry ∷ es) journal nodes_stand;
       }

@@ -1,6 +1,7 @@
 use Rattle.std.proofs.Common.{◌≤◌, sym, ◌∙◌, ap, [], length, map}
 use Rattle.std.proofs.lemmas.Option.{slice_get-get_or}
 use Rattle.dso_world.specs.WorldSteps.{slot_of}
+use Rattle.dso_world.proofs.asking.First.{first_listed}
 use Rattle.dso_world.proofs.worlds.Openings.{empty_journal, row_at_first, row_on, row_stands}
 use Rattle.dso_world.proofs.opening.open_steps.Goals as goal
 
@@ -21,5 +22,6 @@ returns c =
     record {
       steps = c.in_ok-steps.ensures;
       row = row_stands c.args.program.now c.requires.sound all c.loop-place.place c.loop-place.chooser (ap (map slot_of) c.as_slice-all.ensures ∙ c.in_ok-steps.ensures) past c.loop-place.invariant;
+      asking = first_listed c.args.nodes.now c.args.program.now c.requires.sound c.in_ok-asking.asking c.requires.stands c.in_ok-asking.ensures;
       finished = c.is_finished.ensures [] (empty_journal c.args.program.now c.requires.sound) c.requires.stands;
     }

@@ -1,14 +1,13 @@
-use Rattle.std.proofs.Common.{arith}
-use Rattle.dso_world.proofs.places.Telling.{one_place_more}
-use Rattle.dso_world.proofs.touches.Settling.{settles_both, settles_fewer}
+use Rattle.dso_world.proofs.places.Telling.{tells_both}
+use Rattle.dso_world.proofs.touches.Settling.{own_settles}
 use Rattle.dso_world.proofs.step_update.mark_own.Goals as goal
 
-pub loop-place-preserved : goal.loop-place-preserved
-loop-place-preserved c = settles_fewer c.args.nodes.now c.args.entry.now c.args.steps.now c.args.chooser.now c.mark_again.new.chooser (λ at is. one_place_more c.own-own.result.begin c.loop-place.place at is.0 is.1)
-    (settles_both c.args.nodes.now c.args.entry.now c.args.steps.now c.args.chooser.now c.loop-place.chooser c.mark_again.new.chooser c.loop-place.invariant c.mark_again.ensures)
-
 pub returns : goal.returns
-returns c = settles_fewer c.args.nodes.now c.args.entry.now c.args.steps.now c.args.chooser.now c.loop-place.chooser (λ at is.
-    let within = c.own-own.ensures at is in
-    let past = c.loop-place-test.false in
-    (within.0, omega (arith, within.1, past))) c.loop-place.invariant
+returns c =
+    let nodes = c.args.nodes.now in
+    let steps = c.args.steps.now in
+    let old = c.args.chooser.now in
+    own_settles c.args.asking.now nodes c.args.entry.now steps c.args.number c.threads_asked_again-threads.result old c.mark_threads.new.chooser
+    (tells_both nodes steps old c.mark_step-2.new.chooser c.mark_threads.new.chooser
+    (tells_both nodes steps old c.mark_step.new.chooser c.mark_step-2.new.chooser c.mark_step.ensures c.mark_step-2.ensures)
+    c.mark_threads.ensures) c.threads_asked_again-threads.ensures
