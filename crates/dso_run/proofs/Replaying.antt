@@ -14,15 +14,15 @@ use Rattle.dso_legal.specs.Committed.{committed_at, committed}
 use Rattle.dso_legal.specs.JournalPass.{PassState, pass_state_of, given_at, without_history}
 use Rattle.dso_legal.proofs.journal_pass.EachEntry.{entry_given}
 
-module _ (shape : Shape) (events : List Event) (s : PlainState) (i : ℕ) (d : Event) (here : i < length events) (runs : Runs shape events s) where
+module _ (shape : Shape) (events : List Event) (s : PlainState) (i : ℕ) (e : Event) (here : i < length events) (item : e ≡ get_or events i e) (runs : Runs shape events s) where
   -- the event is possible where it stands
-  pub possible : May shape (get_or events i d) (end_of shape (take i events) s)
-  possible = (subst (λ rest. Runs shape rest (end_of shape (take i events) s)) (drop_more events i d here)
+  pub possible : May shape e (end_of shape (take i events) s)
+  possible = subst (λ at. May shape at (end_of shape (take i events) s)) (sym item) (subst (λ rest. Runs shape rest (end_of shape (take i events) s)) (drop_more events i e here)
       ((runs_in_parts shape (take i events) (drop i events) s).0 (subst (λ all. Runs shape all s) (sym (take-append-drop i events)) runs)).1).0
 
   -- and leads to where the next one stands
-  pub leads : after shape (get_or events i d) (end_of shape (take i events) s) ≡ end_of shape (take (i + 1) events) s
-  leads = sym (ends_in_parts shape (take i events) (get_or events i d ∷ []) s) ∙ ap (λ first. end_of shape first s) (sym (take_more events i d here))
+  pub leads : after shape e (end_of shape (take i events) s) ≡ end_of shape (take (i + 1) events) s
+  leads = ap (λ at. after shape at (end_of shape (take i events) s)) item ∙ (sym (ends_in_parts shape (take i events) (get_or events i e ∷ []) s) ∙ ap (λ first. end_of shape first s) (sym (take_more events i e here)))
 
 -- where all that entries commit runs, what the earlier ones of them commit does
 earlier_runs : (shape : Shape) (later es : List Entry) (s : PlainState) → Runs shape (committed (later ++ es)) s → Runs shape (committed es) s

@@ -40,16 +40,21 @@ fn play_all(
     ensures { OnOk result (state_of plain.new ≡ end_of shape.now events.now (state_of plain.old)) }
 {
     for event in events {
-        play(alloc, shape, event.get(), plain)?;
+        play(alloc, shape, event, plain)?;
     }
     Ok(())
 }
 
 /// Plays an event that is possible.
-fn play(alloc: Global, shape: &Shape, event: &Event, plain: &mut Plain) -> Result<(), NoMemory>
+fn play(
+    alloc: Global,
+    shape: &Shape,
+    event: &Shared<Event>,
+    plain: &mut Plain,
+) -> Result<(), NoMemory>
     requires { May shape.now event.now (state_of plain.old) }
     ensures { OnOk result (state_of plain.new ≡ after shape.now event.now (state_of plain.old)) }
 {
-    plain.apply(alloc, shape, event)?;
+    plain.apply(alloc, shape, event.get())?;
     Ok(())
 }
