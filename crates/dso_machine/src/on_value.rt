@@ -18,9 +18,7 @@ use crate::continuation::{
 use crate::operators::{binary, level_of, takes, unary};
 use crate::rest::Rest;
 use crate::{Block, Branch, Expr, FieldRef};
-use dso_base::{
-    ClassId, Fault, Grade, Items, Kind, Level, LockName, NoMemory, Op, Request, Value,
-};
+use dso_base::{ClassId, Fault, Grade, Items, Kind, Level, LockName, NoMemory, Op, Request, Value};
 use std::alloc::Global;
 use std::mem;
 
