@@ -26,6 +26,8 @@ from soak_runs import ORACLE, STAGE, STATUSES, TOP
 
 # how much a journal weighs at most that is spoilt
 MOST_SPOILT = 1500
+# the most steps that a run may have
+MOST_STEPS = 4000000
 
 
 def arguments():
@@ -115,11 +117,13 @@ def run_case(said, folder, number):
 
 
 def is_of_its_order(case, ran):
-    """Whether the simulated cluster comes to what this run came to, in the order of its journal."""
+    """Whether the simulated cluster comes to what this run came to, in the order of its journal. It isn't cut off there:
+    a run in threads is asked at the end of an epoch whether it is finished, and then may have taken more than its steps,
+    where the simulated cluster is asked after each of them."""
     import run_orders
     status, printed, journal = ran
     lines = journal.decode('latin-1').splitlines()
-    return run_orders.outcome_of_order(case.read, lines, case.steps, STAGE) == (status, printed)
+    return run_orders.outcome_of_order(case.read, lines, MOST_STEPS, STAGE) == (status, printed)
 
 
 def judge_run(said, told, case, outcome, ran):
