@@ -50,8 +50,8 @@ fn wake_all(
     Ok(())
 }
 
-/// The event with whom the server woke for it. It stays the one that its entry holds, unless a notification tells now
-/// who was woken.
+/// The event with whom the server woke for it: a new one for a notification that the server was asked for, else the one
+/// that its entry holds.
 fn resolve_event(
     alloc: Global,
     lists: &ServerState,

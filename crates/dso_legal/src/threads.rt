@@ -154,7 +154,8 @@ struct ThreadAct {
     reply: Reply,
 }
 
-/// Takes in an act of a thread in the table, where it stands, and its event, and answers the block that it ends.
+/// Takes in an act of a thread, with its event, where the thread stands in the table, and answers the block that it
+/// ends.
 fn act_in(
     alloc: Global,
     threads: &mut BTreeMap<ThreadId, ThreadState>,
