@@ -4,8 +4,7 @@ use std::alloc::{AllocError, AllocFailed};
 /// An allocation was refused.
 ///
 /// Its field is private, so that it is made from std's own refusal, and else only handed on: a spent value keeps the
-/// one that spent it. Std refuses by the same error to count one owner more of a block that several hold, where as many
-/// as can be counted hold it already (`Shared::clone`); no call answers it for any other cause.
+/// one that spent it.
 #[derive(Clone, Copy, Debug, PartialEq, Eq)]
 pub struct NoMemory {
     refusal: AllocError,

@@ -8,8 +8,12 @@ use std::marker::Model;
 use std::sync::Arc;
 
 /// A value in a block that several hold at once. Nobody changes it, so contracts see it as the value.
+///
+/// A clone is one owner more of the block, and takes no memory. Where no owner more can be counted the value is copied into
+/// a block of its own.
 pub struct Shared<T> {
     inner: Arc<T>,
+    alloc: Global,
 }
 
 impl<T> Model for Shared<T> {
@@ -22,7 +26,7 @@ impl<T> Model for Shared<T> {
 
 impl<T: Drop> Drop for Shared<T> {
     fn drop(self) {
-        let Self { inner } = self;
+        let Self { inner, alloc: _ } = self;
         drop(inner);
     }
 }
@@ -41,6 +45,7 @@ impl<T> Shared<T> {
     {
         Ok(Shared {
             inner: Arc::new(alloc, value)?,
+            alloc,
         })
     }
 
@@ -52,19 +57,33 @@ impl<T> Shared<T> {
     }
 }
 
-impl<T: Drop> Clone for Shared<T> {
+impl<T: Data + Drop> Clone for Shared<T> {
     ghost use Rattle.std.specs.Prelude.{◌≡◌};
 
     ghost is_clone = { λ source clone. clone ≡ source };
 
     fn clone(&self) -> Result<Self, AllocError> {
-        Ok(Shared {
-            inner: self.inner.clone()?,
-        })
+        match self.inner.clone() {
+            Ok(inner) => Ok(Shared {
+                inner,
+                alloc: self.alloc,
+            }),
+            Err(_) => self.copied(),
+        }
     }
 }
 
-impl<T: Drop> Data for Shared<T> {
+impl<T: Data + Drop> Shared<T> {
+    /// The value once more, in a block of its own.
+    fn copied(&self) -> Result<Self, AllocError>
+        ensures { IfOk result (λ copy. copy ≡ self.now) }
+    {
+        let copy = self.get().clone()?;
+        Ok(Shared::new(self.alloc, copy)?)
+    }
+}
+
+impl<T: Data + Drop> Data for Shared<T> {
     ghost faithful = { λ source clone is_clone. is_clone };
 }
 

@@ -128,8 +128,8 @@ impl Committing {
     /// Takes in the next entry, and puts at the end of the given events what it commits: where the server took the
     /// record of a block, the events of the block, and where it lost a client, that loss.
     ///
-    /// It answers `NoMemory` only where an allocation was refused, or one owner more of an event can't be counted;
-    /// nothing is known of the pass and of the given events then.
+    /// It answers `NoMemory` only where an allocation was refused; nothing is known of the pass and of the given events
+    /// then.
     pub fn take(
         &mut self,
         alloc: Global,
@@ -175,7 +175,7 @@ fn copied(alloc: Global, events: &[Shared<Event>]) -> Result<Vec<Event>, NoMemor
 
 /// The committed history of a journal, lawful or not: the blocks of its clients' threads in the order in which the
 /// server took their records, each notification with the thread that was woken, and the losses. `NoMemory` is answered
-/// only where an allocation was refused, or one owner more of an event can't be counted.
+/// only where an allocation was refused.
 ///
 /// It goes over the journal once: an entry costs the logarithm of what is kept, beside the blocks and lists that it
 /// gives or changes.

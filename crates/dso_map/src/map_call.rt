@@ -7,7 +7,7 @@ use crate::MapOp;
 use crate::progress::{read, written};
 use crate::requests::{ended, request, takes, writes};
 use crate::stage::{Stage, first};
-use dso_base::{Reply, Request, Value};
+use dso_base::{Data, Reply, Request, Value};
 
 /// A call of a map that is under way: what it asks of the map's fields, one request after the other. No call of it takes
 /// memory.
@@ -16,6 +16,12 @@ pub struct MapCall {
     object: u64,
     op: MapOp,
     stage: Stage,
+}
+
+impl Data for MapCall {
+    ghost use Rattle.std.proofs.Common.{rules};
+
+    ghost faithful = { Prim.search rules };
 }
 
 impl MapCall {

@@ -8,12 +8,13 @@ ghost use Rattle.dso_run.specs.Exit.{EndsWith, IsUsageNumber, words_told};
 ghost use Rattle.dso_run.specs.Headline.{left_by, read_by};
 ghost use Rattle.dso_run.specs.Stores.{disk_by};
 
-use crate::{Status, dso_main};
+use crate::{Done, Status, dso_main};
 use dso_host::Gate;
 use dso_io::{Files, Sink};
 use dso_keep::Disk;
 use std::alloc::Global;
 use std::io;
+use std::mem::ManuallyDrop;
 use std::process::ExitCode;
 use std::sync::Wait;
 use std::thread::Threads;
@@ -48,5 +49,14 @@ pub fn dso_exit<R: Threads + Wait + Sync, F: Files, K: Sink, G: Gate, D: Disk>(
         Err(_) => Vec::new(alloc),
     };
     let done = dso_main(rt, alloc, words.as_slice(), files, out, gate, disk);
-    ExitCode::from(done.status.exit_number())
+    end_with(done)
+}
+
+/// What the process ends with. The journal isn't taken apart first: its memory goes back with the process, all at once.
+fn end_with(done: Done) -> ExitCode
+    ensures { exit_status result ≡ exit_number_of done.status }
+{
+    let Done { status, journal } = done;
+    let _kept = ManuallyDrop::new(journal);
+    ExitCode::from(status.exit_number())
 }
