@@ -1,5 +1,5 @@
 -- The record of a block: what a thread did since its previous ending, as its client hands it to the server.
-use Rattle.std.specs.Prelude.{ℕ, zero, suc, Bool, true, false, cond, not, eqb, ltb, ◌&&◌, ◌||◌, is_some, pos, Option}
+use Rattle.std.specs.Prelude.{ℕ, zero, suc, Bool, false, cond, not, eqb, ltb, ◌&&◌, ◌||◌, is_some, pos, Option}
 use Rattle.std.specs.Prelude.{Some, None, List, [], ◌∷◌, ◌++◌, map, filter, find, slice_set}
 use Rattle.dso_base.specs.declared.lock.LockName.{LockName}
 use Rattle.dso_base.specs.declared.lock.ThreadId.{ThreadId}
