@@ -1,5 +1,5 @@
 //! A part of a tree that several hold at once, which contracts see as the part.
-ghost use Rattle.std.specs.Prelude.{◌≡◌, IfErr, IfOk};
+ghost use Rattle.std.specs.Prelude.{◌≡◌, IfErr, IfOk, IfSome};
 
 use dso_base::NoMemory;
 use std::alloc::{AllocFailed, Global};
@@ -54,15 +54,41 @@ impl<T> Branch<T> {
     }
 }
 
-impl<T: Drop> Branch<T> {
-    /// The same part once more. It takes no memory: one more owner is counted.
+/// A part of a tree, of which a copy can be made.
+pub trait TreePart: Drop {
+    /// The same part, with a node of its own.
     ///
-    /// NoMemory: there are as many owners as can be counted.
-    pub fn again(&self) -> Result<Self, NoMemory>
+    /// The branches of the copy are had once more ([`Branch::again`]), so mostly it shares all that stands below. Where a
+    /// branch has as many owners as can be counted, what stands in it is copied in turn. So a copy goes down at most as
+    /// deep as the grammar nests, which is 64 levels.
+    ///
+    /// NoMemory: an allocation was refused. The part stays as it was.
+    fn copied(&self, alloc: Global) -> Result<Self, NoMemory>
+        ensures { IfOk result (λ copy. copy ≡ self.now) };
+}
+
+impl<T: Drop> Branch<T> {
+    /// The same part once more: one more owner is counted. None where there are as many owners as can be counted.
+    pub(crate) fn counted(&self) -> Option<Self>
+        ensures { IfSome result (λ branch. branch ≡ self.now) }
+    {
+        match self.inner.clone() {
+            Ok(inner) => Some(Branch { inner }),
+            Err(_) => None,
+        }
+    }
+}
+
+impl<T: TreePart> Branch<T> {
+    /// The same part once more. It takes no memory while its owners can be counted, and is a copy otherwise.
+    ///
+    /// NoMemory: an allocation was refused. The part stays as it was.
+    pub fn again(&self, alloc: Global) -> Result<Self, NoMemory>
         ensures { IfOk result (λ branch. branch ≡ self.now) }
     {
-        Ok(Branch {
-            inner: self.inner.clone()?,
-        })
+        match self.counted() {
+            Some(branch) => Ok(branch),
+            None => Ok(Branch::new(alloc, self.get().copied(alloc)?)?),
+        }
     }
 }

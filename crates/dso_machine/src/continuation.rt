@@ -6,6 +6,7 @@ use crate::rest::Rest;
 use crate::{Block, Branch, Expr, FieldRef, Places, Stmt};
 use dso_base::{Fault, Grade, Items, Kind, LockName, NoMemory, Op, Request, Shared, Value};
 use dso_map::MapCall;
+use std::alloc::Global;
 
 /// The frame of a method, or of the thread's body: the object, the variables, and how many more frames may stand on it.
 #[derive(Debug, Drop)]
@@ -249,11 +250,11 @@ impl Step {
         }
     }
 
-    /// A part of a tree that stays there too, and what is done with its value.
-    pub(crate) fn part(expr: &Branch<Expr>, then: OnValue) -> Result<Step, NoMemory>
+    /// A part of a tree that stays there too, and what is done with its value. NoMemory: an allocation was refused.
+    pub(crate) fn part(alloc: Global, expr: &Branch<Expr>, then: OnValue) -> Result<Step, NoMemory>
         ensures { IfOk result (λ step. step ≡ used (Now.Evaluate expr.now) then) }
     {
-        Ok(Step::evaluate(expr.again()?, then))
+        Ok(Step::evaluate(expr.again(alloc)?, then))
     }
 
     /// What a method begins with, after which the frame below is the thread's again.

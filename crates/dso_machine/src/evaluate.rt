@@ -10,6 +10,7 @@ use crate::continuation::{Frame, Locked, OnReply, OnValue, Step};
 use crate::rest::Rest;
 use crate::{Code, Expr};
 use dso_base::{ClassId, Grade, Level, LockName, NoMemory, Request, Value};
+use std::alloc::Global;
 
 impl Frame {
     /// The value of a variable.
@@ -35,9 +36,14 @@ fn count_of_fields(code: &Code, class: u32) -> u32
     }
 }
 
-/// The evaluation of an expression begins. NoMemory: a part of it has as many owners as can be counted.
+/// The evaluation of an expression begins. NoMemory: an allocation was refused.
 #[tactic(auto, using(crate::proofs::forms::Beginnings::evaluating, crate::proofs::forms::Weights::weights))]
-pub(crate) fn evaluate(code: &Code, frame: &Frame, expr: &Expr) -> Result<Step, NoMemory>
+pub(crate) fn evaluate(
+    alloc: Global,
+    code: &Code,
+    frame: &Frame,
+    expr: &Expr,
+) -> Result<Step, NoMemory>
     requires sound { IsSoundCode code.now }
     ensures opens { IfOk result (λ step. Opens code.now (Now.Evaluate expr.now) frame.now step) }
     ensures lighter { IfOk result (λ step. step_weight step < expr_weight expr.now) }
@@ -51,21 +57,25 @@ pub(crate) fn evaluate(code: &Code, frame: &Frame, expr: &Expr) -> Result<Step, 
             let entered = OnReply::Entered(lock, Grade::Read, Locked::Read(*root));
             Ok(Step::ask(Request::Enter(lock, Level::Read), entered))
         }
-        Expr::Field(object, field) => Step::part(object, OnValue::Field(field.again()?)),
-        Expr::Elem(array, index) => Step::part(array, OnValue::Array(index.again()?)),
+        Expr::Field(object, field) => Step::part(
+            alloc,
+            object,
+            OnValue::Field(field.again(alloc)?),
+        ),
+        Expr::Elem(array, index) => Step::part(alloc, array, OnValue::Array(index.again(alloc)?)),
         Expr::Call(object, callees, args) => {
-            let then = OnValue::Object(callees.again()?, Rest::new(args.again()?));
-            Step::part(object, then)
+            let then = OnValue::Object(callees.again(alloc)?, Rest::new(args.again(alloc)?));
+            Step::part(alloc, object, then)
         }
         Expr::NewObject(class) => {
             let request = Request::New(ClassId::Plain(*class), count_of_fields(code, *class));
             Ok(Step::ask(request, OnReply::Made))
         }
-        Expr::NewArray(kind, size) => Step::part(size, OnValue::Size(*kind)),
-        Expr::Unary(op, operand) => Step::part(operand, OnValue::Operand(*op)),
+        Expr::NewArray(kind, size) => Step::part(alloc, size, OnValue::Size(*kind)),
+        Expr::Unary(op, operand) => Step::part(alloc, operand, OnValue::Operand(*op)),
         Expr::Binary(op, first, second) => {
-            let then = OnValue::First(*op, second.again()?);
-            Step::part(first, then)
+            let then = OnValue::First(*op, second.again(alloc)?);
+            Step::part(alloc, first, then)
         }
     }
 }

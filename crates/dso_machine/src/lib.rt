@@ -5,6 +5,7 @@ mod branch;
 mod call;
 mod code;
 mod continuation;
+mod copies;
 mod evaluate;
 mod execute;
 mod held;
@@ -21,7 +22,7 @@ mod stack;
 mod thread;
 mod tree;
 
-pub use branch::Branch;
+pub use branch::{Branch, TreePart};
 pub use code::{Code, Method, ThreadBody};
 pub use laws::{faults_unwind, frames_are_kept, locks_nest, maps_are_called};
 pub use thread::Thread;

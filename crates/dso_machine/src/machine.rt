@@ -97,7 +97,7 @@ impl Core {
             }
             None => {
                 self.tasks.push(Task::Then(then))?;
-                Ok(Now::Evaluate(expr.again()?))
+                Ok(Now::Evaluate(expr.again(alloc)?))
             }
         }
     }
@@ -230,7 +230,7 @@ impl Core {
             Some(Ok(value)) => self.close(alloc, End::Gives(value)),
             Some(Err(fault)) => self.close(alloc, End::Fails(fault)),
             None => {
-                let step = evaluate(code, &self.frame, expr.get())?;
+                let step = evaluate(alloc, code, &self.frame, expr.get())?;
                 self.advance(alloc, step)
             }
         }
@@ -250,7 +250,7 @@ impl Core {
         ensures lighter { IfOk result (λ then. weigh then self.new < weigh (Now.Arguments callees object before rest) self.old) }
         ensures calm { IfOk result (λ then. self.new.moves ≡ self.old.moves) }
     {
-        let step = next_argument(callees, object, before, rest)?;
+        let step = next_argument(alloc, callees, object, before, rest)?;
         self.advance(alloc, step)
     }
 
@@ -263,14 +263,21 @@ impl Core {
     {
         match statement {
             Stmt::Assign(variable, value) => self.begin(alloc, value, OnValue::Assign(*variable)),
-            Stmt::Eval(expr) => Ok(Now::Evaluate(expr.again()?)),
+            Stmt::Eval(expr) => Ok(Now::Evaluate(expr.again(alloc)?)),
             Stmt::If(test, all, others) => {
-                self.begin(alloc, test, OnValue::If(all.again()?, others.again()?))
+                self.begin(
+                    alloc,
+                    test,
+                    OnValue::If(all.again(alloc)?, others.again(alloc)?),
+                )
             }
-            Stmt::While(test, body) => Ok(Now::Pace(Move::Turn(test.again()?, body.again()?))),
+            Stmt::While(test, body) => Ok(Now::Pace(Move::Turn(
+                test.again(alloc)?,
+                body.again(alloc)?,
+            ))),
             Stmt::Print(value) => self.begin(alloc, value, OnValue::Print),
             _ => {
-                let step = execute(statement)?;
+                let step = execute(alloc, statement)?;
                 self.advance(alloc, step)
             }
         }
@@ -282,7 +289,7 @@ impl Core {
         ensures lighter { IfOk result (λ then. weigh then self.new < weigh (Now.Run rest) self.old) }
         ensures calm { IfOk result (λ then. self.new.moves ≡ self.old.moves) }
     {
-        match rest.pop()? {
+        match rest.pop(alloc)? {
             Some(statement) => {
                 self.tasks.push(Task::Then(OnValue::Next(rest)))?;
                 self.begin_statement(alloc, statement.get())
@@ -326,11 +333,17 @@ impl Core {
     }
 
     /// The condition of a loop has a value: a turn, or the end of the loop.
-    fn turn(&mut self, value: Value, test: Branch<Expr>, body: Block) -> Result<Now, NoMemory>
+    fn turn(
+        &mut self,
+        alloc: Global,
+        value: Value,
+        test: Branch<Expr>,
+        body: Block,
+    ) -> Result<Now, NoMemory>
         ensures keeps { IfOk result (λ now. (code : Code) → Keeps code (Now.Have (End.Gives value)) (with_then (Some (Task.Then (OnValue.While test body))) self.old) now self.new) }
         ensures calm { IfOk result (λ now. self.new.moves ≡ self.old.moves) }
     {
-        let step = turn(value, test, body)?;
+        let step = turn(alloc, value, test, body)?;
         self.follow(step)
     }
 
@@ -343,13 +356,13 @@ impl Core {
     {
         self.moves += 1;
         match known(&self.frame, test.get()) {
-            Some(Ok(value)) => self.turn(value, test, body),
+            Some(Ok(value)) => self.turn(alloc, value, test, body),
             Some(Err(fault)) => {
                 discard((test, body));
                 Ok(Now::Have(End::Fails(fault)))
             }
             None => {
-                let once = test.again()?;
+                let once = test.again(alloc)?;
                 self.follow(Step::evaluate(once, OnValue::While(test, body)))
             }
         }
@@ -428,7 +441,7 @@ fn body_of(alloc: Global, code: &Code, method: u32) -> Result<Block, NoMemory>
     ensures { IfOk result (λ body. body ≡ statements_of (slice_get code.now.methods method)) }
 {
     match code.methods.get(method as usize) {
-        Some(method) => Ok(method.body.again()?),
+        Some(method) => Ok(method.body.again(alloc)?),
         None => Ok(Branch::new(alloc, Items::new(alloc))?),
     }
 }

@@ -11,9 +11,11 @@ use crate::on_value::object_of;
 use crate::rest::Rest;
 use crate::{Expr, Places};
 use dso_base::{Items, NoMemory, Request, Value};
+use std::alloc::Global;
 
 /// The next argument, or the call where none is left.
 pub(crate) fn next_argument(
+    alloc: Global,
     callees: Places,
     object: Value,
     before: Items<Value>,
@@ -22,7 +24,7 @@ pub(crate) fn next_argument(
     ensures opens { IfOk result (λ step. (code : Code) (frame : Frame) → Opens code (Now.Arguments callees object before rest) frame step) }
     ensures lighter { IfOk result (λ step. step_weight step < arguments_weight rest) }
 {
-    if let Some(argument) = rest.pop()? {
+    if let Some(argument) = rest.pop(alloc)? {
         let then = OnValue::Argument(callees, object, before, rest);
         return Ok(Step::evaluate(argument, then));
     }

@@ -194,13 +194,18 @@ fn choose(test: Value, all: Block, others: Block) -> Step
 }
 
 /// A turn of a loop, or its end.
-pub(crate) fn turn(test: Value, again: Branch<Expr>, body: Block) -> Result<Step, NoMemory>
+pub(crate) fn turn(
+    alloc: Global,
+    test: Value,
+    again: Branch<Expr>,
+    body: Block,
+) -> Result<Step, NoMemory>
     ensures uses { IfOk result (λ step. (code : Code) (frame : Frame) → Uses code (OnValue.While again body) test frame step frame) }
     ensures lighter { IfOk result (λ step. step_weight step < block_weight body + 3) }
 {
     match test {
         Value::Bool(true) => {
-            let once = body.again()?;
+            let once = body.again(alloc)?;
             Ok(Step {
                 now: Now::Run(Rest::new(once)),
                 then: Some(Task::Then(OnValue::Again(again, body))),
@@ -362,7 +367,7 @@ pub(crate) fn use_value(
         }
         OnValue::Write(then) => Ok(write(value, then)),
         OnValue::If(all, others) => Ok(choose(value, all, others)),
-        OnValue::While(test, body) => turn(value, test, body),
+        OnValue::While(test, body) => turn(alloc, value, test, body),
         OnValue::Again(test, body) => Ok(Step::alone(Now::Pace(Move::Turn(test, body)))),
         OnValue::Monitor(then) => Ok(use_monitor(value, then)),
         OnValue::Print => Ok(Step::ask(Request::Print(value), OnReply::Done)),

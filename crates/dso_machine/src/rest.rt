@@ -2,8 +2,9 @@
 ghost use Rattle.std.specs.Prelude.{◌≡◌, ◌↔◌, [], ◌++◌, IfOk, IsNone};
 ghost use Rattle.std.specs.Option.{option_to_list};
 
-use crate::Branch;
+use crate::{Branch, TreePart};
 use dso_base::{Items, NoMemory};
+use std::alloc::Global;
 use std::marker::Model;
 
 /// The parts from a place on, which contracts see as their list. The parts before it stay where they are.
@@ -30,17 +31,17 @@ impl<T> Rest<T> {
     }
 }
 
-impl<T: Drop> Rest<T> {
+impl<T: TreePart> Rest<T> {
     /// Takes the first part, None exactly where there is none.
     ///
-    /// NoMemory: the part has as many owners as can be counted.
-    pub(crate) fn pop(&mut self) -> Result<Option<Branch<T>>, NoMemory>
+    /// NoMemory: an allocation was refused. The parts stay as they were.
+    pub(crate) fn pop(&mut self, alloc: Global) -> Result<Option<Branch<T>>, NoMemory>
         ensures taken { IfOk result (λ part. self.old ≡ option_to_list part ++ self.new) }
         ensures none { IfOk result (λ part. IsNone part ↔ (self.old ≡ [])) }
     {
         let parts = self.parts.get().as_slice();
         if self.at < parts.len() {
-            let part = parts[self.at].again()?;
+            let part = parts[self.at].again(alloc)?;
             self.at += 1;
             Ok(Some(part))
         } else {

@@ -61,7 +61,7 @@ impl Thread {
             unreachable!()
         };
         let vars = variables(found.vars, Items::new(alloc))?;
-        let body = found.body.again()?;
+        let body = found.body.again(alloc)?;
         Ok(Thread {
             due: Due::Going(Now::Run(Rest::new(body))),
             core: Core {

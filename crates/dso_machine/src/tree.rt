@@ -4,6 +4,7 @@ ghost use Rattle.std.specs.Prelude.{◌≡◌, IfOk};
 
 use crate::Branch;
 use dso_base::{Grade, Items, Kind, NoMemory, Op, Value};
+use std::alloc::Global;
 
 /// The statements of a block.
 pub type Block = Branch<Items<Branch<Stmt>>>;
@@ -24,12 +25,12 @@ pub struct FieldRef {
 }
 
 impl FieldRef {
-    /// The same field once more. NoMemory: its places have as many owners as can be counted.
-    pub(crate) fn again(&self) -> Result<FieldRef, NoMemory>
+    /// The same field once more. NoMemory: an allocation was refused.
+    pub(crate) fn again(&self, alloc: Global) -> Result<FieldRef, NoMemory>
         ensures { IfOk result (λ field. field ≡ self.now) }
     {
         Ok(FieldRef {
-            places: self.places.again()?,
+            places: self.places.again(alloc)?,
             length: self.length,
         })
     }
