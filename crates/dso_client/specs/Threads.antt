@@ -1,6 +1,6 @@
 -- What a client tells of its threads.
 use Rattle.std.specs.List.{list_any}
-use Rattle.std.specs.Prelude.{◌≡◌, ℕ, Bool, true, false, is_some, count_by, Option, List}
+use Rattle.std.specs.Prelude.{◌≡◌, ℕ, Bool, true, false, ltb, is_some, count_by, Option, List}
 use Rattle.dso_base.specs.declared.journal.Entry.{Entry}
 use Rattle.dso_base.specs.declared.request.Request.{Request}
 use Rattle.dso_base.specs.Following.{is_thread}
@@ -34,6 +34,12 @@ IsNextRequest kept index request =
 abbrev pub TellsAlive : ClientState → ℕ → Type 0
 TellsAlive kept n = (code : Code) (p : Settings) (c : ℕ) (es : List Entry) → ClientStands code p c kept es
     → n ≡ count_by (λ t. is_some (next_in (next_request code) es t)) (threads_of p c)
+
+-- the answer tells whether one of the client's threads has a next request
+pub record TellsGoing (kept : ClientState) (answer : Bool) : Type 0 where
+  pub alive : ℕ
+  pub threads : TellsAlive kept alive
+  pub is : answer ≡ ltb 0 alive
 
 -- this holds where the client, whatever entries it stands for, has no thread of this index
 abbrev pub WhereAbsent : ClientState → ℕ → Type 0 → Type 0

@@ -12,7 +12,7 @@ ghost use Rattle.dso_client.specs.NamedObjects.{TellsEdges, TellsNamed};
 ghost use Rattle.dso_client.specs.ObjectFlushes.{Flushes, IsVictimOf, NoneDue, TellsFlush};
 ghost use Rattle.dso_client.specs.Spent.{WhileWhole, is_spent};
 ghost use Rattle.dso_client.specs.TakenMessages.{Takes};
-ghost use Rattle.dso_client.specs.Threads.{IsEnabled, IsNextRequest, TellsAlive, WhereAbsent};
+ghost use Rattle.dso_client.specs.Threads.{IsEnabled, IsNextRequest, TellsAlive, TellsGoing, WhereAbsent};
 ghost use Rattle.dso_txn.specs.Numbers.{IsLeast};
 ghost use Rattle.dso_client.specs.declared.acted.Acted.TheVariants as acted;
 ghost use Rattle.dso_client.specs.Openings.{HasThreads, AreUnusedSequences, IsEmptyLockState, first_threads};
@@ -26,7 +26,7 @@ use crate::opening::contexts;
 use crate::sequences::Sequences;
 use crate::taken_message::take;
 use crate::thread_act::act;
-use crate::thread_context::{ThreadContext, alive, context_at};
+use crate::thread_context::{ThreadContext, alive, context_at, is_any_alive};
 use crate::turn::may_act;
 use dso_base::{Down, NoMemory, Request, Up};
 use dso_hold::Hold;
@@ -281,6 +281,14 @@ impl Client {
         ensures { TellsAlive self.now result }
     {
         alive(self.kept.contexts.as_slice())
+    }
+
+    /// Whether a thread has a next request: one that hasn't ended. It takes no memory, and looks at no thread behind the
+    /// first that has one.
+    pub fn is_alive(&self) -> bool
+        ensures { TellsGoing self.now result }
+    {
+        is_any_alive(self.kept.contexts.as_slice())
     }
 
     /// The objects that a thread of the client names: its frames hold them, its next request names them, or it has them

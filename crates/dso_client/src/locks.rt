@@ -17,7 +17,7 @@ use crate::client_state::ClientState;
 use crate::lock_state::LockState;
 use crate::thread_context::ThreadContext;
 use dso_base::{Level, LockName, Request, ThreadId};
-use dso_lease::{Lease, LeaseStanding};
+use dso_lease::Lease;
 
 /// A thread that wants to enter a lock at a level.
 #[derive(Clone, Copy, Debug, PartialEq, Eq)]
@@ -76,16 +76,6 @@ fn is_read(lease: Option<Level>) -> bool
     }
 }
 
-/// The lease of the lock, None where there is none.
-fn lease_of(lock_state: &LockState, lock: LockName) -> Option<Lease>
-    ensures { result ≡ lease_of (standing_in lock_state.now.leases lock) }
-{
-    match lock_state.leases.standing(lock) {
-        Some(LeaseStanding::Leased(lease)) => Some(lease),
-        _ => None,
-    }
-}
-
 /// Whether the level is `Read`, and a thread that doesn't hold the lock wants it at `Write`.
 fn is_outgrown(kept: &ClientState, lock: LockName, level: Level) -> bool
     ensures { (at : RunPoint) → ClientPartsStand at kept.now
@@ -108,19 +98,9 @@ pub(crate) fn is_closing(kept: &ClientState, lock: LockName) -> bool
     ensures { (at : RunPoint) → ClientPartsStand at kept.now
         → result ≡ (is_some (leased lock at.entries) && is_closing at.settings at.client at.next lock at.entries) }
 {
-    match lease_of(&kept.lock_state, lock) {
+    match kept.lock_state.leases.leased(lock) {
         Some(lease) => closes(kept, lock, lease),
         None => false,
-    }
-}
-
-/// Whether a lease of the level is of at least the one that is wanted.
-fn is_enough(wanted: Level, level: Level) -> bool
-    ensures { result ≡ is_enough wanted (Some level) }
-{
-    match (wanted, level) {
-        (Level::Write, Level::Read) => false,
-        _ => true,
     }
 }
 
@@ -129,9 +109,9 @@ pub(crate) fn admits(kept: &ClientState, lock: LockName, level: Level) -> bool
     ensures { (at : RunPoint) → ClientPartsStand at kept.now
         → result ≡ (is_enough level (leased lock at.entries) && admits at.settings at.client at.next lock at.entries) }
 {
-    match lease_of(&kept.lock_state, lock) {
+    match kept.lock_state.leases.leased(lock) {
         Some(lease) => {
-            is_enough(level, lease.level) && (!lease.is_entered || !closes(kept, lock, lease))
+            lease.suffices(level) && (!lease.is_entered || !closes(kept, lock, lease))
         }
         None => false,
     }
@@ -157,7 +137,7 @@ pub(crate) fn is_lease_due(kept: &ClientState, lock: LockName) -> bool
     ensures { (at : RunPoint) → ClientPartsStand at kept.now → AreOwnHolds at
         → result ≡ (is_some (leased lock at.entries) && is_lease_due at.settings at.client at.next lock at.entries) }
 {
-    match lease_of(&kept.lock_state, lock) {
+    match kept.lock_state.leases.leased(lock) {
         Some(lease) => {
             may_be_due(lease) && is_free(&kept.lock_state, lock) && closes(kept, lock, lease)
         }

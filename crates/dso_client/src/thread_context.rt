@@ -1,5 +1,6 @@
 //! A thread at its client (`dso_law/specs/Threads.antt`).
 ghost use Rattle.std.specs.Prelude.{◌≡◌, ◌≤◌, ◌↔◌, IsTrue, count_by, is_some, length};
+ghost use Rattle.std.specs.List.{list_any};
 ghost use Rattle.std.specs.Option.{option_copied};
 ghost use Rattle.dso_law.specs.Threads.{own, is_private, is_local, locks_of};
 ghost use Rattle.dso_law.specs.FitsDown.{IsWaitingOn};
@@ -127,5 +128,16 @@ pub(crate) fn alive(contexts: &[ThreadContext]) -> usize
         [] => 0,
         [context, rest @ ..] if context.next.is_some() => alive(rest) + 1,
         [_, rest @ ..] => alive(rest),
+    }
+}
+
+/// Whether one of the threads has a next request. It looks at no thread behind the first that has one.
+pub(crate) fn is_any_alive(contexts: &[ThreadContext]) -> bool
+    ensures { result ≡ list_any (λ context. is_some context.next) contexts.now }
+{
+    match contexts {
+        [] => false,
+        [context, ..] if context.next.is_some() => true,
+        [_, rest @ ..] => is_any_alive(rest),
     }
 }

@@ -2,7 +2,7 @@
 use Rattle.std.specs.Prelude.{Bool, true, false, cond, not, ◌&&◌, ◌||◌, is_some, Option, Some, None}
 use Rattle.std.specs.BTreeMap.{is_at}
 use Rattle.std.specs.declared.cmp.Ordering.{Ordering}
-use Rattle.std.specs.Option.{option_map, option_map_or}
+use Rattle.std.specs.Option.{option_map_or}
 use Rattle.dso_base.specs.declared.lock.Level.{Level}
 use Rattle.dso_base.specs.declared.lock.Level.TheVariants.{Read, Write}
 use Rattle.dso_base.specs.declared.lock.LockName.{LockName}
@@ -90,26 +90,10 @@ abbrev pub lease_of : Option LeaseStanding → Option Lease
 lease_of (Some (Leased lease)) = Some lease
 lease_of standing = None
 
--- its level
-abbrev pub level_of : Option LeaseStanding → Option Level
-level_of standing = option_map (λ lease. lease.level) (lease_of standing)
-
 -- there is a lease
 abbrev pub is_leased : Option LeaseStanding → Bool
 is_leased standing = is_some (lease_of standing)
 
--- there is a lease of which the test holds
-abbrev pub has_lease : (Lease → Bool) → Option LeaseStanding → Bool
-has_lease test standing = option_map_or test (lease_of standing) false
-
 -- there is a lease that was entered since its grant
 abbrev pub was_entered : Option LeaseStanding → Bool
-was_entered standing = has_lease (λ lease. lease.is_entered) standing
-
--- there is a lease that is closing
-abbrev pub is_closing : Option LeaseStanding → Bool
-is_closing standing = has_lease (λ lease. lease.is_closing) standing
-
--- there is a lease that admits the entry
-abbrev pub is_admitted : Level → Bool → Option LeaseStanding → Bool
-is_admitted level inner standing = has_lease (admits level inner) standing
+was_entered standing = option_map_or (λ lease. lease.is_entered) (lease_of standing) false

@@ -4,7 +4,7 @@ ghost use Rattle.std.specs.Bool.{OnTrue, OnFalse};
 ghost use Rattle.std.specs.Option.{option_map};
 ghost use Rattle.dso_lookup.specs.Maps.{look};
 ghost use Rattle.dso_lookup.specs.Orders.{lock_order};
-ghost use Rattle.dso_lease.specs.Leases.{standing_in, with_standing, answer, after_want, entered, recalled, granted_at, is_asked, is_leased, is_returned, level_of, was_entered, is_closing, is_admitted};
+ghost use Rattle.dso_lease.specs.Leases.{standing_in, with_standing, answer, after_want, entered, recalled, granted_at, is_asked, is_leased, is_returned, lease_of};
 
 use crate::standing::{Lease, LeaseStanding, Want};
 use dso_base::{Level, LockName, NoMemory};
@@ -134,12 +134,12 @@ impl Leases {
         self.locks.get(&lock).copied()
     }
 
-    /// The level of the lease, None where there is none. It takes no memory.
-    pub fn lease(&self, lock: LockName) -> Option<Level>
-        ensures { result ≡ level_of (standing_in self.now lock) }
+    /// The lease of the lock, None where there is none. It takes no memory.
+    pub fn leased(&self, lock: LockName) -> Option<Lease>
+        ensures { result ≡ lease_of (standing_in self.now lock) }
     {
         match self.standing(lock) {
-            Some(LeaseStanding::Leased(lease)) => Some(lease.level),
+            Some(LeaseStanding::Leased(lease)) => Some(lease),
             _ => None,
         }
     }
@@ -150,36 +150,6 @@ impl Leases {
     {
         match self.standing(lock) {
             Some(LeaseStanding::Asked) => true,
-            _ => false,
-        }
-    }
-
-    /// Whether there is a lease that was entered since its grant. It takes no memory.
-    pub fn is_entered(&self, lock: LockName) -> bool
-        ensures { result ≡ was_entered (standing_in self.now lock) }
-    {
-        match self.standing(lock) {
-            Some(LeaseStanding::Leased(lease)) => lease.is_entered,
-            _ => false,
-        }
-    }
-
-    /// Whether there is a lease that is closing. It takes no memory.
-    pub fn is_closing(&self, lock: LockName) -> bool
-        ensures { result ≡ is_closing (standing_in self.now lock) }
-    {
-        match self.standing(lock) {
-            Some(LeaseStanding::Leased(lease)) => lease.is_closing,
-            _ => false,
-        }
-    }
-
-    /// Whether there is a lease that admits the entry, as [`Leases::want`] tells with `Held`. It takes no memory.
-    pub fn admits(&self, lock: LockName, level: Level, inner: bool) -> bool
-        ensures { result ≡ is_admitted level inner (standing_in self.now lock) }
-    {
-        match self.standing(lock) {
-            Some(LeaseStanding::Leased(lease)) => lease.admits(level, inner),
             _ => false,
         }
     }

@@ -33,8 +33,8 @@ pub enum Want {
 }
 
 impl Lease {
-    /// Whether its level is at least the one that is wanted.
-    pub(crate) fn suffices(self, level: Level) -> bool
+    /// Whether its level is at least the one that is wanted. It takes no memory.
+    pub fn suffices(self, level: Level) -> bool
         ensures { result ≡ suffices self.level level }
     {
         match (self.level, level) {

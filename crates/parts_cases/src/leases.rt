@@ -1,10 +1,11 @@
-//! The leases: `want m5 read outer`, `entered m5`, `granted m5 read`, `recalled m5`, `return m5 free`, `level m5`,
-//! `standing m5`, `asked m5`, `is-entered m5`, `closing m5`, `admits m5 read inner`, `random 7 500`.
+//! The leases: `want m5 read outer`, `entered m5`, `granted m5 read`, `recalled m5`, `return m5 free`, `standing m5`,
+//! `asked m5`; of a lease `level m5`, `is-entered m5`, `closing m5`; `admits m5 read inner`, whether a thread that wants
+//! the lock is told `Held`; `random 7 500`.
 
 use crate::plain_leases::compared_leases;
 use case_words::{debugged, first_of, level, lock, shown};
-use dso_base::{Level, LockName, NoMemory};
-use dso_lease::Leases;
+use dso_base::{LockName, NoMemory};
+use dso_lease::{Leases, Want};
 use std::alloc::Global;
 
 /// The answer to the call.
@@ -33,11 +34,11 @@ fn of_lock(
         }
         "recalled" => shown(alloc, leases.recalled(lock)),
         "return" => shown(alloc, leases.try_return(lock, text == "free")),
-        "level" => debugged(alloc, leases.lease(lock)),
+        "level" => debugged(alloc, leases.leased(lock).map(|lease| lease.level)),
         "standing" => debugged(alloc, leases.standing(lock)),
         "asked" => shown(alloc, leases.is_asked(lock)),
-        "is-entered" => shown(alloc, leases.is_entered(lock)),
-        "closing" => shown(alloc, leases.is_closing(lock)),
+        "is-entered" => shown(alloc, leases.leased(lock).is_some_and(|lease| lease.is_entered)),
+        "closing" => shown(alloc, leases.leased(lock).is_some_and(|lease| lease.is_closing)),
         _ => at_level(alloc, leases, word, lock, text),
     }
 }
@@ -52,21 +53,12 @@ fn at_level(
 ) -> Result<String, NoMemory> {
     let (first, second) = first_of(text);
     match (word, level(first)) {
-        ("want", Some(level)) => wanted(alloc, leases, lock, level, second == "inner"),
-        ("admits", Some(level)) => shown(alloc, leases.admits(lock, level, second == "inner")),
+        ("want", Some(level)) => debugged(alloc, leases.want(lock, level, second == "inner")?),
+        ("admits", Some(level)) => {
+            let answer = leases.want(lock, level, second == "inner")?;
+            shown(alloc, answer == Want::Held)
+        }
         ("granted", Some(level)) => shown(alloc, leases.granted(lock, level)),
         _ => shown(alloc, "no such call"),
     }
-}
-
-/// What is answered to a thread that wants the lock.
-fn wanted(
-    alloc: Global,
-    leases: &mut Leases,
-    lock: LockName,
-    level: Level,
-    inner: bool,
-) -> Result<String, NoMemory> {
-    let answer = leases.want(lock, level, inner)?;
-    debugged(alloc, answer)
 }

@@ -2,7 +2,7 @@
 
 use crate::plain_calls::{Comparison, drawn_level, drawn_lock, run};
 use dso_base::{Level, LockName, NoMemory};
-use dso_lease::{Leases, Want};
+use dso_lease::{Lease, Leases, Want};
 use std::alloc::Global;
 
 /// How one of four locks stands: its lease's level, whether it was entered and is closing, and whether it was asked
@@ -22,6 +22,20 @@ const IDLE: Row = Row {
     is_closing: false,
     is_asked: false,
 };
+
+impl Row {
+    /// The lease of the lock, where it has one.
+    fn lease(&self) -> Option<Lease> {
+        match self.level {
+            Some(level) => Some(Lease {
+                level,
+                is_entered: self.is_entered,
+                is_closing: self.is_closing,
+            }),
+            None => None,
+        }
+    }
+}
 
 /// The leases, and the plain list of four locks.
 #[derive(Drop)]
@@ -65,7 +79,7 @@ fn row_agrees(
         3 => {
             leases.entered(lock);
             row.is_entered = row.level.is_some();
-            Ok(leases.is_entered(lock) == row.is_entered)
+            Ok(leases.leased(lock) == row.lease())
         }
         _ => Ok(leases.try_return(lock, flag) == plain_return(row, flag)),
     }
