@@ -1,11 +1,12 @@
 //! The status that the process ends with (`specs/Exit.antt`).
-ghost use Rattle.std.specs.Prelude.{◌≢◌, IfErr, map};
+ghost use Rattle.std.specs.Prelude.{◌≡◌, ◌≢◌, IfErr, map};
 ghost use Rattle.std.specs.String.{string_bytes};
 ghost use Rattle.std.specs.IoError.{error_kind};
 ghost use Rattle.std.specs.declared.io.ErrorKind.TheVariants.{OutOfMemory};
 ghost use Rattle.std.specs.Process.{exit_status};
 ghost use Rattle.dso_run.specs.Exit.{EndsWith, IsUsageNumber, words_told};
 ghost use Rattle.dso_run.specs.Headline.{left_by, read_by};
+ghost use Rattle.dso_run.specs.Status.{exit_number_of};
 ghost use Rattle.dso_run.specs.Stores.{disk_by};
 
 use crate::{Done, Status, dso_main};
