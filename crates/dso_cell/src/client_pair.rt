@@ -1,7 +1,7 @@
 //! What a client's cell and the server's end of its connection tell of the client (`specs/Pairs.antt`).
-ghost use Rattle.std.specs.Prelude.{◌≡◌, ◌&&◌, ◌||◌, ltb, not};
+ghost use Rattle.std.specs.Prelude.{◌≡◌, ◌&&◌, ◌||◌, not};
 ghost use Rattle.dso_client.specs.ObjectFlushes.{TellsFlush};
-ghost use Rattle.dso_client.specs.Threads.{IsEnabled, TellsAlive};
+ghost use Rattle.dso_client.specs.Threads.{IsEnabled};
 ghost use Rattle.dso_law.specs.Settings.{Settings};
 ghost use Rattle.dso_cell.specs.Pairs.{HasTriggers, TellsBusyAt, can_be_heard, can_hear, is_break_due_at, is_behind, is_loss_due_at, is_still, is_trigger_due};
 
@@ -31,11 +31,11 @@ impl<'a> Model for ClientPair<'a> {
     ghost view = { λ pair. record { client = pair.client; cell = pair.cell.now; end = pair.end.now; is_lost = pair.is_lost } };
 }
 
-/// Whether a trigger is due, or a client isn't lost, and has a message in flight or threads that haven't ended.
-fn keeps_going(is_due: bool, is_lost: bool, is_still: bool, alive: usize) -> bool
-    ensures { result ≡ (is_due || (not is_lost && (not is_still || ltb 0 alive))) }
+/// Whether a trigger is due, or a client isn't lost, and has a message in flight or a thread that hasn't ended.
+fn keeps_going(is_due: bool, is_lost: bool, is_still: bool, is_alive: bool) -> bool
+    ensures { result ≡ (is_due || (not is_lost && (not is_still || is_alive))) }
 {
-    is_due || (!is_lost && (!is_still || alive > 0))
+    is_due || (!is_lost && (!is_still || is_alive))
 }
 
 impl<'a> ClientPair<'a> {
@@ -145,7 +145,7 @@ impl<'a> ClientPair<'a> {
             self.is_trigger_due(),
             self.is_lost,
             self.is_still(),
-            self.cell.core.alive(),
+            self.cell.core.is_alive(),
         )
     }
 }

@@ -12,6 +12,16 @@ use crate::nodes::Nodes;
 use crate::touched_threads::Touches;
 use dso_base::{Entry, Event, Request, ThreadId};
 
+/// An entry that was made: the nodes with it, which threads asked for what before it, and what the thread asks next that
+/// acts by it.
+#[derive(Clone, Copy)]
+pub(crate) struct EntryMade<'a> {
+    pub nodes: &'a Nodes,
+    pub entry: &'a Entry,
+    pub asking: &'a AskingThreads,
+    pub next: Option<Request>,
+}
+
 /// What the thread asks next; None where it has ended, or there is no such thread.
 pub(crate) fn next_request(nodes: &Nodes, thread: ThreadId) -> Option<Request>
     ensures { (program : Program) → TellsNext program nodes.now thread result }
@@ -53,17 +63,11 @@ fn with_actor(threads: u64, entry: &Entry) -> u64
 }
 
 /// The threads of the client that are asked again after an entry of it whether they may act, a bit for each: the one that
-/// acts, which asks this next, and those that ask for a topic of a bucket that the entry touches.
-pub(crate) fn threads_asked_again(
-    nodes: &Nodes,
-    entry: &Entry,
-    asking: &AskingThreads,
-    number: u8,
-    next: Option<Request>,
-) -> u64
-    requires { (program : Program) → TellsActor program nodes.now entry.now.event next }
-    ensures { OthersAreSpared asking.now nodes.now entry.now number result }
+/// acts, and those that ask for a topic of a bucket that the entry touches.
+pub(crate) fn threads_asked_again(made: &EntryMade<'_>, number: u8) -> u64
+    requires { (program : Program) → TellsActor program made.now.nodes.now made.now.entry.now.event made.now.next }
+    ensures { OthersAreSpared made.now.asking.now made.now.nodes.now made.now.entry.now number result }
 {
-    let touches = Touches::of(entry, next);
-    with_actor(asking.asking(number, touches.buckets()), entry)
+    let touches = Touches::of(made.entry, made.next);
+    with_actor(made.asking.asking(number, touches.buckets()), made.entry)
 }

@@ -10,12 +10,30 @@ use dso_base::{Entry, Event, LockName, NoMemory, Request, ThreadId};
 use std::alloc::Global;
 use std::marker::Model;
 
+/// How many buckets each client has: two of one topic, and those of objects and of locks by their numbers.
+const BUCKETS: usize = 64;
+
+/// The bucket of the ids that are left.
+pub(crate) const IDS_BUCKET: u32 = 0;
+
+/// The bucket of the records that aren't acknowledged.
+pub(crate) const RECORDS_BUCKET: u32 = 1;
+
+/// The first bucket of objects.
+const FIRST_OBJECT_BUCKET: u32 = 2;
+
+/// The first bucket of locks, behind those of objects.
+const FIRST_LOCK_BUCKET: u32 = 33;
+
+/// How many buckets there are of objects, and of locks.
+const NUMBERED: u64 = 31;
+
 /// The bucket of an object.
 pub(crate) fn object_bucket(object: u64) -> u32
     ensures bucket { bucket_of (OfObject object) ≡ Some result }
     ensures within { result < 64 }
 {
-    (object % 31) as u32 + 2
+    (object % NUMBERED) as u32 + FIRST_OBJECT_BUCKET
 }
 
 /// The bucket of a lock.
@@ -27,7 +45,7 @@ pub(crate) fn lock_bucket(lock: LockName) -> u32
         LockName::Mon(object) => object,
         LockName::Name(number) => number as u64,
     };
-    (number % 31) as u32 + 33
+    (number % NUMBERED) as u32 + FIRST_LOCK_BUCKET
 }
 
 /// The bucket of what a thread asks next; None where no entry of others changes the answer.
@@ -37,8 +55,8 @@ fn asked_bucket(request: Option<Request>) -> Option<u32>
 {
     match request {
         None => None,
-        Some(Request::New(_, _)) => Some(0),
-        Some(Request::Settle) => Some(1),
+        Some(Request::New(_, _)) => Some(IDS_BUCKET),
+        Some(Request::Settle) => Some(RECORDS_BUCKET),
         Some(Request::Look(object)) => Some(object_bucket(object)),
         Some(Request::Get(object, _)) => Some(object_bucket(object)),
         Some(Request::Put(object, _, _)) => Some(object_bucket(object)),
@@ -53,10 +71,10 @@ fn row_of(client: u8, bucket: u32) -> usize
     requires { bucket < 64 }
     ensures { result ≡ row_of client bucket }
 {
-    64 * client as usize + bucket as usize
+    BUCKETS * client as usize + bucket as usize
 }
 
-/// For each client 64 buckets of topics, and in each bucket those of its threads whose next request is of such a topic.
+/// For each client the buckets of topics, and in each bucket those of its threads whose next request is of such a topic.
 /// So an entry finds the threads whose answer it can change without a look at any other; contracts see a word for each
 /// bucket, with a bit for each thread. It takes no memory once it is made.
 #[derive(Drop)]
@@ -78,7 +96,7 @@ impl AskingThreads {
         ensures { IfOk result (λ asking. asking ≡ replicate (64 * (clients + 1)) 0) }
     {
         Ok(AskingThreads {
-            words: vec![in alloc; 0; 64 * (clients as usize + 1)]?,
+            words: vec![in alloc; 0; BUCKETS * (clients as usize + 1)]?,
         })
     }
 

@@ -1,6 +1,6 @@
 //! Which steps are open, and whether the run is finished, by the nodes (`dso_legal/specs/Slots.antt`,
 //! `specs/SlotTests.antt`).
-ghost use Rattle.std.specs.Prelude.{◌≡◌, ◌<◌, ◌&&◌, ◌||◌, List, eqb, ltb, not, suc};
+ghost use Rattle.std.specs.Prelude.{◌≡◌, ◌<◌, ◌&&◌, ◌||◌, List, eqb, not, suc};
 ghost use Rattle.dso_base.specs.declared.journal.Entry.{Entry};
 ghost use Rattle.dso_class.specs.declared.program.Program.{Program};
 ghost use Rattle.dso_session.specs.Ends.{sent_count};
@@ -86,11 +86,11 @@ fn is_quiet(link: &Link<Both>) -> bool
     link.sent_up() == link.taken_up() && link.sent_down() == link.taken_down()
 }
 
-/// Whether a trigger is due, or a client isn't lost, and has a message in flight or threads that haven't ended.
-fn keeps_going(is_due: bool, is_lost: bool, is_quiet: bool, alive: usize) -> bool
-    ensures { result ≡ (is_due || (not is_lost && (not is_quiet || ltb 0 alive))) }
+/// Whether a trigger is due, or a client isn't lost, and has a message in flight or a thread that hasn't ended.
+fn keeps_going(is_due: bool, is_lost: bool, is_quiet: bool, is_alive: bool) -> bool
+    ensures { result ≡ (is_due || (not is_lost && (not is_quiet || is_alive))) }
 {
-    is_due || (!is_lost && (!is_quiet || alive > 0))
+    is_due || (!is_lost && (!is_quiet || is_alive))
 }
 
 /// Whether the client of this number keeps the run going.
@@ -101,7 +101,7 @@ fn is_busy(number: u8, server: &Server, client_node: &ClientNode) -> bool
         is_either(due(number, server, client_node)),
         server.is_lost(number),
         is_quiet(&client_node.link),
-        client_node.client.alive(),
+        client_node.client.is_alive(),
     )
 }
 

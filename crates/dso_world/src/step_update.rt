@@ -6,15 +6,14 @@ ghost use Rattle.dso_world.specs.StepPlaces.{IsOwnOf};
 ghost use Rattle.dso_world.specs.StepUpdates.{Follows, IsGoing, IsSentTo, IsServedBy, IsServedOf, KeepsRound, Marks, Tells};
 ghost use Rattle.dso_world.specs.Touched.{client_in};
 
-use crate::asked_again::{next_of_actor, threads_asked_again};
-use crate::asking_threads::AskingThreads;
+use crate::asked_again::{EntryMade, next_of_actor, threads_asked_again};
 use crate::bits::{first_bit, without_bit};
 use crate::nodes::Nodes;
 use crate::open_steps::OpenSteps;
 use crate::slot_test::{is_finished, is_open};
 use crate::step_table::StepTable;
 use crate::{Chooser, Step};
-use dso_base::{Entry, Input, Node, Request, Sent, ThreadId};
+use dso_base::{Entry, Input, Node, Sent, ThreadId};
 use dso_class::Program;
 
 /// The client that what the server takes in is of.
@@ -71,23 +70,15 @@ fn mark_threads(nodes: &Nodes, steps: &StepTable, number: u8, threads: u64, choo
 
 /// Tells anew which of the client's own slots are open, after an entry of it: of its threads only those are asked that the
 /// entry touches, by what they ask next.
-fn mark_own(
-    nodes: &Nodes,
-    entry: &Entry,
-    steps: &StepTable,
-    asking: &AskingThreads,
-    number: u8,
-    next: Option<Request>,
-    chooser: &mut Chooser,
-)
+fn mark_own(made: &EntryMade<'_>, steps: &StepTable, number: u8, chooser: &mut Chooser)
     requires same { length steps.now ≡ length chooser.old.flags }
-    requires next { (program : Program) → TellsActor program nodes.now entry.now.event next }
-    ensures { Settles asking.now nodes.now entry.now steps.now (IsOwnOf number steps.now) chooser.old chooser.new }
+    requires next { (program : Program) → TellsActor program made.now.nodes.now made.now.entry.now.event made.now.next }
+    ensures { Settles made.now.asking.now made.now.nodes.now made.now.entry.now steps.now (IsOwnOf number steps.now) chooser.old chooser.new }
 {
-    mark_step(nodes, steps, Step::TakeDown(number), chooser);
-    mark_step(nodes, steps, Step::Flush(number), chooser);
-    let threads = threads_asked_again(nodes, entry, asking, number, next);
-    mark_threads(nodes, steps, number, threads, chooser);
+    mark_step(made.nodes, steps, Step::TakeDown(number), chooser);
+    mark_step(made.nodes, steps, Step::Flush(number), chooser);
+    let threads = threads_asked_again(made, number);
+    mark_threads(made.nodes, steps, number, threads, chooser);
 }
 
 /// Tells anew what the client can take, and what the server can do with it.
@@ -134,27 +125,20 @@ fn mark_sent(nodes: &Nodes, steps: &StepTable, sent: &[Sent], chooser: &mut Choo
 }
 
 /// The flags of the slots that the entry may open or close are those that the nodes tell. No other slot is looked at.
-fn mark(
-    nodes: &Nodes,
-    entry: &Entry,
-    steps: &StepTable,
-    asking: &AskingThreads,
-    next: Option<Request>,
-    chooser: &mut Chooser,
-)
+fn mark(made: &EntryMade<'_>, steps: &StepTable, chooser: &mut Chooser)
     requires same { length steps.now ≡ length chooser.old.flags }
-    requires next { (program : Program) → TellsActor program nodes.now entry.now.event next }
-    ensures flags { (program : Program) → Marks program asking.now nodes.now entry.now steps.now chooser.old chooser.new }
+    requires next { (program : Program) → TellsActor program made.now.nodes.now made.now.entry.now.event made.now.next }
+    ensures flags { (program : Program) → Marks program made.now.asking.now made.now.nodes.now made.now.entry.now steps.now chooser.old chooser.new }
     ensures round { KeepsRound chooser.old chooser.new }
 {
-    match entry.node {
+    match made.entry.node {
         Node::Server => {
-            mark_input(nodes, steps, &entry.input, chooser);
-            mark_sent(nodes, steps, entry.sent.as_slice(), chooser);
+            mark_input(made.nodes, steps, &made.entry.input, chooser);
+            mark_sent(made.nodes, steps, made.entry.sent.as_slice(), chooser);
         }
         Node::Client(number) => {
-            mark_own(nodes, entry, steps, asking, number, next, chooser);
-            mark_step(nodes, steps, Step::TakeUp(number), chooser);
+            mark_own(made, steps, number, chooser);
+            mark_step(made.nodes, steps, Step::TakeUp(number), chooser);
         }
     }
 }
@@ -173,14 +157,13 @@ pub(crate) fn follow(
     ensures { Follows program.now nodes.now entry.now place open_steps.old open_steps.new }
 {
     let next = next_of_actor(nodes, entry);
-    mark(
+    let made = EntryMade {
         nodes,
         entry,
-        &open_steps.steps,
-        &open_steps.asking,
+        asking: &open_steps.asking,
         next,
-        &mut open_steps.chooser,
-    );
+    };
+    mark(&made, &open_steps.steps, &mut open_steps.chooser);
     open_steps.asking.turn(entry, next);
     open_steps.chooser.taken(place);
     open_steps.is_finished = is_finished(program, nodes);

@@ -6,7 +6,7 @@ ghost use Rattle.dso_base.specs.declared.lock.ThreadId.{ThreadId};
 ghost use Rattle.dso_open_law.specs.TouchedThreads.{OfIds, OfLock, OfObject, OfRecords, awaited, sent_topics, up_topics};
 ghost use Rattle.dso_world.specs.EntryTouches.{Adds, AddsActed, AddsBucket, AddsDone, AddsMade, AddsTaken, Covers};
 
-use crate::asking_threads::{lock_bucket, object_bucket};
+use crate::asking_threads::{IDS_BUCKET, RECORDS_BUCKET, lock_bucket, object_bucket};
 use crate::bits::with_bit;
 use dso_base::{
     Body, Down, Entry, Event, Input, Level, LockName, Reply, Request, Sent, ThreadId, Up,
@@ -37,14 +37,14 @@ impl Touches {
     fn with_ids(self) -> Touches
         ensures { Adds (OfIds ∷ []) self result }
     {
-        self.with_bucket(0)
+        self.with_bucket(IDS_BUCKET)
     }
 
     /// With records that aren't acknowledged.
     fn with_records(self) -> Touches
         ensures { (t : ThreadId) → Adds (OfRecords t ∷ []) self result }
     {
-        self.with_bucket(1)
+        self.with_bucket(RECORDS_BUCKET)
     }
 
     /// With the object.

@@ -37,8 +37,14 @@ fn of_lock(
         "level" => debugged(alloc, leases.leased(lock).map(|lease| lease.level)),
         "standing" => debugged(alloc, leases.standing(lock)),
         "asked" => shown(alloc, leases.is_asked(lock)),
-        "is-entered" => shown(alloc, leases.leased(lock).is_some_and(|lease| lease.is_entered)),
-        "closing" => shown(alloc, leases.leased(lock).is_some_and(|lease| lease.is_closing)),
+        "is-entered" => shown(
+            alloc,
+            leases.leased(lock).is_some_and(|lease| lease.is_entered),
+        ),
+        "closing" => shown(
+            alloc,
+            leases.leased(lock).is_some_and(|lease| lease.is_closing),
+        ),
         _ => at_level(alloc, leases, word, lock, text),
     }
 }

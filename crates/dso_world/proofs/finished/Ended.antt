@@ -1,6 +1,6 @@
 -- A thread has ended exactly where its code asks nothing more; so a client's threads that go on are counted.
 use Rattle.std.specs.List.{list_any, AllByRecursion}
-use Rattle.std.proofs.Common.{ℕ, ◌+◌, ◌≡◌, ◌≢◌, refl, sym, ◌∙◌, ap, Bool, true, false, cond, eqb, ltb, not, ◌||◌, is_some, Option, Some, None, List, [], ◌∷◌, filter, arith}
+use Rattle.std.proofs.Common.{ℕ, ◌≡◌, ◌≢◌, refl, sym, ◌∙◌, ap, Bool, true, false, cond, eqb, ltb, not, ◌||◌, is_some, Option, Some, None, List, [], ◌∷◌, filter}
 use Rattle.std.specs.Prelude.{count_by}
 use Rattle.std.proofs.lemmas.List.Sums.{sum_by-cons}
 use Rattle.dso_base.specs.declared.journal.Entry.{Entry}
@@ -10,6 +10,7 @@ use Rattle.dso_base.specs.declared.request.Event.{Event}
 use Rattle.dso_base.specs.declared.request.Event.TheVariants.{Act, Lost}
 use Rattle.dso_base.specs.declared.request.Request.{Request}
 use Rattle.dso_base.specs.declared.request.Request.TheVariants.{End}
+use Rattle.dso_client.proofs.contexts.Going.{one_more}
 use Rattle.dso_law.specs.Settings.{Settings, threads_of}
 use Rattle.dso_law.specs.ClientRun.{next_in}
 use Rattle.dso_law.specs.Entries.{entries_of, events_in}
@@ -23,7 +24,6 @@ use Rattle.dso_legal.specs.Slots.{ends, has_ended}
 use Rattle.dso_legal.proofs.blocks.OwnActs.{threads_follow}
 use Rattle.dso_legal.proofs.fitting.Untold.{keeps_to}
 use Rattle.dso_world.specs.FinishedRuns.{EndedAsksNothing}
-use Rattle.dso_world.proofs.links.Ends.{below}
 use Rattle.dso_world.proofs.finished.CodeEnds.{code_ends}
 use Rattle.dso_world.proofs.premises.OwnRun.{own_next}
 use Rattle.dso_world.proofs.premises.SoundPrograms.{sound_code}
@@ -37,11 +37,6 @@ same_end (Lost client) = refl
 same_ends : (events : List Event) → list_any ends events ≡ list_any ends_thread events
 same_ends [] = refl
 same_ends (event ∷ events) = ap (λ b. b || list_any ends events) (same_end event) ∙ ap (λ b. ends_thread event || b) (same_ends events)
-
--- one more is counted, or isn't
-counted : (b : Bool) (n : ℕ) → (b || ltb 0 n) ≡ ltb 0 (cond b 1 0 + n)
-counted true n = sym (below 0 (1 + n) (omega arith))
-counted false n = let same : n ≡ 0 + n = omega arith in ap (ltb 0) same
 
 twice : (b : Bool) → not (not b) ≡ b
 twice true = refl
@@ -80,7 +75,7 @@ module _ (code : Code) (sound : IsSoundCode code) (p : Settings) (shaped : p.sha
       where
         by : (its : Bool) → (its ≡ true → not (has_ended t es) ≡ on t) → list_any off (its_threads threads) ≡ ltb 0 (count_by on (its_threads threads))
             → list_any off (cond its (t ∷ its_threads threads) (its_threads threads)) ≡ ltb 0 (count_by on (cond its (t ∷ its_threads threads) (its_threads threads)))
-        by true here later = ap (λ b. b || list_any off (its_threads threads)) (here refl) ∙ ap (λ b. on t || b) later ∙ counted (on t) (count_by on (its_threads threads))
+        by true here later = ap (λ b. b || list_any off (its_threads threads)) (here refl) ∙ ap (λ b. on t || b) later ∙ one_more (on t) (count_by on (its_threads threads))
             ∙ ap (ltb 0) (sym (sum_by-cons (λ t. cond (on t) 1 0) t (its_threads threads)))
         by false here later = later
 

@@ -6,11 +6,11 @@ use Rattle.dso_world.proofs.asked_again.threads_asked_again.Goals as goal
 
 pub returns : goal.returns
 returns c = λ t its spared program.
-    let nodes = c.args.nodes.now in
-    let entry = c.args.entry.now in
+    let nodes = c.args.made.now.nodes.now in
+    let entry = c.args.made.now.entry.now in
     let touches = c.of-touches.result in
     let asked = c.asking.result in
-    thread_stays program nodes c.args.asking.now entry touches c.args.number asked c.with_actor.result
-    (has_touched program nodes entry c.args.next touches (c.requires program) c.of-touches.ensures)
+    thread_stays program nodes c.args.made.now.asking.now entry touches c.args.number asked c.with_actor.result
+    (has_touched program nodes entry c.args.made.now.next touches (c.requires program) c.of-touches.ensures)
     (λ b i within touched there. c.asking.ensures b i within (subst (λ buckets. bit_at buckets b ≡ 1) (sym c.buckets.ensures) touched) there)
     c.with_actor.ensures.others c.with_actor.ensures.actor t its spared

@@ -9,9 +9,9 @@ use Rattle.dso_world.proofs.step_update.mark.Goals as goal
 
 pub returns-in-Server-clause-flags : goal.returns-in-Server-clause-flags
 returns-in-Server-clause-flags c = λ program.
-    let words = c.args.asking.now in
-    let nodes = c.args.nodes.now in
-    let entry = c.args.entry.now in
+    let words = c.args.made.now.asking.now in
+    let nodes = c.args.made.now.nodes.now in
+    let entry = c.args.made.now.entry.now in
     let steps = c.args.steps.now in
     let old = c.args.chooser.now in
     let sent = subst (λ sent. Tells nodes steps (IsSentTo sent steps) c.mark_input.new.chooser c.mark_sent.new.chooser) c.as_slice.ensures c.mark_sent.ensures in
@@ -21,9 +21,9 @@ returns-in-Server-clause-flags c = λ program.
 
 pub returns-in-Client-clause-flags : goal.returns-in-Client-clause-flags
 returns-in-Client-clause-flags c = λ program.
-    let words = c.args.asking.now in
-    let nodes = c.args.nodes.now in
-    let entry = c.args.entry.now in
+    let words = c.args.made.now.asking.now in
+    let nodes = c.args.made.now.nodes.now in
+    let entry = c.args.made.now.entry.now in
     let steps = c.args.steps.now in
     let old = c.args.chooser.now in
     all_marked program words nodes entry steps old c.mark_step.new.chooser (settles_fewer words nodes entry steps old c.mark_step.new.chooser
