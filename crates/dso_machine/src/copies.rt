@@ -28,20 +28,23 @@ fn copied_expr(expr: &Expr, alloc: Global) -> Result<Expr, NoMemory>
         Expr::Var(variable) => Ok(Expr::Var(*variable)),
         Expr::This => Ok(Expr::This),
         Expr::Root(root) => Ok(Expr::Root(*root)),
-        Expr::Field(a, field) => Ok(Expr::Field(expr_again(a, alloc)?, field.again(alloc)?)),
-        Expr::Elem(a, b) => Ok(Expr::Elem(expr_again(a, alloc)?, expr_again(b, alloc)?)),
-        Expr::Call(a, callees, args) => Ok(Expr::Call(
-            expr_again(a, alloc)?,
+        Expr::Field(owner, field) => Ok(Expr::Field(expr_again(owner, alloc)?, field.again(alloc)?)),
+        Expr::Elem(array, index) => Ok(Expr::Elem(
+            expr_again(array, alloc)?,
+            expr_again(index, alloc)?,
+        )),
+        Expr::Call(owner, callees, args) => Ok(Expr::Call(
+            expr_again(owner, alloc)?,
             callees.again(alloc)?,
             arguments_again(args, alloc)?,
         )),
         Expr::NewObject(class) => Ok(Expr::NewObject(*class)),
-        Expr::NewArray(kind, a) => Ok(Expr::NewArray(*kind, expr_again(a, alloc)?)),
-        Expr::Unary(op, a) => Ok(Expr::Unary(*op, expr_again(a, alloc)?)),
-        Expr::Binary(op, a, b) => Ok(Expr::Binary(
+        Expr::NewArray(kind, length) => Ok(Expr::NewArray(*kind, expr_again(length, alloc)?)),
+        Expr::Unary(op, operand) => Ok(Expr::Unary(*op, expr_again(operand, alloc)?)),
+        Expr::Binary(op, left, right) => Ok(Expr::Binary(
             *op,
-            expr_again(a, alloc)?,
-            expr_again(b, alloc)?,
+            expr_again(left, alloc)?,
+            expr_again(right, alloc)?,
         )),
     }
 }
@@ -127,33 +130,36 @@ fn copied_stmt(stmt: &Stmt, alloc: Global) -> Result<Stmt, NoMemory>
     ensures { IfOk result (λ copy. copy ≡ stmt.now) }
 {
     match stmt {
-        Stmt::Assign(variable, a) => Ok(Stmt::Assign(*variable, a.again(alloc)?)),
-        Stmt::PutField(a, field, b) => {
+        Stmt::Assign(variable, value) => Ok(Stmt::Assign(*variable, value.again(alloc)?)),
+        Stmt::PutField(owner, field, value) => {
             let field = field.again(alloc)?;
-            Ok(Stmt::PutField(a.again(alloc)?, field, b.again(alloc)?))
+            Ok(Stmt::PutField(owner.again(alloc)?, field, value.again(alloc)?))
         }
-        Stmt::PutElem(a, b, c) => {
-            let index = b.again(alloc)?;
-            Ok(Stmt::PutElem(a.again(alloc)?, index, c.again(alloc)?))
+        Stmt::PutElem(array, index, value) => {
+            let index = index.again(alloc)?;
+            Ok(Stmt::PutElem(array.again(alloc)?, index, value.again(alloc)?))
         }
-        Stmt::PutRoot(root, a) => Ok(Stmt::PutRoot(*root, a.again(alloc)?)),
-        Stmt::Eval(a) => Ok(Stmt::Eval(a.again(alloc)?)),
-        Stmt::If(a, all, others) => {
-            let all = block_again(all, alloc)?;
-            Ok(Stmt::If(a.again(alloc)?, all, block_again(others, alloc)?))
+        Stmt::PutRoot(root, value) => Ok(Stmt::PutRoot(*root, value.again(alloc)?)),
+        Stmt::Eval(value) => Ok(Stmt::Eval(value.again(alloc)?)),
+        Stmt::If(condition, then, otherwise) => {
+            let then = block_again(then, alloc)?;
+            Ok(Stmt::If(condition.again(alloc)?, then, block_again(otherwise, alloc)?))
         }
-        Stmt::While(a, all) => Ok(Stmt::While(a.again(alloc)?, block_again(all, alloc)?)),
-        Stmt::Sync(a, grade, all) => {
-            let all = block_again(all, alloc)?;
-            Ok(Stmt::Sync(a.again(alloc)?, *grade, all))
+        Stmt::While(condition, block) => {
+            let block = block_again(block, alloc)?;
+            Ok(Stmt::While(condition.again(alloc)?, block))
         }
-        Stmt::Wait(a) => Ok(Stmt::Wait(a.again(alloc)?)),
-        Stmt::TimedWait(a, b) => Ok(Stmt::TimedWait(a.again(alloc)?, b.again(alloc)?)),
-        Stmt::Notify(a) => Ok(Stmt::Notify(a.again(alloc)?)),
-        Stmt::NotifyAll(a) => Ok(Stmt::NotifyAll(a.again(alloc)?)),
-        Stmt::Print(a) => Ok(Stmt::Print(a.again(alloc)?)),
+        Stmt::Sync(owner, grade, block) => {
+            let block = block_again(block, alloc)?;
+            Ok(Stmt::Sync(owner.again(alloc)?, *grade, block))
+        }
+        Stmt::Wait(owner) => Ok(Stmt::Wait(owner.again(alloc)?)),
+        Stmt::TimedWait(owner, time) => Ok(Stmt::TimedWait(owner.again(alloc)?, time.again(alloc)?)),
+        Stmt::Notify(owner) => Ok(Stmt::Notify(owner.again(alloc)?)),
+        Stmt::NotifyAll(owner) => Ok(Stmt::NotifyAll(owner.again(alloc)?)),
+        Stmt::Print(value) => Ok(Stmt::Print(value.again(alloc)?)),
         Stmt::Return(None) => Ok(Stmt::Return(None)),
-        Stmt::Return(Some(a)) => Ok(Stmt::Return(Some(a.again(alloc)?))),
+        Stmt::Return(Some(value)) => Ok(Stmt::Return(Some(value.again(alloc)?))),
     }
 }
 
