@@ -28,7 +28,10 @@ fn copied_expr(expr: &Expr, alloc: Global) -> Result<Expr, NoMemory>
         Expr::Var(variable) => Ok(Expr::Var(*variable)),
         Expr::This => Ok(Expr::This),
         Expr::Root(root) => Ok(Expr::Root(*root)),
-        Expr::Field(owner, field) => Ok(Expr::Field(expr_again(owner, alloc)?, field.again(alloc)?)),
+        Expr::Field(owner, field) => Ok(Expr::Field(
+            expr_again(owner, alloc)?,
+            field.again(alloc)?,
+        )),
         Expr::Elem(array, index) => Ok(Expr::Elem(
             expr_again(array, alloc)?,
             expr_again(index, alloc)?,
@@ -143,7 +146,11 @@ fn copied_stmt(stmt: &Stmt, alloc: Global) -> Result<Stmt, NoMemory>
         Stmt::Eval(value) => Ok(Stmt::Eval(value.again(alloc)?)),
         Stmt::If(condition, then, otherwise) => {
             let then = block_again(then, alloc)?;
-            Ok(Stmt::If(condition.again(alloc)?, then, block_again(otherwise, alloc)?))
+            Ok(Stmt::If(
+                condition.again(alloc)?,
+                then,
+                block_again(otherwise, alloc)?,
+            ))
         }
         Stmt::While(condition, block) => {
             let block = block_again(block, alloc)?;
@@ -154,7 +161,10 @@ fn copied_stmt(stmt: &Stmt, alloc: Global) -> Result<Stmt, NoMemory>
             Ok(Stmt::Sync(owner.again(alloc)?, *grade, block))
         }
         Stmt::Wait(owner) => Ok(Stmt::Wait(owner.again(alloc)?)),
-        Stmt::TimedWait(owner, time) => Ok(Stmt::TimedWait(owner.again(alloc)?, time.again(alloc)?)),
+        Stmt::TimedWait(owner, time) => Ok(Stmt::TimedWait(
+            owner.again(alloc)?,
+            time.again(alloc)?,
+        )),
         Stmt::Notify(owner) => Ok(Stmt::Notify(owner.again(alloc)?)),
         Stmt::NotifyAll(owner) => Ok(Stmt::NotifyAll(owner.again(alloc)?)),
         Stmt::Print(value) => Ok(Stmt::Print(value.again(alloc)?)),
