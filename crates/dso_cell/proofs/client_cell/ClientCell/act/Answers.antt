@@ -9,6 +9,17 @@ use Rattle.dso_cell.proofs.standing.Bounds.{bounds_said}
 use Rattle.dso_cell.proofs.standing.Steps.{asked_goes_on, event_goes_on}
 use Rattle.dso_cell.proofs.client_cell.ClientCell.act.Goals as goal
 
+pub returns-in_ok-say-in-Event-clause-bounds : goal.returns-in_ok-say-in-Event-clause-bounds
+returns-in_ok-say-in-Event-clause-bounds c =
+    let old = c.args.self.now in
+    let new = c.say.new.self in
+    let core = sym c.say.ensures.core in
+    bounds_said c.args.code.now old new c.of_act.result c.in_ok-acted.messages.items c.in_ok-say-in-Event.ensures.said
+    (subst (RunsCode c.args.code.now) core c.in_ok-acted.ensures.runs)
+    (subst (λ core. core.sequences.records ≤ suc old.core.sequences.records) core (omega (arith, c.in_ok-acted.ensures.records)))
+    (λ most its. subst (HoldsAtMost (suc most)) core (c.in_ok-acted.ensures.holds most its))
+    (omega (arith, c.say.ensures.rejoins)) (omega (arith, ap (λ made. made.heard) c.of_act.ensures)) c.requires.may
+
 pub returns-in_ok-say-in-Event-clause-stands : goal.returns-in_ok-say-in-Event-clause-stands
 returns-in_ok-say-in-Event-clause-stands c =
     let old = c.args.self.now in
