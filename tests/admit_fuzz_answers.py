@@ -1,4 +1,4 @@
-"""Answers rows as the programs of crates/admit_cases and crates/wire_cases do, by the other reading of the rules.
+"""Answers rows as the programs of crates/server_cases and crates/connection_cases do, by the other reading of the rules.
 
 `admit_fuzz --by-reading` compares with it in the place of the programs, so that wrong readings need no build.
 """

@@ -27,7 +27,7 @@ class Reading:
         self.server, self.session, self.wire = server, session, wire
 
     def new_server(self):
-        """The server of the code in crates/admit_cases/src/code.rt."""
+        """The server of the code in crates/server_cases/src/code.rt."""
         shape = self.base.Shape([[('long', None), ('ref', 1)]], roots=1, names=2, texts=1)
         return self.server.Server(Code(shape), len(CLIENTS))
 

@@ -1,11 +1,11 @@
 """Sends a server bytes, lawful or not, and compares what it tells with another reading of the rules.
 
 Each case is a fresh server with the ends of four connections, and 1 to 40 frames that its clients send. The program of
-crates/admit_cases answers, and, where it is there, that of crates/wire_cases tells what it reads in each frame. A case
+crates/server_cases answers, and, where it is there, that of crates/connection_cases tells what it reads in each frame. A case
 that comes out differently is kept, and the status is then 1. With `--wrong` the other reading has a rule changed, which
 is to be noticed: `--wrong all` does so with one after the other, and the status is 1 where one isn't. With
 `--by-reading` that reading answers itself, as it is, and no program is needed. With `--cases` nothing is run: what is
-sent and what is to be told is written into a folder, for `rt try --cases FOLDER` in crates/admit_cases.
+sent and what is to be told is written into a folder, for `rt try --cases FOLDER` in crates/server_cases.
 """
 import argparse
 import collections
@@ -26,6 +26,8 @@ ORACLE = os.path.join(TOP, '..', 'shared', 'oracle')
 ANSWERS = os.path.join(TOP, 'tests', 'admit_fuzz_answers.py')
 # how many frames are sent to one run of the program, also where a reading is wrong, and how long that may take
 BLOCK, WRONG_BLOCK = 2000, 250
+# what stands before rows of frames in what each program reads
+BEFORE = {'admit': '== frames\n', 'wire': '== frames as bytes\n'}
 SECONDS = 300
 # how many frames find a wrong reading at most
 WRONG_COUNT = 100000
@@ -41,8 +43,8 @@ def arguments():
     parser.add_argument('--first', type=int, default=0, help='the number of the first block of frames')
     parser.add_argument('--seed', type=int, default=1, help='the seed of the generator')
     parser.add_argument('--jobs', type=int, default=os.cpu_count() or 1, help='how many blocks side by side')
-    parser.add_argument('--program', default=built('admit_cases'), help='the program that answers')
-    parser.add_argument('--wire', default=built('wire_cases'), help='the program that tells what frames are')
+    parser.add_argument('--program', default=built('server_cases'), help='the program that answers')
+    parser.add_argument('--wire', default=built('connection_cases'), help='the program that tells what frames are')
     parser.add_argument('--oracle', default=ORACLE, help='the folder of the other reading')
     parser.add_argument('--by-reading', action='store_true', help='with --wrong: it answers, unchanged, and no program')
     parser.add_argument('--wrong', help='a rule to change in it, or all', choices=['all', *admit_fuzz_wrong.RULES])
@@ -123,9 +125,9 @@ def rows_of_block(reading, said, block, frames):
     return rows
 
 
-def first_difference(program, rows):
-    """Where the program answers otherwise: (number of the row, what), or None."""
-    text = ''.join(row + '\n' for row, _ in rows)
+def first_difference(program, rows, before):
+    """Where the program answers otherwise, behind what stands before the rows: (number of the row, what), or None."""
+    text = before + ''.join(row + '\n' for row, _ in rows)
     try:
         ran = subprocess.run(program, input=text.encode(), stdout=subprocess.PIPE, timeout=SECONDS)
     except subprocess.TimeoutExpired:
@@ -144,7 +146,8 @@ def compared(said, rows, block):
     """What differs in a block, in words, each with the rows up to it."""
     told = []
     for name, program, its in (('admit', said.program, rows.admitted), ('wire', said.wire, rows.read)):
-        differs = first_difference(program, its) if program else None
+        before = '' if said.by_reading else BEFORE[name]
+        differs = first_difference(program, its, before) if program else None
         if differs:
             at, what = differs
             begin = at
@@ -180,6 +183,7 @@ def write_block(said, number):
     rows = rows_of_block(reading_of(said.oracle, None), said, block, frames)
     for ending, part in (('', 0), ('.stdout', 1)):
         with open(os.path.join(said.cases, 'block-%d%s' % (block, ending)), 'w', encoding='utf-8') as file:
+            file.write(BEFORE['admit'] if part == 0 else '')
             file.writelines(row[part] + '\n' for row in rows.admitted)
 
 

@@ -1,4 +1,4 @@
-"""Writes answers as crates/admit_cases writes them, and frames as crates/wire_cases does."""
+"""Writes answers as crates/server_cases writes them, and frames as crates/connection_cases does."""
 
 LEVELS = ('Read', 'Write')
 KINDS = {'long': 'Long', 'boolean': 'Bool', 'text': 'Text', 'ref': 'Ref'}

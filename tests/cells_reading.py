@@ -1,5 +1,5 @@
 """The cells of a cluster by the other reading of the rules: its clients, its server and its sessions, with rings
-between them; and the rows of `crates/cell_cases` over these.
+between them; and the rows of cells of `crates/cluster_cases` over these.
 
 The folder of the other reading has to be among those that Python imports from.
 """
@@ -161,7 +161,7 @@ class Cells:
 
 
 class Rows:
-    """The lines that `crates/cell_cases` reads, answered by the other reading."""
+    """The lines of cells that `crates/cluster_cases` reads, answered by the other reading."""
 
     def __init__(self, stage):
         self.stage = stage

@@ -20,7 +20,9 @@ import soak_programs
 
 TOP = os.path.dirname(os.path.dirname(os.path.abspath(__file__)))
 ORACLE = os.path.join(TOP, '..', 'shared', 'oracle')
-CRATE = os.path.join(TOP, 'crates', 'cell_cases')
+CRATE = os.path.join(TOP, 'crates', 'cluster_cases')
+# what stands before rows of cells in what that crate reads
+BEFORE = '== one client\n== cells\n'
 # what of the rules the other reading is asked for: all that the cells run
 STAGE = 16
 # how many steps the other reading makes of a program that doesn't end
@@ -89,7 +91,7 @@ def run(folder, files):
     """What the cells answer: the output of each file."""
     for number, cases in enumerate(files):
         with open(os.path.join(folder, '%05d' % number), 'w', encoding='latin-1') as file:
-            file.write(''.join(line + '\n' for case in cases for line in case.lines))
+            file.write(BEFORE + ''.join(line + '\n' for case in cases for line in case.lines))
     words = ['rt', 'try', '--steps', '1', '--seconds', str(SECONDS), '--cases', folder]
     ran = subprocess.run(words, cwd=CRATE, stdin=subprocess.DEVNULL, stdout=subprocess.PIPE, stderr=subprocess.STDOUT,
                          encoding='latin-1', check=False)

@@ -1,5 +1,5 @@
 //! The programs of the gallery, each run over the files of its folder.
-use crate::trial::{Answer, Call, ROOM, System, Trial, show_answer};
+use crate::trial::{Answer, Call, ROOM, System, Trial, show_answer, words_of};
 use dso_base::NoMemory;
 use dso_io::{MemSink, StdFiles};
 use dso_report::journal_text;
@@ -123,7 +123,7 @@ fn example_answer<R: System>(
         "dsorun {command} {name}/config.toml {name}/program.dso{options}"
     )?;
     let trial = Trial::of_program("").set("line", line.as_str());
-    let words = trial.words(rt.alloc())?;
+    let words = words_of(rt.alloc(), trial.line)?;
     called(rt, words.as_slice())
 }
 

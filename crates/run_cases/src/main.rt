@@ -12,14 +12,21 @@
 //! set back. `words LINE` tells what becomes of a command line. `example NAME` runs the program of a folder of the
 //! gallery, and prints whether its report is the stored one; `traced NAME` does so for its journal too, and `threaded
 //! NAME` for a run in threads; `collected NAME` compares runs with collections to the one without, and `linted NAME`
-//! prints what the lock checker answers of it. The other words are those of `Trial::set`. In texts `\n`, `\t`, `\r`
-//! and `\1` stand for bytes.
+//! prints what the lock checker answers of it; `store ROW` does what `store_rows` says of the row. The other words are
+//! those of `Trial::set`. In texts `\n`, `\t`, `\r` and `\1` stand for bytes.
 #![tactic(auto)]
 
+mod crashed;
 mod examples;
+mod folder;
 mod keeping;
 mod meeting;
 mod settling;
+mod stopped;
+mod store_answers;
+mod store_rows;
+mod store_trial;
+mod surroundings;
 mod trial;
 mod variants;
 
@@ -28,15 +35,20 @@ use keeping::show_keeps;
 use meeting::show_meeting;
 use settling::show_settles;
 use std::io;
+use store_rows::after_row;
+use store_trial::StoreTrial;
 use trial::{System, Trial, show_file, show_journal, show_reason, show_trial, show_words};
 use variants::{MANY_SEEDS, SEEDS, show_afters, show_seeds, show_sends};
 
 fn main(rt: HostRuntime) -> io::Result<()> {
     let text = io::read_to_string(rt.alloc(), rt.reader())?;
     let mut trial = Trial::of_program("");
+    let mut store_trial = StoreTrial::of_program("");
     for line in text.as_str().lines() {
         let (word, rest) = line.split_once(' ').unwrap_or((line, ""));
-        if tries(&rt, word, rest, &trial)? {
+        if word == "store" {
+            store_trial = after_row(&rt, store_trial, rest)?;
+        } else if tries(&rt, word, rest, &trial)? {
             trial = Trial::of_program(trial.program);
         } else if !shows(&rt, word, rest)? {
             trial = trial.set(word, rest);

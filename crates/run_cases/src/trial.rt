@@ -149,15 +149,6 @@ impl<'a> Trial<'a> {
         unescaped(alloc, self.config)
     }
 
-    /// The words of the command line behind the program's name.
-    pub fn words(&self, alloc: Global) -> Result<Vec<String>, AllocError> {
-        let mut words = Vec::new(alloc);
-        for word in self.line.split(' ').skip(1) {
-            words.push(String::from_str(alloc, word)?)?;
-        }
-        Ok(words)
-    }
-
     /// Adds the file of the configuration.
     fn add_config(&self, alloc: Global, files: &mut MemFiles) -> Result<(), NoMemory> {
         let text = self.config_text(alloc)?;
@@ -186,7 +177,7 @@ impl<'a> Trial<'a> {
         rt: &R,
         gate: &G,
     ) -> Result<(Answer, MemFiles), NoMemory> {
-        let words = self.words(rt.alloc())?;
+        let words = words_of(rt.alloc(), self.line)?;
         let mut files = self.files(rt.alloc())?;
         let out = MemSink::new(rt.alloc(), self.piece.max(1), ROOM, &[self.failing_put])?;
         let call = Call {
@@ -208,6 +199,15 @@ impl<'a> Trial<'a> {
     pub fn answer<R: System>(&self, rt: &R) -> Result<Answer, NoMemory> {
         self.answer_by(rt, &NoGate)
     }
+}
+
+/// The words of a command line behind the program's name.
+pub fn words_of(alloc: Global, line: &str) -> Result<Vec<String>, AllocError> {
+    let mut words = Vec::new(alloc);
+    for word in line.split(' ').skip(1) {
+        words.push(String::from_str(alloc, word)?)?;
+    }
+    Ok(words)
 }
 
 /// The number of a text, 0 where it is none.

@@ -1,9 +1,9 @@
-//! Records, as words behind their number and thread: `+5:k0:1,null` an object published, `5.0=7` a set, `!7` a value
-//! printed, `?m5:there`, `?m5:all` or `?m5:1.2` a notification, `exit:m5`, `wait:m5`, `timeout:m5` or `end` the ending.
+//! Records, as words behind their number and thread: `+5:c0:1,null` an object published, `+5:[long:257*1` an array of 257
+//! ones, `5.0=7` a set, `!7` a value printed, `?m5:there`, `?m5:all` or `?m5:1.2` a notification, `exit:m5`, `wait:m5`,
+//! `timeout:m5` or `end` the ending.
 
-use crate::words::class;
-use case_words::{bare_record, count, ending, first_of, note, number, thread, value, value_list};
-use dso_base::{Body, Ending, NoMemory, Note, Set, Txn, Value};
+use case_words::{bare_record, class, count, ending, first_of, note, number, thread, value};
+use dso_base::{Body, Ending, Items, NoMemory, Note, Set, Txn, Value};
 use std::alloc::Global;
 
 /// The record of the words, None where they tell none.
@@ -53,9 +53,34 @@ fn add_body(alloc: Global, txn: &mut Txn, text: &str) -> Result<bool, NoMemory> 
     txn.news.push(Body {
         object,
         class,
-        values: value_list(alloc, list, ',')?,
+        values: values(alloc, list)?,
     })?;
     Ok(true)
+}
+
+/// The values of the words; a number and `*` stand before one that comes so often.
+fn values(alloc: Global, text: &str) -> Result<Items<Value>, NoMemory> {
+    let mut values = Items::new(alloc);
+    for word in text.split(',') {
+        let (often, word) = word.split_once('*').unwrap_or(("1", word));
+        add_often(&mut values, count(often), value(word))?;
+    }
+    Ok(values)
+}
+
+/// Adds the value so often.
+fn add_often(
+    values: &mut Items<Value>,
+    often: Option<u32>,
+    value: Option<Value>,
+) -> Result<(), NoMemory> {
+    let (Some(often), Some(value)) = (often, value) else {
+        return Ok(());
+    };
+    for _ in 0..often {
+        values.push(value)?;
+    }
+    Ok(())
 }
 
 /// The set of a field.

@@ -1,5 +1,0 @@
-use Rattle.client_cases.specs.Driving.{Goes}
-use Rattle.client_cases.proofs.parts.rows_told.Given as goal
-
-abbrev pub invariant-loop-row : goal.invariant-loop-row
-invariant-loop-row l = Goes l.program.code l.driven

@@ -1,6 +1,0 @@
-use Rattle.client_cases.specs.Driving.{Goes}
-use Rattle.client_cases.proofs.Going.{anyway}
-use Rattle.client_cases.proofs.rows.step_told.Goals as goal
-
-pub returns-in-flush : goal.returns-in-flush
-returns-in-flush c = anyway c.flush.result (Goes c.args.code.now c.flush.new.self) (c.flush.ensures c.args.code.now c.requires.goes)

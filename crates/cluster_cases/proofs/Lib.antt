@@ -1,0 +1,2 @@
+pub mod FirstBounds
+pub mod Going

@@ -1,5 +1,0 @@
-use Rattle.dso_world.specs.WorldStands.{WorldStands}
-use Rattle.world_cases.proofs.runs.run.Given as goal
-
-abbrev pub invariant-loop-turn : goal.invariant-loop-turn
-invariant-loop-turn l = WorldStands l.program l.world

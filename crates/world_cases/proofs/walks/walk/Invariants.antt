@@ -1,5 +1,0 @@
-use Rattle.dso_world.specs.WorldStands.{WorldStands}
-use Rattle.world_cases.proofs.walks.walk.Given as goal
-
-abbrev pub invariant-loop-draw : goal.invariant-loop-draw
-invariant-loop-draw l = WorldStands l.program l.world
