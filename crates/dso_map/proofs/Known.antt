@@ -79,16 +79,16 @@ noting_tells call P own false i hole then all = all P own hole
 along_tells : (call : MapOp) (P : Value → Type 0) → HasOwn call P → (left d : ℕ) (hole : Option ℕ) → Tells P (along call left d hole)
 along_tells call P own zero d hole = missing_tells call P own None hole
 along_tells call P own (suc left) d hole = λ touched.
-    let P1 = OrTold P touched in
-    let own1 = own_too call P touched own in
-    either_tells call P1 (is_true touched) _ _
+    let or_touched = OrTold P touched in
+    let own_touched = own_too call P touched own in
+    either_tells call or_touched (is_true touched) _ _
     (λ key.
-    let P2 = OrTold P1 key in
-    let own2 = own_too call P1 key own1 in
-    either_tells call P2 (is_long (key_of call) key) _ _
-    (λ v. value_tells call (OrTold P2 v) (own_too call P2 v own2) (slot_of (key_of call) d) v (inl refl))
-    (noting_tells call P2 own2 (wants_hole call hole) (slot_of (key_of call) d) hole _ (λ Q its next. along_tells call Q its left (suc d) next)))
-    (missing_tells call P1 own1 (Some (slot_of (key_of call) d)) hole)
+    let or_key = OrTold or_touched key in
+    let own_key = own_too call or_touched key own_touched in
+    either_tells call or_key (is_long (key_of call) key) _ _
+    (λ v. value_tells call (OrTold or_key v) (own_too call or_key v own_key) (slot_of (key_of call) d) v (inl refl))
+    (noting_tells call or_key own_key (wants_hole call hole) (slot_of (key_of call) d) hole _ (λ Q its next. along_tells call Q its left (suc d) next)))
+    (missing_tells call or_touched own_touched (Some (slot_of (key_of call) d)) hole)
 
 -- What every call puts, and what it ends with, is its own or was told.
 pub talk_tells : (call : MapOp) (P : Value → Type 0) → HasOwn call P → Tells P (talk call)
