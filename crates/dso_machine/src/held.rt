@@ -110,8 +110,8 @@ fn add_use(held: &mut Vec<Value>, then: &OnValue) -> Result<(), NoMemory>
 fn add_map(held: &mut Vec<Value>, call: MapCall) -> Result<(), NoMemory>
     ensures { OnOk result (held.new.items ≡ held.old.items ++ map_values call) }
 {
-    let map = Value::Ref(call.object());
-    match call.op() {
+    let map = Value::Ref(call.object);
+    match call.op {
         MapOp::Get(key) => add_with(held, map, &[Value::Long(key)]),
         MapOp::Has(key) => add_with(held, map, &[Value::Long(key)]),
         MapOp::Remove(key) => add_with(held, map, &[Value::Long(key)]),

@@ -13,8 +13,10 @@ use dso_base::{Data, Reply, Request, Value};
 /// memory.
 #[derive(Clone, Copy, Debug, PartialEq, Eq)]
 pub struct MapCall {
-    object: u64,
-    op: MapOp,
+    /// The map that is called.
+    pub object: u64,
+    /// The call, with its arguments.
+    pub op: MapOp,
     stage: Stage,
 }
 
@@ -36,20 +38,6 @@ impl MapCall {
             op,
             stage: first(op),
         }
-    }
-
-    /// The map that is called.
-    pub fn object(&self) -> u64
-        ensures { result ≡ self.now.object }
-    {
-        self.object
-    }
-
-    /// The call, with its arguments.
-    pub fn op(&self) -> MapOp
-        ensures { result ≡ self.now.op }
-    {
-        self.op
     }
 
     /// What it asks next: a Get or a Put of a field of the map. None exactly where it has ended.

@@ -38,7 +38,7 @@ impl Map {
             "keys" => self.keys(alloc, rest),
             "begin" => self.begun(alloc, rest),
             "answer" => self.answered(alloc, reply(rest)),
-            "call" => debugged(alloc, (self.call.object(), self.call.op())),
+            "call" => debugged(alloc, (self.call.object, self.call.op)),
             "thread" => requests_of(alloc, self.thread(alloc, rest)?.as_slice()),
             "holds" => requests_with_held(alloc, self.thread(alloc, rest)?.as_slice()),
             "ends" => self.ends(alloc, rest),
